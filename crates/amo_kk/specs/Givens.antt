@@ -1,0 +1,35 @@
+-- The givens: how many jobs, how many workers, and the threshold.
+use Rattle.std.specs.Prelude.{◌≢◌, ℕ, ◌+◌, ◌-◌, ◌≤◌, nat_lt, ◌==◌, if◌then◌else◌}
+use Rattle.amo_kk.specs.declared.givens.Givens.{Givens}
+use Rattle.amo_kk.specs.Limits.{AreWithinLimits}
+
+-- the numbers keep their limits, as those of all givens do
+abbrev pub AreGivens : Givens → Type 0
+AreGivens g = AreWithinLimits g.jobs g.workers g.beta
+
+-- wherever a worker has ended, at least so many jobs are done
+abbrev pub bound : Givens → ℕ
+bound g = g.jobs - (g.beta + g.workers - 2)
+
+-- j is a job
+pub record IsJob (g : Givens) (j : ℕ) : Type 0 where
+  pub low : 1 ≤ j
+  pub high : j ≤ g.jobs
+
+-- p is a worker
+pub record IsWorker (g : Givens) (p : ℕ) : Type 0 where
+  pub low : 1 ≤ p
+  pub high : p ≤ g.workers
+
+-- q is a worker, and another one than p
+pub record IsOther (g : Givens) (p q : ℕ) : Type 0 where
+  pub worker : IsWorker g q
+  pub differs : q ≢ p
+
+-- the number after q, leaving out p: `next_other p 0` is the first other of p
+abbrev pub next_other : ℕ → ℕ → ℕ
+next_other p q = if q + 1 == p then q + 2 else q + 1
+
+-- how many others of p come before q
+abbrev pub others_before : ℕ → ℕ → ℕ
+others_before p q = if nat_lt p q then q - 2 else q - 1

@@ -1,0 +1,23 @@
+-- The limits of the numbers of jobs and workers and of the threshold, and the first that is broken.
+use Rattle.std.specs.Prelude.{ℕ, ◌≤◌, nat_lt, ◌==◌, if◌then◌else◌, Option, Some, None}
+use Rattle.amo_kk.specs.declared.givens.GivensFault.{GivensFault}
+use Rattle.amo_kk.specs.declared.givens.GivensFault.TheVariants.{TooManyJobs, NoWorkers, TooManyWorkers, BetaLow, BetaHigh}
+
+-- the numbers keep all limits
+pub record AreWithinLimits (jobs workers beta : ℕ) : Type 0 where
+  pub few_jobs : jobs ≤ 4096
+  pub some : 1 ≤ workers
+  pub few_workers : workers ≤ 16
+  pub beta_low : workers ≤ beta
+  pub beta_high : beta ≤ 65535
+
+-- the first limit that the three numbers break, if they break one
+abbrev pub first_fault : ℕ → ℕ → ℕ → Option GivensFault
+first_fault jobs workers beta =
+    if nat_lt 4096 jobs
+    then Some TooManyJobs
+    else (if workers == 0
+    then Some NoWorkers
+    else (if nat_lt 16 workers
+    then Some TooManyWorkers
+    else (if nat_lt beta workers then Some BetaLow else (if nat_lt 65535 beta then Some BetaHigh else None))))

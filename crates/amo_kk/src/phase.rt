@@ -1,0 +1,37 @@
+//! Where a worker stands, and what it wants next.
+
+/// Where a worker stands. The first number is the job of its attempt, the second another worker.
+#[derive(Clone, Copy, Debug, PartialEq, Eq)]
+pub enum Phase {
+    /// It is about to announce the job.
+    Announcing(u32),
+    /// It is about to read the announcement of the other worker.
+    Trying(u32, u32),
+    /// It is about to read the next entry of the other worker's row.
+    Reading(u32, u32),
+    /// It is about to claim the job.
+    Claiming(u32),
+    /// The job is claimed and in its hand; its performance is yet to be stored.
+    Holding(u32),
+    /// It has ended by its own choice.
+    Over,
+    /// It has left.
+    Left,
+}
+
+/// The one load or store of a shared word that a worker wants next.
+#[derive(Clone, Copy, Debug, PartialEq, Eq)]
+pub enum Want {
+    /// To store this job to its announcement.
+    StoreNext(u32),
+    /// To load the announcement of this worker.
+    LoadNext(u32),
+    /// To load, of this worker's row, the entry at this place, from 1.
+    LoadDone(u32, u32),
+    /// To store this count of its claims, the last of which is of this job.
+    StoreClaim(u32, u32),
+    /// To store, at this place of its row, this job.
+    StoreDone(u32, u32),
+    /// Nothing: it has ended or left.
+    Nothing,
+}

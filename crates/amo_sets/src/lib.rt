@@ -1,0 +1,3 @@
+//! Sets of jobs, one bit a job, with the words on numbered lists, sets of numbers, counts and ranks that the
+//! contracts of all layers use.
+#![tactic(auto)]
