@@ -1,11 +1,22 @@
 -- The givens: how many jobs, how many workers, and the threshold.
-use Rattle.std.specs.Prelude.{◌≢◌, ℕ, ◌+◌, ◌-◌, ◌≤◌, nat_lt, ◌==◌, if◌then◌else◌}
+use Rattle.std.specs.Prelude.{◌≢◌, ℕ, ◌+◌, ◌-◌, ◌≤◌, nat_lt, ◌==◌, if◌then◌else◌, ◌≡◌, refl, Option, Some, None, Result, Ok, Err}
 use Rattle.amo_kk.specs.declared.givens.Givens.{Givens}
-use Rattle.amo_kk.specs.Limits.{AreWithinLimits}
+use Rattle.amo_kk.specs.Limits.{AreWithinLimits, first_fault, within_limits}
+use Rattle.amo_kk.specs.declared.givens.GivensFault.{GivensFault}
 
 -- the numbers keep their limits, as those of all givens do
 abbrev pub AreGivens : Givens → Type 0
 AreGivens g = AreWithinLimits g.jobs g.workers g.beta
+
+-- the same, by the first limit that is broken
+abbrev pub numbers_or_fault : (jobs workers beta : ℕ) (fault : Option GivensFault) → first_fault jobs workers beta ≡ fault → Result Givens GivensFault
+numbers_or_fault jobs workers beta None unbroken =
+    Ok (record { jobs = jobs; workers = workers; beta = beta; limits = within_limits jobs workers beta unbroken })
+numbers_or_fault jobs workers beta (Some fault) broken = Err fault
+
+-- the givens of three numbers, or the first limit that they break
+abbrev pub givens_of : ℕ → ℕ → ℕ → Result Givens GivensFault
+givens_of jobs workers beta = numbers_or_fault jobs workers beta (first_fault jobs workers beta) refl
 
 -- wherever a worker has ended, at least so many jobs are done
 abbrev pub bound : Givens → ℕ

@@ -1,5 +1,7 @@
 -- The limits of the numbers of jobs and workers and of the threshold, and the first that is broken.
-use Rattle.std.specs.Prelude.{ℕ, ◌≤◌, nat_lt, ◌==◌, if◌then◌else◌, Option, Some, None}
+use Rattle.std.specs.Prelude.{◌≡◌, ℕ, ◌≤◌, nat_lt, ◌==◌, if◌then◌else◌, Option, Some, None}
+use Rattle.std.proofs.Common.{arith}
+use Rattle.std.proofs.lemmas.Bool.Decides.{nat_tests}
 use Rattle.amo_kk.specs.declared.givens.GivensFault.{GivensFault}
 use Rattle.amo_kk.specs.declared.givens.GivensFault.TheVariants.{TooManyJobs, NoWorkers, TooManyWorkers, BetaLow, BetaHigh}
 
@@ -21,3 +23,14 @@ first_fault jobs workers beta =
     else (if nat_lt 16 workers
     then Some TooManyWorkers
     else (if nat_lt beta workers then Some BetaLow else (if nat_lt 65535 beta then Some BetaHigh else None))))
+
+-- three numbers that break no limit are within the limits
+pub within_limits : (jobs workers beta : ℕ) → first_fault jobs workers beta ≡ None → AreWithinLimits jobs workers beta
+within_limits jobs workers beta unbroken =
+    record {
+      few_jobs = grind (arith, nat_tests);
+      some = grind (arith, nat_tests);
+      few_workers = grind (arith, nat_tests);
+      beta_low = grind (arith, nat_tests);
+      beta_high = grind (arith, nat_tests);
+    }

@@ -1,6 +1,6 @@
 //! The givens of a run: how many jobs, how many workers, and the threshold.
-ghost use Rattle.std.specs.Prelude.{◌≡◌, Some, None, MatchResult};
-ghost use Rattle.amo_kk.specs.Limits.{AreWithinLimits, first_fault};
+ghost use Rattle.std.specs.Prelude.{◌≡◌};
+ghost use Rattle.amo_kk.specs.Limits.{AreWithinLimits};
 
 use thiserror::Error;
 
@@ -38,13 +38,11 @@ pub struct Givens {
 }
 
 impl Givens {
-    ghost use Rattle.amo_kk.specs.Givens.{bound};
+    ghost use Rattle.amo_kk.specs.Givens.{bound, givens_of};
 
     /// The givens of these three numbers, or the first limit that they break.
     pub fn try_new(jobs: u64, workers: u64, beta: u64) -> Result<Givens, GivensFault>
-        ensures { MatchResult result
-            (λ g. (first_fault jobs workers beta ≡ None) × (g.jobs ≡ jobs) × (g.workers ≡ workers) × (g.beta ≡ beta))
-            (λ f. first_fault jobs workers beta ≡ Some f) }
+        ensures { result ≡ givens_of jobs workers beta }
     {
         if jobs > 4096 {
             return Err(GivensFault::TooManyJobs);
