@@ -1,1 +1,13 @@
 pub mod Limits
+pub mod Choice
+pub mod Fit
+pub mod Kept
+pub mod Worlds
+pub mod Steps
+pub mod Runs
+pub mod Claims
+pub mod Room
+pub mod Words
+pub mod Alone
+pub mod Shows
+pub mod Rows

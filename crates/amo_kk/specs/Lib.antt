@@ -1,2 +1,12 @@
 pub mod Limits
 pub mod Givens
+pub mod Object
+pub mod Run
+pub mod Record
+pub mod Choice
+pub mod Event
+pub mod World
+pub mod Words
+pub mod Answer
+pub mod Alone
+pub mod Lawful

@@ -4,6 +4,7 @@
 
 mod event;
 mod givens;
+pub mod laws;
 mod model;
 mod phase;
 

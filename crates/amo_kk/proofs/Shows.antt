@@ -1,0 +1,118 @@
+-- What the answers say of the history.
+use Rattle.std.proofs.Common.{◌≡◌, ℕ, Bool, true, false, [], ◌∷◌, ◌++◌, refl, sym, ap, ◌∙◌, subst}
+use Rattle.std.specs.Prelude.{if◌then◌else◌}
+use Rattle.std.proofs.lemmas.Bool.{true≢false}
+use Rattle.amo_kk.specs.Record.{is_over, wants_nothing, can_leave}
+use Rattle.amo_kk.specs.Event.{want, record_after_phase, record_after, record_after_leave, shown_events}
+use Rattle.amo_kk.specs.World.{process, loaded_value, process_after, world_with, world_after_event, world_after_turn, world_after_leave}
+use Rattle.amo_kk.specs.Answer.{shown, events_of, turn_shown, leaving, leave_answer}
+use Rattle.amo_kk.specs.Lawful.{IsLawful}
+use Rattle.amo_kk.specs.declared.givens.Givens.{Givens}
+use Rattle.amo_kk.specs.declared.phase.Phase.{Phase}
+use Rattle.amo_kk.specs.declared.phase.Phase.TheVariants.{Announcing, Trying, Reading, Claiming, Holding, Over, Left as LeftPhase}
+use Rattle.amo_kk.specs.declared.model.Record.{Record}
+use Rattle.amo_kk.specs.declared.event.Event.TheVariants.{Ended as EndedEvent, Done as DoneEvent, Left as LeftEvent}
+use Rattle.amo_kk.specs.declared.event.Shown.TheVariants.{Quiet, Done, DoneEnded, Ended}
+use Rattle.amo_kk.specs.declared.event.Leaving.{Leaving}
+use Rattle.amo_kk.specs.declared.event.Leaving.TheVariants.{Left as LeftNow, InHand, Gone}
+use Rattle.amo_kk.specs.declared.phase.Want.TheVariants.{StoreNext}
+use Rattle.amo_kk.specs.declared.model.World.{World}
+use Rattle.amo_kk.proofs.Worlds.{here_is_worker}
+
+pub shows : (g : Givens) (p v : ℕ) (r : Record) → wants_nothing r.phase ≡ false → events_of p (shown r.phase (record_after g p v r).phase) ≡ shown_events p r.phase (record_after g p v r).phase
+shows g p v r wants = go r.phase refl
+  where
+    quiet : (b : Bool) → events_of p (if b then Ended else Quiet) ≡ (if b then EndedEvent p ∷ [] else [])
+    quiet true = refl
+    quiet false = refl
+
+    done : (j : ℕ) (b : Bool) → events_of p (if b then DoneEnded j else Done j) ≡ DoneEvent p j ∷ (if b then EndedEvent p ∷ [] else [])
+    done j true = refl
+    done j false = refl
+
+    go : (phase : Phase) → r.phase ≡ phase → events_of p (shown r.phase (record_after_phase g p v r r.phase).phase) ≡ shown_events p r.phase (record_after_phase g p v r r.phase).phase
+    go (Announcing j) is = subst (λ x. events_of p (shown x (record_after_phase g p v r x).phase) ≡ shown_events p x (record_after_phase g p v r x).phase) (sym is) (quiet (is_over (record_after_phase g p v r (Announcing j)).phase))
+    go (Trying j q) is = subst (λ x. events_of p (shown x (record_after_phase g p v r x).phase) ≡ shown_events p x (record_after_phase g p v r x).phase) (sym is) (quiet (is_over (record_after_phase g p v r (Trying j q)).phase))
+    go (Reading j q) is = subst (λ x. events_of p (shown x (record_after_phase g p v r x).phase) ≡ shown_events p x (record_after_phase g p v r x).phase) (sym is) (quiet (is_over (record_after_phase g p v r (Reading j q)).phase))
+    go (Claiming j) is = subst (λ x. events_of p (shown x (record_after_phase g p v r x).phase) ≡ shown_events p x (record_after_phase g p v r x).phase) (sym is) refl
+    go (Holding j) is = subst (λ x. events_of p (shown x (record_after_phase g p v r x).phase) ≡ shown_events p x (record_after_phase g p v r x).phase) (sym is) (done j (is_over (record_after_phase g p v r (Holding j)).phase))
+    go Over is = absurd (true≢false (sym (ap wants_nothing is) ∙ wants))
+    go LeftPhase is = absurd (true≢false (sym (ap wants_nothing is) ∙ wants))
+
+is_false : (b : Bool) → (b ≡ true → ⊥) → b ≡ false
+is_false true h = absurd (h refl)
+is_false false h = refl
+
+pub turn_history : (g : Givens) (w : World) (p : ℕ) → IsLawful g w → (process w p).gone ≡ false → (world_after_turn g w p).history ≡ w.history ++ events_of p (turn_shown g w p)
+turn_history g w p law here =
+    ap (λ b. (if b then w else world_after_event g w p (process w p)).history) here
+    ∙ ap (λ l. w.history ++ l) (sym (shows g p (loaded_value w (want (process w p).local)) (process w p).local wants))
+  where
+    wants : wants_nothing (process w p).local.phase ≡ false
+    wants = is_false _ (λ h. true≢false (sym ((law.lawful.sound p (here_is_worker g w p law.size here)).gone h) ∙ here))
+
+pub idle : (g : Givens) (w : World) (p : ℕ) → (process w p).gone ≡ true → world_after_turn g w p ≡ w
+idle g w p gone = ap (λ b. if b then w else world_after_event g w p (process w p)) gone
+
+-- the answers of leaving are told apart
+abbrev is_left : Leaving → Bool
+is_left LeftNow = true
+is_left (InHand j) = false
+is_left Gone = false
+
+abbrev job_of : Leaving → ℕ
+job_of LeftNow = 0
+job_of (InHand j) = j
+job_of Gone = 0
+
+abbrev is_in_hand : Leaving → Bool
+is_in_hand LeftNow = false
+is_in_hand (InHand j) = true
+is_in_hand Gone = false
+
+abbrev gone_after : World → ℕ → Bool → Bool → World
+gone_after w p b c = if b then w else (if c then world_with w p (process_after (StoreNext 0) (process w p) (record_after_leave (process w p).local)) (LeftEvent p ∷ []) else w)
+
+pub left_history : (w : World) (p : ℕ) → leave_answer w p ≡ LeftNow → (world_after_leave w p).history ≡ w.history ++ LeftEvent p ∷ []
+left_history w p h = go (process w p).gone (process w p).local.phase refl refl h
+  where
+    go : (b : Bool) (phase : Phase) → (process w p).gone ≡ b → (process w p).local.phase ≡ phase → (if b then Gone else leaving phase) ≡ LeftNow → (world_after_leave w p).history ≡ w.history ++ LeftEvent p ∷ []
+    go true phase e is h = absurd (true≢false (sym (ap is_left h)))
+    go false (Announcing j) e is h = λ i. (gone_after w p (e i) (can_leave (is i))).history
+    go false (Trying j q) e is h = λ i. (gone_after w p (e i) (can_leave (is i))).history
+    go false (Reading j q) e is h = λ i. (gone_after w p (e i) (can_leave (is i))).history
+    go false (Claiming j) e is h = λ i. (gone_after w p (e i) (can_leave (is i))).history
+    go false (Holding j) e is h = absurd (true≢false (sym (ap is_left h)))
+    go false Over e is h = absurd (true≢false (sym (ap is_left h)))
+    go false LeftPhase e is h = absurd (true≢false (sym (ap is_left h)))
+
+pub kept_in_hand : (w : World) (p j : ℕ) → leave_answer w p ≡ InHand j → ((process w p).local.phase ≡ Holding j) × (world_after_leave w p ≡ w)
+kept_in_hand w p j h = go (process w p).gone (process w p).local.phase refl refl h
+  where
+    go : (b : Bool) (phase : Phase) → (process w p).gone ≡ b → (process w p).local.phase ≡ phase → (if b then Gone else leaving phase) ≡ InHand j → ((process w p).local.phase ≡ Holding j) × (world_after_leave w p ≡ w)
+    go true phase e is h = absurd (true≢false (sym (ap is_in_hand h)))
+    go false (Announcing i) e is h = absurd (true≢false (sym (ap is_in_hand h)))
+    go false (Trying i q) e is h = absurd (true≢false (sym (ap is_in_hand h)))
+    go false (Reading i q) e is h = absurd (true≢false (sym (ap is_in_hand h)))
+    go false (Claiming i) e is h = absurd (true≢false (sym (ap is_in_hand h)))
+    go false (Holding i) e is h = (is ∙ ap Holding (ap job_of h), λ k. gone_after w p (e k) (can_leave (is k)))
+    go false Over e is h = absurd (true≢false (sym (ap is_in_hand h)))
+    go false LeftPhase e is h = absurd (true≢false (sym (ap is_in_hand h)))
+
+pub gone_stays : (w : World) (p : ℕ) → leave_answer w p ≡ Gone → world_after_leave w p ≡ w
+gone_stays w p h = go (process w p).gone (process w p).local.phase refl refl h
+  where
+    abbrev_gone : Leaving → Bool
+    abbrev_gone LeftNow = false
+    abbrev_gone (InHand j) = false
+    abbrev_gone Gone = true
+
+    go : (b : Bool) (phase : Phase) → (process w p).gone ≡ b → (process w p).local.phase ≡ phase → (if b then Gone else leaving phase) ≡ Gone → world_after_leave w p ≡ w
+    go true phase e is h = λ k. gone_after w p (e k) (can_leave (process w p).local.phase)
+    go false (Announcing i) e is h = absurd (true≢false (sym (ap abbrev_gone h)))
+    go false (Trying i q) e is h = absurd (true≢false (sym (ap abbrev_gone h)))
+    go false (Reading i q) e is h = absurd (true≢false (sym (ap abbrev_gone h)))
+    go false (Claiming i) e is h = absurd (true≢false (sym (ap abbrev_gone h)))
+    go false (Holding i) e is h = λ k. gone_after w p (e k) (can_leave (is k))
+    go false Over e is h = λ k. gone_after w p (e k) (can_leave (is k))
+    go false LeftPhase e is h = λ k. gone_after w p (e k) (can_leave (is k))

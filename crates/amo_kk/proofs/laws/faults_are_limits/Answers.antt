@@ -1,0 +1,6 @@
+use Rattle.amo_kk.specs.Limits.{within_limits}
+use Rattle.amo_kk.proofs.Limits.{limits_break_none}
+use Rattle.amo_kk.proofs.laws.faults_are_limits.Goals as goal
+
+pub returns : goal.returns
+returns c = λ jobs workers beta. (within_limits jobs workers beta, limits_break_none jobs workers beta)

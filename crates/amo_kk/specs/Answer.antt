@@ -1,0 +1,52 @@
+-- What the calls answer, as functions of the record or the world before them.
+use Rattle.std.specs.Prelude.{ℕ, List, [], ◌∷◌, if◌then◌else◌}
+use Rattle.amo_kk.specs.Record.{is_over}
+use Rattle.amo_kk.specs.Event.{want, record_after}
+use Rattle.amo_kk.specs.World.{process, loaded_value}
+use Rattle.amo_kk.specs.declared.givens.Givens.{Givens}
+use Rattle.amo_kk.specs.declared.phase.Phase.{Phase}
+use Rattle.amo_kk.specs.declared.phase.Phase.TheVariants.{Announcing, Trying, Reading, Claiming, Holding, Over, Left as LeftPhase}
+use Rattle.amo_kk.specs.declared.event.Event.{Event}
+use Rattle.amo_kk.specs.declared.event.Event.TheVariants.{Claimed as ClaimedEvent, Done as DoneEvent, Ended as EndedEvent, Left as LeftEvent}
+use Rattle.amo_kk.specs.declared.event.Shown.{Shown}
+use Rattle.amo_kk.specs.declared.event.Shown.TheVariants.{Quiet, Claimed, Done, DoneEnded, Ended, Left}
+use Rattle.amo_kk.specs.declared.event.Leaving.{Leaving}
+use Rattle.amo_kk.specs.declared.event.Leaving.TheVariants.{Left as LeftNow, InHand, Gone}
+use Rattle.amo_kk.specs.declared.model.World.{World}
+
+-- what an event shows, by the phases before and after it
+abbrev pub shown : Phase → Phase → Shown
+shown (Announcing j) after = if is_over after then Ended else Quiet
+shown (Trying j q) after = if is_over after then Ended else Quiet
+shown (Reading j q) after = if is_over after then Ended else Quiet
+shown (Claiming j) after = Claimed j
+shown (Holding j) after = if is_over after then DoneEnded j else Done j
+shown Over after = Quiet
+shown LeftPhase after = Quiet
+
+-- the events of worker p for which such an answer stands
+abbrev pub events_of : ℕ → Shown → List Event
+events_of p Quiet = []
+events_of p (Claimed j) = ClaimedEvent p j ∷ []
+events_of p (Done j) = DoneEvent p j ∷ []
+events_of p (DoneEnded j) = DoneEvent p j ∷ EndedEvent p ∷ []
+events_of p Ended = EndedEvent p ∷ []
+events_of p Left = LeftEvent p ∷ []
+
+-- what the event of worker p, which isn't gone, shows
+abbrev pub turn_shown : Givens → World → ℕ → Shown
+turn_shown g w p = let r = (process w p).local in shown r.phase (record_after g p (loaded_value w (want r)) r).phase
+
+-- what becomes of a worker in this phase, which isn't gone, if it is asked to leave
+abbrev pub leaving : Phase → Leaving
+leaving (Announcing j) = LeftNow
+leaving (Trying j q) = LeftNow
+leaving (Reading j q) = LeftNow
+leaving (Claiming j) = LeftNow
+leaving (Holding j) = InHand j
+leaving Over = Gone
+leaving LeftPhase = Gone
+
+-- what p answers if it is asked to leave: Gone where p is gone, whatever it has in its hand
+abbrev pub leave_answer : World → ℕ → Leaving
+leave_answer w p = if (process w p).gone then Gone else leaving (process w p).local.phase

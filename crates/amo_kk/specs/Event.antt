@@ -1,0 +1,108 @@
+-- The events of a worker: what each loads or stores, the record after it, and what it shows.
+use Rattle.std.specs.Prelude.{◌≡◌, ℕ, ◌+◌, ◌-◌, ◌^◌, ◌≤◌, min, Bool, true, false, List, [], ◌∷◌, ◌++◌, length, nat_le, ◌==◌, if◌then◌else◌, ⊤}
+use Rattle.amo_sets.specs.Lists.{numbered, put}
+use Rattle.amo_sets.specs.Sets.{with_number}
+use Rattle.amo_kk.specs.Givens.{next_other}
+use Rattle.amo_kk.specs.Record.{is_over}
+use Rattle.amo_kk.specs.Choice.{record_after_choice, record_after_check}
+use Rattle.amo_kk.specs.declared.givens.Givens.{Givens}
+use Rattle.amo_kk.specs.declared.phase.Phase.{Phase}
+use Rattle.amo_kk.specs.declared.phase.Phase.TheVariants.{Announcing, Trying, Reading, Claiming, Holding, Over, Left}
+use Rattle.amo_kk.specs.declared.model.Record.{Record}
+use Rattle.amo_kk.specs.declared.phase.Want.{Want}
+use Rattle.amo_kk.specs.declared.phase.Want.TheVariants.{StoreNext, LoadNext, LoadDone, StoreClaim, StoreDone, Nothing}
+use Rattle.amo_kk.specs.declared.event.Event.{Event}
+use Rattle.amo_kk.specs.declared.event.Event.TheVariants.{Claimed, Done, Ended}
+
+-- the load or store of each phase, for this record
+abbrev pub want_in : Record → Phase → Want
+want_in r (Announcing j) = StoreNext j
+want_in r (Trying j q) = LoadNext q
+want_in r (Reading j q) = LoadDone q (numbered 0 r.fronts q + 1)
+want_in r (Claiming j) = StoreClaim (length r.claimed + 1) j
+want_in r (Holding j) = StoreDone (length r.dones + 1) j
+want_in r Over = Nothing
+want_in r Left = Nothing
+
+-- the load or store that the worker wants next
+abbrev pub want : Record → Want
+want r = want_in r r.phase
+
+-- whether a load is wanted
+abbrev pub is_load : Want → Bool
+is_load (StoreNext j) = false
+is_load (LoadNext q) = true
+is_load (LoadDone q k) = true
+is_load (StoreClaim c j) = false
+is_load (StoreDone k j) = false
+is_load Nothing = false
+
+-- whether a store is wanted
+abbrev pub is_store : Want → Bool
+is_store (StoreNext j) = true
+is_store (LoadNext q) = false
+is_store (LoadDone q k) = false
+is_store (StoreClaim c j) = true
+is_store (StoreDone k j) = true
+is_store Nothing = false
+
+-- the set tried with the announced job v, where 0 announces nothing
+abbrev pub with_announced : ℕ → List ℕ → List ℕ
+with_announced v tried = if v == 0 then tried else with_number v tried
+
+-- the record about to read the row of q, or after the check where there is no worker q
+abbrev pub record_at_row : Givens → ℕ → ℕ → ℕ → Record → Record
+record_at_row g p j q r = if nat_le q g.workers then record r { phase = Reading j q } else record_after_check g p j r
+
+-- the record about to read the announcement of q, or at the first row where there is no worker q
+abbrev pub record_at_announcement : Givens → ℕ → ℕ → ℕ → Record → Record
+record_at_announcement g p j q r =
+    if nat_le q g.workers then record r { phase = Trying j q } else record_at_row g p j (next_other p 0) r
+
+-- the record after the event of each phase, v being what was loaded, but for the count of steps
+abbrev pub record_after_phase : Givens → ℕ → ℕ → Record → Phase → Record
+record_after_phase g p v r (Announcing j) = record_at_announcement g p j (next_other p 0) r
+record_after_phase g p v r (Trying j q) = record_at_announcement g p j (next_other p q) (record r { tried = with_announced v r.tried })
+record_after_phase g p v r (Reading j q) =
+    if v == 0
+    then record_at_row g p j (next_other p q) r
+    else record r { known = with_number v r.known; fronts = put r.fronts q (numbered 0 r.fronts q + 1) }
+record_after_phase g p v r (Claiming j) = record r { phase = Holding j; claimed = r.claimed ++ j ∷ [] }
+record_after_phase g p v r (Holding j) = record_after_choice g p (record r { dones = r.dones ++ j ∷ []; known = with_number j r.known })
+record_after_phase g p v r Over = r
+record_after_phase g p v r Left = r
+
+-- the record after the event of worker p, v being what was loaded
+abbrev pub record_after : Givens → ℕ → ℕ → Record → Record
+record_after g p v r = let e = record_after_phase g p v r r.phase in record e { steps = min (r.steps + 1) (2 ^ 64 - 1) }
+
+-- the record after leaving, which a caller asks for
+abbrev pub record_after_leave : Record → Record
+record_after_leave r = record r { phase = Left; steps = min (r.steps + 1) (2 ^ 64 - 1) }
+
+-- the claim or the performance that the event of this phase is
+abbrev pub claimed_or_done : ℕ → Phase → List Event
+claimed_or_done p (Announcing j) = []
+claimed_or_done p (Trying j q) = []
+claimed_or_done p (Reading j q) = []
+claimed_or_done p (Claiming j) = Claimed p j ∷ []
+claimed_or_done p (Holding j) = Done p j ∷ []
+claimed_or_done p Over = []
+claimed_or_done p Left = []
+
+-- the end of worker p, where the phase is over
+abbrev pub ended_if_over : ℕ → Phase → List Event
+ended_if_over p phase = if is_over phase then Ended p ∷ [] else []
+
+-- the events that an event shows, by the phases before and after it
+abbrev pub shown_events : ℕ → Phase → Phase → List Event
+shown_events p before after = claimed_or_done p before ++ ended_if_over p after
+
+-- v may be what the wanted load gives: a job or 0, and 0 in the last place of a row
+abbrev pub MayLoad : Givens → ℕ → Want → Type 0
+MayLoad g v (StoreNext j) = ⊤
+MayLoad g v (LoadNext q) = v ≤ g.jobs
+MayLoad g v (LoadDone q k) = (v ≤ g.jobs) × (k ≡ g.jobs + 1 → v ≡ 0)
+MayLoad g v (StoreClaim c j) = ⊤
+MayLoad g v (StoreDone k j) = ⊤
+MayLoad g v Nothing = ⊤

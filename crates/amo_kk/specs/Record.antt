@@ -1,0 +1,94 @@
+-- The record of a worker: what its phase and its sets say.
+use Rattle.std.specs.Prelude.{◌≡◌, ℕ, ◌<◌, Bool, true, false, not, ◌&&◌, List, [], ◌∷◌, ⊤}
+use Rattle.amo_sets.specs.Lists.{table}
+use Rattle.amo_sets.specs.Sets.{has}
+use Rattle.amo_kk.specs.declared.givens.Givens.{Givens}
+use Rattle.amo_kk.specs.declared.phase.Phase.{Phase}
+use Rattle.amo_kk.specs.declared.phase.Phase.TheVariants.{Announcing, Trying, Reading, Claiming, Holding, Over, Left}
+use Rattle.amo_kk.specs.declared.model.Record.{Record}
+
+-- the record with nothing in it; its phase is still to be chosen
+abbrev pub empty_record : Givens → Record
+empty_record g = record { phase = Over; known = []; tried = []; fronts = table g.workers (λ _. 0); claimed = []; dones = []; steps = 0 }
+
+-- j is free: not known to be done
+abbrev pub is_free : Record → ℕ → Bool
+is_free r j = not (has r.known j)
+
+-- j is open: free, and not seen announced by another worker in this attempt
+abbrev pub is_open : Record → ℕ → Bool
+is_open r j = not (has r.known j) && not (has r.tried j)
+
+-- the worker has ended by its own choice
+abbrev pub is_over : Phase → Bool
+is_over (Announcing j) = false
+is_over (Trying j q) = false
+is_over (Reading j q) = false
+is_over (Claiming j) = false
+is_over (Holding j) = false
+is_over Over = true
+is_over Left = false
+
+-- the worker takes no event of its own any more: it has ended, or left
+abbrev pub wants_nothing : Phase → Bool
+wants_nothing (Announcing j) = false
+wants_nothing (Trying j q) = false
+wants_nothing (Reading j q) = false
+wants_nothing (Claiming j) = false
+wants_nothing (Holding j) = false
+wants_nothing Over = true
+wants_nothing Left = true
+
+-- the worker may leave: it goes on, and has nothing in its hand
+abbrev pub can_leave : Phase → Bool
+can_leave (Announcing j) = true
+can_leave (Trying j q) = true
+can_leave (Reading j q) = true
+can_leave (Claiming j) = true
+can_leave (Holding j) = false
+can_leave Over = false
+can_leave Left = false
+
+-- the job in its hand, or 0
+abbrev pub job_in_hand : Phase → ℕ
+job_in_hand (Announcing j) = 0
+job_in_hand (Trying j q) = 0
+job_in_hand (Reading j q) = 0
+job_in_hand (Claiming j) = 0
+job_in_hand (Holding j) = j
+job_in_hand Over = 0
+job_in_hand Left = 0
+
+-- the same as a list, which has one job or none
+abbrev pub jobs_in_hand : Phase → List ℕ
+jobs_in_hand (Announcing j) = []
+jobs_in_hand (Trying j q) = []
+jobs_in_hand (Reading j q) = []
+jobs_in_hand (Claiming j) = []
+jobs_in_hand (Holding j) = j ∷ []
+jobs_in_hand Over = []
+jobs_in_hand Left = []
+
+-- in an attempt on j, the announcement of q was read
+abbrev pub IsPast : Phase → ℕ → ℕ → Type 0
+IsPast (Announcing i) q j = ⊥
+IsPast (Trying i next) q j = (i ≡ j) × (q < next)
+IsPast (Reading i next) q j = i ≡ j
+IsPast (Claiming i) q j = i ≡ j
+IsPast (Holding i) q j = i ≡ j
+IsPast Over q j = ⊥
+IsPast Left q j = ⊥
+
+-- in this attempt the row of q was read up to a zero
+abbrev pub IsThrough : Phase → ℕ → Type 0
+IsThrough (Announcing i) q = ⊥
+IsThrough (Trying i next) q = ⊥
+IsThrough (Reading i next) q = q < next
+IsThrough (Claiming i) q = ⊤
+IsThrough (Holding i) q = ⊤
+IsThrough Over q = ⊥
+IsThrough Left q = ⊥
+
+-- clear of q on j: past q in an attempt on j, and j was not seen announced
+abbrev pub IsClear : Record → ℕ → ℕ → Type 0
+IsClear r q j = IsPast r.phase q j × (has r.tried j ≡ false)

@@ -1,0 +1,90 @@
+//! The theorems over the definitions. Nothing here runs: each function's contract is a law, which the calls of
+//! the crates above stand on.
+ghost use Rattle.std.specs.Prelude.{◌≡◌, ◌<◌, ◌≤◌, ◌↔◌, ◌+◌, ◌*◌, ℕ, suc, true, false, List, [], ◌∷◌, ◌++◌, length, slice_index, None};
+ghost use Rattle.amo_sets.specs.Sets.{AreDistinct};
+ghost use Rattle.amo_kk.specs.Limits.{AreWithinLimits, first_fault};
+ghost use Rattle.amo_kk.specs.Givens.{bound, IsWorker};
+ghost use Rattle.amo_kk.specs.Object.{first_object};
+ghost use Rattle.amo_kk.specs.Run.{IsRun, first_bad, IsFirstBad, claimed_jobs, done_jobs, has_claimed};
+ghost use Rattle.amo_kk.specs.Record.{can_leave};
+ghost use Rattle.amo_kk.specs.Event.{want};
+ghost use Rattle.amo_kk.specs.World.{process, loaded_value, world_after_turn, world_after_leave, world_after_moves, opening_world};
+ghost use Rattle.amo_kk.specs.Words.{words_of, loaded_word, words_after};
+ghost use Rattle.amo_kk.specs.Answer.{events_of, turn_shown, leave_answer};
+ghost use Rattle.amo_kk.specs.Alone.{IsFirstToSettle};
+ghost use Rattle.amo_kk.specs.Lawful.{IsLawful, Agrees, object_of};
+ghost use Rattle.amo_kk.specs.declared.givens.Givens.{Givens};
+ghost use Rattle.amo_kk.specs.declared.event.Move.{Move};
+ghost use Rattle.amo_kk.specs.declared.event.Event.{Event};
+ghost use Rattle.amo_kk.specs.declared.event.Event.TheVariants.{Done, Ended, Left};
+ghost use Rattle.amo_kk.specs.declared.event.Leaving.TheVariants.{Left as LeftNow, InHand, Gone};
+ghost use Rattle.amo_kk.specs.declared.model.World.{World};
+ghost use Rattle.amo_kk.specs.declared.model.Object.{Object};
+ghost use Rattle.amo_kk.specs.declared.phase.Want.TheVariants.{StoreNext};
+ghost use Rattle.amo_kk.specs.declared.phase.Phase.TheVariants.{Holding};
+
+/// The headline. For all givens and every list of turns, stops and leavings: the world is lawful, its history is
+/// a run of the one sequential object, and the state that the run leaves agrees with the world.
+pub fn history_is_a_run()
+    ensures lawful { (g : Givens) (moves : List Move) → IsLawful g (world_after_moves g (opening_world g) moves) }
+    ensures run { (g : Givens) (moves : List Move)
+        → IsRun g (first_object g) (world_after_moves g (opening_world g) moves).history }
+    ensures agrees { (g : Givens) (moves : List Move)
+        → Agrees g (process (world_after_moves g (opening_world g) moves)) (object_of g (world_after_moves g (opening_world g) moves)) }
+{}
+
+/// What a run says in plain words: no job is claimed twice, none is performed twice, each performance comes after
+/// the same worker's claim, and an end comes after at least `bound` performances.
+pub fn runs_claim_once()
+    ensures claims { (g : Givens) (events : List Event) → IsRun g (first_object g) events → AreDistinct (claimed_jobs events) }
+    ensures dones { (g : Givens) (events : List Event) → IsRun g (first_object g) events → AreDistinct (done_jobs events) }
+    ensures claimed_before { (g : Givens) (before after : List Event) (p j : ℕ)
+        → IsRun g (first_object g) (before ++ Done p j ∷ after) → has_claimed before p j ≡ true }
+    ensures late_end { (g : Givens) (before after : List Event) (p : ℕ)
+        → IsRun g (first_object g) (before ++ Ended p ∷ after) → bound g ≤ length (done_jobs before) }
+{}
+
+/// A run has at most two events for each job and one for each worker.
+pub fn runs_are_short()
+    ensures { (g : Givens) (events : List Event) → IsRun g (first_object g) events → length events ≤ 2 * g.jobs + g.workers }
+{}
+
+/// `first_bad` is 0 just at runs, and else names the first event that is no step.
+pub fn first_bad_is_the_first()
+    ensures run { (g : Givens) (s : Object) (events : List Event) → first_bad g s events ≡ 0 ↔ IsRun g s events }
+    ensures bad { (g : Givens) (s : Object) (events : List Event) (i : ℕ)
+        → first_bad g s events ≡ suc i → IsFirstBad g s events (suc i) }
+{}
+
+/// From every lawful world a worker that isn't gone, alone, claims a job or ends within `6 * workers + jobs` turns.
+pub fn alone_settles_soon()
+    ensures { (g : Givens) (w : World) (p : ℕ) → IsLawful g w → (process w p).gone ≡ false
+        → (i : ℕ) × (i < 6 * g.workers + g.jobs) × IsFirstToSettle g w p i }
+{}
+
+/// In one list of words: a turn loads the word that is wanted, and makes just its one store; leaving stores 0 to
+/// the announcement.
+pub fn words_are_laid_out()
+    ensures loads { (g : Givens) (w : World) (p : ℕ) → IsLawful g w → IsWorker g p
+        → loaded_value w (want (process w p).local) ≡ slice_index (words_of w.processes) (loaded_word g (want (process w p).local)) }
+    ensures stores { (g : Givens) (w : World) (p : ℕ) → IsLawful g w → (process w p).gone ≡ false
+        → words_of (world_after_turn g w p).processes ≡ words_after g p (want (process w p).local) (words_of w.processes) }
+    ensures leaves { (g : Givens) (w : World) (p : ℕ) → IsLawful g w → (process w p).gone ≡ false → can_leave (process w p).local.phase ≡ true
+        → words_of (world_after_leave w p).processes ≡ words_after g p (StoreNext 0) (words_of w.processes) }
+{}
+
+/// What a turn or a leaving answers is what it adds to the history; whoever does not leave changes nothing.
+pub fn answers_are_history()
+    ensures turn { (g : Givens) (w : World) (p : ℕ) → IsLawful g w → (process w p).gone ≡ false
+        → (world_after_turn g w p).history ≡ w.history ++ events_of p (turn_shown g w p) }
+    ensures idle { (g : Givens) (w : World) (p : ℕ) → (process w p).gone ≡ true → world_after_turn g w p ≡ w }
+    ensures left { (w : World) (p : ℕ) → leave_answer w p ≡ LeftNow → (world_after_leave w p).history ≡ w.history ++ Left p ∷ [] }
+    ensures in_hand { (w : World) (p j : ℕ) → leave_answer w p ≡ InHand j
+        → ((process w p).local.phase ≡ Holding j) × (world_after_leave w p ≡ w) }
+    ensures gone { (w : World) (p : ℕ) → leave_answer w p ≡ Gone → world_after_leave w p ≡ w }
+{}
+
+/// Three numbers are within the limits just where they break none.
+pub fn faults_are_limits()
+    ensures { (jobs workers beta : ℕ) → first_fault jobs workers beta ≡ None ↔ AreWithinLimits jobs workers beta }
+{}
