@@ -11,3 +11,7 @@ pub mod Words
 pub mod Alone
 pub mod Shows
 pub mod Rows
+pub mod Bits
+pub mod Counts
+pub mod Holding
+pub mod Choosing

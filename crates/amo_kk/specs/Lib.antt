@@ -10,3 +10,4 @@ pub mod Words
 pub mod Answer
 pub mod Alone
 pub mod Lawful
+pub mod Machine

@@ -1,0 +1,79 @@
+-- A machine whose record fits is held.
+use Rattle.std.proofs.Common.{◌≡◌, ℕ, zero, suc, true, List, set, ◌≤◌, ◌+◌, ◌-◌, ◌^◌, min, length, get_or, subst, ap, sym, refl, ◌∙◌, arith, ◌<◌, ◌++◌, ◌∷◌, []}
+use Rattle.std.proofs.lemmas.List.{length_push, get_or_default}
+use Rattle.std.proofs.lemmas.Bool.{ne_eqb}
+use Rattle.std.specs.Prelude.{if◌then◌else◌}
+use Rattle.amo_sets.specs.Lists.{numbered, put}
+use Rattle.amo_sets.specs.Sets.{with_number}
+use Rattle.amo_kk.specs.Givens.{AreGivens, IsWorker, next_other}
+use Rattle.amo_kk.specs.Event.{want, record_at_row, record_after_phase, record_after, MayLoad}
+use Rattle.amo_kk.specs.Lawful.{IsSoundRecord}
+use Rattle.amo_kk.proofs.Bits.{numbered_before}
+use Rattle.amo_kk.specs.declared.phase.Phase.TheVariants.{Claiming, Reading, Left}
+use Rattle.amo_kk.specs.declared.phase.Phase.{Phase}
+use Rattle.amo_kk.specs.declared.phase.Want.{Want}
+use Rattle.amo_kk.specs.declared.phase.Want.TheVariants.{StoreNext, LoadNext, LoadDone, StoreClaim, StoreDone, Nothing}
+use Rattle.amo_kk.specs.declared.givens.Givens.{Givens}
+use Rattle.amo_kk.specs.declared.model.Record.{Record}
+use Rattle.amo_kk.proofs.Fit.{claims_fit, after_fit, left_fit}
+use Rattle.amo_kk.proofs.Worlds.{leaves_empty}
+use Rattle.amo_kk.specs.Record.{can_leave}
+use Rattle.amo_kk.specs.Machine.{IsHeld}
+
+pub held : (g : Givens) (p : ℕ) (r : Record) (known tried claims dones : ℕ) → AreGivens g → IsWorker g p → IsSoundRecord g p r → known ≡ g.jobs → tried ≡ g.jobs → g.jobs ≤ claims → g.jobs ≤ dones → IsHeld g p r known tried claims dones
+held g p r known tried claims dones ok o fit k t c d =
+    let few = claims_fit g p r fit in
+    record { givens = ok; worker = o; fit = fit; claims_few = few.0; dones_few = few.1; front_few = λ i. fit.front (suc i); known_range_is = k; tried_range_is = t; claims_fit = c; dones_fit = d }
+
+-- after an event
+pub held_after : (g : Givens) (p v : ℕ) (r x : Record) (known tried claims dones known' tried' claims' dones' : ℕ) → IsHeld g p r known tried claims dones → MayLoad g v (want r) → record_after g p v r ≡ x
+    → known' ≡ known → tried' ≡ tried → claims ≤ claims' → dones ≤ dones' → IsHeld g p x known' tried' claims' dones'
+held_after g p v r x known tried claims dones known' tried' claims' dones' h heard is k t c d =
+    held g p x known' tried' claims' dones' h.givens h.worker (subst (λ y. IsSoundRecord g p y) is (after_fit g h.givens p h.worker r v h.fit heard))
+    (k ∙ h.known_range_is) (t ∙ h.tried_range_is) (let l = h.claims_fit in omega arith) (let l = h.dones_fit in omega arith)
+
+pub after_by : (g : Givens) (p v : ℕ) (r y : Record) (phase : Phase) (n : ℕ) → r.phase ≡ phase → record_after_phase g p v r phase ≡ y → n ≡ min (r.steps + 1) (2 ^ 64 - 1) → record_after g p v r ≡ record y { steps = n }
+after_by g p v r y phase n is to steps = ap (λ x. record (record_after_phase g p v r x) { steps = min (r.steps + 1) (2 ^ 64 - 1) }) is ∙ (λ i. record (to i) { steps = sym steps i })
+
+pub hears_zero : (g : Givens) (w : Want) → MayLoad g 0 w
+hears_zero g (StoreNext j) = tt
+hears_zero g (LoadNext q) = omega arith
+hears_zero g (LoadDone q k) = (omega arith, λ _. refl)
+hears_zero g (StoreClaim c j) = tt
+hears_zero g (StoreDone k j) = tt
+hears_zero g Nothing = tt
+
+-- after leaving
+pub held_left : (g : Givens) (p : ℕ) (r : Record) (n known tried claims dones : ℕ) → IsHeld g p r known tried claims dones → can_leave r.phase ≡ true → n ≡ min (r.steps + 1) (2 ^ 64 - 1)
+    → IsHeld g p (record r { phase = Left; steps = n }) known tried claims dones
+held_left g p r n known tried claims dones h may steps =
+    held g p (record r { phase = Left; steps = n }) known tried claims dones h.givens h.worker
+    (subst (λ x. IsSoundRecord g p (record r { phase = Left; steps = x })) (sym steps) (left_fit g h.givens p h.worker r (leaves_empty r.phase may) h.fit))
+    h.known_range_is h.tried_range_is h.claims_fit h.dones_fit
+
+-- before a claim there is room for it
+pub claim_room : (g : Givens) (p : ℕ) (r : Record) (j : ℕ) → AreGivens g → IsWorker g p → IsSoundRecord g p r → r.phase ≡ Claiming j → length r.claimed < g.jobs
+claim_room g p r j ok o fit is =
+    let next : IsSoundRecord g p (record_after g p 0 r) = after_fit g ok p o r 0 fit (hears_zero g (want r)) in
+    let few = (claims_fit g p (record_after g p 0 r) next).0 in
+    let same : (record_after g p 0 r).claimed ≡ r.claimed ++ j ∷ [] = ap (λ x. (record_after_phase g p 0 r x).claimed) is in
+    let more = ap length same ∙ length_push r.claimed j in
+    omega arith
+
+pub put_before : {X : Type 0} (xs : List X) (q : ℕ) (x : X) → 1 ≤ q → put xs q x ≡ set xs (q - 1) x
+put_before xs zero x l = absurd (omega arith)
+put_before xs (suc k) x l = let e : k ≡ suc k - 1 = omega arith in ap (λ i. set xs i x) e
+
+-- one entry more of the row of q
+pub entry_moves : (g : Givens) (p v j q w : ℕ) (r : Record) (known fronts : List ℕ) → 1 ≤ v → 1 ≤ q → q ≤ length r.fronts → w ≡ get_or r.fronts (q - 1) w
+    → known ≡ with_number v r.known → fronts ≡ set r.fronts (q - 1) (w + 1)
+    → record_after_phase g p v r (Reading j q) ≡ record r { known = known; fronts = fronts }
+entry_moves g p v j q w r known fronts some low high read k f =
+    ap (λ b. if b then record_at_row g p j (next_other p q) r else record r { known = with_number v r.known; fronts = put r.fronts q (numbered 0 r.fronts q + 1) }) (ne_eqb v 0 (λ e. omega arith))
+    ∙ (λ i. record r { known = sym k i; fronts = places i })
+  where
+    front : numbered 0 r.fronts q ≡ w
+    front = numbered_before 0 r.fronts q low ∙ get_or_default r.fronts (q - 1) 0 w (omega arith) ∙ sym read
+
+    places : put r.fronts q (numbered 0 r.fronts q + 1) ≡ fronts
+    places = ap (λ x. put r.fronts q (x + 1)) front ∙ put_before r.fronts q (w + 1) low ∙ sym f

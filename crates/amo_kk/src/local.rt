@@ -1,0 +1,359 @@
+//! The local machine of a worker.
+ghost use Rattle.std.specs.Prelude.{◌≡◌, ◌≤◌, ◌<◌, ◌+◌, ◌↔◌, true, IfOk};
+ghost use Rattle.amo_kk.specs.declared.phase.Phase.{Phase};
+ghost use Rattle.amo_kk.specs.declared.event.Shown.{Shown};
+ghost use Rattle.amo_kk.specs.declared.phase.Phase.TheVariants.{Announcing, Trying, Reading, Claiming, Holding, Over, Left};
+ghost use Rattle.std.specs.Option.{option_to_list};
+ghost use Rattle.amo_sets.specs.Lists.{numbered};
+ghost use Rattle.amo_sets.specs.Sets.{has};
+ghost use Rattle.amo_kk.specs.Givens.{IsJob, IsWorker, IsOther};
+ghost use Rattle.amo_kk.specs.Choice.{first_record};
+ghost use Rattle.amo_kk.specs.Record.{is_over, can_leave, jobs_in_hand};
+ghost use Rattle.amo_kk.specs.Event.{want, is_load, is_store, record_after, record_after_leave, MayLoad};
+ghost use Rattle.amo_kk.specs.Answer.{shown};
+ghost use Rattle.amo_kk.specs.Machine.{LocalView};
+
+use crate::chooser::{add_within, choose, next_other, note, shown, to_announcement, to_row};
+use crate::sets::JobSet;
+use crate::{Givens, Phase, Shown, Want};
+use std::alloc::{AllocError, Global};
+use std::marker::Model;
+
+/// What a worker has for itself.
+#[derive(Drop)]
+pub struct Local {
+    givens: Givens,
+    number: u32,
+    phase: Phase,
+    known: JobSet,
+    tried: JobSet,
+    fronts: Vec<u32>,
+    claims: Vec<u32>,
+    dones: Vec<u32>,
+    steps: u64,
+}
+
+impl Model for Local {
+    ghost use Rattle.std.specs.Prelude.{length};
+    ghost use Rattle.std.specs.Vec.{vec_capacity};
+    ghost use Rattle.amo_sets.specs.Sets.{set_of_bits};
+    ghost use Rattle.amo_kk.specs.Machine.{LocalView, IsHeld};
+
+    ghost Value = { LocalView };
+
+    ghost view = { λ l. record {
+      givens = l.givens;
+      number = l.number;
+      local = record {
+        phase = l.phase;
+        known = set_of_bits l.known;
+        tried = set_of_bits l.tried;
+        fronts = l.fronts.items;
+        claimed = l.claims.items;
+        dones = l.dones.items;
+        steps = l.steps;
+      };
+    } };
+
+    ghost invariant = { λ l. IsHeld l.givens l.number
+        record {
+          phase = l.phase;
+          known = set_of_bits l.known;
+          tried = set_of_bits l.tried;
+          fronts = l.fronts.items;
+          claimed = l.claims.items;
+          dones = l.dones.items;
+          steps = l.steps;
+        }
+        (length l.known) (length l.tried) (vec_capacity l.claims) (vec_capacity l.dones) };
+}
+
+impl Local {
+    /// The machine of worker p before its first event. Its room is made here.
+    pub fn new(alloc: Global, givens: Givens, p: u32) -> Result<Local, AllocError>
+        requires worker { IsWorker givens p }
+        ensures { IfOk result (λ l. l ≡ record { givens = givens; number = p; local = first_record givens p }) }
+    {
+        let known = JobSet::empty(alloc, givens.jobs)?;
+        let mut tried = JobSet::empty(alloc, givens.jobs)?;
+        let fronts = vec![in alloc; 0u32; givens.workers as usize]?;
+        let claims = Vec::with_capacity(alloc, givens.jobs as usize)?;
+        let dones = Vec::with_capacity(alloc, givens.jobs as usize)?;
+        let phase = choose(givens, p, &known, &mut tried);
+        Ok(Local {
+            givens,
+            number: p,
+            phase,
+            known,
+            tried,
+            fronts,
+            claims,
+            dones,
+            steps: 0,
+        })
+    }
+
+    /// The one load or store that is wanted next.
+    pub fn want(&self) -> Want
+        ensures { result ≡ want self.now.local }
+    {
+        match self.phase {
+            Phase::Announcing(j) => Want::StoreNext(j),
+            Phase::Trying(_, q) => Want::LoadNext(q),
+            Phase::Reading(_, q) => Want::LoadDone(q, self.fronts[q as usize - 1] + 1),
+            Phase::Claiming(j) => Want::StoreClaim(self.claims.len() as u32 + 1, j),
+            Phase::Holding(j) => Want::StoreDone(self.dones.len() as u32 + 1, j),
+            Phase::Over | Phase::Left => Want::Nothing,
+        }
+    }
+
+    /// The announcement of j was stored.
+    fn announced(&mut self, j: u32)
+        requires phase { self.old.local.phase ≡ Phase.Announcing j }
+        ensures { self.new ≡ record { givens = self.old.givens; number = self.old.number; local = record_after self.old.givens self.old.number 0 self.old.local } }
+    {
+        self.phase = to_announcement(
+            self.givens,
+            self.number,
+            j,
+            next_other(self.number, 0),
+            &self.known,
+            &mut self.tried,
+        );
+        self.steps = self.steps.saturating_add(1);
+    }
+
+    /// The announcement of q was loaded, in an attempt on j.
+    fn heard_next(&mut self, j: u32, q: u32, v: u32)
+        requires phase { self.old.local.phase ≡ Phase.Trying j q }
+        requires value { v ≤ self.old.givens.jobs }
+        ensures { self.new ≡ record { givens = self.old.givens; number = self.old.number; local = record_after self.old.givens self.old.number v self.old.local } }
+    {
+        note(&mut self.tried, v);
+        self.phase = to_announcement(
+            self.givens,
+            self.number,
+            j,
+            next_other(self.number, q),
+            &self.known,
+            &mut self.tried,
+        );
+        self.steps = self.steps.saturating_add(1);
+    }
+
+    /// A zero was loaded from the row of q, in an attempt on j.
+    fn heard_zero(&mut self, j: u32, q: u32)
+        requires phase { self.old.local.phase ≡ Phase.Reading j q }
+        ensures { self.new ≡ record { givens = self.old.givens; number = self.old.number; local = record_after self.old.givens self.old.number 0 self.old.local } }
+    {
+        self.phase = to_row(
+            self.givens,
+            self.number,
+            j,
+            next_other(self.number, q),
+            &self.known,
+            &mut self.tried,
+        );
+        self.steps = self.steps.saturating_add(1);
+    }
+
+    /// An entry of the row of q was loaded, in an attempt on j.
+    #[tactic(auto, using(crate::proofs::Bits::bits_with))]
+    fn heard_entry(&mut self, j: u32, q: u32, v: u32)
+        requires phase { self.old.local.phase ≡ Phase.Reading j q }
+        requires some { 1 ≤ v }
+        requires hears { MayLoad self.old.givens v (want self.old.local) }
+        ensures { self.new ≡ record { givens = self.old.givens; number = self.old.number; local = record_after self.old.givens self.old.number v self.old.local } }
+    {
+        self.known.add(v);
+        self.fronts[q as usize - 1] += 1;
+        self.steps = self.steps.saturating_add(1);
+    }
+
+    /// The claim of j was stored.
+    fn claimed(&mut self, j: u32)
+        requires phase { self.old.local.phase ≡ Phase.Claiming j }
+        ensures { self.new ≡ record { givens = self.old.givens; number = self.old.number; local = record_after self.old.givens self.old.number 0 self.old.local } }
+    {
+        add_within(&mut self.claims, j);
+        self.phase = Phase::Holding(j);
+        self.steps = self.steps.saturating_add(1);
+    }
+
+    /// The performance of j was stored.
+    #[tactic(auto, using(crate::proofs::Bits::bits_with))]
+    fn done(&mut self, j: u32)
+        requires phase { self.old.local.phase ≡ Phase.Holding j }
+        ensures { self.new ≡ record { givens = self.old.givens; number = self.old.number; local = record_after self.old.givens self.old.number 0 self.old.local } }
+    {
+        add_within(&mut self.dones, j);
+        self.known.add(j);
+        self.phase = choose(self.givens, self.number, &self.known, &mut self.tried);
+        self.steps = self.steps.saturating_add(1);
+    }
+
+    /// The event of a load that gave v.
+    pub fn told(&mut self, v: u64) -> Shown
+        requires load { is_load (want self.old.local) ≡ true }
+        requires hears { MayLoad self.old.givens v (want self.old.local) }
+        ensures shows { result ≡ shown self.old.local.phase self.new.local.phase }
+        ensures record { self.new ≡ record { givens = self.old.givens; number = self.old.number; local = record_after self.old.givens self.old.number v self.old.local } }
+    {
+        let before = self.phase;
+        match before {
+            Phase::Trying(j, q) => self.heard_next(j, q, v as u32),
+            Phase::Reading(j, q) => {
+                if v == 0 {
+                    self.heard_zero(j, q);
+                } else {
+                    self.heard_entry(j, q, v as u32);
+                }
+            }
+            Phase::Announcing(_)
+            | Phase::Claiming(_)
+            | Phase::Holding(_)
+            | Phase::Over
+            | Phase::Left => {}
+        }
+        shown(before, self.phase)
+    }
+
+    /// The event of a store.
+    pub fn stored(&mut self) -> Shown
+        requires { is_store (want self.old.local) ≡ true }
+        ensures shows { result ≡ shown self.old.local.phase self.new.local.phase }
+        ensures record { self.new ≡ record { givens = self.old.givens; number = self.old.number; local = record_after self.old.givens self.old.number 0 self.old.local } }
+    {
+        let before = self.phase;
+        match before {
+            Phase::Announcing(j) => self.announced(j),
+            Phase::Claiming(j) => self.claimed(j),
+            Phase::Holding(j) => self.done(j),
+            Phase::Trying(_, _) | Phase::Reading(_, _) | Phase::Over | Phase::Left => {}
+        }
+        shown(before, self.phase)
+    }
+
+    /// Whether the worker may leave: it goes on, and has nothing in its hand.
+    pub fn can_leave(&self) -> bool
+        ensures { result ≡ can_leave self.now.local.phase }
+    {
+        match self.phase {
+            Phase::Announcing(_)
+            | Phase::Trying(_, _)
+            | Phase::Reading(_, _)
+            | Phase::Claiming(_) => true,
+            Phase::Holding(_) | Phase::Over | Phase::Left => false,
+        }
+    }
+
+    /// The worker leaves: 0 was stored to its announcement.
+    pub fn leave(&mut self) -> Shown
+        requires { can_leave self.old.local.phase ≡ true }
+        ensures shows { result ≡ Shown.Left }
+        ensures record { self.new ≡ record { givens = self.old.givens; number = self.old.number; local = record_after_leave self.old.local } }
+    {
+        self.phase = Phase::Left;
+        self.steps = self.steps.saturating_add(1);
+        Shown::Left
+    }
+
+    /// Whether the worker has ended by its own choice.
+    pub fn ended(&self) -> bool
+        ensures { result ≡ is_over self.now.local.phase }
+    {
+        match self.phase {
+            Phase::Over => true,
+            Phase::Announcing(_)
+            | Phase::Trying(_, _)
+            | Phase::Reading(_, _)
+            | Phase::Claiming(_)
+            | Phase::Holding(_)
+            | Phase::Left => false,
+        }
+    }
+
+    /// Whether the worker has left.
+    pub fn has_left(&self) -> bool
+        ensures { result ≡ true ↔ self.now.local.phase ≡ Phase.Left }
+    {
+        match self.phase {
+            Phase::Left => true,
+            Phase::Announcing(_)
+            | Phase::Trying(_, _)
+            | Phase::Reading(_, _)
+            | Phase::Claiming(_)
+            | Phase::Holding(_)
+            | Phase::Over => false,
+        }
+    }
+
+    /// Whether the worker knows that j is done.
+    #[tactic(auto, using(crate::proofs::Bits::bits_have))]
+    pub fn knows(&self, j: u32) -> bool
+        requires { IsJob self.now.givens j }
+        ensures { result ≡ has self.now.local.known j }
+    {
+        self.known.has(j)
+    }
+
+    /// Whether the worker has seen j announced in this attempt.
+    #[tactic(auto, using(crate::proofs::Bits::bits_have))]
+    pub fn tried(&self, j: u32) -> bool
+        requires { IsJob self.now.givens j }
+        ensures { result ≡ has self.now.local.tried j }
+    {
+        self.tried.has(j)
+    }
+
+    /// How many entries of the row of q were read.
+    pub fn read_of(&self, q: u32) -> u32
+        requires { IsOther self.now.givens self.now.number q }
+        ensures { result ≡ numbered 0 self.now.local.fronts q }
+    {
+        self.fronts[q as usize - 1]
+    }
+
+    /// The claimed jobs, in their order.
+    pub fn claims(&self) -> &[u32]
+        ensures { result.now ≡ self.now.local.claimed }
+    {
+        &self.claims
+    }
+
+    /// The done jobs, in their order.
+    pub fn dones(&self) -> &[u32]
+        ensures { result.now ≡ self.now.local.dones }
+    {
+        &self.dones
+    }
+
+    /// The job in its hand.
+    pub fn in_hand(&self) -> Option<u32>
+        ensures { option_to_list result ≡ jobs_in_hand self.now.local.phase }
+    {
+        match self.phase {
+            Phase::Holding(j) => Some(j),
+            Phase::Announcing(_)
+            | Phase::Trying(_, _)
+            | Phase::Reading(_, _)
+            | Phase::Claiming(_)
+            | Phase::Over
+            | Phase::Left => None,
+        }
+    }
+
+    /// How many events it has had.
+    pub fn steps(&self) -> u64
+        ensures { result ≡ self.now.local.steps }
+    {
+        self.steps
+    }
+
+    /// Where the worker stands.
+    pub fn phase(&self) -> Phase
+        ensures { result ≡ self.now.local.phase }
+    {
+        self.phase
+    }
+}
