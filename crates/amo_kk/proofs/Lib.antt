@@ -10,7 +10,7 @@ pub mod Room
 pub mod Words
 pub mod Alone
 pub mod Shows
-pub mod Rows
+pub mod Worked
 pub mod Bits
 pub mod Counts
 pub mod Holding
