@@ -23,7 +23,7 @@ below_product a m s h l = grind arith
 share_below : (a m s : ℕ) → a < m → 0 < s → a * s / m < s
 share_below a m s h l = div_below (a * s) m s (omega arith) (below_product a m s h l)
 
-rank_within : (g : Givens) (p free left : ℕ) → IsWorker g p → free ≤ left + (g.workers - 1) → g.workers ≤ left → (1 ≤ chosen_rank g p free) × (chosen_rank g p free ≤ left)
+pub rank_within : (g : Givens) (p free left : ℕ) → IsWorker g p → free ≤ left + (g.workers - 1) → g.workers ≤ left → (1 ≤ chosen_rank g p free) × (chosen_rank g p free ≤ left)
 rank_within g p free left w few many = go (nat_le g.workers (free - (g.workers - 1))) refl
   where
     low : 1 ≤ p

@@ -1,5 +1,6 @@
 pub mod Limits
 pub mod Choice
+pub mod FirstChoice
 pub mod Fit
 pub mod Kept
 pub mod Worlds

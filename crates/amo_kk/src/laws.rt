@@ -1,12 +1,14 @@
 //! The theorems over the definitions. Nothing here runs: each function's contract is a law, which the calls of
 //! the crates above stand on.
 ghost use Rattle.std.specs.Prelude.{◌≡◌, ◌<◌, ◌≤◌, ◌↔◌, ◌+◌, ◌*◌, ℕ, suc, true, false, List, [], ◌∷◌, ◌++◌, length, slice_index, None};
-ghost use Rattle.amo_sets.specs.Sets.{AreDistinct};
+ghost use Rattle.amo_sets.specs.Sets.{has, AreDistinct};
+ghost use Rattle.amo_sets.specs.Rank.{count, has_rank};
 ghost use Rattle.amo_kk.specs.Limits.{AreWithinLimits, first_fault};
-ghost use Rattle.amo_kk.specs.Givens.{bound, IsWorker};
+ghost use Rattle.amo_kk.specs.Givens.{bound, IsJob, IsWorker};
 ghost use Rattle.amo_kk.specs.Object.{first_object};
 ghost use Rattle.amo_kk.specs.Run.{IsRun, first_bad, IsFirstBad, claimed_jobs, done_jobs, has_claimed};
-ghost use Rattle.amo_kk.specs.Record.{can_leave};
+ghost use Rattle.amo_kk.specs.Record.{can_leave, is_free, is_open, jobs_in_hand};
+ghost use Rattle.amo_kk.specs.Choice.{chosen_rank, chosen_job, first_record};
 ghost use Rattle.amo_kk.specs.Event.{want};
 ghost use Rattle.amo_kk.specs.World.{process, loaded_value, world_after_turn, world_after_leave, world_after_moves, opening_world};
 ghost use Rattle.amo_kk.specs.Words.{words_of, loaded_word, words_after};
@@ -18,10 +20,11 @@ ghost use Rattle.amo_kk.specs.declared.event.Move.{Move};
 ghost use Rattle.amo_kk.specs.declared.event.Event.{Event};
 ghost use Rattle.amo_kk.specs.declared.event.Event.TheVariants.{Done, Ended, Left};
 ghost use Rattle.amo_kk.specs.declared.event.Leaving.TheVariants.{Left as LeftNow, InHand, Gone};
+ghost use Rattle.amo_kk.specs.declared.model.Record.{Record};
 ghost use Rattle.amo_kk.specs.declared.model.World.{World};
 ghost use Rattle.amo_kk.specs.declared.model.Object.{Object};
 ghost use Rattle.amo_kk.specs.declared.phase.Want.TheVariants.{StoreNext};
-ghost use Rattle.amo_kk.specs.declared.phase.Phase.TheVariants.{Holding};
+ghost use Rattle.amo_kk.specs.declared.phase.Phase.TheVariants.{Announcing, Holding, Over};
 
 /// The headline. For all givens and every list of turns, stops and leavings: the world is lawful, its history is
 /// a run of the one sequential object, and the state that the run leaves agrees with the world.
@@ -87,4 +90,27 @@ pub fn answers_are_history()
 /// Three numbers are within the limits just where they break none.
 pub fn faults_are_limits()
     ensures { (jobs workers beta : ℕ) → first_fault jobs workers beta ≡ None ↔ AreWithinLimits jobs workers beta }
+{}
+
+/// Wherever the choice is made and goes on, a job of the wanted rank exists, and it is neither known nor tried.
+pub fn choice_finds_a_job()
+    ensures { (g : Givens) (p : ℕ) (r : Record) → IsWorker g p → length r.tried < g.workers → g.beta ≤ count g.jobs (is_open r)
+        → IsJob g (chosen_job g p r)
+        × (has_rank (is_open r) (chosen_rank g p (count g.jobs (is_free r))) (chosen_job g p r) ≡ true)
+        × (has r.known (chosen_job g p r) ≡ false) × (has r.tried (chosen_job g p r) ≡ false) }
+{}
+
+/// Where there are at least `beta` jobs, the first choice of worker p is the job whose number is the rank that p
+/// wants among all, and these rise strictly with p. Where there are fewer, p has ended from birth.
+pub fn first_choices_differ()
+    ensures first { (g : Givens) (p : ℕ) → IsWorker g p → g.beta ≤ g.jobs → (first_record g p).phase ≡ Announcing (chosen_rank g p g.jobs) }
+    ensures rise { (g : Givens) (p q : ℕ) → IsWorker g p → IsWorker g q → p < q → chosen_rank g p g.jobs < chosen_rank g q g.jobs }
+    ensures none { (g : Givens) (p : ℕ) → g.jobs < g.beta → (first_record g p).phase ≡ Over }
+{}
+
+/// In every lawful world what a worker has claimed is what it has done and then what is in its hand, each once.
+pub fn claims_are_dones_and_in_hand()
+    ensures list { (g : Givens) (w : World) (p : ℕ) → IsLawful g w → IsWorker g p
+        → (process w p).local.claimed ≡ (process w p).local.dones ++ jobs_in_hand (process w p).local.phase }
+    ensures distinct { (g : Givens) (w : World) (p : ℕ) → IsLawful g w → IsWorker g p → AreDistinct (process w p).local.claimed }
 {}
