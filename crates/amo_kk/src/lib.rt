@@ -16,3 +16,6 @@ pub use givens::{Givens, GivensFault};
 pub use local::Local;
 pub use model::{Object, Process, Record, World};
 pub use phase::{Phase, Want};
+
+#[cfg(test)]
+mod tests;

@@ -93,6 +93,21 @@ impl Local {
         })
     }
 
+    /// The givens that it was made with.
+    pub fn givens(&self) -> Givens
+        ensures { result ≡ self.now.givens }
+    {
+        self.givens
+    }
+
+    /// The worker's number, from 1.
+    pub fn number(&self) -> u32
+        ensures number { result ≡ self.now.number }
+        ensures worker { IsWorker self.now.givens result }
+    {
+        self.number
+    }
+
     /// The one load or store that is wanted next.
     pub fn want(&self) -> Want
         ensures { result ≡ want self.now.local }
