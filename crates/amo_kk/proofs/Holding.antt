@@ -1,14 +1,13 @@
 -- A machine whose record fits is held.
-use Rattle.std.proofs.Common.{◌≡◌, ℕ, zero, suc, true, List, set, ◌≤◌, ◌+◌, ◌-◌, ◌^◌, min, length, get_or, subst, ap, sym, refl, ◌∙◌, arith, ◌<◌, ◌++◌, ◌∷◌, []}
-use Rattle.std.proofs.lemmas.List.{length_push, get_or_default}
+use Rattle.std.proofs.Common.{◌≡◌, ℕ, zero, suc, true, List, set, ◌≤◌, ◌+◌, ◌-◌, ◌^◌, min, length, get_or, replicate, subst, ap, sym, refl, ◌∙◌, arith, ◌<◌, ◌++◌, ◌∷◌, []}
+use Rattle.std.proofs.lemmas.List.{length_push, get_or_default, replicate_more}
 use Rattle.std.proofs.lemmas.Bool.{ne_eqb}
 use Rattle.std.specs.Prelude.{if◌then◌else◌}
-use Rattle.amo_sets.specs.Lists.{numbered, put}
+use Rattle.amo_sets.specs.Lists.{numbered, put, table}
 use Rattle.amo_sets.specs.Sets.{with_number}
 use Rattle.amo_kk.specs.Givens.{AreGivens, IsWorker, next_other}
 use Rattle.amo_kk.specs.Event.{want, record_at_row, record_after_phase, record_after, MayLoad}
 use Rattle.amo_kk.specs.Lawful.{IsSoundRecord}
-use Rattle.amo_kk.proofs.Bits.{numbered_before}
 use Rattle.amo_kk.specs.declared.phase.Phase.TheVariants.{Claiming, Reading, Left}
 use Rattle.amo_kk.specs.declared.phase.Phase.{Phase}
 use Rattle.amo_kk.specs.declared.phase.Want.{Want}
@@ -20,17 +19,26 @@ use Rattle.amo_kk.proofs.Worlds.{leaves_empty}
 use Rattle.amo_kk.specs.Record.{can_leave}
 use Rattle.amo_kk.specs.Machine.{IsHeld}
 
-pub held : (g : Givens) (p : ℕ) (r : Record) (known tried claims dones : ℕ) → AreGivens g → IsWorker g p → IsSoundRecord g p r → known ≡ g.jobs → tried ≡ g.jobs → g.jobs ≤ claims → g.jobs ≤ dones → IsHeld g p r known tried claims dones
-held g p r known tried claims dones ok o fit k t c d =
+-- the item before a number, as code indexes a list
+numbered_before : {X : Type 0} (d : X) (xs : List X) (j : ℕ) → 1 ≤ j → numbered d xs j ≡ get_or xs (j - 1) d
+numbered_before d xs zero l = absurd (omega arith)
+numbered_before d xs (suc k) l = let e : k ≡ suc k - 1 = omega arith in ap (λ i. get_or xs i d) e
+
+pub replicate_table : {X : Type 0} (x : X) (n : ℕ) → replicate n x ≡ table n (λ _. x)
+replicate_table x zero = refl
+replicate_table x (suc n) = let e : suc n ≡ n + 1 = omega arith in ap (λ k. replicate k x) e ∙ sym (replicate_more n x) ∙ ap (λ l. l ++ x ∷ []) (replicate_table x n)
+
+pub held : (g : Givens) (p : ℕ) (r : Record) (range claims dones : ℕ) → AreGivens g → IsWorker g p → IsSoundRecord g p r → range ≡ g.jobs → g.jobs ≤ claims → g.jobs ≤ dones → IsHeld g p r range claims dones
+held g p r range claims dones ok o fit k c d =
     let few = claims_fit g p r fit in
-    record { givens = ok; worker = o; fit = fit; claims_few = few.0; dones_few = few.1; front_few = λ i. fit.front (suc i); known_range_is = k; tried_range_is = t; claims_fit = c; dones_fit = d }
+    record { givens = ok; worker = o; fit = fit; claims_few = few.0; dones_few = few.1; front_few = λ i. fit.front (suc i); range_is = k; claims_fit = c; dones_fit = d }
 
 -- after an event
-pub held_after : (g : Givens) (p v : ℕ) (r x : Record) (known tried claims dones known' tried' claims' dones' : ℕ) → IsHeld g p r known tried claims dones → MayLoad g v (want r) → record_after g p v r ≡ x
-    → known' ≡ known → tried' ≡ tried → claims ≤ claims' → dones ≤ dones' → IsHeld g p x known' tried' claims' dones'
-held_after g p v r x known tried claims dones known' tried' claims' dones' h heard is k t c d =
-    held g p x known' tried' claims' dones' h.givens h.worker (subst (λ y. IsSoundRecord g p y) is (after_fit g h.givens p h.worker r v h.fit heard))
-    (k ∙ h.known_range_is) (t ∙ h.tried_range_is) (let l = h.claims_fit in omega arith) (let l = h.dones_fit in omega arith)
+pub held_after : (g : Givens) (p v : ℕ) (r x : Record) (range claims dones range' claims' dones' : ℕ) → IsHeld g p r range claims dones → MayLoad g v (want r) → record_after g p v r ≡ x
+    → range' ≡ range → claims ≤ claims' → dones ≤ dones' → IsHeld g p x range' claims' dones'
+held_after g p v r x range claims dones range' claims' dones' h heard is k c d =
+    held g p x range' claims' dones' h.givens h.worker (subst (λ y. IsSoundRecord g p y) is (after_fit g h.givens p h.worker r v h.fit heard))
+    (k ∙ h.range_is) (let l = h.claims_fit in omega arith) (let l = h.dones_fit in omega arith)
 
 pub after_by : (g : Givens) (p v : ℕ) (r y : Record) (phase : Phase) (n : ℕ) → r.phase ≡ phase → record_after_phase g p v r phase ≡ y → n ≡ min (r.steps + 1) (2 ^ 64 - 1) → record_after g p v r ≡ record y { steps = n }
 after_by g p v r y phase n is to steps = ap (λ x. record (record_after_phase g p v r x) { steps = min (r.steps + 1) (2 ^ 64 - 1) }) is ∙ (λ i. record (to i) { steps = sym steps i })
@@ -44,12 +52,12 @@ hears_zero g (StoreDone k j) = tt
 hears_zero g Nothing = tt
 
 -- after leaving
-pub held_left : (g : Givens) (p : ℕ) (r : Record) (n known tried claims dones : ℕ) → IsHeld g p r known tried claims dones → can_leave r.phase ≡ true → n ≡ min (r.steps + 1) (2 ^ 64 - 1)
-    → IsHeld g p (record r { phase = Left; steps = n }) known tried claims dones
-held_left g p r n known tried claims dones h may steps =
-    held g p (record r { phase = Left; steps = n }) known tried claims dones h.givens h.worker
+pub held_left : (g : Givens) (p : ℕ) (r : Record) (n range claims dones : ℕ) → IsHeld g p r range claims dones → can_leave r.phase ≡ true → n ≡ min (r.steps + 1) (2 ^ 64 - 1)
+    → IsHeld g p (record r { phase = Left; steps = n }) range claims dones
+held_left g p r n range claims dones h may steps =
+    held g p (record r { phase = Left; steps = n }) range claims dones h.givens h.worker
     (subst (λ x. IsSoundRecord g p (record r { phase = Left; steps = x })) (sym steps) (left_fit g h.givens p h.worker r (leaves_empty r.phase may) h.fit))
-    h.known_range_is h.tried_range_is h.claims_fit h.dones_fit
+    h.range_is h.claims_fit h.dones_fit
 
 -- before a claim there is room for it
 pub claim_room : (g : Givens) (p : ℕ) (r : Record) (j : ℕ) → AreGivens g → IsWorker g p → IsSoundRecord g p r → r.phase ≡ Claiming j → length r.claimed < g.jobs

@@ -12,7 +12,5 @@ pub mod Words
 pub mod Alone
 pub mod Shows
 pub mod Worked
-pub mod Bits
-pub mod Counts
+pub mod OpenJobs
 pub mod Holding
-pub mod Choosing

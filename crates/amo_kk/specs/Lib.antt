@@ -10,4 +10,5 @@ pub mod Words
 pub mod Answer
 pub mod Alone
 pub mod Lawful
+pub mod Knowledge
 pub mod Machine

@@ -5,13 +5,14 @@ use Rattle.amo_kk.specs.Lawful.{IsSoundRecord}
 use Rattle.amo_kk.specs.declared.givens.Givens.{Givens}
 use Rattle.amo_kk.specs.declared.model.Record.{Record}
 
+-- The givens, the worker's number, and its record.
 pub record LocalView : Type 0 where
   pub givens : Givens
   pub number : ℕ
   pub local : Record
 
--- the sets have the range of the jobs, and the lists have room for all of them
-pub record IsHeld (g : Givens) (p : ℕ) (r : Record) (known_range tried_range claims_room dones_room : ℕ) : Type 0 where
+-- The record is sound, its sets have the range of the jobs, and its lists have room for all of them.
+pub record IsHeld (g : Givens) (p : ℕ) (r : Record) (range claims_room dones_room : ℕ) : Type 0 where
   pub givens : AreGivens g
   pub worker : IsWorker g p
   pub fit : IsSoundRecord g p r
@@ -19,7 +20,6 @@ pub record IsHeld (g : Givens) (p : ℕ) (r : Record) (known_range tried_range c
   pub claims_few : length r.claimed ≤ g.jobs
   pub dones_few : length r.dones ≤ g.jobs
   pub front_few : (k : ℕ) → get_or r.fronts k 0 ≤ g.jobs
-  pub known_range_is : known_range ≡ g.jobs
-  pub tried_range_is : tried_range ≡ g.jobs
+  pub range_is : range ≡ g.jobs
   pub claims_fit : g.jobs ≤ claims_room
   pub dones_fit : g.jobs ≤ dones_room

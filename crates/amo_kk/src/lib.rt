@@ -2,14 +2,13 @@
 //! of what all workers together do. The headline is proved over those definitions in the module `laws`.
 #![tactic(auto)]
 
-mod chooser;
 mod event;
 mod givens;
+mod knowledge;
 pub mod laws;
 mod local;
 mod model;
 mod phase;
-mod sets;
 
 pub use event::{Event, Leaving, Move, Shown};
 pub use givens::{Givens, GivensFault};

@@ -1,5 +1,6 @@
 //! The local machine of a worker.
-ghost use Rattle.std.specs.Prelude.{◌≡◌, ◌≤◌, ◌<◌, ◌+◌, ◌↔◌, true, IfOk};
+ghost use Rattle.std.specs.Prelude.{◌≡◌, ◌≤◌, ◌<◌, ◌+◌, ◌↔◌, ◌++◌, ◌∷◌, [], true, IfOk, length};
+ghost use Rattle.std.specs.Vec.{vec_capacity};
 ghost use Rattle.amo_kk.specs.declared.phase.Phase.{Phase};
 ghost use Rattle.amo_kk.specs.declared.event.Shown.{Shown};
 ghost use Rattle.amo_kk.specs.declared.phase.Phase.TheVariants.{Announcing, Trying, Reading, Claiming, Holding, Over, Left};
@@ -13,9 +14,10 @@ ghost use Rattle.amo_kk.specs.Event.{want, is_load, is_store, record_after, reco
 ghost use Rattle.amo_kk.specs.Answer.{shown};
 ghost use Rattle.amo_kk.specs.Machine.{LocalView};
 
-use crate::chooser::{add_within, choose, next_other, note, shown, to_announcement, to_row};
-use crate::sets::JobSet;
-use crate::{Givens, Phase, Shown, Want};
+use super::event::Shown;
+use super::givens::Givens;
+use super::knowledge::Knowledge;
+use super::phase::{Phase, Want, next_other};
 use std::alloc::{AllocError, Global};
 use std::marker::Model;
 
@@ -25,8 +27,7 @@ pub struct Local {
     givens: Givens,
     number: u32,
     phase: Phase,
-    known: JobSet,
-    tried: JobSet,
+    knowledge: Knowledge,
     fronts: Vec<u32>,
     claims: Vec<u32>,
     dones: Vec<u32>,
@@ -34,9 +35,7 @@ pub struct Local {
 }
 
 impl Model for Local {
-    ghost use Rattle.std.specs.Prelude.{length};
     ghost use Rattle.std.specs.Vec.{vec_capacity};
-    ghost use Rattle.amo_sets.specs.Sets.{set_of_bits};
     ghost use Rattle.amo_kk.specs.Machine.{LocalView, IsHeld};
 
     ghost Value = { LocalView };
@@ -46,8 +45,8 @@ impl Model for Local {
       number = l.number;
       local = record {
         phase = l.phase;
-        known = set_of_bits l.known;
-        tried = set_of_bits l.tried;
+        known = l.knowledge.known;
+        tried = l.knowledge.tried;
         fronts = l.fronts.items;
         claimed = l.claims.items;
         dones = l.dones.items;
@@ -58,14 +57,14 @@ impl Model for Local {
     ghost invariant = { λ l. IsHeld l.givens l.number
         record {
           phase = l.phase;
-          known = set_of_bits l.known;
-          tried = set_of_bits l.tried;
+          known = l.knowledge.known;
+          tried = l.knowledge.tried;
           fronts = l.fronts.items;
           claimed = l.claims.items;
           dones = l.dones.items;
           steps = l.steps;
         }
-        (length l.known) (length l.tried) (vec_capacity l.claims) (vec_capacity l.dones) };
+        l.knowledge.range (vec_capacity l.claims) (vec_capacity l.dones) };
 }
 
 impl Local {
@@ -74,18 +73,16 @@ impl Local {
         requires worker { IsWorker givens p }
         ensures { IfOk result (λ l. l ≡ record { givens = givens; number = p; local = first_record givens p }) }
     {
-        let known = JobSet::empty(alloc, givens.jobs)?;
-        let mut tried = JobSet::empty(alloc, givens.jobs)?;
+        let mut knowledge = Knowledge::new(alloc, givens.jobs)?;
         let fronts = vec![in alloc; 0u32; givens.workers as usize]?;
         let claims = Vec::with_capacity(alloc, givens.jobs as usize)?;
         let dones = Vec::with_capacity(alloc, givens.jobs as usize)?;
-        let phase = choose(givens, p, &known, &mut tried);
+        let phase = knowledge.choose(givens, p);
         Ok(Local {
             givens,
             number: p,
             phase,
-            known,
-            tried,
+            knowledge,
             fronts,
             claims,
             dones,
@@ -125,16 +122,10 @@ impl Local {
     /// The announcement of j was stored.
     fn announced(&mut self, j: u32)
         requires phase { self.old.local.phase ≡ Phase.Announcing j }
-        ensures { self.new ≡ record { givens = self.old.givens; number = self.old.number; local = record_after self.old.givens self.old.number 0 self.old.local } }
+        ensures { self.new ≡ record self.old { local = record_after self.old.givens self.old.number 0 self.old.local } }
     {
-        self.phase = to_announcement(
-            self.givens,
-            self.number,
-            j,
-            next_other(self.number, 0),
-            &self.known,
-            &mut self.tried,
-        );
+        let first = next_other(self.number, 0);
+        self.phase = self.knowledge.to_announcement(self.givens, self.number, j, first);
         self.steps = self.steps.saturating_add(1);
     }
 
@@ -142,45 +133,32 @@ impl Local {
     fn heard_next(&mut self, j: u32, q: u32, v: u32)
         requires phase { self.old.local.phase ≡ Phase.Trying j q }
         requires value { v ≤ self.old.givens.jobs }
-        ensures { self.new ≡ record { givens = self.old.givens; number = self.old.number; local = record_after self.old.givens self.old.number v self.old.local } }
+        ensures { self.new ≡ record self.old { local = record_after self.old.givens self.old.number v self.old.local } }
     {
-        note(&mut self.tried, v);
-        self.phase = to_announcement(
-            self.givens,
-            self.number,
-            j,
-            next_other(self.number, q),
-            &self.known,
-            &mut self.tried,
-        );
+        self.knowledge.note(v);
+        let next = next_other(self.number, q);
+        self.phase = self.knowledge.to_announcement(self.givens, self.number, j, next);
         self.steps = self.steps.saturating_add(1);
     }
 
     /// A zero was loaded from the row of q, in an attempt on j.
     fn heard_zero(&mut self, j: u32, q: u32)
         requires phase { self.old.local.phase ≡ Phase.Reading j q }
-        ensures { self.new ≡ record { givens = self.old.givens; number = self.old.number; local = record_after self.old.givens self.old.number 0 self.old.local } }
+        ensures { self.new ≡ record self.old { local = record_after self.old.givens self.old.number 0 self.old.local } }
     {
-        self.phase = to_row(
-            self.givens,
-            self.number,
-            j,
-            next_other(self.number, q),
-            &self.known,
-            &mut self.tried,
-        );
+        let next = next_other(self.number, q);
+        self.phase = self.knowledge.to_row(self.givens, self.number, j, next);
         self.steps = self.steps.saturating_add(1);
     }
 
     /// An entry of the row of q was loaded, in an attempt on j.
-    #[tactic(auto, using(crate::proofs::Bits::bits_with))]
     fn heard_entry(&mut self, j: u32, q: u32, v: u32)
         requires phase { self.old.local.phase ≡ Phase.Reading j q }
         requires some { 1 ≤ v }
         requires hears { MayLoad self.old.givens v (want self.old.local) }
-        ensures { self.new ≡ record { givens = self.old.givens; number = self.old.number; local = record_after self.old.givens self.old.number v self.old.local } }
+        ensures { self.new ≡ record self.old { local = record_after self.old.givens self.old.number v self.old.local } }
     {
-        self.known.add(v);
+        self.knowledge.learn(v);
         self.fronts[q as usize - 1] += 1;
         self.steps = self.steps.saturating_add(1);
     }
@@ -188,7 +166,7 @@ impl Local {
     /// The claim of j was stored.
     fn claimed(&mut self, j: u32)
         requires phase { self.old.local.phase ≡ Phase.Claiming j }
-        ensures { self.new ≡ record { givens = self.old.givens; number = self.old.number; local = record_after self.old.givens self.old.number 0 self.old.local } }
+        ensures { self.new ≡ record self.old { local = record_after self.old.givens self.old.number 0 self.old.local } }
     {
         add_within(&mut self.claims, j);
         self.phase = Phase::Holding(j);
@@ -196,14 +174,13 @@ impl Local {
     }
 
     /// The performance of j was stored.
-    #[tactic(auto, using(crate::proofs::Bits::bits_with))]
     fn done(&mut self, j: u32)
         requires phase { self.old.local.phase ≡ Phase.Holding j }
-        ensures { self.new ≡ record { givens = self.old.givens; number = self.old.number; local = record_after self.old.givens self.old.number 0 self.old.local } }
+        ensures { self.new ≡ record self.old { local = record_after self.old.givens self.old.number 0 self.old.local } }
     {
         add_within(&mut self.dones, j);
-        self.known.add(j);
-        self.phase = choose(self.givens, self.number, &self.known, &mut self.tried);
+        self.knowledge.learn(j);
+        self.phase = self.knowledge.choose(self.givens, self.number);
         self.steps = self.steps.saturating_add(1);
     }
 
@@ -212,7 +189,7 @@ impl Local {
         requires load { is_load (want self.old.local) ≡ true }
         requires hears { MayLoad self.old.givens v (want self.old.local) }
         ensures shows { result ≡ shown self.old.local.phase self.new.local.phase }
-        ensures record { self.new ≡ record { givens = self.old.givens; number = self.old.number; local = record_after self.old.givens self.old.number v self.old.local } }
+        ensures record { self.new ≡ record self.old { local = record_after self.old.givens self.old.number v self.old.local } }
     {
         let before = self.phase;
         match before {
@@ -237,7 +214,7 @@ impl Local {
     pub fn stored(&mut self) -> Shown
         requires { is_store (want self.old.local) ≡ true }
         ensures shows { result ≡ shown self.old.local.phase self.new.local.phase }
-        ensures record { self.new ≡ record { givens = self.old.givens; number = self.old.number; local = record_after self.old.givens self.old.number 0 self.old.local } }
+        ensures record { self.new ≡ record self.old { local = record_after self.old.givens self.old.number 0 self.old.local } }
     {
         let before = self.phase;
         match before {
@@ -266,7 +243,7 @@ impl Local {
     pub fn leave(&mut self) -> Shown
         requires { can_leave self.old.local.phase ≡ true }
         ensures shows { result ≡ Shown.Left }
-        ensures record { self.new ≡ record { givens = self.old.givens; number = self.old.number; local = record_after_leave self.old.local } }
+        ensures record { self.new ≡ record self.old { local = record_after_leave self.old.local } }
     {
         self.phase = Phase::Left;
         self.steps = self.steps.saturating_add(1);
@@ -304,21 +281,19 @@ impl Local {
     }
 
     /// Whether the worker knows that j is done.
-    #[tactic(auto, using(crate::proofs::Bits::bits_have))]
     pub fn knows(&self, j: u32) -> bool
         requires { IsJob self.now.givens j }
         ensures { result ≡ has self.now.local.known j }
     {
-        self.known.has(j)
+        self.knowledge.knows(j)
     }
 
     /// Whether the worker has seen j announced in this attempt.
-    #[tactic(auto, using(crate::proofs::Bits::bits_have))]
     pub fn tried(&self, j: u32) -> bool
         requires { IsJob self.now.givens j }
         ensures { result ≡ has self.now.local.tried j }
     {
-        self.tried.has(j)
+        self.knowledge.tried(j)
     }
 
     /// How many entries of the row of q were read.
@@ -370,5 +345,29 @@ impl Local {
         ensures { result ≡ self.now.local.phase }
     {
         self.phase
+    }
+}
+
+/// Adds a job where there is room.
+fn add_within(list: &mut Vec<u32>, job: u32)
+    requires { length list.old.items < vec_capacity list.old }
+    ensures items { list.new.items ≡ list.old.items ++ job ∷ [] }
+    ensures capacity { vec_capacity list.old ≤ vec_capacity list.new }
+{
+    let _pushed = list.push(job);
+}
+
+/// What an event shows, by the phases before and after it.
+fn shown(before: Phase, after: Phase) -> Shown
+    ensures { result ≡ shown before after }
+{
+    let ended = matches!(after, Phase::Over);
+    match before {
+        Phase::Announcing(_) | Phase::Trying(_, _) | Phase::Reading(_, _) if ended => Shown::Ended,
+        Phase::Announcing(_) | Phase::Trying(_, _) | Phase::Reading(_, _) => Shown::Quiet,
+        Phase::Claiming(j) => Shown::Claimed(j),
+        Phase::Holding(j) if ended => Shown::DoneEnded(j),
+        Phase::Holding(j) => Shown::Done(j),
+        Phase::Over | Phase::Left => Shown::Quiet,
     }
 }

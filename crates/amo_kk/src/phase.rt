@@ -1,4 +1,6 @@
 //! Where a worker stands, and what it wants next.
+ghost use Rattle.std.specs.Prelude.{◌≡◌, ◌<◌, ◌^◌};
+ghost use Rattle.amo_kk.specs.Givens.{next_other};
 
 /// Where a worker stands. The first number is the job of its attempt, the second another worker.
 #[derive(Clone, Copy, Debug, PartialEq, Eq)]
@@ -34,4 +36,12 @@ pub enum Want {
     StoreDone(u32, u32),
     /// Nothing: it has ended or left.
     Nothing,
+}
+
+/// The worker after q, leaving out p; the first other of p is the one after 0.
+pub fn next_other(p: u32, q: u32) -> u32
+    requires { q < 2 ^ 31 }
+    ensures { result ≡ next_other p q }
+{
+    if q + 1 == p { q + 2 } else { q + 1 }
 }

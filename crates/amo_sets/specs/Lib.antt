@@ -1,3 +1,4 @@
 pub mod Lists
 pub mod Sets
 pub mod Rank
+pub mod Bits

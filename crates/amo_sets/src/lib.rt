@@ -1,3 +1,7 @@
 //! Sets of jobs, one bit a job, with the words on numbered lists, sets of numbers, counts and ranks that the
 //! contracts of all layers use.
 #![tactic(auto)]
+
+mod job_set;
+
+pub use job_set::JobSet;

@@ -8,37 +8,23 @@ use Rattle.amo_kk.specs.Choice.{record_after_choice}
 use Rattle.amo_kk.specs.Event.{want, record_after}
 use Rattle.amo_kk.specs.declared.model.Record.{Record}
 use Rattle.amo_kk.specs.declared.phase.Phase.TheVariants.{Holding}
+use Rattle.amo_kk.specs.Knowledge.{KnowledgeView}
 use Rattle.amo_kk.specs.Machine.{LocalView}
 use Rattle.amo_kk.proofs.Holding.{held_after, after_by, hears_zero}
 use Rattle.amo_kk.proofs.local.Local.done.Goals as goal
 
 pub invariant_of-self : goal.invariant_of-self
 invariant_of-self c =
-    let r : Record = record { phase = c.self.inside.phase; known = (set_of_bits c.self.inside.known); tried = (set_of_bits c.self.inside.tried); fronts = c.self.inside.fronts.items; claimed = c.self.inside.claims.items; dones = c.self.inside.dones.items; steps = c.self.inside.steps } in
+    let r : Record = record { phase = c.self.inside.phase; known = c.self.inside.knowledge.known; tried = c.self.inside.knowledge.tried; fronts = c.self.inside.fronts.items; claimed = c.self.inside.claims.items; dones = c.self.inside.dones.items; steps = c.self.inside.steps } in
     let is : r.phase ≡ Holding c.args.j = ap (λ (v : LocalView). v.local.phase) c.self.view_is ∙ c.requires.phase in
     let job : IsJob c.self.inside.givens c.args.j × (has r.known c.args.j ≡ false) × (has r.tried c.args.j ≡ false) = rw is at c.self.invariant.fit.stands in
-    let range = c.self.invariant.known_range_is in
-    let known_is : (set_of_bits c.add.new.self) ≡ with_number c.args.j r.known = ap set_of_bits c.add.ensures ∙ set_of_bits-put c.self.inside.known c.args.j job.0.low (let h = job.0.high in omega arith) in
-    let mid : Record = record r { dones = c.add_within.new.list.items; known = (set_of_bits c.add.new.self) } in
-    let y : Record = record mid { phase = c.choose-self-inside.result; tried = (set_of_bits c.choose-self-inside.new.tried) } in
-    held_after c.self.inside.givens c.self.inside.number 0 r (record y { steps = c.saturating_add-self-inside.result }) (length c.self.inside.known) (length c.self.inside.tried) (vec_capacity c.self.inside.claims) (vec_capacity c.self.inside.dones) _ _ _ _ c.self.invariant
+    let known_is : c.learn.new.self.known ≡ with_number c.args.j r.known = ap (λ (v : KnowledgeView). v.known) c.learn.ensures in
+    let mid : Record = record r { dones = c.add_within.new.list.items; known = c.learn.new.self.known; tried = c.learn.new.self.tried } in
+    let y : Record = record mid { phase = c.choose-self-inside.result; known = c.choose-self-inside.new.self.known; tried = c.choose-self-inside.new.self.tried } in
+    held_after c.self.inside.givens c.self.inside.number 0 r (record y { steps = c.saturating_add-self-inside.result }) c.self.inside.knowledge.range (vec_capacity c.self.inside.claims) (vec_capacity c.self.inside.dones) _ _ _ c.self.invariant
     (hears_zero c.self.inside.givens (want r))
     (after_by c.self.inside.givens c.self.inside.number 0 r y (Holding c.args.j) c.saturating_add-self-inside.result is
-    ((λ i. record_after_choice c.self.inside.givens c.self.inside.number (record r { dones = sym c.add_within.ensures.items i; known = sym known_is i })) ∙ c.choose-self-inside.ensures.choice mid refl refl)
+    ((λ i. record_after_choice c.self.inside.givens c.self.inside.number (record r { dones = sym c.add_within.ensures.items i; known = sym known_is i; tried = sym (ap (λ (v : KnowledgeView). v.tried) c.learn.ensures) i })) ∙ c.choose-self-inside.ensures.choice mid refl refl
+    ∙ (λ i. record mid { phase = c.choose-self-inside.result; known = sym (ap (λ (v : KnowledgeView). v.known) c.choose-self-inside.ensures.stays) i; tried = c.choose-self-inside.new.self.tried }))
     c.saturating_add-self-inside.ensures)
-    (ap length c.add.ensures ∙ length-put true c.self.inside.known c.args.j) c.choose-self-inside.ensures.range (omega arith) c.add_within.ensures.capacity
-
-pub returns : goal.returns
-returns c =
-    let r : Record = record { phase = c.self.inside.phase; known = (set_of_bits c.self.inside.known); tried = (set_of_bits c.self.inside.tried); fronts = c.self.inside.fronts.items; claimed = c.self.inside.claims.items; dones = c.self.inside.dones.items; steps = c.self.inside.steps } in
-    let is : r.phase ≡ Holding c.args.j = ap (λ (v : LocalView). v.local.phase) c.self.view_is ∙ c.requires.phase in
-    let job : IsJob c.self.inside.givens c.args.j × (has r.known c.args.j ≡ false) × (has r.tried c.args.j ≡ false) = rw is at c.self.invariant.fit.stands in
-    let range = c.self.invariant.known_range_is in
-    let known_is : (set_of_bits c.add.new.self) ≡ with_number c.args.j r.known = ap set_of_bits c.add.ensures ∙ set_of_bits-put c.self.inside.known c.args.j job.0.low (let h = job.0.high in omega arith) in
-    let mid : Record = record r { dones = c.add_within.new.list.items; known = (set_of_bits c.add.new.self) } in
-    let y : Record = record mid { phase = c.choose-self-inside.result; tried = (set_of_bits c.choose-self-inside.new.tried) } in
-    ap {B = LocalView} (λ (x : Record). record { givens = c.self.inside.givens; number = c.self.inside.number; local = x }) (sym
-    (after_by c.self.inside.givens c.self.inside.number 0 r y (Holding c.args.j) c.saturating_add-self-inside.result is
-    ((λ i. record_after_choice c.self.inside.givens c.self.inside.number (record r { dones = sym c.add_within.ensures.items i; known = sym known_is i })) ∙ c.choose-self-inside.ensures.choice mid refl refl)
-    c.saturating_add-self-inside.ensures))
-    ∙ ap (λ (v : LocalView). record { givens = v.givens; number = v.number; local = record_after v.givens v.number 0 v.local }) c.self.view_is
+    (ap (λ (v : KnowledgeView). v.range) c.choose-self-inside.ensures.stays ∙ ap (λ (v : KnowledgeView). v.range) c.learn.ensures) (omega arith) c.add_within.ensures.capacity

@@ -1,21 +1,21 @@
 use Rattle.std.proofs.Common.{◌≡◌, length, ap, sym, refl, ◌∙◌, arith}
 use Rattle.std.specs.Vec.{vec_capacity}
 use Rattle.amo_kk.specs.Event.{want, record_at_row}
-use Rattle.amo_sets.specs.Sets.{set_of_bits}
 use Rattle.amo_kk.specs.declared.model.Record.{Record}
 use Rattle.amo_kk.specs.declared.phase.Phase.TheVariants.{Reading}
+use Rattle.amo_kk.specs.Knowledge.{KnowledgeView}
 use Rattle.amo_kk.specs.Machine.{LocalView}
 use Rattle.amo_kk.proofs.Holding.{held_after, after_by, hears_zero}
 use Rattle.amo_kk.proofs.local.Local.heard_zero.Goals as goal
 
 pub invariant_of-self : goal.invariant_of-self
 invariant_of-self c =
-    let r : Record = record { phase = c.self.inside.phase; known = (set_of_bits c.self.inside.known); tried = (set_of_bits c.self.inside.tried); fronts = c.self.inside.fronts.items; claimed = c.self.inside.claims.items; dones = c.self.inside.dones.items; steps = c.self.inside.steps } in
+    let r : Record = record { phase = c.self.inside.phase; known = c.self.inside.knowledge.known; tried = c.self.inside.knowledge.tried; fronts = c.self.inside.fronts.items; claimed = c.self.inside.claims.items; dones = c.self.inside.dones.items; steps = c.self.inside.steps } in
     let is : r.phase ≡ Reading c.args.j c.args.q = ap (λ (v : LocalView). v.local.phase) c.self.view_is ∙ c.requires.phase in
-    let y : Record = record r { phase = c.to_row-self-inside.result; tried = (set_of_bits c.to_row-self-inside.new.tried) } in
-    held_after c.self.inside.givens c.self.inside.number 0 r (record y { steps = c.saturating_add-self-inside.result }) (length c.self.inside.known) (length c.self.inside.tried) (vec_capacity c.self.inside.claims) (vec_capacity c.self.inside.dones) _ _ _ _ c.self.invariant
+    let y : Record = record r { phase = c.to_row-self-inside.result; known = c.to_row-self-inside.new.self.known; tried = c.to_row-self-inside.new.self.tried } in
+    held_after c.self.inside.givens c.self.inside.number 0 r (record y { steps = c.saturating_add-self-inside.result }) c.self.inside.knowledge.range (vec_capacity c.self.inside.claims) (vec_capacity c.self.inside.dones) _ _ _ c.self.invariant
     (hears_zero c.self.inside.givens (want r))
     (after_by c.self.inside.givens c.self.inside.number 0 r y (Reading c.args.j c.args.q) c.saturating_add-self-inside.result is
-    (ap (λ q. record_at_row c.self.inside.givens c.self.inside.number c.args.j q r) (sym c.next_other.ensures) ∙ c.to_row-self-inside.ensures.row r refl refl)
+    (ap (λ q. record_at_row c.self.inside.givens c.self.inside.number c.args.j q r) (sym c.next_other-next.ensures) ∙ c.to_row-self-inside.ensures.row r refl refl ∙ (λ i. record r { phase = c.to_row-self-inside.result; known = sym (ap (λ (v : KnowledgeView). v.known) c.to_row-self-inside.ensures.stays) i; tried = c.to_row-self-inside.new.self.tried }))
     c.saturating_add-self-inside.ensures)
-    refl c.to_row-self-inside.ensures.range (omega arith) (omega arith)
+    (ap (λ (v : KnowledgeView). v.range) c.to_row-self-inside.ensures.stays) (omega arith) (omega arith)

@@ -1,0 +1,190 @@
+//! What a worker knows of the jobs, and the choice that it makes by it.
+ghost use Rattle.std.specs.Prelude.{◌≡◌, ◌≤◌, ◌+◌, [], IfOk, length, if◌then◌else◌};
+ghost use Rattle.amo_sets.specs.Rank.{count};
+ghost use Rattle.amo_sets.specs.Bits.{is_without};
+ghost use Rattle.amo_sets.specs.Sets.{has, with_number};
+ghost use Rattle.amo_kk.specs.Givens.{IsJob, IsWorker};
+ghost use Rattle.amo_kk.specs.Choice.{chosen_rank, record_after_choice, record_after_check};
+ghost use Rattle.amo_kk.specs.Event.{with_announced, record_at_row, record_at_announcement};
+ghost use Rattle.amo_kk.specs.declared.model.Record.{Record};
+
+use super::givens::Givens;
+use super::phase::{Phase, next_other};
+use amo_sets::JobSet;
+use std::alloc::{AllocError, Global};
+use std::marker::Model;
+
+/// What a worker knows of the jobs: which it knows to be performed, and which it has seen announced in this
+/// attempt. Jobs that aren't known are free, and free jobs that were not seen announced are open. How many are
+/// open is kept, so that the threshold is tested without a walk.
+#[derive(Drop)]
+pub struct Knowledge {
+    free: JobSet,
+    tried: JobSet,
+    open_count: u32,
+}
+
+impl Model for Knowledge {
+    ghost use Rattle.std.specs.Prelude.{◌≡◌, length};
+    ghost use Rattle.amo_sets.specs.Sets.{set_of_bits};
+    ghost use Rattle.amo_sets.specs.Rank.{count};
+    ghost use Rattle.amo_sets.specs.Bits.{is_without};
+    ghost use Rattle.amo_kk.specs.Knowledge.{KnowledgeView, numbers_without};
+
+    ghost Value = { KnowledgeView };
+
+    ghost view = { λ k. record { range = length k.free; known = numbers_without k.free; tried = set_of_bits k.tried } };
+
+    ghost invariant = { λ k. record { same_range : length k.tried ≡ length k.free; opens : k.open_count ≡ count (length k.free) (is_without k.free k.tried) } };
+}
+
+/// Which of the open jobs worker p wants where so many jobs are free: the workers are spread evenly over them,
+/// if there is room.
+fn wanted_rank(givens: Givens, p: u32, free: u32) -> u32
+    requires worker { IsWorker givens p }
+    requires free { free ≤ givens.jobs }
+    ensures { result ≡ chosen_rank givens p free }
+{
+    let spread = free.saturating_sub(givens.workers - 1);
+    if spread >= givens.workers {
+        (p - 1) * spread / givens.workers + 1
+    } else {
+        p
+    }
+}
+
+/// How many jobs stay open where so many are and j is open no more.
+#[tactic(auto, using(crate::proofs::OpenJobs::some_open))]
+fn open_without(free: &JobSet, tried: &JobSet, open_count: u32, j: u32) -> u32
+    requires low { 1 ≤ j }
+    requires free { j ≤ length free.now }
+    requires tried { length tried.now ≡ length free.now }
+    requires count { open_count ≡ count (length free.now) (is_without free.now tried.now) }
+    ensures { result + (if is_without free.now tried.now j then 1 else 0) ≡ open_count }
+{
+    if free.has(j) && !tried.has(j) {
+        open_count - 1
+    } else {
+        open_count
+    }
+}
+
+impl Knowledge {
+    /// Nothing is known of so many jobs, and none was seen announced. The only error is want of memory.
+    pub fn new(alloc: Global, jobs: u32) -> Result<Knowledge, AllocError>
+        ensures { IfOk result (λ k. k ≡ record { range = jobs; known = []; tried = [] }) }
+    {
+        let free = JobSet::full(alloc, jobs)?;
+        let tried = JobSet::empty(alloc, jobs)?;
+        Ok(Knowledge {
+            free,
+            tried,
+            open_count: jobs,
+        })
+    }
+
+    /// Whether j is known to be performed.
+    pub fn knows(&self, j: u32) -> bool
+        requires low { 1 ≤ j }
+        requires high { j ≤ self.now.range }
+        ensures { result ≡ has self.now.known j }
+    {
+        !self.free.has(j)
+    }
+
+    /// Whether j was seen announced in this attempt.
+    pub fn tried(&self, j: u32) -> bool
+        requires low { 1 ≤ j }
+        requires high { j ≤ self.now.range }
+        ensures { result ≡ has self.now.tried j }
+    {
+        self.tried.has(j)
+    }
+
+    /// Notes what was announced, 0 being nothing.
+    pub fn note(&mut self, announced: u32)
+        requires { announced ≤ self.old.range }
+        ensures { self.new ≡ record self.old { tried = with_announced announced self.old.tried } }
+    {
+        if announced == 0 {
+            return;
+        }
+        self.open_count = open_without(&self.free, &self.tried, self.open_count, announced);
+        self.tried.add(announced);
+    }
+
+    /// Learns that j is performed.
+    pub fn learn(&mut self, j: u32)
+        requires low { 1 ≤ j }
+        requires high { j ≤ self.old.range }
+        ensures { self.new ≡ record self.old { known = with_number j self.old.known } }
+    {
+        self.open_count = open_without(&self.free, &self.tried, self.open_count, j);
+        self.free.take_out(j);
+    }
+
+    /// The choice of worker p: over where fewer than beta jobs are open, else an announcement of an open job, and
+    /// nothing counts as seen announced any more.
+    pub fn choose(&mut self, givens: Givens, p: u32) -> Phase
+        requires worker { IsWorker givens p }
+        requires range { self.old.range ≡ givens.jobs }
+        ensures choice { (r : Record) → r.known ≡ self.old.known → r.tried ≡ self.old.tried
+            → record_after_choice givens p r ≡ record r { phase = result; tried = self.new.tried } }
+        ensures stays { self.new ≡ record self.old { tried = self.new.tried } }
+    {
+        if self.open_count < givens.beta {
+            return Phase::Over;
+        }
+        let rank = wanted_rank(givens, p, self.free.len());
+        // The job of that rank exists: `laws::choice_finds_a_job`.
+        let job = self.free.rank_without(&self.tried, rank).unwrap_or(0);
+        self.tried.clear();
+        self.open_count = self.free.len();
+        Phase::Announcing(job)
+    }
+
+    /// The check of j by worker p: it is to be claimed where it is open, else there is a new choice.
+    fn check(&mut self, givens: Givens, p: u32, j: u32) -> Phase
+        requires worker { IsWorker givens p }
+        requires job { IsJob givens j }
+        requires range { self.old.range ≡ givens.jobs }
+        ensures check { (r : Record) → r.known ≡ self.old.known → r.tried ≡ self.old.tried
+            → record_after_check givens p j r ≡ record r { phase = result; tried = self.new.tried } }
+        ensures stays { self.new ≡ record self.old { tried = self.new.tried } }
+    {
+        if self.knows(j) || self.tried(j) {
+            return self.choose(givens, p);
+        }
+        Phase::Claiming(j)
+    }
+
+    /// In an attempt on j, on to the row of q, or to the check where there is no worker q.
+    pub fn to_row(&mut self, givens: Givens, p: u32, j: u32, q: u32) -> Phase
+        requires worker { IsWorker givens p }
+        requires job { IsJob givens j }
+        requires range { self.old.range ≡ givens.jobs }
+        ensures row { (r : Record) → r.known ≡ self.old.known → r.tried ≡ self.old.tried
+            → record_at_row givens p j q r ≡ record r { phase = result; tried = self.new.tried } }
+        ensures stays { self.new ≡ record self.old { tried = self.new.tried } }
+    {
+        if q > givens.workers {
+            return self.check(givens, p, j);
+        }
+        Phase::Reading(j, q)
+    }
+
+    /// In an attempt on j, on to the announcement of q, or to the first row where there is no worker q.
+    pub fn to_announcement(&mut self, givens: Givens, p: u32, j: u32, q: u32) -> Phase
+        requires worker { IsWorker givens p }
+        requires job { IsJob givens j }
+        requires range { self.old.range ≡ givens.jobs }
+        ensures announcement { (r : Record) → r.known ≡ self.old.known → r.tried ≡ self.old.tried
+            → record_at_announcement givens p j q r ≡ record r { phase = result; tried = self.new.tried } }
+        ensures stays { self.new ≡ record self.old { tried = self.new.tried } }
+    {
+        if q > givens.workers {
+            return self.to_row(givens, p, j, next_other(p, 0));
+        }
+        Phase::Trying(j, q)
+    }
+}

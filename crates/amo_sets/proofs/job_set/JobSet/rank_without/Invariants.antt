@@ -1,0 +1,10 @@
+use Rattle.std.proofs.Common.{◌≡◌, ◌*◌, ◌+◌, ◌≤◌}
+use Rattle.amo_sets.proofs.Tally.{tally}
+use Rattle.amo_sets.proofs.Without.{apart}
+use Rattle.amo_sets.proofs.job_set.JobSet.rank_without.Given as goal
+
+abbrev pub invariant-loop-q : goal.invariant-loop-q
+invariant-loop-q l = record {
+  before : tally (64 * l.q) (apart l.self-inside.words.items l.other-inside.words.items) + l.left ≡ l.i;
+  some : 1 ≤ l.left;
+}

@@ -1,0 +1,203 @@
+//! A set of jobs within 1..=n, one bit a job.
+ghost use Rattle.std.specs.Prelude.{◌≡◌, ◌↔◌, ◌⊎◌, ℕ, ◌+◌, ◌/◌, ◌<◌, ◌≤◌, true, false, IsTrue, IsNone, IfOk, IfSome, count_ones, length, replicate, unwrap_or};
+ghost use Rattle.amo_sets.specs.Bits.{bit, is_one, is_without};
+ghost use Rattle.amo_sets.specs.Lists.{numbered, put};
+ghost use Rattle.amo_sets.specs.Rank.{count, has_rank, number_of_rank};
+
+use std::alloc::{AllocError, Global};
+use std::marker::Model;
+
+/// A set of jobs within `1..=n`. Contracts see, for each of these jobs in order, whether it is a member.
+///
+/// Only the three makers take memory. Adding and taking out, tests and the number of members take constant time.
+#[derive(Drop)]
+pub struct JobSet {
+    words: Vec<u64>,
+    range: u32,
+    len: u32,
+}
+
+impl Model for JobSet {
+    ghost use Rattle.std.specs.Prelude.{◌≡◌, ℕ, ◌+◌, ◌/◌, ◌<◌, ◌^◌, Bool, false, List, vec_len};
+    ghost use Rattle.amo_sets.specs.Bits.{bit};
+    ghost use Rattle.amo_sets.specs.Lists.{table};
+    ghost use Rattle.amo_sets.specs.Rank.{count};
+
+    ghost Value = { List Bool };
+
+    ghost view = { λ s. table s.range (bit s.words.items) };
+
+    ghost invariant = { λ s. record { size : vec_len s.words ≡ (s.range + 63) / 64; small : s.range < 2 ^ 32; spare : (j : ℕ) → s.range < j → bit s.words.items j ≡ false; kept : s.len ≡ count s.range (bit s.words.items) } };
+}
+
+impl JobSet {
+    /// All jobs of `1..=n`. The only error is want of memory.
+    pub fn full(alloc: Global, n: u32) -> Result<JobSet, AllocError>
+        ensures { IfOk result (λ s. s ≡ replicate n true) }
+    {
+        let mut set = JobSet::empty(alloc, n)?;
+        for before in 0..n {
+            set.add(before + 1);
+        }
+        Ok(set)
+    }
+
+    /// No job of `1..=n`. The only error is want of memory.
+    pub fn empty(alloc: Global, n: u32) -> Result<JobSet, AllocError>
+        ensures { IfOk result (λ s. s ≡ replicate n false) }
+    {
+        let words = Vec::from_elem(alloc, 0u64, (n as usize + 63) / 64)?;
+        Ok(JobSet {
+            words,
+            range: n,
+            len: 0,
+        })
+    }
+
+    /// Another set of the same range with the same members. The only error is want of memory.
+    pub fn copy(&self, alloc: Global) -> Result<JobSet, AllocError>
+        ensures { IfOk result (λ s. s ≡ self.now) }
+    {
+        let words = Vec::from_slice(alloc, self.words.as_slice())?;
+        Ok(JobSet {
+            words,
+            range: self.range,
+            len: self.len,
+        })
+    }
+
+    /// The n of `1..=n`.
+    pub fn range(&self) -> u32
+        ensures { result ≡ length self.now }
+    {
+        self.range
+    }
+
+    /// Whether the job is one of `1..=n`, a member or not.
+    pub fn covers(&self, j: u32) -> bool
+        ensures { IsTrue result ↔ ((1 ≤ j) × (j ≤ length self.now)) }
+    {
+        1 <= j && j <= self.range
+    }
+
+    /// Whether the job is a member.
+    pub fn has(&self, j: u32) -> bool
+        requires low { 1 ≤ j }
+        requires high { j ≤ length self.now }
+        ensures { result ≡ numbered false self.now j }
+    {
+        let k = (j - 1) as usize;
+        (self.words[k / 64] >> (k % 64)) & 1 == 1
+    }
+
+    /// How many members there are.
+    pub fn len(&self) -> u32
+        ensures { result ≡ count (length self.now) (numbered false self.now) }
+    {
+        self.len
+    }
+
+    /// Whether there is no member.
+    pub fn is_empty(&self) -> bool
+        ensures { IsTrue result ↔ (count (length self.now) (numbered false self.now) ≡ 0) }
+    {
+        self.len == 0
+    }
+
+    /// How many members the other set lacks.
+    pub fn count_without(&self, other: &JobSet) -> u32
+        requires { length self.now ≡ length other.now }
+        ensures { result ≡ count (length self.now) (is_without self.now other.now) }
+    {
+        let mut total = 0;
+        for q in 0..self.words.len() {
+            total += (self.words[q] & !other.words[q]).count_ones();
+        }
+        total
+    }
+
+    /// The member of rank i, from 1, among those that the other set lacks: it and just i - 1 smaller ones are
+    /// members that the other lacks. None where i is 0 or above their count.
+    pub fn rank_without(&self, other: &JobSet, i: u32) -> Option<u32>
+        requires { length self.now ≡ length other.now }
+        ensures none { IsNone result ↔ ((i ≡ 0) ⊎ (count (length self.now) (is_without self.now other.now) < i)) }
+        ensures some { IfSome result (λ e. (1 ≤ e) × (e ≤ length self.now) × (has_rank (is_without self.now other.now) i e ≡ true)) }
+        ensures number { unwrap_or result 0 ≡ number_of_rank (length self.now) (is_without self.now other.now) i }
+    {
+        if i == 0 {
+            return None;
+        }
+        let mut left = i;
+        for q in 0..self.words.len() {
+            let word = self.words[q] & !other.words[q];
+            let ones = word.count_ones();
+            if left <= ones {
+                return Some(64 * q as u32 + place_of(word, left));
+            }
+            left -= ones;
+        }
+        None
+    }
+
+    /// The bits, n / 64 rounded up words: job j is bit (j - 1) mod 64 of word floor((j - 1) / 64). All other
+    /// bits are 0.
+    pub fn words(&self) -> &[u64]
+        ensures len { length result.now ≡ (length self.now + 63) / 64 }
+        ensures bits { (j : ℕ) → bit result.now j ≡ numbered false self.now j }
+    {
+        self.words.as_slice()
+    }
+
+    /// Adds the job. Where it is a member, nothing changes.
+    pub fn add(&mut self, j: u32)
+        requires low { 1 ≤ j }
+        requires high { j ≤ length self.old }
+        ensures { self.new ≡ put self.old j true }
+    {
+        if !self.has(j) {
+            let k = (j - 1) as usize;
+            self.words[k / 64] |= 1 << (k % 64);
+            self.len += 1;
+        }
+    }
+
+    /// Takes out the job. Where it is no member, nothing changes.
+    pub fn take_out(&mut self, j: u32)
+        requires low { 1 ≤ j }
+        requires high { j ≤ length self.old }
+        ensures { self.new ≡ put self.old j false }
+    {
+        if self.has(j) {
+            let k = (j - 1) as usize;
+            self.words[k / 64] &= !(1 << (k % 64));
+            self.len -= 1;
+        }
+    }
+
+    /// Takes out all jobs. The range stays.
+    pub fn clear(&mut self)
+        ensures { self.new ≡ replicate (length self.old) false }
+    {
+        self.words.fill(0);
+        self.len = 0;
+    }
+}
+
+/// The place, from 1, of the i-th bit of the word that is 1, the lowest first.
+fn place_of(word: u64, i: u32) -> u32
+    requires low { 1 ≤ i }
+    requires high { i ≤ count_ones word }
+    ensures within { result ≤ 64 }
+    ensures rank { has_rank (is_one word) i result ≡ true }
+{
+    let mut left = i;
+    for r in 0..64 {
+        if (word >> r) & 1 == 1 {
+            if left == 1 {
+                return r + 1;
+            }
+            left -= 1;
+        }
+    }
+    unreachable!()
+}
