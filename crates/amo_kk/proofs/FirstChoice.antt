@@ -1,7 +1,7 @@
 -- What the choice finds, and the first choices of the workers.
 use Rattle.std.proofs.Common.{◌≡◌, ap, sym, ◌∙◌, ℕ, ◌+◌, ◌-◌, ◌*◌, ◌/◌, ◌<◌, ◌≤◌, Bool, true, false, not, ◌&&◌, [], length, refl, arith}
-use Rattle.std.specs.Prelude.{nat_lt, nat_le, ◌==◌, if◌then◌else◌}
-use Rattle.std.proofs.lemmas.Bool.{and_parts, and_from, eq-eqb, leb-true, leb-false, le-ltb, lt-ltb}
+use Rattle.std.specs.Prelude.{nat_le, if◌then◌else◌}
+use Rattle.std.proofs.lemmas.Bool.{and_from, eq-eqb, leb-true, le-ltb, lt-ltb}
 use Rattle.std.proofs.lemmas.Nat.{le-div}
 use Rattle.std.proofs.Math.Nat.{div-mul-le_self}
 use Rattle.amo_sets.specs.Sets.{has}
@@ -9,7 +9,7 @@ use Rattle.amo_sets.specs.Rank.{count, has_rank, number_of_rank}
 use Rattle.amo_sets.proofs.Numbers.{count_true, ranked_is}
 use Rattle.amo_kk.specs.Givens.{IsJob, IsWorker}
 use Rattle.amo_kk.specs.Record.{is_free, is_open, empty_record}
-use Rattle.amo_kk.specs.Choice.{chosen_rank, chosen_job, record_after_choice, first_record}
+use Rattle.amo_kk.specs.Choice.{chosen_rank, chosen_job, first_record}
 use Rattle.amo_kk.specs.declared.givens.Givens.{Givens}
 use Rattle.amo_kk.specs.declared.model.Record.{Record}
 use Rattle.amo_kk.specs.declared.phase.Phase.TheVariants.{Announcing, Over}

@@ -1,11 +1,11 @@
 -- Free jobs as bits: which jobs are known, how many are open, and the choice as it is computed from bits.
 use Rattle.std.proofs.Common.{◌≡◌, ◌≢◌, ⊎_elim, ℕ, zero, suc, ◌+◌, ◌≤◌, ◌<◌, List, Bool, true, false, [], not, ◌&&◌, ◌||◌, replicate, length, refl, sym, ap, ◌∙◌, subst, arith}
-use Rattle.std.specs.Prelude.{if◌then◌else◌, nat_le, ◌==◌}
+use Rattle.std.specs.Prelude.{if◌then◌else◌, ◌==◌}
 use Rattle.std.proofs.lemmas.Bool.{lt-ltb, le-ltb, le-leb, and_from, cases_eq, eq-eqb, ne_eqb}
 use Rattle.std.proofs.lemmas.List.{get_or-replicate, length-replicate}
 use Rattle.amo_sets.specs.Lists.{numbered, put}
 use Rattle.amo_sets.specs.Sets.{has, members, set_of_bits, with_number}
-use Rattle.amo_sets.specs.Rank.{count, has_rank, number_of_rank}
+use Rattle.amo_sets.specs.Rank.{count, number_of_rank}
 use Rattle.amo_sets.specs.Bits.{is_without}
 use Rattle.amo_sets.proofs.Numbers.{count_true, numbered-put_same, numbered-put_other, length-put}
 use Rattle.amo_sets.proofs.Sets.{members_agree, has-members, with_member, has-set_of_bits}

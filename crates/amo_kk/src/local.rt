@@ -125,7 +125,9 @@ impl Local {
         ensures { self.new ≡ record self.old { local = record_after self.old.givens self.old.number 0 self.old.local } }
     {
         let first = next_other(self.number, 0);
-        self.phase = self.knowledge.to_announcement(self.givens, self.number, j, first);
+        self.phase = self
+            .knowledge
+            .to_announcement(self.givens, self.number, j, first);
         self.steps = self.steps.saturating_add(1);
     }
 
@@ -137,7 +139,9 @@ impl Local {
     {
         self.knowledge.note(v);
         let next = next_other(self.number, q);
-        self.phase = self.knowledge.to_announcement(self.givens, self.number, j, next);
+        self.phase = self
+            .knowledge
+            .to_announcement(self.givens, self.number, j, next);
         self.steps = self.steps.saturating_add(1);
     }
 

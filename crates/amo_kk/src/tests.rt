@@ -15,7 +15,10 @@ fn givens_are_refused_in_their_order(rt: HostRuntime) {
         ((5, 2, 65536), GivensFault::BetaHigh),
     ];
     for ((jobs, workers, beta), fault) in cases {
-        assert!(rt; Givens::try_new(jobs, workers, beta) == Err(fault), "{jobs} {workers} {beta}");
+        assert!(rt;
+            Givens::try_new(jobs, workers, beta) == Err(fault),
+            "{jobs} {workers} {beta}"
+        );
     }
 }
 
@@ -64,7 +67,10 @@ fn first_choices_are_spread(rt: HostRuntime) -> Result<(), Fail> {
         ((0, 1, 1), 1, Want::Nothing),
     ];
     for (numbers, p, want) in spread {
-        assert!(rt; first_want(rt.alloc(), &rt, numbers, p)? == want, "worker {p}");
+        assert!(rt;
+            first_want(rt.alloc(), &rt, numbers, p)? == want,
+            "worker {p}"
+        );
     }
     Ok(())
 }
@@ -85,6 +91,21 @@ fn event(rt: &impl Abort, local: &mut Local, v: u64) -> Shown {
         Want::StoreNext(_) | Want::StoreClaim(_, _) | Want::StoreDone(_, _) => local.stored(),
         Want::Nothing => Shown::Quiet,
     }
+}
+
+/// Whether the worker knows j, and whether it has seen j announced.
+fn sight(rt: &impl Abort, local: &Local, j: u32) -> (bool, bool) {
+    let jobs = local.givens().jobs();
+    assert!(rt; 1 <= j && j <= jobs);
+    (local.knows(j), local.tried(j))
+}
+
+/// How many entries of the row of worker q were read.
+fn front(rt: &impl Abort, local: &Local, q: u32) -> u32 {
+    let workers = local.givens().workers();
+    let number = local.number();
+    assert!(rt; 1 <= q && q <= workers && q != number);
+    local.read_of(q)
 }
 
 #[test]
@@ -134,10 +155,8 @@ fn a_known_job_is_not_announced_again(rt: HostRuntime) -> Result<(), Fail> {
     }
     assert_eq!(rt; local.steps(), 4);
     assert!(rt; local.want() == Want::StoreNext(2));
-    let same = local.givens();
-    assert!(rt; same.workers() == 2 && same.jobs() == 5 && local.number() == 2);
-    assert!(rt; local.knows(3) && !local.tried(3));
-    assert_eq!(rt; local.read_of(1), 1);
+    assert!(rt; sight(&rt, &local, 3) == (true, false));
+    assert_eq!(rt; front(&rt, &local, 1), 1);
     Ok(())
 }
 
@@ -149,9 +168,7 @@ fn a_job_seen_announced_is_not_claimed(rt: HostRuntime) -> Result<(), Fail> {
     assert!(rt; local.want() == Want::StoreNext(2));
     assert!(rt; event(&rt, &mut local, 0) == Shown::Quiet);
     assert!(rt; event(&rt, &mut local, 2) == Shown::Quiet);
-    let same = local.givens();
-    assert!(rt; same.jobs() == 3);
-    assert!(rt; local.tried(2) && !local.knows(2));
+    assert!(rt; sight(&rt, &local, 2) == (false, true));
     assert!(rt; event(&rt, &mut local, 1) == Shown::Quiet);
     assert!(rt; event(&rt, &mut local, 0) == Shown::Ended);
     assert_eq!(rt; local.steps(), 4);

@@ -1,11 +1,10 @@
-use Rattle.std.proofs.Common.{◌≡◌, ◌≤◌, ◌∙◌, ap, sym, length, arith}
+use Rattle.std.proofs.Common.{◌≡◌, ◌∙◌, ap, sym, length, arith}
 use Rattle.amo_sets.specs.Lists.{numbered}
 use Rattle.amo_sets.specs.Sets.{set_of_bits}
 use Rattle.amo_sets.proofs.Numbers.{count_le_all}
 use Rattle.amo_sets.proofs.Sets.{set_of_bits-replicate}
 use Rattle.std.specs.Prelude.{false}
 use Rattle.amo_kk.specs.Knowledge.{KnowledgeView}
-use Rattle.amo_kk.specs.declared.model.Record.{Record}
 use Rattle.amo_kk.specs.declared.phase.Phase.TheVariants.{Announcing, Over}
 use Rattle.amo_kk.proofs.OpenJobs.{choice_ends, choice_goes}
 use Rattle.amo_kk.proofs.knowledge.Knowledge.choose.Goals as goal

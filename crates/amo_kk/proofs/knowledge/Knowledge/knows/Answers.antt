@@ -1,4 +1,4 @@
-use Rattle.std.proofs.Common.{◌≡◌, ◌≤◌, ap, sym, ◌∙◌, subst, length, not}
+use Rattle.std.proofs.Common.{◌≤◌, ap, sym, ◌∙◌, subst, length, not}
 use Rattle.amo_sets.specs.Sets.{has}
 use Rattle.amo_kk.specs.Knowledge.{KnowledgeView}
 use Rattle.amo_kk.proofs.OpenJobs.{has-numbers_without}

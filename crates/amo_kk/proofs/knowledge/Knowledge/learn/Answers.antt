@@ -1,4 +1,4 @@
-use Rattle.std.proofs.Common.{◌≡◌, ◌≤◌, ℕ, ap, sym, ◌∙◌, subst, length, false, arith}
+use Rattle.std.proofs.Common.{◌≡◌, ◌≤◌, ap, sym, ◌∙◌, subst, length, false}
 use Rattle.amo_sets.specs.Sets.{with_number, set_of_bits}
 use Rattle.amo_sets.proofs.Numbers.{length-put}
 use Rattle.amo_sets.specs.Bits.{is_without}
@@ -21,7 +21,7 @@ pub returns : goal.returns
 returns c =
     let high : c.args.j ≤ length c.self.inside.free = subst (λ (v : KnowledgeView). c.args.j ≤ v.range) (sym c.self.view_is) c.requires.high in
     let known : numbers_without c.take_out.new.self ≡ with_number c.args.j (numbers_without c.self.inside.free) =
-        ap numbers_without c.take_out.ensures ∙ numbers_without-put c.self.inside.free c.args.j c.requires.low high in
+    ap numbers_without c.take_out.ensures ∙ numbers_without-put c.self.inside.free c.args.j c.requires.low high in
     let range : length c.take_out.new.self ≡ length c.self.inside.free = ap length c.take_out.ensures ∙ length-put false c.self.inside.free c.args.j in
     (λ i. record { range = range i; known = known i; tried = set_of_bits c.self.inside.tried })
     ∙ ap (λ (v : KnowledgeView). record v { known = with_number c.args.j v.known }) c.self.view_is

@@ -2,7 +2,7 @@ use Rattle.std.proofs.Common.{◌≡◌, [], ap, sym, ◌∙◌, length, true, f
 use Rattle.std.proofs.lemmas.List.{length-replicate}
 use Rattle.amo_sets.specs.Sets.{set_of_bits}
 use Rattle.amo_sets.proofs.Sets.{set_of_bits-replicate}
-use Rattle.amo_kk.specs.Knowledge.{KnowledgeView, numbers_without}
+use Rattle.amo_kk.specs.Knowledge.{numbers_without}
 use Rattle.amo_kk.proofs.OpenJobs.{numbers_without-replicate, opens_at_first}
 use Rattle.amo_kk.proofs.knowledge.Knowledge.new.Goals as goal
 

@@ -26,7 +26,7 @@ returns c =
     let high : c.args.announced ≤ length c.self.inside.free = subst (λ (v : KnowledgeView). c.args.announced ≤ v.range) (sym c.self.view_is) c.requires in
     let same = c.self.invariant.same_range in
     let noted : set_of_bits c.add.new.self ≡ with_announced c.args.announced (set_of_bits c.self.inside.tried) =
-        ap set_of_bits c.add.ensures ∙ set_of_bits-put c.self.inside.tried c.args.announced (omega arith) (omega arith)
-        ∙ ap (λ b. if b then set_of_bits c.self.inside.tried else with_number c.args.announced (set_of_bits c.self.inside.tried)) (sym (ne_eqb c.args.announced 0 c.if-announced-eq0.false)) in
+    ap set_of_bits c.add.ensures ∙ set_of_bits-put c.self.inside.tried c.args.announced (omega arith) (omega arith)
+    ∙ ap (λ b. if b then set_of_bits c.self.inside.tried else with_number c.args.announced (set_of_bits c.self.inside.tried)) (sym (ne_eqb c.args.announced 0 c.if-announced-eq0.false)) in
     ap (λ (l : List ℕ). record { range = length c.self.inside.free; known = numbers_without c.self.inside.free; tried = l }) noted
     ∙ ap (λ (v : KnowledgeView). record v { tried = with_announced c.args.announced v.tried }) c.self.view_is

@@ -1,11 +1,9 @@
-use Rattle.std.proofs.Common.{◌≡◌, length, true, false, ap, sym, refl, ◌∙◌, arith}
+use Rattle.std.proofs.Common.{◌≡◌, false, ap, sym, refl, ◌∙◌, arith}
 use Rattle.std.specs.Vec.{vec_capacity}
-use Rattle.amo_sets.specs.Sets.{has, with_number, set_of_bits}
+use Rattle.amo_sets.specs.Sets.{has, with_number}
 use Rattle.amo_kk.specs.Givens.{IsJob}
-use Rattle.amo_sets.proofs.Sets.{set_of_bits-put}
-use Rattle.amo_sets.proofs.Numbers.{length-put}
 use Rattle.amo_kk.specs.Choice.{record_after_choice}
-use Rattle.amo_kk.specs.Event.{want, record_after}
+use Rattle.amo_kk.specs.Event.{want}
 use Rattle.amo_kk.specs.declared.model.Record.{Record}
 use Rattle.amo_kk.specs.declared.phase.Phase.TheVariants.{Holding}
 use Rattle.amo_kk.specs.Knowledge.{KnowledgeView}

@@ -1,8 +1,6 @@
-use Rattle.std.proofs.Common.{◌≡◌, ◌+◌, ◌-◌, length, true, List, ℕ, set, ap, sym, refl, subst, ◌∙◌, arith}
+use Rattle.std.proofs.Common.{◌≡◌, ◌+◌, ◌-◌, List, ℕ, set, ap, sym, refl, subst, ◌∙◌, arith}
 use Rattle.std.specs.Vec.{vec_capacity}
-use Rattle.amo_sets.specs.Sets.{with_number, set_of_bits}
-use Rattle.amo_sets.proofs.Sets.{set_of_bits-put}
-use Rattle.amo_sets.proofs.Numbers.{length-put}
+use Rattle.amo_sets.specs.Sets.{with_number}
 use Rattle.amo_kk.specs.Givens.{IsJob, IsOther}
 use Rattle.amo_kk.specs.Event.{want, want_in, MayLoad}
 use Rattle.amo_kk.specs.declared.model.Record.{Record}

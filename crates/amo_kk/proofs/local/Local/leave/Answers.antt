@@ -1,4 +1,4 @@
-use Rattle.std.proofs.Common.{◌≡◌, length, true, ap, ◌∙◌}
+use Rattle.std.proofs.Common.{◌≡◌, true, ap, ◌∙◌}
 use Rattle.std.specs.Vec.{vec_capacity}
 use Rattle.amo_kk.specs.Record.{can_leave}
 use Rattle.amo_kk.specs.declared.model.Record.{Record}
