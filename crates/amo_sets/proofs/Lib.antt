@@ -1,7 +1,8 @@
 pub mod Numbers
+pub mod Ranks
 pub mod Sets
+pub mod Shown
 pub mod Tables
 pub mod Tally
-pub mod Words
 pub mod Without
-pub mod Ranks
+pub mod Words

@@ -27,7 +27,12 @@ impl Model for JobSet {
 
     ghost view = { λ s. table s.range (bit s.words.items) };
 
-    ghost invariant = { λ s. record { size : vec_len s.words ≡ (s.range + 63) / 64; small : s.range < 2 ^ 32; spare : (j : ℕ) → s.range < j → bit s.words.items j ≡ false; kept : s.len ≡ count s.range (bit s.words.items) } };
+    ghost invariant = { λ s. record {
+      size : vec_len s.words ≡ (s.range + 63) / 64;
+      small : s.range < 2 ^ 32;
+      spare : (j : ℕ) → s.range < j → bit s.words.items j ≡ false;
+      kept : s.len ≡ count s.range (bit s.words.items);
+    } };
 }
 
 impl JobSet {
@@ -101,7 +106,7 @@ impl JobSet {
     pub fn is_empty(&self) -> bool
         ensures { IsTrue result ↔ (count (length self.now) (numbered false self.now) ≡ 0) }
     {
-        self.len == 0
+        self.len() == 0
     }
 
     /// How many members the other set lacks.

@@ -3,5 +3,7 @@
 #![tactic(auto)]
 
 mod job_set;
+#[cfg(test)]
+mod tests;
 
 pub use job_set::JobSet;

@@ -1,49 +1,35 @@
-use Rattle.std.proofs.Common.{◌≡◌, ◌<◌, ◌-◌, ◌/◌, ◌%◌, ◌*◌, ◌^◌, ℕ, suc, List, get_or, length, true, false, bit_or, ap, sym, ◌∙◌, subst, arith}
-use Rattle.std.proofs.lemmas.List.{get_or_read}
-use Rattle.amo_sets.specs.Bits.{bit}
-use Rattle.amo_sets.specs.Lists.{put}
+use Rattle.std.proofs.Common.{◌-◌, ◌%◌, ◌*◌, ◌^◌, ℕ, true, false, bit_or, sym, ◌∙◌, arith}
+use Rattle.amo_sets.specs.Lists.{numbered}
+use Rattle.amo_sets.proofs.Shown.{kept_is, length_of, word_of, WritesJob, adds_job, shown_written, spare_written, count_added}
 use Rattle.amo_sets.proofs.Tally.{count_lt}
-use Rattle.amo_sets.proofs.Words.{IsWritten, written_set}
-use Rattle.amo_sets.proofs.Without.{length_of, member_of, shown_written, spare_written, count_added}
 use Rattle.amo_sets.proofs.job_set.JobSet.add.Goals as goal
 
 pub index_mut-requires : goal.index_mut-requires
-index_mut-requires c = let n = length_of c.self.inside.words.items c.self.inside.range c.args.self.now c.self.view_is in omega arith
+index_mut-requires c = let within = word_of c.self.inside c.args.self.now c.self.view_is c.self.invariant c.args.j c.requires.low c.requires.high in omega arith
 
 pub overflow_add-self : goal.overflow_add-self
 overflow_add-self c =
-    let n = length_of c.self.inside.words.items c.self.inside.range c.args.self.now c.self.view_is in
-    let was : bit c.self.inside.words.items c.args.j ≡ false = sym (member_of c.self.inside.words.items c.self.inside.range c.args.self.now c.self.view_is c.args.j c.requires.low (omega arith)) ∙ sym c.has.ensures ∙ c.if-not-has.true in
-    let l = count_lt c.self.inside.range (bit c.self.inside.words.items) c.args.j c.requires.low (omega arith) was in
-    omega (arith, c.self.invariant.kept, c.self.invariant.small)
+    let n = length_of c.self.inside c.args.self.now c.self.view_is in
+    let kept = kept_is c.self.inside c.args.self.now c.self.view_is c.self.invariant in
+    let l = count_lt _ (numbered false c.args.self.now) c.args.j c.requires.low c.requires.high (sym c.has.ensures ∙ c.if-not-has.true) in
+    omega (arith, c.self.invariant.small)
 
 pub invariant_of-self : goal.invariant_of-self
 invariant_of-self c =
-    let n = length_of c.self.inside.words.items c.self.inside.range c.args.self.now c.self.view_is in
-    let ws : List ℕ = c.self.inside.words.items in
-    let k : ℕ = c.args.j - 1 in
     let x : ℕ = c.index_mut.result.now in
-    let lt : k / 64 < length ws = omega arith in
-    let here : x ≡ get_or ws (k / 64) 0 = get_or_read ws (k / 64) x lt c.index_mut.ensures.value 0 in
-    let is : IsWritten (get_or ws (k / 64) 0) (bit_or x (1 * 2 ^ (k % 64) % 2 ^ 64)) (suc (k % 64)) true = subst (λ (w : ℕ). IsWritten w (bit_or x (1 * 2 ^ (k % 64) % 2 ^ 64)) (suc (k % 64)) true) here (written_set x (k % 64) (omega arith)) in
-    let at : suc k ≡ c.args.j = omega arith in
-    let was : bit ws (suc k) ≡ false = ap (bit ws) at ∙ sym (member_of ws c.self.inside.range c.args.self.now c.self.view_is c.args.j c.requires.low (omega arith)) ∙ sym c.has.ensures ∙ c.if-not-has.true in
-    let count = count_added ws c.self.inside.range k (bit_or x (1 * 2 ^ (k % 64) % 2 ^ 64)) (omega arith) lt is was in
+    let writes : WritesJob c.self.inside c.args.self.now c.args.j (bit_or x (1 * 2 ^ ((c.args.j - 1) % 64) % 2 ^ 64)) true =
+    adds_job c.self.inside c.args.self.now c.args.j x c.self.view_is c.self.invariant c.requires.low c.requires.high c.index_mut.ensures.value in
+    let count = count_added c.self.inside c.args.self.now c.args.j (bit_or x (1 * 2 ^ ((c.args.j - 1) % 64) % 2 ^ 64)) writes (sym c.has.ensures ∙ c.if-not-has.true) in
     record {
       size = c.self.invariant.size;
       small = c.self.invariant.small;
-      spare = spare_written ws c.self.inside.range k (bit_or x (1 * 2 ^ (k % 64) % 2 ^ 64)) true (omega arith) lt is c.self.invariant.spare;
-      kept = omega (arith, c.self.invariant.kept);
+      spare = spare_written c.self.inside c.args.self.now c.args.j (bit_or x (1 * 2 ^ ((c.args.j - 1) % 64) % 2 ^ 64)) true writes;
+      kept = omega arith;
     }
 
 pub returns-then-not-has : goal.returns-then-not-has
 returns-then-not-has c =
-    let n = length_of c.self.inside.words.items c.self.inside.range c.args.self.now c.self.view_is in
-    let ws : List ℕ = c.self.inside.words.items in
-    let k : ℕ = c.args.j - 1 in
     let x : ℕ = c.index_mut.result.now in
-    let lt : k / 64 < length ws = omega arith in
-    let here : x ≡ get_or ws (k / 64) 0 = get_or_read ws (k / 64) x lt c.index_mut.ensures.value 0 in
-    let is : IsWritten (get_or ws (k / 64) 0) (bit_or x (1 * 2 ^ (k % 64) % 2 ^ 64)) (suc (k % 64)) true = subst (λ (w : ℕ). IsWritten w (bit_or x (1 * 2 ^ (k % 64) % 2 ^ 64)) (suc (k % 64)) true) here (written_set x (k % 64) (omega arith)) in
-    let at : suc k ≡ c.args.j = omega arith in
-    shown_written ws c.self.inside.range c.args.self.now k (bit_or x (1 * 2 ^ (k % 64) % 2 ^ 64)) true c.self.view_is (omega arith) lt is ∙ ap (λ (j : ℕ). put c.args.self.now j true) at
+    let writes : WritesJob c.self.inside c.args.self.now c.args.j (bit_or x (1 * 2 ^ ((c.args.j - 1) % 64) % 2 ^ 64)) true =
+    adds_job c.self.inside c.args.self.now c.args.j x c.self.view_is c.self.invariant c.requires.low c.requires.high c.index_mut.ensures.value in
+    shown_written c.self.inside c.args.self.now c.args.j (bit_or x (1 * 2 ^ ((c.args.j - 1) % 64) % 2 ^ 64)) true writes

@@ -3,7 +3,7 @@ use Rattle.amo_sets.specs.Bits.{bit}
 use Rattle.amo_sets.proofs.Tables.{table_constant}
 use Rattle.amo_sets.proofs.Tally.{count_nothing}
 use Rattle.amo_sets.proofs.Words.{bit-zeros}
-use Rattle.amo_sets.proofs.Without.{length_of}
+use Rattle.amo_sets.proofs.Shown.{length_of}
 use Rattle.amo_sets.proofs.job_set.JobSet.clear.Goals as goal
 
 pub invariant_of-self : goal.invariant_of-self
@@ -19,4 +19,4 @@ invariant_of-self c =
 pub returns : goal.returns
 returns c =
     table_constant false (bit c.fill.new.self.items) c.self.inside.range (λ j _ _. bit-zeros c.fill.new.self.items (vec_len c.self.inside.words) (search rules) j)
-    ∙ ap (λ (n : ℕ). replicate n false) (sym (length_of c.self.inside.words.items c.self.inside.range c.args.self.now c.self.view_is))
+    ∙ ap (λ (n : ℕ). replicate n false) (sym (length_of c.self.inside c.args.self.now c.self.view_is))

@@ -4,4 +4,4 @@ use Rattle.amo_sets.proofs.Without.{apart}
 use Rattle.amo_sets.proofs.job_set.JobSet.count_without.Given as goal
 
 abbrev pub invariant-loop-q : goal.invariant-loop-q
-invariant-loop-q l = l.total ≡ tally (64 * l.q) (apart l.self-inside.words.items l.other-inside.words.items)
+invariant-loop-q l = l.total ≡ tally (64 * l.q) (apart l.self-inside l.other-inside)

@@ -1,13 +1,13 @@
-use Rattle.std.proofs.Common.{◌≡◌, ◌-◌, ◌/◌, ◌%◌, ◌^◌, ℕ, suc, List, length, get_or, eqb, bit_and, ◌<◌, arith, ap, ◌∙◌, sym}
+use Rattle.std.proofs.Common.{◌≡◌, ◌-◌, ◌/◌, ◌%◌, ◌^◌, ◌<◌, ℕ, suc, List, length, get_or, eqb, bit_and, arith, ap, ◌∙◌, sym}
 use Rattle.std.specs.Int.{bit_at}
 use Rattle.std.proofs.lemmas.List.{get_or_read}
 use Rattle.std.proofs.lemmas.Nat.Bits.{shr_and_one}
 use Rattle.amo_sets.specs.Bits.{bit}
-use Rattle.amo_sets.proofs.Without.{length_of, member_of}
+use Rattle.amo_sets.proofs.Shown.{member_of, word_of}
 use Rattle.amo_sets.proofs.job_set.JobSet.has.Goals as goal
 
 pub index-requires : goal.index-requires
-index-requires c = let n = length_of c.self.inside.words.items c.self.inside.range c.args.self.now c.self.view_is in omega arith
+index-requires c = let within = word_of c.self.inside c.args.self.now c.self.view_is c.self.invariant c.args.j c.requires.low c.requires.high in omega arith
 
 -- the test of the code
 test_is : (ws : List ℕ) (j k w : ℕ) → j ≡ suc k → w ≡ get_or ws (k / 64) w → k / 64 < length ws → eqb (bit_and (w / 2 ^ (k % 64)) 1) 1 ≡ bit ws j
@@ -15,5 +15,6 @@ test_is ws j k w e is lt = ap (λ b. eqb b 1) (shr_and_one w (k % 64) ∙ ap (λ
 
 pub returns : goal.returns
 returns c =
-    let n = length_of c.self.inside.words.items c.self.inside.range c.args.self.now c.self.view_is in
-    test_is c.self.inside.words.items c.args.j (c.args.j - 1) _ (omega arith) c.index.ensures (omega arith) ∙ sym (member_of c.self.inside.words.items c.self.inside.range c.args.self.now c.self.view_is c.args.j c.requires.low (omega arith))
+    let within = word_of c.self.inside c.args.self.now c.self.view_is c.self.invariant c.args.j c.requires.low c.requires.high in
+    test_is c.self.inside.words.items c.args.j (c.args.j - 1) _ (omega (arith, c.requires.low)) c.index.ensures within
+    ∙ sym (member_of c.self.inside c.args.self.now c.self.view_is c.args.j c.requires.low c.requires.high)

@@ -1,6 +1,5 @@
-use Rattle.std.proofs.Common.{◌∙◌}
-use Rattle.amo_sets.proofs.Without.{count_of}
+use Rattle.amo_sets.proofs.Shown.{kept_is}
 use Rattle.amo_sets.proofs.job_set.JobSet.len.Goals as goal
 
 pub returns : goal.returns
-returns c = c.self.invariant.kept ∙ count_of c.self.inside.words.items c.self.inside.range c.args.self.now c.self.view_is
+returns c = kept_is c.self.inside c.args.self.now c.self.view_is c.self.invariant

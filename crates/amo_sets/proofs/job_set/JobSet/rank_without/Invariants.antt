@@ -5,6 +5,6 @@ use Rattle.amo_sets.proofs.job_set.JobSet.rank_without.Given as goal
 
 abbrev pub invariant-loop-q : goal.invariant-loop-q
 invariant-loop-q l = record {
-  before : tally (64 * l.q) (apart l.self-inside.words.items l.other-inside.words.items) + l.left ≡ l.i;
+  before : tally (64 * l.q) (apart l.self-inside l.other-inside) + l.left ≡ l.i;
   some : 1 ≤ l.left;
 }
