@@ -1,0 +1,513 @@
+//! A replay in plain Rust: the plan on standard input, the report on standard output.
+//!
+//! `bench/run` measures the proved program against it and compares their reports byte for byte, so it also serves
+//! as a second opinion, written apart from the proved crates. It uses no crate:
+//!
+//! ```text
+//! rustc -O --edition 2021 -o bench/out/replay bench/replay.rs
+//! bench/out/replay < examples/three_jobs.toml
+//! ```
+//!
+//! It does the same work: sets of jobs are bit words, and each worker keeps the number of jobs that it could take.
+//! Of the plan it reads only what is written one key a line, as in `examples/`, and it tests nothing: a plan that
+//! breaks a rule makes it panic or write nonsense.
+
+use std::fmt::Write as _;
+use std::io::{self, Read as _, Write as _};
+
+fn main() -> io::Result<()> {
+    let mut text = String::new();
+    io::stdin().read_to_string(&mut text)?;
+    let plan = Plan::read(&text);
+    let mut world = World::new(plan.givens);
+    world.run(&plan.moves);
+    for _ in 0..plan.rounds {
+        for worker in 1..=plan.givens.workers {
+            world.turn(worker);
+        }
+    }
+    io::stdout().write_all(report(&plan, &world).as_bytes())
+}
+
+/// How many jobs and workers there are, and the threshold below which a worker ends.
+#[derive(Clone, Copy, Debug)]
+struct Givens {
+    jobs: u32,
+    workers: u32,
+    beta: u32,
+}
+
+impl Givens {
+    /// Wherever a worker has ended, at least so many jobs are performed.
+    fn bound(&self) -> u32 {
+        self.jobs.saturating_sub(self.beta + self.workers - 2)
+    }
+
+    /// The worker after `q`, leaving out `p`, if there is one.
+    fn other_after(&self, p: u32, q: u32) -> Option<u32> {
+        let next = if q + 1 == p { q + 2 } else { q + 1 };
+        (next <= self.workers).then_some(next)
+    }
+}
+
+/// A set of jobs within `1..=n`: job `j` is bit `(j - 1) % 64` of word `(j - 1) / 64`.
+#[derive(Clone, Debug)]
+struct JobSet {
+    words: Vec<u64>,
+}
+
+impl JobSet {
+    fn empty(n: u32) -> JobSet {
+        JobSet {
+            words: vec![0; n.div_ceil(64) as usize],
+        }
+    }
+
+    fn full(n: u32) -> JobSet {
+        let mut set = JobSet::empty(n);
+        set.words.fill(u64::MAX);
+        if n % 64 != 0 {
+            *set.words.last_mut().expect("n is above 0") = (1 << (n % 64)) - 1;
+        }
+        set
+    }
+
+    fn has(&self, job: u32) -> bool {
+        self.words[(job - 1) as usize / 64] >> ((job - 1) % 64) & 1 == 1
+    }
+
+    fn add(&mut self, job: u32) {
+        self.words[(job - 1) as usize / 64] |= 1 << ((job - 1) % 64);
+    }
+
+    fn take_out(&mut self, job: u32) {
+        self.words[(job - 1) as usize / 64] &= !(1 << ((job - 1) % 64));
+    }
+
+    fn clear(&mut self) {
+        self.words.fill(0);
+    }
+
+    fn len(&self) -> u32 {
+        self.words.iter().map(|word| word.count_ones()).sum()
+    }
+
+    /// The `rank`-th smallest member that is not in `other`, from 1. There has to be one.
+    fn rank_without(&self, other: &JobSet, rank: u32) -> u32 {
+        let mut before = 0;
+        for (place, (word, taken)) in self.words.iter().zip(&other.words).enumerate() {
+            let mut word = word & !taken;
+            if before + word.count_ones() < rank {
+                before += word.count_ones();
+                continue;
+            }
+            for _ in before + 1..rank {
+                word &= word - 1;
+            }
+            return place as u32 * 64 + word.trailing_zeros() + 1;
+        }
+        panic!("no member has the rank {rank}");
+    }
+
+    fn members(&self, n: u32) -> impl Iterator<Item = u32> + '_ {
+        (1..=n).filter(|job| self.has(*job))
+    }
+}
+
+/// Where a worker stands: the job of its attempt, and the other worker whose word it is about to read.
+#[derive(Clone, Copy, Debug, PartialEq)]
+enum Phase {
+    Announcing(u32),
+    Trying(u32, u32),
+    Reading(u32, u32),
+    Claiming(u32),
+    Holding(u32),
+    Over,
+    Left,
+}
+
+/// The one load or store that a worker makes next.
+#[derive(Clone, Copy, Debug, PartialEq)]
+enum Want {
+    StoreNext(u32),
+    LoadNext(u32),
+    LoadDone(u32, u32),
+    StoreClaim(u32),
+    StoreDone(u32, u32),
+    Nothing,
+}
+
+/// What one worker has for itself.
+struct Local {
+    givens: Givens,
+    number: u32,
+    phase: Phase,
+    /// The jobs that it doesn't know to be performed.
+    free: JobSet,
+    /// The jobs that it has seen announced in this attempt.
+    tried: JobSet,
+    /// How many jobs are free and not tried.
+    open: u32,
+    /// How many entries of each worker's row it has read, worker 1 first.
+    fronts: Vec<u32>,
+    claims: Vec<u32>,
+    dones: Vec<u32>,
+    steps: u64,
+}
+
+impl Local {
+    fn new(givens: Givens, number: u32) -> Local {
+        let mut local = Local {
+            givens,
+            number,
+            phase: Phase::Over,
+            free: JobSet::full(givens.jobs),
+            tried: JobSet::empty(givens.jobs),
+            open: givens.jobs,
+            fronts: vec![0; givens.workers as usize],
+            claims: Vec::with_capacity(givens.jobs as usize),
+            dones: Vec::with_capacity(givens.jobs as usize),
+            steps: 0,
+        };
+        local.choose();
+        local
+    }
+
+    fn want(&self) -> Want {
+        match self.phase {
+            Phase::Announcing(job) => Want::StoreNext(job),
+            Phase::Trying(_, other) => Want::LoadNext(other),
+            Phase::Reading(_, other) => Want::LoadDone(other, self.front(other) + 1),
+            Phase::Claiming(_) => Want::StoreClaim(self.claims.len() as u32 + 1),
+            Phase::Holding(job) => Want::StoreDone(self.dones.len() as u32 + 1, job),
+            Phase::Over | Phase::Left => Want::Nothing,
+        }
+    }
+
+    /// The event is made; `value` is what a load gave, and 0 after a store.
+    fn after(&mut self, value: u32) {
+        self.steps += 1;
+        match self.phase {
+            Phase::Announcing(job) => self.go_on_trying(job, 0),
+            Phase::Trying(job, other) => {
+                if value != 0 {
+                    self.try_not(value);
+                }
+                self.go_on_trying(job, other);
+            }
+            Phase::Reading(job, other) if value == 0 => self.go_on_reading(job, other),
+            Phase::Reading(_, other) => {
+                self.fronts[other as usize - 1] += 1;
+                self.know(value);
+            }
+            Phase::Claiming(job) => {
+                self.claims.push(job);
+                self.phase = Phase::Holding(job);
+            }
+            Phase::Holding(job) => {
+                self.dones.push(job);
+                self.know(job);
+                self.choose();
+            }
+            Phase::Over | Phase::Left => unreachable!("no event is wanted"),
+        }
+    }
+
+    fn leave(&mut self) {
+        self.steps += 1;
+        self.phase = Phase::Left;
+    }
+
+    fn front(&self, other: u32) -> u32 {
+        self.fronts[other as usize - 1]
+    }
+
+    fn is_open(&self, job: u32) -> bool {
+        self.free.has(job) && !self.tried.has(job)
+    }
+
+    fn try_not(&mut self, job: u32) {
+        self.open -= u32::from(self.is_open(job));
+        self.tried.add(job);
+    }
+
+    fn know(&mut self, job: u32) {
+        self.open -= u32::from(self.is_open(job));
+        self.free.take_out(job);
+    }
+
+    fn go_on_trying(&mut self, job: u32, other: u32) {
+        match self.givens.other_after(self.number, other) {
+            Some(next) => self.phase = Phase::Trying(job, next),
+            None => self.go_on_reading(job, 0),
+        }
+    }
+
+    fn go_on_reading(&mut self, job: u32, other: u32) {
+        match self.givens.other_after(self.number, other) {
+            Some(next) => self.phase = Phase::Reading(job, next),
+            None if self.is_open(job) => self.phase = Phase::Claiming(job),
+            None => self.choose(),
+        }
+    }
+
+    fn choose(&mut self) {
+        if self.open < self.givens.beta {
+            self.phase = Phase::Over;
+            return;
+        }
+        let workers = self.givens.workers;
+        // With the threshold at least the number of workers, this is not negative.
+        let spread = self.free.len() - (workers - 1);
+        let rank = if spread >= workers {
+            (self.number - 1) * spread / workers + 1
+        } else {
+            self.number
+        };
+        self.phase = Phase::Announcing(self.free.rank_without(&self.tried, rank));
+        self.tried.clear();
+        self.open = self.free.len();
+    }
+}
+
+/// A choice of a schedule; the number is the worker's.
+#[derive(Clone, Copy, Debug)]
+enum Move {
+    Turn(u32),
+    Halt(u32),
+    Leave(u32),
+}
+
+#[derive(Clone, Copy, Debug, PartialEq)]
+enum Event {
+    Claimed(u32, u32),
+    Done(u32, u32),
+    Ended(u32),
+    Halted(u32),
+    Left(u32),
+}
+
+/// A worker with the shared words that it alone writes. How many jobs it has claimed is one of them, too; no worker
+/// reads that word, so it is left out here.
+struct Seat {
+    local: Local,
+    next: u32,
+    row: Vec<u32>,
+    gone: bool,
+}
+
+struct World {
+    givens: Givens,
+    seats: Vec<Seat>,
+    history: Vec<Event>,
+}
+
+impl World {
+    fn new(givens: Givens) -> World {
+        let seats: Vec<Seat> = (1..=givens.workers)
+            .map(|number| {
+                let local = Local::new(givens, number);
+                let gone = local.phase == Phase::Over;
+                Seat {
+                    local,
+                    next: 0,
+                    row: vec![0; givens.jobs as usize + 1],
+                    gone,
+                }
+            })
+            .collect();
+        let ended = (1..).zip(&seats).filter(|(_, seat)| seat.gone);
+        let history = ended.map(|(number, _)| Event::Ended(number)).collect();
+        World { givens, seats, history }
+    }
+
+    fn run(&mut self, moves: &[Move]) {
+        for &chosen in moves {
+            match chosen {
+                Move::Turn(worker) => self.turn(worker),
+                Move::Halt(worker) => self.halt(worker),
+                Move::Leave(worker) => self.leave(worker),
+            }
+        }
+    }
+
+    fn turn(&mut self, worker: u32) {
+        let seat = &self.seats[worker as usize - 1];
+        if seat.gone {
+            return;
+        }
+        let want = seat.local.want();
+        let value = match want {
+            Want::LoadNext(other) => self.seats[other as usize - 1].next,
+            Want::LoadDone(other, place) => self.seats[other as usize - 1].row[place as usize - 1],
+            _ => 0,
+        };
+        let seat = &mut self.seats[worker as usize - 1];
+        match want {
+            Want::StoreNext(job) => seat.next = job,
+            Want::StoreDone(place, job) => seat.row[place as usize - 1] = job,
+            _ => {}
+        }
+        let before = seat.local.phase;
+        seat.local.after(value);
+        match before {
+            Phase::Claiming(job) => self.history.push(Event::Claimed(worker, job)),
+            Phase::Holding(job) => self.history.push(Event::Done(worker, job)),
+            _ => {}
+        }
+        if seat.local.phase == Phase::Over {
+            seat.gone = true;
+            self.history.push(Event::Ended(worker));
+        }
+    }
+
+    fn halt(&mut self, worker: u32) {
+        let seat = &mut self.seats[worker as usize - 1];
+        if !seat.gone {
+            seat.gone = true;
+            self.history.push(Event::Halted(worker));
+        }
+    }
+
+    fn leave(&mut self, worker: u32) {
+        let seat = &mut self.seats[worker as usize - 1];
+        if !seat.gone && !matches!(seat.local.phase, Phase::Holding(_)) {
+            seat.next = 0;
+            seat.local.leave();
+            seat.gone = true;
+            self.history.push(Event::Left(worker));
+        }
+    }
+}
+
+/// The part of a plan that a report needs.
+struct Plan {
+    givens: Givens,
+    names: Vec<String>,
+    says: Vec<String>,
+    moves: Vec<Move>,
+    rounds: u32,
+}
+
+impl Plan {
+    fn read(text: &str) -> Plan {
+        let mut plan = Plan {
+            givens: Givens {
+                jobs: 0,
+                workers: 0,
+                beta: 0,
+            },
+            names: Vec::new(),
+            says: Vec::new(),
+            moves: Vec::new(),
+            rounds: 0,
+        };
+        for line in text.lines() {
+            let Some((key, value)) = line.split_once(" = ") else {
+                continue;
+            };
+            let text = value.trim_matches('"');
+            match key {
+                "workers" => plan.givens.workers = number(value),
+                "beta" => plan.givens.beta = number(value),
+                "rounds" => plan.rounds = number(value),
+                "schedule" => plan.moves = text.split_whitespace().flat_map(moves_of).collect(),
+                "name" => plan.names.push(text.to_string()),
+                "say" => plan.says.push(text.to_string()),
+                _ => {}
+            }
+        }
+        plan.givens.jobs = plan.names.len() as u32;
+        plan
+    }
+}
+
+fn moves_of(word: &str) -> Vec<Move> {
+    if let Some(worker) = word.strip_prefix('x') {
+        vec![Move::Halt(number(worker))]
+    } else if let Some(worker) = word.strip_prefix('l') {
+        vec![Move::Leave(number(worker))]
+    } else if let Some((worker, turns)) = word.split_once('*') {
+        vec![Move::Turn(number(worker)); number(turns) as usize]
+    } else {
+        vec![Move::Turn(number(word))]
+    }
+}
+
+fn number(digits: &str) -> u32 {
+    digits.parse().expect("a number")
+}
+
+fn report(plan: &Plan, world: &World) -> String {
+    let mut out = String::new();
+    write_report(&mut out, plan, world).expect("a String takes all that is written");
+    out
+}
+
+fn write_report(out: &mut String, plan: &Plan, world: &World) -> std::fmt::Result {
+    let Givens { jobs, workers, beta } = world.givens;
+    let bound = world.givens.bound();
+    writeln!(out, "jobs {jobs} workers {workers} beta {beta} bound {bound}")?;
+    for (i, event) in (1..).zip(&world.history) {
+        match event {
+            Event::Claimed(p, j) => writeln!(out, "{i} claimed {p} {j}")?,
+            Event::Done(p, j) => writeln!(out, "{i} done {p} {j}")?,
+            Event::Ended(p) => writeln!(out, "{i} ended {p}")?,
+            Event::Halted(p) => writeln!(out, "{i} halted {p}")?,
+            Event::Left(p) => writeln!(out, "{i} left {p}")?,
+        }
+    }
+    for (p, seat) in (1..).zip(&world.seats) {
+        let state = state_of(p, &world.history);
+        let turns = seat.local.steps;
+        let claimed = seat.local.claims.len();
+        let done = seat.local.dones.len();
+        writeln!(out, "worker {p} {state} turns {turns} claimed {claimed} done {done}")?;
+    }
+    let mut performed = 0;
+    let mut unclaimed = JobSet::full(jobs);
+    for event in &world.history {
+        match event {
+            Event::Claimed(_, j) => unclaimed.take_out(*j),
+            Event::Done(_, j) => {
+                performed += 1;
+                write!(out, "result {j} {} ", plan.names[*j as usize - 1])?;
+                write_escaped(out, &plan.says[*j as usize - 1])?;
+                writeln!(out)?;
+            }
+            _ => {}
+        }
+    }
+    writeln!(out, "performed {performed}")?;
+    write!(out, "unclaimed")?;
+    for job in unclaimed.members(jobs) {
+        write!(out, " {job}")?;
+    }
+    writeln!(out)
+}
+
+fn state_of(worker: u32, history: &[Event]) -> &'static str {
+    for event in history {
+        match event {
+            Event::Ended(p) if *p == worker => return "ended",
+            Event::Halted(p) if *p == worker => return "halted",
+            Event::Left(p) if *p == worker => return "left",
+            _ => {}
+        }
+    }
+    "running"
+}
+
+fn write_escaped(out: &mut String, text: &str) -> std::fmt::Result {
+    for byte in text.bytes() {
+        match byte {
+            b'\\' => write!(out, "\\x5c")?,
+            0x20..=0x7e => out.push(char::from(byte)),
+            _ => write!(out, "\\x{byte:02x}")?,
+        }
+    }
+    Ok(())
+}
+
+#[cfg(test)]
+mod tests;
