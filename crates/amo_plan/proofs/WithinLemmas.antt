@@ -1,0 +1,111 @@
+-- The moves that are read are those of the workers that there are.
+use Rattle.std.proofs.Common.{◌≡◌, ℕ, zero, suc, ◌+◌, ◌-◌, ◌*◌, ◌≤◌, Bool, true, false, cond, leb, List, [], ◌∷◌, length, slice_index, take, drop, Option, Some, None, option_map, Result, Ok, refl, ap, ◌∙◌, subst, arith, replicate}
+use Rattle.std.specs.Prelude.{◌&&◌, position}
+use Rattle.std.specs.List.{list_all}
+use Rattle.std.proofs.lemmas.Bool.{leb-true, le-leb, and_parts}
+use Rattle.std.proofs.lemmas.List.Folds.{list_all-append}
+use Rattle.amo_kk.specs.declared.event.Move.{Move}
+use Rattle.amo_kk.specs.declared.event.Move.TheVariants.{Turn}
+use Rattle.amo_plan.specs.declared.fault.PlanFault.{PlanFault}
+use Rattle.amo_plan.specs.declared.fault.PlanFault.TheVariants.{TooLong, BadScheduleWord, NoSuchWorker}
+use Rattle.amo_plan.specs.declared.word.Word.{Word}
+use Rattle.amo_plan.specs.declared.word.Word.TheVariants.{Turns, Stop, Departure}
+use Rattle.amo_plan.specs.Schedule.{is_digit, is_x, is_l, is_asterisk, digits_after, number_of, turns_of, turns_at, turns_word, word_of, worker_of, word_at, words_of, read_words, moves_of_word, moves_of, short_moves_of, read_schedule}
+use Rattle.amo_plan.specs.Keeps.{is_within, all_within}
+use Rattle.amo_plan.specs.Steps.{◌>>=◌, or_fault, unless, each, capped}
+use Rattle.amo_plan.proofs.StepsLemmas.{bind_ok, ok_is, or_ok, unless_ok}
+
+taken : {A : Type 0} (b : Bool) (o : Option A) (x : A) → cond b o None ≡ Some x → (b ≡ true) × (o ≡ Some x)
+taken true o x e = (refl, e)
+taken false o x e = absurd cc
+
+grow_if : (b : Bool) (n m k : ℕ) (rest : Option ℕ) → (rest ≡ Some k → m ≤ k) → n ≤ m → cond b rest None ≡ Some k → n ≤ k
+grow_if true n m k rest more le e = omega (arith, more e)
+grow_if false n m k rest more le e = absurd cc
+
+digits_grow : (n k : ℕ) (ds : List ℕ) → digits_after n ds ≡ Some k → n ≤ k
+digits_grow n k [] e = let same : n ≡ k = cc in omega arith
+digits_grow n k (d ∷ ds) e = grow_if (is_digit d) n (10 * n + (d - 48)) k (digits_after (10 * n + (d - 48)) ds) (digits_grow (10 * n + (d - 48)) k ds) (omega arith) e
+
+number_some : (ds : List ℕ) (k : ℕ) → number_of ds ≡ Some k → 1 ≤ k
+unfolding number_of
+number_some [] k e = absurd cc
+number_some (d ∷ ds) k e =
+    let a = taken (leb 49 d && leb (length ds) 5) (digits_after 0 (d ∷ ds)) k e in
+    let b = taken (is_digit d) (digits_after (10 * 0 + (d - 48)) ds) k a.1 in
+    let big : 49 ≤ d = leb-true 49 d (and_parts (leb 49 d) (leb (length ds) 5) a.0).0 in
+    omega (arith, digits_grow (10 * 0 + (d - 48)) k ds b.1)
+
+-- a word that names the worker of a number
+one_some : (named : ℕ → Word) → ((k : ℕ) → worker_of (named k) ≡ k) → (o : Option ℕ) (x : Word) → ((k : ℕ) → o ≡ Some k → 1 ≤ k) → option_map named o ≡ Some x → 1 ≤ worker_of x
+one_some named of_it None x some e = absurd cc
+one_some named of_it (Some k) x some e =
+    let same : named k ≡ x = cc in
+    subst (λ (y : Word). 1 ≤ worker_of y) same (rw (of_it k) (some k refl))
+
+turns_some : (o p : Option ℕ) (x : Word) → ((k : ℕ) → o ≡ Some k → 1 ≤ k) → turns_of o p ≡ Some x → 1 ≤ worker_of x
+turns_some None p x some e = absurd cc
+turns_some (Some k) None x some e = absurd cc
+turns_some (Some k) (Some c) x some e = let same : Turns k c ≡ x = cc in subst (λ (y : Word). 1 ≤ worker_of y) same (some k refl)
+
+at_some : (i : Option ℕ) (w : List ℕ) (x : Word) → turns_at i w ≡ Some x → 1 ≤ worker_of x
+at_some None w x e = turns_some (number_of w) (Some 1) x (number_some w) e
+at_some (Some i) w x e = turns_some (number_of (take i w)) (number_of (drop (i + 1) w)) x (number_some (take i w)) e
+
+either_some : (b : Bool) (o p : Option Word) (x : Word) → (o ≡ Some x → 1 ≤ worker_of x) → (p ≡ Some x → 1 ≤ worker_of x) → cond b o p ≡ Some x → 1 ≤ worker_of x
+either_some true o p x f g e = f e
+either_some false o p x f g e = g e
+
+word_some : (version : ℕ) (w : List ℕ) (x : Word) → word_of version w ≡ Some x → 1 ≤ worker_of x
+unfolding word_of turns_word
+word_some version w x e =
+    let of_rest = number_some (drop 1 w) in
+    either_some (is_x (slice_index w 0)) (option_map Stop (number_of (drop 1 w))) (cond (is_l version (slice_index w 0)) (option_map Departure (number_of (drop 1 w))) (turns_at (position is_asterisk w) w)) x
+    (one_some Stop (λ k. refl) (number_of (drop 1 w)) x of_rest)
+    (either_some (is_l version (slice_index w 0)) (option_map Departure (number_of (drop 1 w))) (turns_at (position is_asterisk w) w) x
+    (one_some Departure (λ k. refl) (number_of (drop 1 w)) x of_rest) (at_some (position is_asterisk w) w x)) e
+
+-- the word is of one of m workers
+abbrev word_within : ℕ → Word → Bool
+word_within m x = leb 1 (worker_of x) && leb (worker_of x) m
+
+at_within : (version m j : ℕ) (w : List ℕ) (x : Word) → word_at version m j w ≡ Ok x → word_within m x ≡ true
+unfolding word_at
+at_within version m j w x e =
+    let a = bind_ok (or_fault (word_of version w) (BadScheduleWord j)) (λ word. unless (leb (worker_of word) m) (NoSuchWorker j) (Ok word)) x e in
+    let b = unless_ok (leb (worker_of a.0) m) (NoSuchWorker j) (Ok a.0) x a.2 in
+    let same : a.0 ≡ x = ok_is a.0 x b.1 in
+    let low : leb 1 (worker_of a.0) ≡ true = le-leb 1 (worker_of a.0) (word_some version w a.0 (or_ok (word_of version w) (BadScheduleWord j) a.0 a.1)) in
+    rw (← same, low, b.0) refl
+
+each_within : {A B : Type 0} (p : B → Bool) (f : ℕ → A → Result B PlanFault) → ((j : ℕ) (a : A) (y : B) → f j a ≡ Ok y → p y ≡ true) → (i : ℕ) (xs : List A) (ys : List B) → each f i xs ≡ Ok ys → list_all p ys ≡ true
+each_within p f good i [] ys e = rw (← ok_is _ _ e) refl
+each_within {A} {B} p f good i (x ∷ xs) ys e =
+    let first = bind_ok (f (capped i) x) (λ y. each f (i + 1) xs >>= λ zs. Ok (y ∷ zs)) ys e in
+    let rest = bind_ok (each f (i + 1) xs) (λ zs. Ok (first.0 ∷ zs)) ys first.2 in
+    let parts : first.0 ∷ rest.0 ≡ ys = ok_is _ _ rest.2 in
+    rw (← parts, good (capped i) x first.0 first.1, each_within p f good (i + 1) xs rest.0 rest.1) refl
+
+turns_within : (m k c : ℕ) → is_within m (Turn k) ≡ true → all_within m (replicate c (Turn k)) ≡ true
+turns_within m k zero h = refl
+turns_within m k (suc c) h = rw (h, turns_within m k c h) refl
+
+of_word_within : (m : ℕ) (x : Word) → word_within m x ≡ true → all_within m (moves_of_word x) ≡ true
+of_word_within m (Turns k c) h = turns_within m k c h
+of_word_within m (Stop k) h = rw h refl
+of_word_within m (Departure k) h = rw h refl
+
+moves_within : (m : ℕ) (ws : List Word) → list_all (word_within m) ws ≡ true → all_within m (moves_of ws) ≡ true
+moves_within m [] h = refl
+moves_within m (w ∷ ws) h =
+    let (here, more) = and_parts (word_within m w) (list_all (word_within m) ws) h in
+    list_all-append (is_within m) (moves_of_word w) (moves_of ws) ∙ rw (of_word_within m w here, moves_within m ws more) refl
+
+-- the moves that are read are of one of m workers
+pub schedule_within : (version m : ℕ) (text : List ℕ) (moves : List Move) → read_schedule version m text ≡ Ok moves → all_within m moves ≡ true
+unfolding read_schedule short_moves_of
+schedule_within version m text moves e =
+    let a = bind_ok (read_words version m (words_of text)) (λ words. unless (leb (length (moves_of words)) 100000) TooLong (Ok (moves_of words))) moves e in
+    let b = unless_ok (leb (length (moves_of a.0)) 100000) TooLong (Ok (moves_of a.0)) moves a.2 in
+    let same : moves_of a.0 ≡ moves = ok_is _ _ b.1 in
+    rw (← same) (moves_within m a.0 (each_within (word_within m) (word_at version m) (at_within version m) 1 (words_of text) a.0 a.1))

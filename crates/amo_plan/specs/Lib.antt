@@ -1,0 +1,12 @@
+pub mod Steps
+pub mod Tree
+pub mod Top
+pub mod Jobs
+pub mod Schedule
+pub mod Limits
+pub mod Results
+pub mod Blocks
+pub mod Plan
+pub mod Seen
+pub mod PlanSeen
+pub mod Keeps

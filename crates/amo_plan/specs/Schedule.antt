@@ -1,0 +1,97 @@
+-- What a schedule says: its words, and the moves that each is.
+use Rattle.std.specs.Prelude.{ℕ, ◌+◌, ◌-◌, ◌*◌, List, [], ◌∷◌, length, slice_index, take, drop, filter, position, Bool, not, ◌&&◌, ◌||◌, ◌==◌, nat_le, Option, Some, None, option_map, Result, Ok, if◌then◌else◌, replicate}
+use Rattle.std.specs.List.{slice_split, flat_map}
+use Rattle.amo_kk.specs.declared.event.Move.{Move}
+use Rattle.amo_kk.specs.declared.event.Move.TheVariants.{Turn, Halt, Leave}
+use Rattle.amo_plan.specs.declared.fault.PlanFault.{PlanFault}
+use Rattle.amo_plan.specs.declared.fault.PlanFault.TheVariants.{BadScheduleWord, NoSuchWorker, TooLong}
+use Rattle.amo_plan.specs.declared.word.Word.{Word}
+use Rattle.amo_plan.specs.declared.word.Word.TheVariants.{Turns, Stop, Departure}
+use Rattle.amo_plan.specs.Steps.{◌>>=◌, or_fault, unless, each}
+
+-- space, tab, LF, CR
+abbrev pub is_space : ℕ → Bool
+is_space b = b == 32 || b == 9 || b == 10 || b == 13
+
+-- what has a character
+abbrev pub is_word : List ℕ → Bool
+is_word w = not (length w == 0)
+
+-- the words of a text
+abbrev pub words_of : List ℕ → List (List ℕ)
+words_of text = filter is_word (slice_split is_space text)
+
+abbrev pub is_digit : ℕ → Bool
+is_digit b = nat_le 48 b && nat_le b 57
+
+-- the number of decimal digits that come after n, if all are digits
+abbrev pub digits_after : ℕ → List ℕ → Option ℕ
+digits_after n [] = Some n
+digits_after n (d ∷ ds) = if is_digit d then digits_after (10 * n + (d - 48)) ds else None
+
+-- at most six digits, of which the first isn't 0
+unfoldable pub number_of : List ℕ → Option ℕ
+number_of [] = None
+number_of (d ∷ ds) = if nat_le 49 d && nat_le (length ds) 5 then digits_after 0 (d ∷ ds) else None
+
+-- so many turns, if both numbers are there
+abbrev pub turns_of : Option ℕ → Option ℕ → Option Word
+turns_of (Some k) (Some c) = Some (Turns k c)
+turns_of _ _ = None
+
+abbrev pub is_x : ℕ → Bool
+is_x b = b == 120
+
+abbrev pub is_asterisk : ℕ → Bool
+is_asterisk b = b == 42
+
+-- a number; or two, where there is an asterisk
+abbrev pub turns_at : Option ℕ → List ℕ → Option Word
+turns_at None w = turns_of (number_of w) (Some 1)
+turns_at (Some i) w = turns_of (number_of (take i w)) (number_of (drop (i + 1) w))
+
+unfoldable pub turns_word : List ℕ → Option Word
+turns_word w = turns_at (position is_asterisk w) w
+
+-- an l begins a word of version 2
+abbrev pub is_l : ℕ → ℕ → Bool
+is_l version b = version == 2 && b == 108
+
+-- x and a number, in version 2 l and a number, a number, or two numbers parted by an asterisk
+unfoldable pub word_of : ℕ → List ℕ → Option Word
+word_of version w =
+    if is_x (slice_index w 0)
+    then option_map Stop (number_of (drop 1 w))
+    else (if is_l version (slice_index w 0) then option_map Departure (number_of (drop 1 w)) else turns_word w)
+
+-- the worker that a word names
+abbrev pub worker_of : Word → ℕ
+worker_of (Turns k c) = k
+worker_of (Stop k) = k
+worker_of (Departure k) = k
+
+-- the i-th word, of workers up to m
+unfoldable pub word_at : ℕ → ℕ → ℕ → List ℕ → Result Word PlanFault
+word_at version m i w = or_fault (word_of version w) (BadScheduleWord i) >>= λ word. unless (nat_le (worker_of word) m) (NoSuchWorker i) (Ok word)
+
+abbrev pub read_words : ℕ → ℕ → List (List ℕ) → Result (List Word) PlanFault
+read_words version m ws = each (word_at version m) 1 ws
+
+-- the moves that a word is
+abbrev pub moves_of_word : Word → List Move
+moves_of_word (Turns k c) = replicate c (Turn k)
+moves_of_word (Stop k) = Halt k ∷ []
+moves_of_word (Departure k) = Leave k ∷ []
+
+abbrev pub moves_of : List Word → List Move
+moves_of ws = flat_map moves_of_word ws
+
+-- the moves of the words, of which a plan has at most 100000
+unfoldable pub short_moves_of : List Word → Result (List Move) PlanFault
+short_moves_of ws = unless (nat_le (length (moves_of ws)) 100000) TooLong (Ok (moves_of ws))
+
+-- the moves of a text, of workers up to m
+unfoldable pub read_schedule : ℕ → ℕ → List ℕ → Result (List Move) PlanFault
+read_schedule version m text = do
+  words ← read_words version m (words_of text)
+  short_moves_of words

@@ -1,0 +1,21 @@
+-- What the types of the code say.
+use Rattle.std.specs.Prelude.{map, option_map}
+use Rattle.toml.specs.View.{table_view}
+use Rattle.amo_plan.specs.declared.top.Top.{Top as TopCode}
+use Rattle.amo_plan.specs.declared.top.More.{More}
+use Rattle.amo_plan.specs.Top.{TopSeen, MoreSeen}
+
+abbrev pub more_seen : More → MoreSeen
+more_seen m = record { schedule = m.schedule.now; rounds = m.rounds; budgets = option_map (λ v. v.items) m.budgets }
+
+abbrev pub top_seen : TopCode → TopSeen
+top_seen t = record {
+  version = t.version;
+  block = t.block;
+  workers = t.workers;
+  beta = t.beta;
+  jobs = map (λ x. table_view x.now) t.jobs.items;
+  schedule = t.schedule.now;
+  rounds = t.rounds;
+  budgets = option_map (λ v. v.items) t.budgets;
+}

@@ -1,0 +1,95 @@
+//! Tasks in blocks, which are performed as one.
+ghost use Rattle.std.specs.Prelude.{◌≡◌, ◌≤◌, ◌++◌, [], map, length, take, drop, IfOk, OnOk, vec_len, vec_capacity};
+ghost use Rattle.std.specs.Int.{div_ceil};
+ghost use Rattle.std.specs.Vec.Iter.{into_iter_items};
+ghost use Rattle.amo_plan.specs.Results.{capped_answer};
+ghost use Rattle.amo_plan.specs.Blocks.{blocks_of};
+
+use super::answer::{Answer, capped_answer};
+use super::task::Task;
+use std::alloc::{AllocError, Global};
+use std::marker::Model;
+use std::vec::IntoIter;
+
+/// Tasks that are performed as one, seen as their list. It carries room for as many answers.
+#[derive(Debug, Drop)]
+pub struct Block {
+    tasks: Vec<Task>,
+    answers: Vec<Answer>,
+}
+
+impl Model for Block {
+    ghost use Rattle.std.specs.Prelude.{◌≡◌, ◌≤◌, List, [], vec_len, vec_capacity};
+    ghost use Rattle.amo_plan.specs.declared.task.Task.{Task};
+
+    ghost Value = { List Task };
+
+    ghost view = { λ b. b.tasks.items };
+
+    ghost invariant = { λ b. (vec_len b.tasks ≤ vec_capacity b.answers) × (b.answers.items ≡ []) };
+}
+
+impl Block {
+    /// A block of these tasks, or want of memory for the answers.
+    fn new(alloc: Global, tasks: Vec<Task>) -> Result<Block, AllocError>
+        ensures { IfOk result (λ b. b ≡ tasks.items) }
+    {
+        let answers = Vec::with_capacity(alloc, tasks.len())?;
+        Ok(Block { tasks, answers })
+    }
+
+    /// Its tasks.
+    pub fn tasks(&self) -> &[Task]
+        ensures { result.now ≡ self.now }
+    {
+        self.tasks.as_slice()
+    }
+}
+
+/// The next so many tasks, or fewer where there are no more.
+fn take_tasks(
+    alloc: Global,
+    tasks: &mut IntoIter<Task>,
+    count: u32,
+) -> Result<Vec<Task>, AllocError>
+    ensures taken { IfOk result (λ v. v.items ≡ take count (into_iter_items tasks.old)) }
+    ensures rest { OnOk result (into_iter_items tasks.new ≡ drop count (into_iter_items tasks.old)) }
+{
+    let mut taken = Vec::new(alloc);
+    for _i in 0..count {
+        match tasks.next() {
+            Some(task) => taken.push(task)?,
+            None => return Ok(taken),
+        }
+    }
+    Ok(taken)
+}
+
+/// The tasks in blocks of so many, the last of which may have fewer; no tasks give no blocks. After want of memory
+/// the tasks are gone.
+pub fn blocks_of(alloc: Global, tasks: Vec<Task>, block: u32) -> Result<Vec<Block>, AllocError>
+    requires some { 1 ≤ block }
+    requires few { block ≤ 4096 }
+    ensures { IfOk result (λ v. v.items ≡ blocks_of block tasks.items) }
+{
+    let count = tasks.len().div_ceil(block as usize);
+    let mut tasks = tasks.into_iter();
+    let mut blocks = Vec::new(alloc);
+    for _i in 0..count {
+        let taken = take_tasks(alloc, &mut tasks, block)?;
+        blocks.push(Block::new(alloc, taken)?)?;
+    }
+    Ok(blocks)
+}
+
+/// What each task of the block gives, in their order: a task that doesn't fit the largest number. It takes no
+/// memory.
+pub fn answer_block(block: Block) -> Vec<Answer>
+    ensures { result.items ≡ map capped_answer block }
+{
+    let Block { tasks, mut answers } = block;
+    for task in tasks {
+        answers.push(capped_answer(task)).unwrap();
+    }
+    answers
+}

@@ -1,0 +1,36 @@
+//! Plans: a text that names jobs and a schedule, read from bytes, and the results of its jobs.
+//!
+//! `read_plan` gives the plan of a text, or the first test that the text fails. What a plan is, and which tests
+//! there are in which order, is the definition `plan_of` in specs/Plan.antt, a function of the bytes.
+#![tactic(auto)]
+
+mod answer;
+mod block;
+mod fault;
+mod job;
+mod limits;
+mod naming;
+mod place;
+mod plan;
+mod reading;
+mod result;
+mod row;
+mod schedule;
+mod task;
+mod text;
+mod top;
+mod tree;
+mod word;
+
+pub use answer::{Answer, answer_of};
+pub use block::{Block, answer_block, blocks_of};
+pub use fault::PlanFault;
+pub use plan::{Heads, Plan};
+pub use reading::read_plan;
+pub use result::result_of;
+pub use row::Row;
+pub use task::Task;
+pub use text::Text;
+
+#[cfg(test)]
+mod tests;

@@ -1,0 +1,45 @@
+//! A plan.
+ghost use Rattle.std.specs.Prelude.{◌≡◌, true, length};
+ghost use Rattle.std.specs.Int.{div_ceil};
+ghost use Rattle.amo_plan.specs.Keeps.{is_form, all_within, all_fit};
+
+use super::row::Row;
+use super::task::Task;
+use super::text::Text;
+use amo_kk::{Givens, Move};
+
+/// A plan without its tasks.
+#[derive(Debug, Drop)]
+pub struct Heads {
+    /// The version of the format, 1 or 2.
+    pub version: u32,
+    /// How many jobs make a block, which is claimed and performed as one: 1 in version 1, else 1 to 4096.
+    pub block: u32,
+    /// The givens of the algorithm, whose jobs are the blocks.
+    pub givens: Givens,
+    /// The names of the jobs.
+    pub names: Row<Text>,
+    /// The moves of the schedule.
+    pub moves: Row<Move>,
+    /// How many rounds follow the schedule, at most 10,000. In each, each worker has one turn.
+    pub rounds: u32,
+    /// How many steps each worker has, where they run: at most 10,000,000.
+    pub budgets: Row<u64>,
+}
+
+/// A plan: jobs with names and tasks, and how workers take turns at them. It keeps as many names as tasks, a
+/// budget for each worker, moves of its own workers alone, and tasks that fit; its givens are of as many jobs as
+/// its jobs make blocks.
+#[derive(Debug, Drop)]
+pub struct Plan {
+    /// All but the tasks.
+    pub heads: Heads,
+    /// The tasks of the jobs, in their order.
+    pub tasks: Row<Task>,
+    pub ghost form: { is_form heads.version heads.block ≡ true },
+    pub ghost blocks: { div_ceil (length heads.names) heads.block ≡ heads.givens.jobs },
+    pub ghost tasked: { length tasks ≡ length heads.names },
+    pub ghost fitting: { all_fit tasks ≡ true },
+    pub ghost budgeted: { length heads.budgets ≡ heads.givens.workers },
+    pub ghost within: { all_within heads.givens.workers heads.moves ≡ true },
+}

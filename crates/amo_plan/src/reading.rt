@@ -1,0 +1,105 @@
+//! Reads a plan.
+ghost use Rattle.std.specs.Prelude.{◌≡◌, ◌<◌, true, map, length, IfOk, IfSome};
+ghost use Rattle.std.specs.Int.{div_ceil};
+ghost use Rattle.toml.specs.View.{table_view};
+ghost use Rattle.amo_plan.specs.Steps.{Gives};
+ghost use Rattle.amo_plan.specs.Keeps.{is_form};
+ghost use Rattle.amo_plan.specs.Plan.{document, or_bad_givens, plan_with, plan_in, plan_of};
+ghost use Rattle.amo_plan.specs.Seen.{top_seen};
+ghost use Rattle.amo_plan.specs.PlanSeen.{plan_seen};
+ghost use Rattle.amo_kk.specs.Givens.{givens_of};
+
+use super::fault::PlanFault;
+use super::job::{Job, read_jobs};
+use super::limits::budgets_within;
+use super::naming::{check_jobs, part_jobs};
+use super::plan::{Heads, Plan};
+use super::row::Row;
+use super::schedule::read_schedule;
+use super::top::{Top, read_top};
+use amo_kk::Givens;
+use std::alloc::Global;
+use toml::Table;
+
+/// The tree of a text.
+#[tactic(auto, using(crate::proofs::PlanLemmas::document_ok, crate::proofs::PlanLemmas::document_refused))]
+fn document(alloc: Global, bytes: &[u8]) -> Result<Table, PlanFault>
+    ensures { Gives (λ t. table_view t) result (document bytes.now) }
+{
+    match toml::table_from_slice(alloc, bytes) {
+        Ok(table) => Ok(table),
+        Err(error) if error.is_memory() => Err(PlanFault::NoMemory),
+        Err(_) => Err(PlanFault::NotToml),
+    }
+}
+
+/// The givens of so many jobs in blocks, or their fault.
+fn block_givens(jobs: usize, block: u32, workers: u64, beta: u64) -> Result<Givens, PlanFault>
+    requires { 0 < block }
+    ensures { Gives (λ g. g) result (or_bad_givens (givens_of (div_ceil jobs block) workers beta)) }
+{
+    let blocks = (jobs as u64).div_ceil(block as u64);
+    match Givens::try_new(blocks, workers, beta) {
+        Ok(givens) => Ok(givens),
+        Err(fault) => Err(PlanFault::BadGivens(fault)),
+    }
+}
+
+/// The plan of these givens and jobs.
+#[tactic(auto, unfolding(crate::specs::Plan::plan_with))]
+fn plan_with(
+    alloc: Global,
+    givens: Givens,
+    top: &Top<'_>,
+    jobs: Vec<Job>,
+) -> Result<Plan, PlanFault>
+    requires form { is_form top.now.version top.now.block ≡ true }
+    requires blocks { givens.jobs ≡ div_ceil (length jobs.items) top.now.block }
+    requires workers { givens.workers ≡ top.now.workers }
+    requires budgets { IfSome top.now.budgets (λ v. length v.items ≡ top.now.workers) }
+    ensures { Gives plan_seen result (plan_with (top_seen top.now) givens jobs.items) }
+{
+    check_jobs(alloc, &jobs)?;
+    let moves = read_schedule(alloc, top.version, givens.workers, top.schedule)?;
+    let budgets = budgets_within(alloc, givens.workers, top.rounds, &top.budgets)?;
+    let (names, tasks) = part_jobs(alloc, jobs)?;
+    Ok(Plan {
+        heads: Heads {
+            version: top.version,
+            block: top.block,
+            givens,
+            names: Row::new(names),
+            moves: Row::new(moves),
+            rounds: top.rounds as u32,
+            budgets: Row::new(budgets),
+        },
+        tasks: Row::new(tasks),
+    })
+}
+
+/// The plan of a tree.
+#[tactic(auto, unfolding(crate::specs::Plan::plan_in))]
+fn plan_in(alloc: Global, table: &Table) -> Result<Plan, PlanFault>
+    ensures { Gives plan_seen result (plan_in (table_view table.now)) }
+{
+    let top = read_top(alloc, table)?;
+    let jobs = read_jobs(alloc, &top.jobs)?;
+    let givens = block_givens(jobs.len(), top.block, top.workers, top.beta)?;
+    plan_with(alloc, givens, &top, jobs)
+}
+
+/// The plan of a text, or why it is none, or want of memory.
+///
+/// `plan_of` gives for each text either a plan or the first test that the text fails. `Ok` comes only where it
+/// gives just that plan, and a fault other than `NoMemory` only where it gives that fault. After a fault nothing
+/// is left behind.
+#[tactic(auto, unfolding(crate::specs::Plan::plan_of))]
+pub fn read_plan(alloc: Global, bytes: &[u8]) -> Result<Plan, PlanFault>
+    ensures { Gives plan_seen result (plan_of bytes.now) }
+{
+    if bytes.len() > 1_048_576 {
+        return Err(PlanFault::TooLong);
+    }
+    let table = document(alloc, bytes)?;
+    plan_in(alloc, &table)
+}

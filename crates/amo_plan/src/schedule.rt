@@ -1,0 +1,95 @@
+//! Reads a schedule.
+ghost use Rattle.std.specs.Prelude.{◌≡◌, ◌++◌, map, replicate, IfOk, OnOk};
+ghost use Rattle.amo_kk.specs.declared.event.Move.TheVariants.{Turn};
+ghost use Rattle.amo_plan.specs.Steps.{Gives};
+ghost use Rattle.amo_plan.specs.Schedule.{is_space, words_of, read_words, moves_of_word, short_moves_of, read_schedule};
+
+use super::fault::PlanFault;
+use super::place::place_of;
+use super::word::{Word, word_at};
+use amo_kk::Move;
+use std::alloc::{AllocError, Global};
+
+/// The byte parts words: space, tab, LF or CR, and no other.
+fn is_space(b: u8) -> bool
+    ensures { result ≡ is_space b }
+{
+    b == b' ' || b == b'\t' || b == b'\n' || b == b'\r'
+}
+
+/// The words of a text.
+fn words(alloc: Global, text: &[u8]) -> Result<Vec<&[u8]>, AllocError>
+    ensures { IfOk result (λ v. map (λ w. w.now) v.items ≡ words_of text.now) }
+{
+    text.split(|b| is_space(*b))
+        .filter(|w| !w.is_empty())
+        .collect(alloc)
+}
+
+/// What the words say, of the workers up to so many.
+#[tactic(auto, using(crate::proofs::StepsLemmas::each_more, crate::proofs::StepsLemmas::each_stop, crate::proofs::StepsLemmas::each_all, crate::proofs::StepsLemmas::each_none))]
+fn read_words(
+    alloc: Global,
+    version: u32,
+    workers: u32,
+    words: &[&[u8]],
+) -> Result<Vec<Word>, PlanFault>
+    ensures { Gives (λ v. v.items) result (read_words version workers (map (λ w. w.now) words.now)) }
+{
+    let mut read = Vec::with_capacity(alloc, words.len())?;
+    for (i, text) in words.iter().enumerate() {
+        let word = word_at(version, workers, place_of(i), text)?;
+        read.push(word)?;
+    }
+    Ok(read)
+}
+
+/// So many turns of a worker at the end of the moves.
+fn push_turns(moves: &mut Vec<Move>, worker: u32, count: u32) -> Result<(), AllocError>
+    ensures { OnOk result (moves.new.items ≡ moves.old.items ++ replicate count (Turn worker)) }
+{
+    for _i in 0..count {
+        moves.push(Move::Turn(worker))?;
+    }
+    Ok(())
+}
+
+/// The moves of a word at the end of the moves.
+fn push_word(moves: &mut Vec<Move>, word: Word) -> Result<(), AllocError>
+    ensures { OnOk result (moves.new.items ≡ moves.old.items ++ moves_of_word word) }
+{
+    match word {
+        Word::Turns(worker, count) => push_turns(moves, worker, count),
+        Word::Stop(worker) => Ok(moves.push(Move::Halt(worker))?),
+        Word::Departure(worker) => Ok(moves.push(Move::Leave(worker))?),
+    }
+}
+
+/// The moves of the words, if they are not too many.
+fn moves(alloc: Global, words: &[Word]) -> Result<Vec<Move>, PlanFault>
+    ensures { Gives (λ v. v.items) result (short_moves_of words.now) }
+{
+    let mut moves = Vec::new(alloc);
+    for word in words {
+        if moves.len() as u64 + word.count() as u64 > 100_000 {
+            return Err(PlanFault::TooLong);
+        }
+        push_word(&mut moves, *word)?;
+    }
+    Ok(moves)
+}
+
+/// The moves of a text, of the workers up to so many.
+#[tactic(auto, unfolding(crate::specs::Schedule::read_schedule))]
+pub fn read_schedule(
+    alloc: Global,
+    version: u32,
+    workers: u32,
+    text: &str,
+) -> Result<Vec<Move>, PlanFault>
+    ensures { Gives (λ v. v.items) result (read_schedule version workers text.now) }
+{
+    let words = words(alloc, text.as_bytes())?;
+    let words = read_words(alloc, version, workers, &words)?;
+    moves(alloc, &words)
+}

@@ -1,0 +1,213 @@
+//! Which fault a text has, and which of two.
+use super::*;
+use amo_kk::GivensFault;
+use std::test::Fail;
+
+#[test]
+fn a_fault_is_told_at_its_place(rt: HostRuntime) -> Result<(), Fail> {
+    let cases = [
+        ("", PlanFault::MissingKey(0)),
+        ("say = \"hel", PlanFault::NotToml),
+        (
+            "version = 1\nworkers = 1\nbeta = 1\n[[job]]\nname = \"a\"\nsay = \"hel",
+            PlanFault::NotToml,
+        ),
+        (
+            "version = 1\nworkers = 1\nworkers = 1\nbeta = 1\n",
+            PlanFault::NotToml,
+        ),
+        (
+            "version = 1\nworkers = 9223372036854775808\nbeta = 1\n",
+            PlanFault::NotToml,
+        ),
+        (
+            "version = 1\nworkers = 1\nbeta = 1\ncolor = 1\n",
+            PlanFault::UnknownKey(0),
+        ),
+        (
+            "version = 1\nworkers = 1\nbeta = 1\nblock = 1\n",
+            PlanFault::UnknownKey(0),
+        ),
+        (
+            "version = 2.0\nworkers = 1\nbeta = 1\nblock = 1\n",
+            PlanFault::UnknownKey(0),
+        ),
+        ("version = 1\nworkers = 1\n", PlanFault::MissingKey(0)),
+        (
+            "version = 1\nworkers = 2.0\nbeta = 2\n",
+            PlanFault::WrongKind(0),
+        ),
+        (
+            "version = 1\nworkers = -1\nbeta = 2\n",
+            PlanFault::WrongKind(0),
+        ),
+        (
+            "version = 1\nworkers = 1\nbeta = \"2\"\n",
+            PlanFault::WrongKind(0),
+        ),
+        (
+            "version = 0\nworkers = 1\nbeta = 1\n",
+            PlanFault::WrongKind(0),
+        ),
+        (
+            "version = 2\nworkers = 1\nbeta = 1\n",
+            PlanFault::WrongKind(0),
+        ),
+        (
+            "version = 3\nworkers = 1\nbeta = 1\n",
+            PlanFault::WrongKind(0),
+        ),
+        (
+            "version = 1979-05-27\nworkers = 1\nbeta = 1\n",
+            PlanFault::WrongKind(0),
+        ),
+        (
+            "version = 1\nworkers = 1\nbeta = 1\njob = 1\n",
+            PlanFault::WrongKind(0),
+        ),
+        (
+            "version = 1\nworkers = 1\nbeta = 1\njob = [1]\n",
+            PlanFault::WrongKind(0),
+        ),
+        (
+            "version = 1\nworkers = 1\nbeta = 1\nschedule = 1\n",
+            PlanFault::WrongKind(0),
+        ),
+        (
+            "version = 1\nworkers = 1\nbeta = 1\nrounds = -1\n",
+            PlanFault::WrongKind(0),
+        ),
+        (
+            "version = 1\nworkers = 1\nbeta = 1\nbudgets = [1, 2]\n",
+            PlanFault::WrongKind(0),
+        ),
+        (
+            "version = 1\nworkers = 17\nbeta = 17\nbudgets = [1]\n",
+            PlanFault::WrongKind(0),
+        ),
+        (
+            "version = 1\nworkers = 1\nbeta = 1\nbudgets = [-1]\n",
+            PlanFault::WrongKind(0),
+        ),
+    ];
+    for (text, fault) in cases {
+        assert_refused(&rt, rt.alloc(), text.as_bytes(), fault, text);
+    }
+    let unreadable = b"version = 1\nworkers = 1\nbeta = 1\nschedule = \"\xff\"\n";
+    assert_refused(&rt, rt.alloc(), unreadable, PlanFault::NotToml, "0xff");
+    Ok(())
+}
+
+#[test]
+fn a_fault_of_a_job_has_its_number(rt: HostRuntime) -> Result<(), Fail> {
+    let fine = "{name = \"z\", say = \"\"}";
+    let cases = [
+        ("{}", PlanFault::MissingKey(2)),
+        ("{say = \"\"}", PlanFault::MissingKey(2)),
+        ("{name = \"a\"}", PlanFault::MissingKey(2)),
+        (
+            "{name = \"a\", say = \"\", color = 1}",
+            PlanFault::UnknownKey(2),
+        ),
+        ("{name = \"a\", say = 3}", PlanFault::WrongKind(2)),
+        ("{name = 3, say = \"\"}", PlanFault::WrongKind(2)),
+        (
+            "{name = \"a\", say = \"\", add = []}",
+            PlanFault::WrongKind(2),
+        ),
+        ("{name = \"a\", add = 3}", PlanFault::WrongKind(2)),
+        ("{name = \"a\", add = [1, -1]}", PlanFault::WrongKind(2)),
+        ("{name = \"a\", add = [1, 1.0]}", PlanFault::WrongKind(2)),
+        ("{name = \"a b\", say = \"\"}", PlanFault::BadName(2)),
+        ("{name = \"\", say = \"\"}", PlanFault::BadName(2)),
+        ("{name = \"ä\", say = \"\"}", PlanFault::BadName(2)),
+        ("{name = \"z\", say = \"other\"}", PlanFault::TwoNames(2)),
+        (
+            "{name = \"a\", add = [9223372036854775807, 9223372036854775807, 2]}",
+            PlanFault::SumTooLarge(2),
+        ),
+    ];
+    for (job, fault) in cases {
+        let text = format!(in rt.alloc(); "{HEADS}job = [{fine}, {job}]\n")?;
+        assert_refused(&rt, rt.alloc(), text.as_bytes(), fault, job);
+    }
+    Ok(())
+}
+
+#[test]
+fn the_earlier_of_two_tests_wins(rt: HostRuntime) -> Result<(), Fail> {
+    let cases = [
+        ("color = 1\nsay = \"hel", PlanFault::NotToml),
+        ("color = 1\n", PlanFault::UnknownKey(0)),
+        ("workers = \"\"\nbeta = 1\n", PlanFault::MissingKey(0)),
+        (
+            "version = 3\nworkers = 1\nbeta = 1\njob = [{color = 1}]\n",
+            PlanFault::WrongKind(0),
+        ),
+        (
+            "version = 1\nworkers = 0\nbeta = 1\njob = [{name = 1, say = 1, color = 1}]\n",
+            PlanFault::UnknownKey(1),
+        ),
+        (
+            "version = 1\nworkers = 0\nbeta = 1\njob = [{name = 1}]\n",
+            PlanFault::MissingKey(1),
+        ),
+        (
+            "version = 1\nworkers = 0\nbeta = 1\njob = [{name = 1, say = 1}, {color = 1}]\n",
+            PlanFault::WrongKind(1),
+        ),
+        (
+            "version = 1\nworkers = 0\nbeta = 1\njob = [{name = \"\", say = \"\"}]\n",
+            PlanFault::BadGivens(GivensFault::NoWorkers),
+        ),
+        (
+            "version = 1\nworkers = 1\nbeta = 1\nschedule = \"0\"\njob = [{name = \"\", say = \"\"}]\n",
+            PlanFault::BadName(1),
+        ),
+        (
+            "version = 1\nworkers = 1\nbeta = 1\njob = [{name = \"a\", say = \"\"}, {name = \"a\", say = \"\"}, {name = \"\", say = \"\"}]\n",
+            PlanFault::TwoNames(2),
+        ),
+        (
+            "version = 1\nworkers = 1\nbeta = 1\nrounds = 10001\nschedule = \"1*100000 1 2\"\n",
+            PlanFault::NoSuchWorker(3),
+        ),
+    ];
+    for (text, fault) in cases {
+        assert_refused(&rt, rt.alloc(), text.as_bytes(), fault, text);
+    }
+    Ok(())
+}
+
+#[test]
+fn a_word_that_is_none_is_refused(rt: HostRuntime) -> Result<(), Fail> {
+    let cases = [
+        ("1 0", PlanFault::BadScheduleWord(2)),
+        ("3", PlanFault::NoSuchWorker(1)),
+        ("1 x", PlanFault::BadScheduleWord(2)),
+        ("1*0", PlanFault::BadScheduleWord(1)),
+        ("01", PlanFault::BadScheduleWord(1)),
+        ("2*1000000", PlanFault::BadScheduleWord(1)),
+        ("x1*2", PlanFault::BadScheduleWord(1)),
+        ("1*2*3", PlanFault::BadScheduleWord(1)),
+        ("1 * 2", PlanFault::BadScheduleWord(2)),
+        ("1*", PlanFault::BadScheduleWord(1)),
+        ("x3", PlanFault::NoSuchWorker(1)),
+        ("X1", PlanFault::BadScheduleWord(1)),
+        ("l1", PlanFault::BadScheduleWord(1)),
+        ("-1", PlanFault::BadScheduleWord(1)),
+        ("1\\f2", PlanFault::BadScheduleWord(1)),
+        ("1\\u000b2", PlanFault::BadScheduleWord(1)),
+        ("1\\u00a02", PlanFault::BadScheduleWord(1)),
+        ("1*100000 x1", PlanFault::TooLong),
+    ];
+    for (words, fault) in cases {
+        let text = format!(in rt.alloc(); "{HEADS}schedule = \"{words}\"\n")?;
+        assert_refused(&rt, rt.alloc(), text.as_bytes(), fault, words);
+    }
+    for words in ["", "1*100000", " 1\\t2\\r\\n x1 ", "1 2 2*7"] {
+        let text = format!(in rt.alloc(); "{HEADS}schedule = \"{words}\"\n")?;
+        assert_accepted(&rt, rt.alloc(), text.as_bytes(), words);
+    }
+    Ok(())
+}

@@ -1,0 +1,236 @@
+//! Reads the top level of a plan.
+ghost use Rattle.std.specs.Prelude.{◌≡◌, true, false, map, codes, option_copied, option_map, length, IfOk, IfSome};
+ghost use Rattle.std.specs.List.{list_all};
+ghost use Rattle.toml.specs.Data.{get_member};
+ghost use Rattle.toml.specs.View.{view, table_view};
+ghost use Rattle.amo_plan.specs.Keeps.{is_form};
+ghost use Rattle.amo_plan.specs.Steps.{Gives, or_fault, is_between};
+ghost use Rattle.amo_plan.specs.Tree.{each_key};
+ghost use Rattle.amo_plan.specs.Top.{newest_version, version_of, is_two, is_top_key, known_block, block_in, block_of, jobs_of, text_of, rounds_of, budgets_of, form_of, more_values, top_values, top_of};
+ghost use Rattle.amo_plan.specs.Seen.{top_seen, more_seen};
+
+use super::fault::PlanFault;
+use super::tree::{has_key, natural, natural_at, naturals, tables, value_at};
+use std::alloc::Global;
+use toml::{Table, Value};
+
+/// The newest version of the format.
+const NEWEST_VERSION: u64 = 1; // limit: 2, which has blocks and the words of leaving, is left out for now
+
+/// The version, and how many jobs make a block.
+#[derive(Clone, Copy, Debug, PartialEq, Eq)]
+pub struct Form {
+    pub version: u32,
+    pub block: u32,
+}
+
+/// The values that may be absent, but for the jobs.
+#[derive(Drop)]
+pub struct More<'a> {
+    pub schedule: &'a str,
+    pub rounds: u64,
+    /// None where the key is absent.
+    pub budgets: Option<Vec<u64>>,
+}
+
+/// What the top level says.
+#[derive(Drop)]
+pub struct Top<'a> {
+    pub version: u32,
+    pub block: u32,
+    pub workers: u64,
+    pub beta: u64,
+    pub jobs: Vec<&'a Table>,
+    pub schedule: &'a str,
+    pub rounds: u64,
+    /// None where the key is absent.
+    pub budgets: Option<Vec<u64>>,
+}
+
+/// The version, if it is one that there is.
+fn version(table: &Table) -> Option<u32>
+    ensures version { result ≡ version_of (table_view table.now) }
+    ensures within { IfSome result (λ v. is_between 1 2 v ≡ true) }
+{
+    let number = natural_at(table, "version")?;
+    if 1 <= number && number <= NEWEST_VERSION {
+        Some(number as u32)
+    } else {
+        None
+    }
+}
+
+/// The key is one of the top level, where `block` is one if it says so.
+fn is_top_key(with_block: bool, key: &str) -> bool
+    ensures { result ≡ is_top_key with_block key.now }
+{
+    (key == "version")
+        | (key == "workers")
+        | (key == "beta")
+        | (key == "job")
+        | (key == "schedule")
+        | (key == "rounds")
+        | (key == "budgets")
+        | (with_block & (key == "block"))
+}
+
+/// Each key is one of the top level.
+fn has_top_keys(with_block: bool, table: &Table) -> bool
+    ensures { result ≡ each_key (is_top_key with_block) (table_view table.now) }
+{
+    for key in table.keys() {
+        if !is_top_key(with_block, key.as_str()) {
+            return false;
+        }
+    }
+    true
+}
+
+/// How many jobs make a block in version 2, where the key may be absent.
+fn block_in(value: Option<&Value>) -> Option<u32>
+    ensures within { IfSome result (λ b. is_between 1 4096 b ≡ true) }
+    ensures block { result ≡ block_in (option_map (λ v. view v.now) value.entry) }
+{
+    let Some(value) = value else {
+        return Some(1);
+    };
+    let block = natural(value)?;
+    if 1 <= block && block <= 4096 {
+        Some(block as u32)
+    } else {
+        None
+    }
+}
+
+/// How many jobs make a block in this version.
+fn block(version: u32, table: &Table) -> Option<u32>
+    requires { is_between 1 2 version ≡ true }
+    ensures block { result ≡ block_of version (table_view table.now) }
+    ensures form { IfSome result (λ b. is_form version b ≡ true) }
+{
+    if version == 2 {
+        block_in(value_at(table, "block"))
+    } else {
+        Some(1)
+    }
+}
+
+/// The version, and how many jobs make a block.
+#[tactic(auto, unfolding(crate::specs::Top::form_of))]
+fn read_form(table: &Table) -> Result<Form, PlanFault>
+    ensures form { Gives (λ f. f) result (form_of (table_view table.now)) }
+    ensures fine { IfOk result (λ f. is_form f.version f.block ≡ true) }
+{
+    let version = version(table).ok_or(PlanFault::WrongKind(0))?;
+    let block = block(version, table).ok_or(PlanFault::WrongKind(0))?;
+    Ok(Form { version, block })
+}
+
+/// The jobs, of which there may be none.
+fn jobs(alloc: Global, table: &Table) -> Result<Vec<&Table>, PlanFault>
+    ensures { Gives (λ v. map (λ t. table_view t.now) v.items) result
+        (or_fault (jobs_of (get_member (codes "job") (table_view table.now))) (PlanFault.WrongKind 0)) }
+{
+    match value_at(table, "job") {
+        None => Ok(Vec::new(alloc)),
+        Some(value) => match value.as_array() {
+            Some(items) => tables(alloc, items),
+            None => Err(PlanFault::WrongKind(0)),
+        },
+    }
+}
+
+/// The schedule, which may be absent.
+fn schedule(table: &Table) -> Option<&str>
+    ensures { option_copied result ≡ text_of (get_member (codes "schedule") (table_view table.now)) }
+{
+    match value_at(table, "schedule") {
+        None => Some(""),
+        Some(value) => value.as_str(),
+    }
+}
+
+/// The rounds, which may be absent.
+fn rounds(table: &Table) -> Option<u64>
+    ensures { result ≡ rounds_of (get_member (codes "rounds") (table_view table.now)) }
+{
+    match value_at(table, "rounds") {
+        None => Some(0),
+        Some(value) => natural(value),
+    }
+}
+
+/// The budgets, which may be absent.
+fn budgets(alloc: Global, workers: u64, table: &Table) -> Result<Option<Vec<u64>>, PlanFault>
+    ensures count { IfOk result (λ o. IfSome o (λ v. length v.items ≡ workers)) }
+    ensures budgets { Gives (λ o. option_map (λ v. v.items) o) result
+        (or_fault (budgets_of workers (get_member (codes "budgets") (table_view table.now))) (PlanFault.WrongKind 0)) }
+{
+    let Some(value) = value_at(table, "budgets") else {
+        return Ok(None);
+    };
+    let Some(items) = value.as_array() else {
+        return Err(PlanFault::WrongKind(0));
+    };
+    let budgets = naturals(alloc, items, PlanFault::WrongKind(0))?;
+    if budgets.len() as u64 != workers {
+        return Err(PlanFault::WrongKind(0));
+    }
+    Ok(Some(budgets))
+}
+
+/// The values that may be absent, each of its kind.
+#[tactic(auto, unfolding(crate::specs::Top::more_values))]
+fn read_more(alloc: Global, workers: u64, table: &Table) -> Result<More<'_>, PlanFault>
+    ensures count { IfOk result (λ m. IfSome m.budgets (λ v. length v.items ≡ workers)) }
+    ensures more { Gives more_seen result (more_values workers (table_view table.now)) }
+{
+    let schedule = schedule(table).ok_or(PlanFault::WrongKind(0))?;
+    let rounds = rounds(table).ok_or(PlanFault::WrongKind(0))?;
+    let budgets = budgets(alloc, workers, table)?;
+    Ok(More {
+        schedule,
+        rounds,
+        budgets,
+    })
+}
+
+/// The values, each of its kind.
+#[tactic(auto, unfolding(crate::specs::Top::top_values))]
+fn read_values(alloc: Global, table: &Table) -> Result<Top<'_>, PlanFault>
+    ensures count { IfOk result (λ t. IfSome t.budgets (λ v. length v.items ≡ t.workers)) }
+    ensures fine { IfOk result (λ t. is_form t.version t.block ≡ true) }
+    ensures top { Gives top_seen result (top_values (table_view table.now)) }
+{
+    let form = read_form(table)?;
+    let workers = natural_at(table, "workers").ok_or(PlanFault::WrongKind(0))?;
+    let beta = natural_at(table, "beta").ok_or(PlanFault::WrongKind(0))?;
+    let jobs = jobs(alloc, table)?;
+    let more = read_more(alloc, workers, table)?;
+    Ok(Top {
+        version: form.version,
+        block: form.block,
+        workers,
+        beta,
+        jobs,
+        schedule: more.schedule,
+        rounds: more.rounds,
+        budgets: more.budgets,
+    })
+}
+
+/// The top level: no other keys, each that is needed, and each of its kind.
+#[tactic(auto, unfolding(crate::specs::Top::top_of))]
+pub fn read_top(alloc: Global, table: &Table) -> Result<Top<'_>, PlanFault>
+    ensures count { IfOk result (λ t. IfSome t.budgets (λ v. length v.items ≡ t.workers)) }
+    ensures fine { IfOk result (λ t. is_form t.version t.block ≡ true) }
+    ensures top { Gives top_seen result (top_of (table_view table.now)) }
+{
+    if !has_top_keys(version(table) == Some(2), table) {
+        return Err(PlanFault::UnknownKey(0));
+    }
+    if !(has_key(table, "version") && has_key(table, "workers") && has_key(table, "beta")) {
+        return Err(PlanFault::MissingKey(0));
+    }
+    read_values(alloc, table)
+}

@@ -1,0 +1,136 @@
+//! Reads the words of a schedule, each by itself.
+ghost use Rattle.std.specs.Prelude.{◌≡◌, ◌<◌, length, IfSome, IsTrue, position, slice_index};
+ghost use Rattle.amo_plan.specs.Steps.{Gives};
+ghost use Rattle.amo_plan.specs.Schedule.{is_digit, is_asterisk, is_x, is_l, number_of, turns_word, word_of, worker_of, word_at, moves_of_word};
+
+use super::fault::PlanFault;
+
+/// What a word says.
+#[derive(Clone, Copy, Debug, PartialEq, Eq)]
+pub enum Word {
+    /// Of a worker so many turns.
+    Turns(u32, u32),
+    /// A stop of a worker.
+    Stop(u32),
+    /// The leaving of a worker.
+    Departure(u32),
+}
+
+impl Word {
+    /// How many moves it is.
+    pub fn count(&self) -> u32
+        ensures { result ≡ length (moves_of_word self.now) }
+    {
+        match self {
+            Word::Turns(_, count) => *count,
+            Word::Stop(_) => 1,
+            Word::Departure(_) => 1,
+        }
+    }
+
+    /// The worker that it names.
+    pub fn worker(&self) -> u32
+        ensures { result ≡ worker_of self.now }
+    {
+        match self {
+            Word::Turns(worker, _) => *worker,
+            Word::Stop(worker) => *worker,
+            Word::Departure(worker) => *worker,
+        }
+    }
+}
+
+/// The byte is one of 0 to 9.
+fn is_digit(b: u8) -> bool
+    ensures { result ≡ is_digit b }
+{
+    b'0' <= b && b <= b'9'
+}
+
+/// A number of at most six digits, of which the first isn't 0.
+#[tactic(auto, unfolding(crate::specs::Schedule::number_of))]
+fn number(text: &[u8]) -> Option<u32>
+    ensures { result ≡ number_of text.now }
+{
+    let (first, rest) = text.split_first()?;
+    if *first < b'1' || rest.len() > 5 {
+        return None;
+    }
+    let mut value = 0u32;
+    for b in text {
+        if !is_digit(*b) {
+            return None;
+        }
+        value = 10 * value + (*b as u32 - 48);
+    }
+    Some(value)
+}
+
+/// Where the first asterisk stands.
+fn asterisk_at(text: &[u8]) -> Option<usize>
+    ensures place { result ≡ position is_asterisk text.now }
+    ensures within { IfSome result (λ i. i < length text.now) }
+{
+    text.iter().position(|b| *b == b'*')
+}
+
+/// Turns of a worker: a number, or two parted by an asterisk.
+#[tactic(auto, unfolding(crate::specs::Schedule::turns_word))]
+fn read_turns(text: &[u8]) -> Option<Word>
+    ensures { result ≡ turns_word text.now }
+{
+    match asterisk_at(text) {
+        None => Some(Word::Turns(number(text)?, 1)),
+        Some(at) => {
+            let (front, _) = text.split_at(at);
+            let (_, back) = text.split_at(at + 1);
+            let worker = number(front)?;
+            let count = number(back)?;
+            Some(Word::Turns(worker, count))
+        }
+    }
+}
+
+/// It begins with x.
+fn begins_with_x(text: &[u8]) -> bool
+    ensures test { result ≡ is_x (slice_index text.now 0) }
+    ensures some { IsTrue result → 0 < length text.now }
+{
+    !text.is_empty() && text[0] == b'x'
+}
+
+/// It begins with l, which is for version 2 alone.
+fn begins_with_l(version: u32, text: &[u8]) -> bool
+    ensures test { result ≡ is_l version (slice_index text.now 0) }
+    ensures some { IsTrue result → 0 < length text.now }
+{
+    version == 2 && !text.is_empty() && text[0] == b'l'
+}
+
+/// What a word says, if it is one.
+#[tactic(auto, unfolding(crate::specs::Schedule::word_of))]
+fn read_word(version: u32, text: &[u8]) -> Option<Word>
+    ensures { result ≡ word_of version text.now }
+{
+    if begins_with_x(text) {
+        let (_, rest) = text.split_at(1);
+        return Some(Word::Stop(number(rest)?));
+    }
+    if begins_with_l(version, text) {
+        let (_, rest) = text.split_at(1);
+        return Some(Word::Departure(number(rest)?));
+    }
+    read_turns(text)
+}
+
+/// The word in this place, of the workers up to so many.
+#[tactic(auto, unfolding(crate::specs::Schedule::word_at))]
+pub fn word_at(version: u32, workers: u32, place: u32, text: &[u8]) -> Result<Word, PlanFault>
+    ensures { Gives (λ w. w) result (word_at version workers place text.now) }
+{
+    match read_word(version, text) {
+        None => Err(PlanFault::BadScheduleWord(place)),
+        Some(word) if word.worker() > workers => Err(PlanFault::NoSuchWorker(place)),
+        Some(word) => Ok(word),
+    }
+}

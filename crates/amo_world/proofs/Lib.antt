@@ -1,0 +1,7 @@
+pub mod Places
+pub mod Turning
+pub mod Opening
+pub mod Tallies
+pub mod Verdicts
+pub mod Unclaimed
+pub mod Resting

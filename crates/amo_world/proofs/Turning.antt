@@ -1,0 +1,275 @@
+-- What holds of the fields of a world before and after a turn, a stop and a leaving of a worker that isn't gone.
+use Rattle.std.proofs.Common.{◌≡◌, ⊎_elim, ℕ, zero, suc, ◌+◌, ◌-◌, ◌<◌, ◌≤◌, Bool, true, false, ◌||◌, List, [], ◌∷◌, ◌++◌, map, length, get_or, set, refl, sym, ap, ◌∙◌, subst, arith, length-append}
+use Rattle.std.specs.Prelude.{if◌then◌else◌}
+use Rattle.std.proofs.lemmas.Bool.{true≢false, cases_Bool, cases_eq, cases_lt}
+use Rattle.std.proofs.lemmas.List.{map-set, length-set, get_or-set_same, get_or-set_other, get_or_past}
+use Rattle.amo_sets.specs.Lists.{numbered, put}
+use Rattle.amo_sets.specs.Sets.{has}
+use Rattle.amo_sets.proofs.Numbers.{has-get_or, has-append}
+use Rattle.amo_kk.specs.Givens.{IsJob, IsWorker, IsOther, others_before}
+use Rattle.amo_kk.specs.Record.{wants_nothing, can_leave, jobs_in_hand}
+use Rattle.amo_kk.specs.Event.{want, want_in, is_load, record_after, record_after_leave, shown_events, MayLoad}
+use Rattle.amo_kk.specs.Lawful.{IsLawful, HasRun, FitsPhase, IsSoundProcess}
+use Rattle.amo_kk.specs.World.{process, loaded_value, process_after, world_with, world_after_event, world_after_turn, world_after_halt, world_after_leave}
+use Rattle.amo_kk.specs.Machine.{LocalView}
+use Rattle.amo_kk.specs.Answer.{shown, events_of, turn_shown}
+use Rattle.amo_kk.specs.declared.givens.Givens.{Givens}
+use Rattle.amo_kk.specs.declared.phase.Phase.{Phase}
+use Rattle.amo_kk.specs.declared.phase.Phase.TheVariants.{Announcing, Trying, Reading, Claiming, Holding, Over, Left as LeftPhase}
+use Rattle.amo_kk.specs.declared.phase.Want.{Want}
+use Rattle.amo_kk.specs.declared.phase.Want.TheVariants.{StoreNext, LoadNext, LoadDone, StoreClaim, StoreDone, Nothing}
+use Rattle.amo_kk.specs.declared.model.Record.{Record}
+use Rattle.amo_kk.specs.declared.model.Process.{Process}
+use Rattle.amo_kk.specs.declared.model.World.{World}
+use Rattle.amo_kk.specs.declared.event.Event.{Event}
+use Rattle.amo_kk.specs.declared.event.Event.TheVariants.{Halted, Left as LeftEvent}
+use Rattle.amo_kk.specs.declared.event.Shown.{Shown}
+use Rattle.amo_kk.proofs.Kept.{row_room}
+use Rattle.amo_kk.proofs.Holding.{put_before}
+use Rattle.amo_kk.proofs.Worlds.{turn_lawful, halt_lawful, leave_lawful}
+use Rattle.amo_kk.proofs.Runs.{turn_runs, halt_runs, leave_runs, stored_local}
+use Rattle.amo_kk.proofs.Room.{run_is_short}
+use Rattle.amo_kk.proofs.Shows.{shows}
+use Rattle.amo_world.specs.declared.seat.Seat.{Seat}
+use Rattle.amo_world.specs.Views.{WorldView}
+use Rattle.amo_world.specs.Seats.{process_of, world_of, CanLoad, AreSeats, IsKept}
+use Rattle.amo_world.proofs.Places.{seat_at}
+
+-- the worker of a call on a world that is seen as v, its fields as x
+pub worker_here : (x v : WorldView) (p : ℕ) → x ≡ v → IsWorker v.givens p → IsWorker x.givens p
+worker_here x v p same o = subst (λ (y : WorldView). IsWorker y.givens p) (sym same) o
+
+-- and it is not gone, as a test has answered
+pub still_here : (x v : WorldView) (p : ℕ) (answer : Bool) → x ≡ v → answer ≡ (process v.world p).gone → answer ≡ false → (process x.world p).gone ≡ false
+still_here x v p answer same is e = ap (λ (y : WorldView). (process y.world p).gone) same ∙ sym is ∙ e
+
+-- a load does not look at the history
+pub same_load : (seats : List Seat) (history : List Event) (w : Want) → loaded_value (world_of seats []) w ≡ loaded_value (world_of seats history) w
+same_load seats history (StoreNext j) = refl
+same_load seats history (LoadNext q) = refl
+same_load seats history (LoadDone q k) = refl
+same_load seats history (StoreClaim c j) = refl
+same_load seats history (StoreDone k j) = refl
+same_load seats history Nothing = refl
+
+-- where no load is wanted, 0 stands for its value
+store_zero : (w : World) (x : Want) → is_load x ≡ false → loaded_value w x ≡ 0
+store_zero w (StoreNext j) h = refl
+store_zero w (LoadNext q) h = absurd (true≢false h)
+store_zero w (LoadDone q k) h = absurd (true≢false h)
+store_zero w (StoreClaim c j) h = refl
+store_zero w (StoreDone k j) h = refl
+store_zero w Nothing h = refl
+
+-- a seat in place of another of the same givens and number
+seated_after : (g : Givens) (seats : List Seat) (k : ℕ) (t s : Seat) → AreSeats g g.workers seats → k < length seats → s ≡ get_or seats k s → t.local.givens ≡ s.local.givens → t.local.number ≡ s.local.number → AreSeats g g.workers (set seats k t)
+seated_after g seats k t s seated h is same_givens same_number =
+    record {
+      size = length-set seats k t ∙ seated.size;
+      givens = λ i d l. ⊎_elim
+          (λ (e : i ≡ k). ap (λ (y : Seat). y.local.givens) (here i d e) ∙ same_givens ∙ ap (λ (y : Seat). y.local.givens) is ∙ seated.givens k s h)
+          (λ n. ap (λ (y : Seat). y.local.givens) (get_or-set_other seats k i t d n) ∙ seated.givens i d (let z = length-set seats k t in omega arith))
+          (cases_eq i k);
+      number = λ i d l. ⊎_elim
+          (λ (e : i ≡ k). ap (λ (y : Seat). y.local.number) (here i d e) ∙ same_number ∙ ap (λ (y : Seat). y.local.number) is ∙ seated.number k s h ∙ omega arith)
+          (λ n. ap (λ (y : Seat). y.local.number) (get_or-set_other seats k i t d n) ∙ seated.number i d (let z = length-set seats k t in omega arith))
+          (cases_eq i k);
+    }
+  where
+    here : (i : ℕ) (d : Seat) → i ≡ k → get_or (set seats k t) i d ≡ t
+    here i d e = ap (λ x. get_or (set seats k t) x d) e ∙ get_or-set_same seats k t d h
+
+-- what the wanted load finds
+module _ (g : Givens) (seats : List Seat) (history : List Event) (room p : ℕ) (kept : IsKept g seats history room) (o : IsWorker g p) where
+  pub can_load : CanLoad seats (want (process (world_of seats history) p).local)
+  can_load = go (process (world_of seats history) p).local.phase refl
+    where
+      stands : FitsPhase g p (process (world_of seats history) p).local (process (world_of seats history) p).local.phase
+      stands = (kept.lawful.lawful.sound p o).local.stands
+
+      go : (phase : Phase) → (process (world_of seats history) p).local.phase ≡ phase → CanLoad seats (want_in (process (world_of seats history) p).local (process (world_of seats history) p).local.phase)
+      go (Announcing j) e = subst (λ x. CanLoad seats (want_in (process (world_of seats history) p).local x)) (sym e) tt
+      go (Trying j q) e =
+          let st : IsJob g j × IsOther g p q × (length (process (world_of seats history) p).local.tried ≤ others_before p q) = rw e at stands in
+          subst (λ x. CanLoad seats (want_in (process (world_of seats history) p).local x)) (sym e) (st.1.worker.low, let z = kept.seated.size in let h = st.1.worker.high in omega arith)
+      go (Reading j q) e =
+          let st : IsJob g j × IsOther g p q = rw e at stands in
+          let front : numbered 0 (process (world_of seats history) p).local.fronts q ≤ g.jobs = (kept.lawful.lawful.sound p o).local.front q in
+          let high : q ≤ length seats = let z = kept.seated.size in let h = st.1.worker.high in omega arith in
+          let size : length (process (world_of seats history) q).row ≡ g.jobs + 1 = (kept.lawful.lawful.sound q st.1.worker).row_length in
+          subst (λ x. CanLoad seats (want_in (process (world_of seats history) p).local x)) (sym e)
+          (st.1.worker.low, high, omega arith, λ d. subst (λ (a : Process). numbered 0 (process (world_of seats history) p).local.fronts q + 1 ≤ length a.row) (seat_at seats q d st.1.worker.low high) (omega arith))
+      go (Claiming j) e = subst (λ x. CanLoad seats (want_in (process (world_of seats history) p).local x)) (sym e) tt
+      go (Holding j) e = subst (λ x. CanLoad seats (want_in (process (world_of seats history) p).local x)) (sym e) tt
+      go Over e = subst (λ x. CanLoad seats (want_in (process (world_of seats history) p).local x)) (sym e) tt
+      go LeftPhase e = subst (λ x. CanLoad seats (want_in (process (world_of seats history) p).local x)) (sym e) tt
+
+  -- what stands in a row is a job or 0, and in its last place 0
+  row_is : (q k : ℕ) → IsWorker g q → (numbered 0 (process (world_of seats history) q).row k ≤ g.jobs) × (k ≡ g.jobs + 1 → numbered 0 (process (world_of seats history) q).row k ≡ 0)
+  row_is q zero other = (omega arith, λ e. refl)
+  row_is q (suc k) other = (
+    subst (λ x. x ≤ g.jobs) (sym entry) (⊎_elim inside (λ (h : length (process (world_of seats history) q).local.dones ≤ k). let z = get_or_past (process (world_of seats history) q).local.dones k 0 h in omega arith) (cases_lt k (length (process (world_of seats history) q).local.dones))),
+    λ e. entry ∙ get_or_past (process (world_of seats history) q).local.dones k 0 (let f = few in omega arith),
+  )
+    where
+      there : IsSoundProcess g q (process (world_of seats history) q)
+      there = kept.lawful.lawful.sound q other
+
+      few : length (process (world_of seats history) q).local.dones ≤ g.jobs
+      few = row_room g (process (world_of seats history)) kept.lawful.lawful q other
+
+      entry : get_or (process (world_of seats history) q).row k 0 ≡ get_or (process (world_of seats history) q).local.dones k 0
+      entry = there.row k
+
+      inside : k < length (process (world_of seats history) q).local.dones → get_or (process (world_of seats history) q).local.dones k 0 ≤ g.jobs
+      inside h = (there.local.jobs (get_or (process (world_of seats history) q).local.dones k 0) (rw there.local.claims (rw has-append (ap (λ b. b || has (jobs_in_hand (process (world_of seats history) q).local.phase) (get_or (process (world_of seats history) q).local.dones k 0)) (has-get_or (process (world_of seats history) q).local.dones k h))))).high
+
+  pub may_load : MayLoad g (loaded_value (world_of seats history) (want (process (world_of seats history) p).local)) (want (process (world_of seats history) p).local)
+  may_load = go (process (world_of seats history) p).local.phase refl
+    where
+      stands : FitsPhase g p (process (world_of seats history) p).local (process (world_of seats history) p).local.phase
+      stands = (kept.lawful.lawful.sound p o).local.stands
+
+      go : (phase : Phase) → (process (world_of seats history) p).local.phase ≡ phase → MayLoad g (loaded_value (world_of seats history) (want_in (process (world_of seats history) p).local (process (world_of seats history) p).local.phase)) (want_in (process (world_of seats history) p).local (process (world_of seats history) p).local.phase)
+      go (Announcing j) e = subst (λ x. MayLoad g (loaded_value (world_of seats history) (want_in (process (world_of seats history) p).local x)) (want_in (process (world_of seats history) p).local x)) (sym e) tt
+      go (Trying j q) e =
+          let st : IsJob g j × IsOther g p q × (length (process (world_of seats history) p).local.tried ≤ others_before p q) = rw e at stands in
+          subst (λ x. MayLoad g (loaded_value (world_of seats history) (want_in (process (world_of seats history) p).local x)) (want_in (process (world_of seats history) p).local x)) (sym e) (kept.lawful.lawful.sound q st.1.worker).next
+      go (Reading j q) e =
+          let st : IsJob g j × IsOther g p q = rw e at stands in
+          subst (λ x. MayLoad g (loaded_value (world_of seats history) (want_in (process (world_of seats history) p).local x)) (want_in (process (world_of seats history) p).local x)) (sym e) (row_is q (numbered 0 (process (world_of seats history) p).local.fronts q + 1) st.1.worker)
+      go (Claiming j) e = subst (λ x. MayLoad g (loaded_value (world_of seats history) (want_in (process (world_of seats history) p).local x)) (want_in (process (world_of seats history) p).local x)) (sym e) tt
+      go (Holding j) e = subst (λ x. MayLoad g (loaded_value (world_of seats history) (want_in (process (world_of seats history) p).local x)) (want_in (process (world_of seats history) p).local x)) (sym e) tt
+      go Over e = subst (λ x. MayLoad g (loaded_value (world_of seats history) (want_in (process (world_of seats history) p).local x)) (want_in (process (world_of seats history) p).local x)) (sym e) tt
+      go LeftPhase e = subst (λ x. MayLoad g (loaded_value (world_of seats history) (want_in (process (world_of seats history) p).local x)) (want_in (process (world_of seats history) p).local x)) (sym e) tt
+
+module _ (g : Givens) (seats : List Seat) (history : List Event) (room p : ℕ) (kept : IsKept g seats history room) (o : IsWorker g p) (s : Seat) (is : s ≡ get_or seats (p - 1) s) where
+  pub process_is : process (world_of seats history) p ≡ process_of s
+  process_is = seat_at seats p s o.low (let e = kept.seated.size in let h = o.high in omega arith) ∙ ap process_of (sym is)
+
+  place : p - 1 < length seats
+  place = let e = kept.seated.size in let l = o.low in let h = o.high in omega arith
+
+  pub own_givens : s.local.givens ≡ g
+  own_givens = ap (λ (x : Seat). x.local.givens) is ∙ kept.seated.givens (p - 1) s place
+
+  pub own_number : s.local.number ≡ p
+  own_number = ap (λ (x : Seat). x.local.number) is ∙ kept.seated.number (p - 1) s place ∙ (let l = o.low in omega arith)
+
+  sound : IsSoundProcess g p (process_of s)
+  sound = subst (λ (a : Process). IsSoundProcess g p a) process_is (kept.lawful.lawful.sound p o)
+
+  -- what stands after a change of the seat, where that makes this world
+  module _ (t : Seat) (events : List Event) (v : World) (law : IsLawful g v) (runs : HasRun g v)
+      (makes : world_of (set seats (p - 1) t) (history ++ events) ≡ v) where
+    has_room : length history + length events ≤ room
+    has_room =
+        let run : HasRun g (world_of (set seats (p - 1) t) (history ++ events)) = subst (λ (u : World). HasRun g u) (sym makes) runs in
+        let short = run_is_short g (history ++ events) run.0 in
+        let e = length-append history events in
+        let r = kept.fits in
+        omega arith
+
+    kept_after : (more : ℕ) → t.local.givens ≡ s.local.givens → t.local.number ≡ s.local.number → room ≤ more → IsKept g (set seats (p - 1) t) (history ++ events) more
+    kept_after more same_givens same_number l =
+        record {
+          seated = seated_after g seats (p - 1) t s kept.seated place is same_givens same_number;
+          lawful = subst (λ (u : World). IsLawful g u) (sym makes) law;
+          run = subst (λ (u : World). HasRun g u) (sym makes) runs;
+          fits = let r = kept.fits in omega arith;
+        }
+
+  processes_are : (t : Seat) (a : Process) → process_of t ≡ a → map process_of (set seats (p - 1) t) ≡ put (map process_of seats) p a
+  processes_are t a e = map-set process_of seats (p - 1) t ∙ ap (λ (x : Process). set (map process_of seats) (p - 1) x) e ∙ sym (put_before (map process_of seats) p a o.low)
+
+  pub row_free : length s.local.local.dones < length s.row.items
+  row_free =
+      let few : length (process (world_of seats history) p).local.dones ≤ g.jobs = row_room g (process (world_of seats history)) kept.lawful.lawful p o in
+      let size : length s.row.items ≡ g.jobs + 1 = sound.row_length in
+      subst (λ (a : Process). length a.local.dones < length s.row.items) process_is (omega arith)
+
+  -- a machine of this worker says that it may leave
+  pub may_leave : (v : WorldView) (l : LocalView) (may : Bool) → record { givens = g; world = world_of seats history } ≡ v
+      → l ≡ record { givens = v.givens; number = p; local = (process v.world p).local } → may ≡ can_leave l.local.phase → may ≡ true → can_leave s.local.local.phase ≡ true
+  may_leave v l may same is can e =
+      ap (λ (a : Process). can_leave a.local.phase) (sym process_is) ∙ ap (λ (y : WorldView). can_leave (process y.world p).local.phase) same
+      ∙ ap (λ (y : LocalView). can_leave y.local.phase) (sym is) ∙ sym can ∙ e
+
+  module _ (here : (process (world_of seats history) p).gone ≡ false) where
+    pub going : wants_nothing s.local.local.phase ≡ false
+    going = ⊎_elim (λ t. absurd (true≢false (sym (sound.gone t) ∙ sym (ap (λ (a : Process). a.gone) process_is) ∙ here))) (λ f. f) (cases_Bool (wants_nothing s.local.local.phase))
+
+    -- with the value that the load gives
+    module _ (value : ℕ) (loads : value ≡ loaded_value (world_of seats history) (want (process (world_of seats history) p).local)) where
+      loads_here : value ≡ loaded_value (world_of seats history) (want s.local.local)
+      loads_here = loads ∙ ap (λ (a : Process). loaded_value (world_of seats history) (want a.local)) process_is
+
+      pub hears : MayLoad s.local.givens value (want s.local.local)
+      hears = subst (λ x. MayLoad x value (want s.local.local)) (sym own_givens) (subst (λ x. MayLoad g x (want s.local.local)) (sym loads_here) (subst (λ (a : Process). MayLoad g (loaded_value (world_of seats history) (want a.local)) (want a.local)) process_is (may_load g seats history room p kept o)))
+
+      pub stores_zero : is_load (want s.local.local) ≡ false → value ≡ 0
+      stores_zero h = loads_here ∙ store_zero (world_of seats history) (want s.local.local) h
+
+      module _ (t : Seat) (x : Shown)
+          (makes : process_of t ≡ process_after (want s.local.local) (process_of s) (record_after s.local.givens s.local.number value s.local.local))
+          (answers : x ≡ shown s.local.local.phase t.local.local.phase) where
+        record_is : record_after s.local.givens s.local.number value s.local.local ≡ record_after g p (loaded_value (world_of seats history) (want s.local.local)) s.local.local
+        record_is = λ i. record_after (own_givens i) (own_number i) (loads_here i) s.local.local
+
+        phase_is : t.local.local.phase ≡ (record_after g p (loaded_value (world_of seats history) (want s.local.local)) s.local.local).phase
+        phase_is = ap (λ (a : Process). a.local.phase) makes
+            ∙ ap (λ (r : Record). r.phase) (stored_local (want s.local.local) (process_of s) (record_after s.local.givens s.local.number value s.local.local) ∙ record_is)
+
+        pub shown_is : x ≡ turn_shown g (world_of seats history) p
+        shown_is = answers ∙ ap (λ y. shown s.local.local.phase y) phase_is
+            ∙ ap (λ (a : Process). shown a.local.phase (record_after g p (loaded_value (world_of seats history) (want a.local)) a.local).phase) (sym process_is)
+
+        pub turn_is : world_of (set seats (p - 1) t) (history ++ events_of p x) ≡ world_after_turn g (world_of seats history) p
+        turn_is =
+            (λ i. record {
+              processes = processes_are t (process_after (want s.local.local) (process_of s) (record_after g p (loaded_value (world_of seats history) (want s.local.local)) s.local.local)) (makes ∙ ap (λ r. process_after (want s.local.local) (process_of s) r) record_is) i;
+              history = history ++ events_are i;
+            })
+            ∙ ap (λ (a : Process). world_after_event g (world_of seats history) p a) (sym process_is)
+            ∙ sym (ap (λ b. if b then (world_of seats history) else world_after_event g (world_of seats history) p (process (world_of seats history) p)) here)
+          where
+            events_are : events_of p x ≡ shown_events p s.local.local.phase (record_after g p (loaded_value (world_of seats history) (want s.local.local)) s.local.local).phase
+            events_are = ap (λ y. events_of p y) (answers ∙ ap (λ y. shown s.local.local.phase y) phase_is) ∙ shows g p (loaded_value (world_of seats history) (want s.local.local)) s.local.local going
+
+        pub turn_room : length history + length (events_of p x) ≤ room
+        turn_room = has_room t (events_of p x) (world_after_turn g (world_of seats history) p) (turn_lawful g (world_of seats history) p g.limits kept.lawful) (turn_runs g (world_of seats history) p g.limits kept.lawful kept.run) turn_is
+
+        pub turn_kept : (more : ℕ) → t.local.givens ≡ s.local.givens → t.local.number ≡ s.local.number → room ≤ more → IsKept g (set seats (p - 1) t) (history ++ events_of p x) more
+        turn_kept more = kept_after t (events_of p x) (world_after_turn g (world_of seats history) p) (turn_lawful g (world_of seats history) p g.limits kept.lawful) (turn_runs g (world_of seats history) p g.limits kept.lawful kept.run) turn_is more
+
+    -- a stop
+    module _ (t : Seat) (makes : process_of t ≡ record (process_of s) { gone = true }) where
+      pub halt_is : world_of (set seats (p - 1) t) (history ++ Halted p ∷ []) ≡ world_after_halt (world_of seats history) p
+      halt_is =
+          ap {B = World} (λ l. record { processes = l; history = history ++ Halted p ∷ [] }) (processes_are t (record (process_of s) { gone = true }) makes)
+          ∙ ap (λ (a : Process). world_with (world_of seats history) p (record a { gone = true }) (Halted p ∷ [])) (sym process_is)
+          ∙ sym (ap (λ b. if b then (world_of seats history) else world_with (world_of seats history) p (record (process (world_of seats history) p) { gone = true }) (Halted p ∷ [])) here)
+
+      pub halt_room : length history + 1 ≤ room
+      halt_room = has_room t (Halted p ∷ []) (world_after_halt (world_of seats history) p) (halt_lawful g (world_of seats history) p kept.lawful) (halt_runs g (world_of seats history) p kept.lawful kept.run) halt_is
+
+      pub halt_kept : (more : ℕ) → t.local.givens ≡ s.local.givens → t.local.number ≡ s.local.number → room ≤ more → IsKept g (set seats (p - 1) t) (history ++ Halted p ∷ []) more
+      halt_kept more = kept_after t (Halted p ∷ []) (world_after_halt (world_of seats history) p) (halt_lawful g (world_of seats history) p kept.lawful) (halt_runs g (world_of seats history) p kept.lawful kept.run) halt_is more
+
+    -- a leaving
+    module _ (t : Seat) (may : can_leave s.local.local.phase ≡ true) (makes : process_of t ≡ process_after (StoreNext 0) (process_of s) (record_after_leave s.local.local)) where
+      pub leave_is : world_of (set seats (p - 1) t) (history ++ LeftEvent p ∷ []) ≡ world_after_leave (world_of seats history) p
+      leave_is =
+          ap {B = World} (λ l. record { processes = l; history = history ++ LeftEvent p ∷ [] }) (processes_are t (process_after (StoreNext 0) (process_of s) (record_after_leave s.local.local)) makes)
+          ∙ ap (λ (a : Process). world_with (world_of seats history) p (process_after (StoreNext 0) a (record_after_leave a.local)) (LeftEvent p ∷ [])) (sym process_is)
+          ∙ sym (ap (λ b. if b then stays else (world_of seats history)) (ap (λ (a : Process). can_leave a.local.phase) process_is ∙ may))
+          ∙ sym (ap (λ b. if b then (world_of seats history) else (if can_leave (process (world_of seats history) p).local.phase then stays else (world_of seats history))) here)
+        where
+          stays : World
+          stays = world_with (world_of seats history) p (process_after (StoreNext 0) (process (world_of seats history) p) (record_after_leave (process (world_of seats history) p).local)) (LeftEvent p ∷ [])
+
+      pub leave_room : length history + 1 ≤ room
+      leave_room = has_room t (LeftEvent p ∷ []) (world_after_leave (world_of seats history) p) (leave_lawful g (world_of seats history) p kept.lawful) (leave_runs g (world_of seats history) p kept.lawful kept.run) leave_is
+
+      pub leave_kept : (more : ℕ) → t.local.givens ≡ s.local.givens → t.local.number ≡ s.local.number → room ≤ more → IsKept g (set seats (p - 1) t) (history ++ LeftEvent p ∷ []) more
+      leave_kept more = kept_after t (LeftEvent p ∷ []) (world_after_leave (world_of seats history) p) (leave_lawful g (world_of seats history) p kept.lawful) (leave_runs g (world_of seats history) p kept.lawful kept.run) leave_is more

@@ -1,0 +1,4 @@
+pub mod Answer
+pub mod Views
+pub mod Seats
+pub mod Resting

@@ -1,0 +1,40 @@
+-- Seats as the processes that they are, and what holds of the fields of a world.
+use Rattle.std.specs.Prelude.{◌≡◌, ℕ, ◌<◌, ◌≤◌, ◌+◌, ◌-◌, ◌*◌, List, length, map, get_or, ⊤}
+use Rattle.amo_kk.specs.Lawful.{IsLawful, HasRun}
+use Rattle.amo_kk.specs.declared.givens.Givens.{Givens}
+use Rattle.amo_kk.specs.declared.event.Event.{Event}
+use Rattle.amo_kk.specs.declared.phase.Want.{Want}
+use Rattle.amo_kk.specs.declared.phase.Want.TheVariants.{StoreNext, LoadNext, LoadDone, StoreClaim, StoreDone, Nothing}
+use Rattle.amo_kk.specs.declared.model.Process.{Process}
+use Rattle.amo_kk.specs.declared.model.World.{World}
+use Rattle.amo_world.specs.declared.seat.Seat.{Seat}
+
+-- the process of a seat: the record and the words of its worker
+abbrev pub process_of : Seat → Process
+process_of s = record { local = s.local.local; next = s.next; claim = s.claim; row = s.row.items; gone = s.gone }
+
+-- the world of these seats and this history
+abbrev pub world_of : List Seat → List Event → World
+world_of seats history = record { processes = map process_of seats; history = history }
+
+-- what is to be loaded is there
+abbrev pub CanLoad : List Seat → Want → Type 0
+CanLoad seats (StoreNext j) = ⊤
+CanLoad seats (LoadNext q) = (1 ≤ q) × (q ≤ length seats)
+CanLoad seats (LoadDone q k) = (1 ≤ q) × (q ≤ length seats) × (1 ≤ k) × ((s : Seat) → k ≤ length (get_or seats (q - 1) s).row.items)
+CanLoad seats (StoreClaim c j) = ⊤
+CanLoad seats (StoreDone k j) = ⊤
+CanLoad seats Nothing = ⊤
+
+-- The seats are those of the workers 1..n in their order, each with a machine of these givens.
+pub record AreSeats (g : Givens) (n : ℕ) (seats : List Seat) : Type 0 where
+  pub size : length seats ≡ n
+  pub givens : (k : ℕ) (s : Seat) → k < length seats → (get_or seats k s).local.givens ≡ g
+  pub number : (k : ℕ) (s : Seat) → k < length seats → (get_or seats k s).local.number ≡ k + 1
+
+-- The world is lawful, its history is a run, and there is room for all events that a run can have.
+pub record IsKept (g : Givens) (seats : List Seat) (history : List Event) (room : ℕ) : Type 0 where
+  pub seated : AreSeats g g.workers seats
+  pub lawful : IsLawful g (world_of seats history)
+  pub run : HasRun g (world_of seats history)
+  pub fits : 2 * g.jobs + g.workers ≤ room

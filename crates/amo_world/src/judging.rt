@@ -1,0 +1,26 @@
+//! The judge of lists of events.
+ghost use Rattle.std.specs.Prelude.{◌≡◌, IfOk};
+ghost use Rattle.amo_world.specs.Answer.{verdict};
+
+use crate::answer::Verdict;
+use crate::state::State;
+use amo_kk::{Event, Givens};
+use std::alloc::{AllocError, Global};
+
+/// Whether the events are a run of the one sequential set of unclaimed jobs, from its first state: `Lawful`, or the
+/// place of the first event that is no step. The events may name any numbers; with a worker outside 1..=workers or
+/// a job outside 1..=jobs an event is never a step. The only error is that memory for one state was refused.
+pub fn judge(alloc: Global, givens: Givens, events: &[Event]) -> Result<Verdict, AllocError>
+    ensures { IfOk result (λ v. v ≡ verdict givens events.now) }
+{
+    let mut state = State::new(alloc, givens)?;
+    let mut place = 0;
+    for event in events {
+        place += 1;
+        if !state.allows(*event) {
+            return Ok(Verdict::FirstBad(place));
+        }
+        state.follow(*event)?;
+    }
+    Ok(Verdict::Lawful)
+}

@@ -1,0 +1,16 @@
+//! All workers of a run in one thread: one event at a time, in whatever order the caller chooses, and the history
+//! of what has happened, which is a run of one sequential set of unclaimed jobs.
+#![tactic(auto)]
+
+mod answer;
+mod judging;
+mod phases;
+mod seat;
+mod state;
+mod tally;
+mod world;
+
+pub use amo_kk::Event;
+pub use answer::{Alone, Turned, Verdict};
+pub use judging::judge;
+pub use world::World;

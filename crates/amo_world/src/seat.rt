@@ -1,0 +1,134 @@
+//! One worker with the shared words that it alone writes.
+ghost use Rattle.std.specs.Prelude.{◌≡◌, ◌≤◌, ◌<◌, ◌+◌, length, true, false, ℕ, IfOk};
+ghost use Rattle.amo_kk.specs.declared.phase.Want.{Want};
+ghost use Rattle.amo_kk.specs.Givens.{IsWorker};
+ghost use Rattle.amo_kk.specs.Record.{wants_nothing, can_leave};
+ghost use Rattle.amo_kk.specs.Event.{want, is_load, record_after, record_after_leave, MayLoad};
+ghost use Rattle.amo_kk.specs.Answer.{shown};
+ghost use Rattle.amo_kk.specs.World.{process_after, first_process};
+ghost use Rattle.amo_world.specs.Seats.{process_of};
+
+use crate::phases::wants_nothing;
+use amo_kk::{Givens, Local, Shown, Want};
+use std::alloc::{AllocError, Global};
+
+/// A worker's machine, its announcement, its count of claims and its row, and whether it is gone.
+#[derive(Drop)]
+pub struct Seat {
+    pub local: Local,
+    pub next: u32,
+    pub claim: u32,
+    pub row: Vec<u32>,
+    pub gone: bool,
+}
+
+impl Seat {
+    /// Worker p before its first event. Its room is made here.
+    pub fn new(alloc: Global, givens: Givens, p: u32) -> Result<Seat, AllocError>
+        requires { IsWorker givens p }
+        ensures process { IfOk result (λ s. process_of s ≡ first_process givens p) }
+        ensures givens { IfOk result (λ s. s.local.givens ≡ givens) }
+        ensures number { IfOk result (λ s. s.local.number ≡ p) }
+    {
+        let local = Local::new(alloc, givens, p)?;
+        let row = vec![in alloc; 0u32; givens.jobs as usize + 1]?;
+        let gone = wants_nothing(local.phase());
+        Ok(Seat {
+            local,
+            next: 0,
+            claim: 0,
+            row,
+            gone,
+        })
+    }
+
+    /// The event of a load that gave this value.
+    fn load(&mut self, value: u32) -> Shown
+        requires load { is_load (want self.old.local.local) ≡ true }
+        requires hears { MayLoad self.old.local.givens value (want self.old.local.local) }
+        ensures process { process_of self.new ≡ process_after (want self.old.local.local) (process_of self.old) (record_after self.old.local.givens self.old.local.number value self.old.local.local) }
+        ensures givens { self.new.local.givens ≡ self.old.local.givens }
+        ensures number { self.new.local.number ≡ self.old.local.number }
+        ensures shown { result ≡ shown self.old.local.local.phase self.new.local.local.phase }
+    {
+        let shown = self.local.told(value as u64);
+        self.gone = wants_nothing(self.local.phase());
+        shown
+    }
+
+    /// The announcement of j is stored.
+    fn store_next(&mut self, j: u32) -> Shown
+        requires { want self.old.local.local ≡ Want.StoreNext j }
+        ensures process { process_of self.new ≡ process_after (want self.old.local.local) (process_of self.old) (record_after self.old.local.givens self.old.local.number 0 self.old.local.local) }
+        ensures givens { self.new.local.givens ≡ self.old.local.givens }
+        ensures number { self.new.local.number ≡ self.old.local.number }
+        ensures shown { result ≡ shown self.old.local.local.phase self.new.local.local.phase }
+    {
+        let shown = self.local.stored();
+        self.next = j;
+        self.gone = wants_nothing(self.local.phase());
+        shown
+    }
+
+    /// The claim of j is stored, as the worker's c-th.
+    fn store_claim(&mut self, c: u32, j: u32) -> Shown
+        requires { want self.old.local.local ≡ Want.StoreClaim c j }
+        ensures process { process_of self.new ≡ process_after (want self.old.local.local) (process_of self.old) (record_after self.old.local.givens self.old.local.number 0 self.old.local.local) }
+        ensures givens { self.new.local.givens ≡ self.old.local.givens }
+        ensures number { self.new.local.number ≡ self.old.local.number }
+        ensures shown { result ≡ shown self.old.local.local.phase self.new.local.local.phase }
+    {
+        let shown = self.local.stored();
+        self.claim = c;
+        self.gone = wants_nothing(self.local.phase());
+        shown
+    }
+
+    /// The performance of j is stored, as entry k of the row.
+    fn store_done(&mut self, k: u32, j: u32) -> Shown
+        requires want { want self.old.local.local ≡ Want.StoreDone k j }
+        requires low { 1 ≤ k }
+        requires high { k ≤ length self.old.row.items }
+        ensures process { process_of self.new ≡ process_after (want self.old.local.local) (process_of self.old) (record_after self.old.local.givens self.old.local.number 0 self.old.local.local) }
+        ensures givens { self.new.local.givens ≡ self.old.local.givens }
+        ensures number { self.new.local.number ≡ self.old.local.number }
+        ensures shown { result ≡ shown self.old.local.local.phase self.new.local.local.phase }
+    {
+        let shown = self.local.stored();
+        self.row[k as usize - 1] = j;
+        self.gone = wants_nothing(self.local.phase());
+        shown
+    }
+
+    /// The next event of the worker, where its load gave this value; 0 stands where it stores.
+    pub fn act(&mut self, value: u32) -> Shown
+        requires going { wants_nothing self.old.local.local.phase ≡ false }
+        requires hears { MayLoad self.old.local.givens value (want self.old.local.local) }
+        requires stores { is_load (want self.old.local.local) ≡ false → value ≡ 0 }
+        requires row { length self.old.local.local.dones < length self.old.row.items }
+        ensures process { process_of self.new ≡ process_after (want self.old.local.local) (process_of self.old) (record_after self.old.local.givens self.old.local.number value self.old.local.local) }
+        ensures givens { self.new.local.givens ≡ self.old.local.givens }
+        ensures number { self.new.local.number ≡ self.old.local.number }
+        ensures shown { result ≡ shown self.old.local.local.phase self.new.local.local.phase }
+    {
+        match self.local.want() {
+            Want::LoadNext(_) | Want::LoadDone(_, _) => self.load(value),
+            Want::StoreNext(j) => self.store_next(j),
+            Want::StoreClaim(c, j) => self.store_claim(c, j),
+            Want::StoreDone(k, j) => self.store_done(k, j),
+            Want::Nothing => Shown::Quiet,
+        }
+    }
+
+    /// The worker takes its announcement back and is gone.
+    pub fn leave(&mut self)
+        requires { can_leave self.old.local.local.phase ≡ true }
+        ensures process { process_of self.new ≡ process_after (Want.StoreNext 0) (process_of self.old) (record_after_leave self.old.local.local) }
+        ensures givens { self.new.local.givens ≡ self.old.local.givens }
+        ensures number { self.new.local.number ≡ self.old.local.number }
+    {
+        let _shown = self.local.leave();
+        self.next = 0;
+        self.gone = true;
+    }
+}

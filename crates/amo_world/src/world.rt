@@ -1,0 +1,338 @@
+//! The world: all workers, and what has happened.
+ghost use Rattle.std.specs.Prelude.{◌≡◌, ◌≤◌, ◌<◌, ◌+◌, ◌*◌, ◌++◌, ◌∷◌, [], ℕ, true, false, not, List, length, map, IfOk, if◌then◌else◌, nat_lt};
+ghost use Rattle.std.specs.Vec.{vec_capacity};
+ghost use Rattle.amo_sets.specs.Lists.{table};
+ghost use Rattle.amo_sets.specs.Sets.{has, AreDistinct};
+ghost use Rattle.amo_kk.specs.Givens.{bound, IsJob, IsWorker};
+ghost use Rattle.amo_kk.specs.Object.{first_object};
+ghost use Rattle.amo_kk.specs.Run.{IsRun, claimed_jobs, done_jobs, has_claimed};
+ghost use Rattle.amo_kk.specs.World.{process, loaded_value, first_process, opening_world, world_after_turn, world_after_halt, world_after_leave, worker_of, world_after_move, world_after_moves, are_in_range};
+ghost use Rattle.amo_kk.specs.Event.{want};
+ghost use Rattle.amo_kk.specs.Answer.{events_of, leave_answer};
+ghost use Rattle.amo_kk.specs.Lawful.{IsLawful, Agrees, object_of};
+ghost use Rattle.amo_kk.specs.declared.event.Event.{Event};
+ghost use Rattle.amo_world.specs.Answer.{turn_answer};
+ghost use Rattle.amo_world.specs.Resting.{RunsAlone};
+ghost use Rattle.amo_world.specs.Views.{WorldView};
+ghost use Rattle.amo_world.specs.Seats.{process_of, world_of, CanLoad, AreSeats};
+
+use crate::answer::{Alone, Turned};
+use crate::phases::{leaving, turned};
+use crate::seat::Seat;
+use crate::tally::{claim_count, done_count, has_claim};
+use amo_kk::{Event, Givens, Leaving, Local, Move, Shown, Want};
+use std::alloc::{AllocError, Global};
+use std::marker::Model;
+
+/// All workers of some givens with their shared words, and the history of what has happened. No call but `new`
+/// takes memory.
+#[derive(Drop)]
+pub struct World {
+    givens: Givens,
+    seats: Vec<Seat>,
+    history: Vec<Event>,
+}
+
+impl Model for World {
+    ghost use Rattle.std.specs.Vec.{vec_capacity};
+    ghost use Rattle.amo_world.specs.Views.{WorldView};
+    ghost use Rattle.amo_world.specs.Seats.{world_of, IsKept};
+
+    ghost Value = { WorldView };
+
+    ghost view = { λ w. record { givens = w.givens; world = world_of w.seats.items w.history.items } };
+
+    ghost invariant = { λ w. IsKept w.givens w.seats.items w.history.items (vec_capacity w.history) };
+}
+
+impl World {
+    /// The opening world of these givens: no worker has had an event. Where there are fewer jobs than the threshold
+    /// each worker has ended, and the history begins with the ends of 1, 2, .. in this order; else it is empty.
+    /// The room for all that can happen is made here, and the only error is that memory for it was refused.
+    pub fn new(alloc: Global, givens: Givens) -> Result<World, AllocError>
+        ensures { IfOk result (λ w. w ≡ record { givens = givens; world = opening_world givens }) }
+    {
+        let seats = first_seats(alloc, givens)?;
+        let history = first_history(alloc, givens)?;
+        Ok(World {
+            givens,
+            seats,
+            history,
+        })
+    }
+
+    /// The next event of worker p, in 1..=workers, and what it was: `Idle`, and nothing changes, where p is gone.
+    /// The history gains the claim, the performance and the end that the answer names, in this order.
+    pub fn turn(&mut self, p: u32) -> Turned
+        requires { IsWorker self.old.givens p }
+        ensures answer { result ≡ turn_answer self.old.givens self.old.world p }
+        ensures world { self.new ≡ record { givens = self.old.givens; world = world_after_turn self.old.givens self.old.world p } }
+    {
+        if self.is_gone(p) {
+            return Turned::Idle;
+        }
+        let value = self.heard(p);
+        let shown = self.seats[p as usize - 1].act(value);
+        add_shown(&mut self.history, p, shown);
+        turned(shown)
+    }
+
+    /// Stops worker p, in 1..=workers. True, and the history gains `Halted`, where p was not gone; else false, and
+    /// nothing changes.
+    pub fn halt(&mut self, p: u32) -> bool
+        requires { IsWorker self.old.givens p }
+        ensures answer { result ≡ not (process self.old.world p).gone }
+        ensures world { self.new ≡ record { givens = self.old.givens; world = world_after_halt self.old.world p } }
+    {
+        if self.is_gone(p) {
+            return false;
+        }
+        self.seats[p as usize - 1].gone = true;
+        add_event(&mut self.history, Event::Halted(p));
+        true
+    }
+
+    /// Worker p, in 1..=workers, takes its announcement back and is gone; the history gains `Left`. It stays where it
+    /// has a job in its hand, and nothing changes there nor where it is gone already, whatever is in its hand.
+    pub fn leave(&mut self, p: u32) -> Leaving
+        requires { IsWorker self.old.givens p }
+        ensures answer { result ≡ leave_answer self.old.world p }
+        ensures world { self.new ≡ record { givens = self.old.givens; world = world_after_leave self.old.world p } }
+    {
+        if self.is_gone(p) {
+            return Leaving::Gone;
+        }
+        let answer = leaving(self.local(p).phase());
+        if self.local(p).can_leave() {
+            self.seats[p as usize - 1].leave();
+            add_event(&mut self.history, Event::Left(p));
+        }
+        answer
+    }
+
+    /// Turns of worker p, which isn't gone, and of nobody else, until one claims a job or ends p. There are at most
+    /// 6 * workers + jobs of them.
+    pub fn run_alone(&mut self, p: u32) -> Alone
+        requires { (process self.old.world p).gone ≡ false }
+        ensures givens { self.new.givens ≡ self.old.givens }
+        ensures alone { RunsAlone self.old.givens self.old.world p self.new.world result }
+    {
+        let mut left = 6 * self.givens.workers + self.givens.jobs;
+        loop {
+            left -= 1;
+            match self.turn(p) {
+                Turned::Claimed(j) => return Alone::Claimed(j),
+                Turned::Ended | Turned::DoneEnded(_) => return Alone::Ended,
+                Turned::Moved | Turned::Done(_) | Turned::Idle => {}
+            }
+        }
+    }
+
+    /// Makes these moves in their order, whose workers are all in 1..=workers, as `in_range` tells. What a move would
+    /// have answered is not kept; the history has what was done.
+    pub fn run(&mut self, moves: &[Move])
+        requires { are_in_range self.old.givens moves.now ≡ true }
+        ensures { self.new ≡ record { givens = self.old.givens; world = world_after_moves self.old.givens self.old.world moves.now } }
+    {
+        for one in moves {
+            self.make(*one);
+        }
+    }
+
+    /// Makes a move.
+    fn make(&mut self, one: Move)
+        requires { IsWorker self.old.givens (worker_of one) }
+        ensures { self.new ≡ record { givens = self.old.givens; world = world_after_move self.old.givens self.old.world one } }
+    {
+        match one {
+            Move::Turn(p) => {
+                let _turned = self.turn(p);
+            }
+            Move::Halt(p) => {
+                let _halted = self.halt(p);
+            }
+            Move::Leave(p) => {
+                let _leaving = self.leave(p);
+            }
+        }
+    }
+
+    /// Whether the worker of each move is in 1..=workers.
+    pub fn in_range(&self, moves: &[Move]) -> bool
+        ensures { result ≡ are_in_range self.now.givens moves.now }
+    {
+        for one in moves {
+            let p = worker_of(*one);
+            if p < 1 || p > self.givens.workers {
+                return false;
+            }
+        }
+        true
+    }
+
+    /// The givens.
+    pub fn givens(&self) -> Givens
+        ensures { result ≡ self.now.givens }
+    {
+        self.givens
+    }
+
+    /// The seat of worker p.
+    fn seat(&self, p: u32) -> &Seat
+        requires { IsWorker self.now.givens p }
+        ensures process { process_of result.now ≡ process self.now.world p }
+        ensures givens { result.now.local.givens ≡ self.now.givens }
+        ensures number { result.now.local.number ≡ p }
+    {
+        &self.seats[p as usize - 1]
+    }
+
+    /// What the load that worker p wants gives; 0 where it wants none.
+    fn heard(&self, p: u32) -> u32
+        requires { IsWorker self.now.givens p }
+        ensures { result ≡ loaded_value self.now.world (want (process self.now.world p).local) }
+    {
+        loaded(&self.seats, self.seat(p).local.want())
+    }
+
+    /// Whether worker p, in 1..=workers, is gone: it has ended, was stopped or has left.
+    pub fn is_gone(&self, p: u32) -> bool
+        requires { IsWorker self.now.givens p }
+        ensures { result ≡ (process self.now.world p).gone }
+    {
+        self.seat(p).gone
+    }
+
+    /// The machine of worker p, in 1..=workers.
+    pub fn local(&self, p: u32) -> &Local
+        requires { IsWorker self.now.givens p }
+        ensures { result.now ≡ record { givens = self.now.givens; number = p; local = (process self.now.world p).local } }
+    {
+        &self.seat(p).local
+    }
+
+    /// How many events worker p, in 1..=workers, has had, its leaving among them. A turn that was `Idle` is none.
+    pub fn turns_of(&self, p: u32) -> u64
+        requires { IsWorker self.now.givens p }
+        ensures { result ≡ (process self.now.world p).local.steps }
+    {
+        self.seat(p).local.steps()
+    }
+
+    /// What has happened, in its order: a run of the one sequential set of unclaimed jobs, whose last state agrees
+    /// with all workers. So no job is claimed or performed twice, each performance comes after a claim of the same
+    /// worker, and where a worker has ended, at least `bound` jobs were performed before.
+    pub fn history(&self) -> &[Event]
+        ensures events { result.now ≡ self.now.world.history }
+        ensures lawful { IsLawful self.now.givens self.now.world }
+        ensures run { IsRun self.now.givens (first_object self.now.givens) self.now.world.history }
+        ensures agrees { Agrees self.now.givens (process self.now.world) (object_of self.now.givens self.now.world) }
+
+        ensures claims { AreDistinct (claimed_jobs self.now.world.history) }
+        ensures dones { AreDistinct (done_jobs self.now.world.history) }
+        ensures claimed_before { (before after : List Event) (p j : ℕ)
+            → self.now.world.history ≡ before ++ Event.Done p j ∷ after → has_claimed before p j ≡ true }
+        ensures late_end { (before after : List Event) (p : ℕ)
+            → self.now.world.history ≡ before ++ Event.Ended p ∷ after → bound self.now.givens ≤ length (done_jobs before) }
+    {
+        &self.history
+    }
+
+    /// Whether no worker has claimed job j, in 1..=jobs.
+    pub fn is_unclaimed(&self, j: u32) -> bool
+        requires { IsJob self.now.givens j }
+        ensures { result ≡ has (object_of self.now.givens self.now.world).unclaimed j }
+    {
+        !has_claim(&self.history, j)
+    }
+
+    /// How many jobs no worker has claimed.
+    pub fn unclaimed_len(&self) -> u32
+        ensures { result ≡ length (object_of self.now.givens self.now.world).unclaimed }
+    {
+        self.givens.jobs - claim_count(&self.history)
+    }
+
+    /// How many jobs were performed.
+    pub fn performed_len(&self) -> u32
+        ensures { result ≡ length (object_of self.now.givens self.now.world).performed }
+    {
+        done_count(&self.history)
+    }
+}
+
+/// The worker of a move.
+fn worker_of(one: Move) -> u32
+    ensures { result ≡ worker_of one }
+{
+    match one {
+        Move::Turn(p) | Move::Halt(p) | Move::Leave(p) => p,
+    }
+}
+
+/// The seats of all workers before their first events.
+fn first_seats(alloc: Global, givens: Givens) -> Result<Vec<Seat>, AllocError>
+    ensures processes { IfOk result (λ v. map process_of v.items ≡ table givens.workers (first_process givens)) }
+    ensures seated { IfOk result (λ v. AreSeats givens givens.workers v.items) }
+{
+    let mut seats = Vec::with_capacity(alloc, givens.workers as usize)?;
+    for p in 0..givens.workers {
+        let seat = Seat::new(alloc, givens, p + 1)?;
+        seats.push(seat)?;
+    }
+    Ok(seats)
+}
+
+/// The history of the opening world, with room for all events of a run.
+fn first_history(alloc: Global, givens: Givens) -> Result<Vec<Event>, AllocError>
+    ensures events { IfOk result (λ v. v.items ≡ (if nat_lt givens.jobs givens.beta then table givens.workers (λ p. Event.Ended p) else [])) }
+    ensures room { IfOk result (λ v. 2 * givens.jobs + givens.workers ≤ vec_capacity v) }
+{
+    let mut history = Vec::with_capacity(alloc, (2 * givens.jobs + givens.workers) as usize)?;
+    if givens.jobs < givens.beta {
+        for p in 0..givens.workers {
+            history.push(Event::Ended(p + 1))?;
+        }
+    }
+    Ok(history)
+}
+
+/// What the wanted load gives; 0 where a store is wanted.
+fn loaded(seats: &[Seat], want: Want) -> u32
+    requires { CanLoad seats.now want }
+    ensures { result ≡ loaded_value (world_of seats.now []) want }
+{
+    match want {
+        Want::LoadNext(q) => seats[q as usize - 1].next,
+        Want::LoadDone(q, k) => seats[q as usize - 1].row[k as usize - 1],
+        Want::StoreNext(_) | Want::StoreClaim(_, _) | Want::StoreDone(_, _) | Want::Nothing => 0,
+    }
+}
+
+/// Adds an event where there is room.
+fn add_event(history: &mut Vec<Event>, event: Event)
+    requires { length history.old.items < vec_capacity history.old }
+    ensures items { history.new.items ≡ history.old.items ++ event ∷ [] }
+    ensures room { vec_capacity history.old ≤ vec_capacity history.new }
+{
+    let _pushed = history.push(event);
+}
+
+/// Adds what an event of worker p shows, where there is room.
+fn add_shown(history: &mut Vec<Event>, p: u32, shown: Shown)
+    requires { length history.old.items + length (events_of p shown) ≤ vec_capacity history.old }
+    ensures items { history.new.items ≡ history.old.items ++ events_of p shown }
+    ensures room { vec_capacity history.old ≤ vec_capacity history.new }
+{
+    match shown {
+        Shown::Quiet => {}
+        Shown::Claimed(j) => add_event(history, Event::Claimed(p, j)),
+        Shown::Done(j) => add_event(history, Event::Done(p, j)),
+        Shown::DoneEnded(j) => {
+            add_event(history, Event::Done(p, j));
+            add_event(history, Event::Ended(p));
+        }
+        Shown::Ended => add_event(history, Event::Ended(p)),
+        Shown::Left => add_event(history, Event::Left(p)),
+    }
+}
