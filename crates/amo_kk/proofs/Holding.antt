@@ -1,9 +1,9 @@
 -- A machine whose record fits is held.
-use Rattle.std.proofs.Common.{◌≡◌, ℕ, zero, suc, true, List, set, ◌≤◌, ◌+◌, ◌-◌, ◌^◌, min, length, get_or, replicate, subst, ap, sym, refl, ◌∙◌, arith, ◌<◌, ◌++◌, ◌∷◌, []}
-use Rattle.std.proofs.lemmas.List.{length_push, get_or_default, replicate_more}
+use Rattle.std.proofs.Common.{◌≡◌, ℕ, zero, suc, true, List, set, ◌≤◌, ◌+◌, ◌-◌, ◌^◌, min, length, get_or, subst, ap, sym, refl, ◌∙◌, arith, ◌<◌, ◌++◌, ◌∷◌, []}
+use Rattle.std.proofs.lemmas.List.{length_push, get_or_default}
 use Rattle.std.proofs.lemmas.Bool.{ne_eqb}
 use Rattle.std.specs.Prelude.{if◌then◌else◌}
-use Rattle.amo_sets.specs.Lists.{numbered, put, table}
+use Rattle.amo_sets.specs.Lists.{numbered, put}
 use Rattle.amo_sets.specs.Sets.{with_number}
 use Rattle.amo_kk.specs.Givens.{AreGivens, IsWorker, next_other}
 use Rattle.amo_kk.specs.Event.{want, record_at_row, record_after_phase, record_after, MayLoad}
@@ -14,19 +14,11 @@ use Rattle.amo_kk.specs.declared.phase.Want.{Want}
 use Rattle.amo_kk.specs.declared.phase.Want.TheVariants.{StoreNext, LoadNext, LoadDone, StoreClaim, StoreDone, Nothing}
 use Rattle.amo_kk.specs.declared.givens.Givens.{Givens}
 use Rattle.amo_kk.specs.declared.model.Record.{Record}
+use Rattle.amo_kk.proofs.Bits.{numbered_before}
 use Rattle.amo_kk.proofs.Fit.{claims_fit, after_fit, left_fit}
 use Rattle.amo_kk.proofs.Worlds.{leaves_empty}
 use Rattle.amo_kk.specs.Record.{can_leave}
 use Rattle.amo_kk.specs.Machine.{IsHeld}
-
--- the item before a number, as code indexes a list
-numbered_before : {X : Type 0} (d : X) (xs : List X) (j : ℕ) → 1 ≤ j → numbered d xs j ≡ get_or xs (j - 1) d
-numbered_before d xs zero l = absurd (omega arith)
-numbered_before d xs (suc k) l = let e : k ≡ suc k - 1 = omega arith in ap (λ i. get_or xs i d) e
-
-pub replicate_table : {X : Type 0} (x : X) (n : ℕ) → replicate n x ≡ table n (λ _. x)
-replicate_table x zero = refl
-replicate_table x (suc n) = let e : suc n ≡ n + 1 = omega arith in ap (λ k. replicate k x) e ∙ sym (replicate_more n x) ∙ ap (λ l. l ++ x ∷ []) (replicate_table x n)
 
 pub held : (g : Givens) (p : ℕ) (r : Record) (range claims dones : ℕ) → AreGivens g → IsWorker g p → IsSoundRecord g p r → range ≡ g.jobs → g.jobs ≤ claims → g.jobs ≤ dones → IsHeld g p r range claims dones
 held g p r range claims dones ok o fit k c d =

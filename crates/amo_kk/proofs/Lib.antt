@@ -12,5 +12,6 @@ pub mod Words
 pub mod Alone
 pub mod Shows
 pub mod Worked
+pub mod Bits
 pub mod OpenJobs
 pub mod Holding

@@ -8,7 +8,8 @@ use Rattle.amo_kk.specs.Knowledge.{KnowledgeView}
 use Rattle.amo_kk.specs.Machine.{LocalView}
 use Rattle.amo_kk.specs.declared.model.Record.{Record}
 use Rattle.amo_kk.proofs.Fit.{first_fit}
-use Rattle.amo_kk.proofs.Holding.{held, replicate_table}
+use Rattle.amo_kk.proofs.Bits.{replicate_table}
+use Rattle.amo_kk.proofs.Holding.{held}
 use Rattle.amo_kk.proofs.local.Local.new.Goals as goal
 
 abbrev made : goal.After-choose-phase → Record
