@@ -5,7 +5,7 @@ use Rattle.amo_plan.specs.declared.fault.PlanFault.TheVariants.{BadName, TwoName
 use Rattle.amo_plan.specs.declared.job.Job.{Job}
 use Rattle.amo_plan.specs.Keeps.{all_fit}
 use Rattle.amo_plan.specs.Results.{fits}
-use Rattle.amo_plan.specs.Steps.{◌>>=◌, unless, capped}
+use Rattle.amo_plan.specs.Steps.{unless, capped}
 use Rattle.amo_plan.specs.Tree.{Key, is_known}
 use Rattle.amo_plan.specs.Jobs.{is_name, fine_job, fine_jobs}
 use Rattle.amo_plan.proofs.StepsLemmas.{bind_ok, unless_ok}

@@ -6,3 +6,4 @@ pub mod NamesLemmas
 pub mod WithinLemmas
 pub mod FineLemmas
 pub mod BlocksLemmas
+pub mod KeepsLemmas

@@ -1,5 +1,5 @@
 -- The moves that are read are those of the workers that there are.
-use Rattle.std.proofs.Common.{◌≡◌, ℕ, zero, suc, ◌+◌, ◌-◌, ◌*◌, ◌≤◌, Bool, true, false, cond, leb, List, [], ◌∷◌, length, slice_index, take, drop, Option, Some, None, option_map, Result, Ok, refl, ap, ◌∙◌, subst, arith, replicate}
+use Rattle.std.proofs.Common.{◌≡◌, ℕ, zero, suc, ◌+◌, ◌-◌, ◌*◌, ◌≤◌, Bool, true, false, cond, leb, List, [], ◌∷◌, length, slice_index, take, drop, Option, Some, None, option_map, Result, Ok, refl, ◌∙◌, subst, arith, replicate}
 use Rattle.std.specs.Prelude.{◌&&◌, position}
 use Rattle.std.specs.List.{list_all}
 use Rattle.std.proofs.lemmas.Bool.{leb-true, le-leb, and_parts}
@@ -15,7 +15,8 @@ use Rattle.amo_plan.specs.Keeps.{is_within, all_within}
 use Rattle.amo_plan.specs.Steps.{◌>>=◌, or_fault, unless, each, capped}
 use Rattle.amo_plan.proofs.StepsLemmas.{bind_ok, ok_is, or_ok, unless_ok}
 
-taken : {A : Type 0} (b : Bool) (o : Option A) (x : A) → cond b o None ≡ Some x → (b ≡ true) × (o ≡ Some x)
+-- what stands where a test holds
+pub taken : {A : Type 0} (b : Bool) (o : Option A) (x : A) → cond b o None ≡ Some x → (b ≡ true) × (o ≡ Some x)
 taken true o x e = (refl, e)
 taken false o x e = absurd cc
 

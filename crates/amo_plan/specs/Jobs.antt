@@ -1,5 +1,5 @@
 -- The jobs of a plan.
-use Rattle.std.specs.Prelude.{ℕ, ◌+◌, List, [], ◌∷◌, length, Bool, not, ◌&&◌, ◌||◌, ◌==◌, Option, Some, None, option_map, option_and_then, codes, Result, Ok}
+use Rattle.std.specs.Prelude.{ℕ, ◌+◌, List, [], ◌∷◌, length, Bool, not, ◌&&◌, ◌||◌, ◌==◌, Option, Some, None, option_map, codes, Result, Ok}
 use Rattle.std.specs.List.{list_all}
 use Rattle.toml.specs.Data.{Data, Members, as_str, get_member}
 use Rattle.amo_plan.specs.declared.fault.PlanFault.{PlanFault}

@@ -14,3 +14,6 @@ pub use amo_kk::Event;
 pub use answer::{Alone, Turned, Verdict};
 pub use judging::judge;
 pub use world::World;
+
+#[cfg(test)]
+mod tests;

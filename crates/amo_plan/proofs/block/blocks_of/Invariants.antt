@@ -1,4 +1,4 @@
-use Rattle.std.proofs.Common.{◌≡◌, ◌++◌, ◌-◌, length}
+use Rattle.std.proofs.Common.{◌≡◌, ◌++◌, ◌-◌}
 use Rattle.std.specs.Vec.Iter.{into_iter_items}
 use Rattle.amo_plan.specs.Blocks.{blocks_from, blocks_of}
 use Rattle.amo_plan.proofs.block.blocks_of.Given as goal

@@ -1,4 +1,4 @@
-use Rattle.std.proofs.Common.{rules, sym, ◌∙◌, []}
+use Rattle.std.proofs.Common.{sym, []}
 use Rattle.std.proofs.lemmas.List.{length-map}
 use Rattle.amo_plan.proofs.FineLemmas.{jobs_fit}
 use Rattle.amo_plan.proofs.WithinLemmas.{schedule_within}

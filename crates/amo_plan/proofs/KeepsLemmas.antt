@@ -1,0 +1,161 @@
+-- The plans of the definition keep what each plan keeps.
+use Rattle.std.proofs.Common.{◌≡◌, ℕ, true, cond, leb, List, [], length, map, Option, Some, None, Ok, refl, sym, ap, ◌∙◌, replicate, arith, inl, inr, subst}
+use Rattle.std.specs.Prelude.{IfSome, ◌&&◌, ◌==◌, codes, option_and_then}
+use Rattle.std.specs.Int.{div_ceil}
+use Rattle.std.specs.List.{list_all}
+use Rattle.std.proofs.lemmas.Bool.{cases_Bool}
+use Rattle.std.proofs.lemmas.Bool.Decides.{nat_tests}
+use Rattle.std.proofs.lemmas.List.{length-map, length-replicate}
+use Rattle.toml.specs.Data.{Data, Members, get_member}
+use Rattle.amo_kk.specs.declared.givens.Givens.{Givens}
+use Rattle.amo_kk.specs.declared.givens.GivensFault.{GivensFault}
+use Rattle.amo_kk.specs.Givens.{givens_of, numbers_or_fault}
+use Rattle.amo_kk.specs.Limits.{first_fault}
+use Rattle.amo_plan.specs.declared.fault.PlanFault.TheVariants.{TooLong, WrongKind, UnknownKey, MissingKey}
+use Rattle.amo_plan.specs.declared.job.Job.{Job}
+use Rattle.amo_plan.specs.declared.top.Form.{Form}
+use Rattle.amo_plan.specs.Jobs.{read_jobs, fine_jobs}
+use Rattle.amo_plan.specs.Keeps.{is_form, all_fit, all_within}
+use Rattle.amo_plan.specs.Limits.{is_small, small_budgets, budgets_within}
+use Rattle.amo_plan.specs.Plan.{PlanSeen, document, or_bad_givens, plan_with, plan_in, plan_of}
+use Rattle.amo_plan.specs.Schedule.{read_schedule}
+use Rattle.amo_plan.specs.Steps.{◌>>=◌, or_fault, unless, is_between}
+use Rattle.amo_plan.specs.Top.{TopSeen, MoreSeen, newest_version, version_of, block_in, block_of, so_many, jobs_of, text_of, rounds_of, budgets_of, is_two, is_top_key, form_of, more_values, top_values, top_of}
+use Rattle.amo_plan.specs.Tree.{has, each_key, natural, naturals_in, natural_at}
+use Rattle.amo_plan.proofs.FineLemmas.{jobs_fit}
+use Rattle.amo_plan.proofs.StepsLemmas.{bind_ok, ok_is, or_ok, unless_ok}
+use Rattle.amo_plan.proofs.WithinLemmas.{schedule_within, taken}
+
+-- a number that was taken within its bounds
+within_bounds : (low high : ℕ) (o : Option ℕ) (n : ℕ) → option_and_then (λ m. cond (is_between low high m) (Some m) None) o ≡ Some n → is_between low high n ≡ true
+within_bounds low high None n e = absurd cc
+within_bounds low high (Some m) n e =
+    let (fits, is) = taken (is_between low high m) (Some m) n e in
+    let same : m ≡ n = cc in
+    rw (← same) fits
+
+block_known : (o : Option Data) (b : ℕ) → block_in o ≡ Some b → is_between 1 4096 b ≡ true
+block_known None b e = let same : 1 ≡ b = cc in rw (← same) refl
+block_known (Some d) b e = within_bounds 1 4096 (natural d) b e
+
+-- a version with its block
+form_fits : (v b : ℕ) (o : Option ℕ) → is_between 1 newest_version v ≡ true → cond (v == 2) o (Some 1) ≡ Some b → (o ≡ Some b → is_between 1 4096 b ≡ true) → is_form v b ≡ true
+form_fits v b o known e fits =
+    elim (cases_Bool (v == 2)) [
+      | inl two ↦ let of_block : o ≡ Some b = rw two at e in let last : is_between 1 4096 b ≡ true = fits of_block in grind (arith, nat_tests)
+      | inr other ↦ let one : Some 1 ≡ Some b = rw other at e in let same : 1 ≡ b = cc in grind (arith, nat_tests)
+    ]
+
+form_known : (doc : Members) (form : Form) → form_of doc ≡ Ok form → is_form form.version form.block ≡ true
+unfolding form_of
+form_known doc form e =
+    let (v, of_v, more) = bind_ok (or_fault (version_of doc) (WrongKind 0)) _ form e in
+    let (b, of_b, last) = bind_ok (or_fault (block_of v doc) (WrongKind 0)) _ form more in
+    let known : is_between 1 newest_version v ≡ true = within_bounds 1 newest_version (natural_at (codes "version") doc) v (or_ok (version_of doc) (WrongKind 0) v of_v) in
+    let fits : is_form v b ≡ true = form_fits v b (block_in (get_member (codes "block") doc)) known (or_ok (block_of v doc) (WrongKind 0) b of_b) (block_known (get_member (codes "block") doc) b) in
+    let same : record { version = v; block = b } ≡ form = ok_is _ form last in
+    ap (λ (f : Form). is_form f.version f.block) (sym same) ∙ fits
+
+-- budgets, where they are named, are as many as the workers
+budgets_many : (m : ℕ) (xs : Option (List ℕ)) (bs : Option (List ℕ)) → option_and_then (so_many m) xs ≡ Some bs → IfSome bs (λ ys. length ys ≡ m)
+budgets_many m None bs e = absurd cc
+budgets_many m (Some xs) bs e =
+    let (many, is) = taken (length xs == m) (Some (Some xs)) bs e in
+    let same : Some xs ≡ bs = cc in
+    let count : length xs ≡ m = grind (arith, nat_tests) in
+    subst (λ (o : Option (List ℕ)). IfSome o (λ ys. length ys ≡ m)) same count
+
+budgets_named : (m : ℕ) (o : Option Data) (bs : Option (List ℕ)) → budgets_of m o ≡ Some bs → IfSome bs (λ ys. length ys ≡ m)
+budgets_named m None bs e =
+    let same : None ≡ bs = cc in
+    subst (λ (o : Option (List ℕ)). IfSome o (λ ys. length ys ≡ m)) same tt
+budgets_named m (Some d) bs e = budgets_many m (naturals_in d) bs e
+
+more_many : (m : ℕ) (doc : Members) (more : MoreSeen) → more_values m doc ≡ Ok more → IfSome more.budgets (λ ys. length ys ≡ m)
+unfolding more_values
+more_many m doc more e =
+    let (schedule, of_s, e1) = bind_ok (or_fault (text_of (get_member (codes "schedule") doc)) (WrongKind 0)) _ more e in
+    let (rounds, of_r, e2) = bind_ok (or_fault (rounds_of (get_member (codes "rounds") doc)) (WrongKind 0)) _ more e1 in
+    let (budgets, of_b, e3) = bind_ok (or_fault (budgets_of m (get_member (codes "budgets") doc)) (WrongKind 0)) _ more e2 in
+    let seen : MoreSeen = record { schedule = schedule; rounds = rounds; budgets = budgets } in
+    let same : seen ≡ more = ok_is seen more e3 in
+    subst (λ (t : MoreSeen). IfSome t.budgets (λ ys. length ys ≡ m)) same (budgets_named m (get_member (codes "budgets") doc) budgets (or_ok (budgets_of m (get_member (codes "budgets") doc)) (WrongKind 0) budgets of_b))
+
+-- what the top level keeps
+record TopKeeps (top : TopSeen) : Type 0 where
+  form : is_form top.version top.block ≡ true
+  budgets : IfSome top.budgets (λ ys. length ys ≡ top.workers)
+
+top_keeps : (doc : Members) (top : TopSeen) → top_of doc ≡ Ok top → TopKeeps top
+unfolding top_of top_values
+top_keeps doc top e =
+    let keys = unless_ok (each_key (is_top_key (is_two (version_of doc))) doc) (UnknownKey 0) (unless (has (codes "version") doc && (has (codes "workers") doc && has (codes "beta") doc)) (MissingKey 0) (top_values doc)) top e in
+    let needed = unless_ok (has (codes "version") doc && (has (codes "workers") doc && has (codes "beta") doc)) (MissingKey 0) (top_values doc) top keys.1 in
+    let (form, of_form, e1) = bind_ok (form_of doc) _ top needed.1 in
+    let (workers, of_w, e2) = bind_ok (or_fault (natural_at (codes "workers") doc) (WrongKind 0)) _ top e1 in
+    let (beta, of_beta, e3) = bind_ok (or_fault (natural_at (codes "beta") doc) (WrongKind 0)) _ top e2 in
+    let (jobs, of_jobs, e4) = bind_ok (or_fault (jobs_of (get_member (codes "job") doc)) (WrongKind 0)) _ top e3 in
+    let (more, of_more, e5) = bind_ok (more_values workers doc) _ top e4 in
+    let seen : TopSeen = record { version = form.version; block = form.block; workers = workers; beta = beta; jobs = jobs; schedule = more.schedule; rounds = more.rounds; budgets = more.budgets } in
+    let same : seen ≡ top = ok_is seen top e5 in
+    subst TopKeeps same (record { form = form_known doc form of_form; budgets = more_many workers doc more of_more })
+
+-- budgets within their limit are as many as the workers
+small_many : (m : ℕ) (o : Option (List ℕ)) (out : List ℕ) → IfSome o (λ ys. length ys ≡ m) → small_budgets m o ≡ Ok out → length out ≡ m
+small_many m None out many e = let same : replicate m 1000000 ≡ out = ok_is _ out e in rw (← same) (length-replicate m 1000000)
+small_many m (Some xs) out many e =
+    let small = unless_ok (list_all is_small xs) TooLong (Ok xs) out e in
+    let same : xs ≡ out = ok_is xs out small.1 in
+    rw (← same) many
+
+within_many : (m rounds : ℕ) (o : Option (List ℕ)) (out : List ℕ) → IfSome o (λ ys. length ys ≡ m) → budgets_within m rounds o ≡ Ok out → length out ≡ m
+unfolding budgets_within
+within_many m rounds o out many e = small_many m o out many (unless_ok (leb rounds 10000) TooLong (small_budgets m o) out e).1
+
+-- the givens have the numbers that they are of
+numbers_kept : (n m beta : ℕ) (fault : Option GivensFault) (is : first_fault n m beta ≡ fault) (g : Givens) → or_bad_givens (numbers_or_fault n m beta fault is) ≡ Ok g → (n ≡ g.jobs) × (m ≡ g.workers)
+numbers_kept n m beta None is g e = let same = ok_is _ g e in (ap (λ (h : Givens). h.jobs) same, ap (λ (h : Givens). h.workers) same)
+numbers_kept n m beta (Some fault) is g e = absurd cc
+
+-- what a plan keeps
+pub record Keeps (p : PlanSeen) : Type 0 where
+  pub form : is_form p.version p.block ≡ true
+  pub blocks : div_ceil (length p.names) p.block ≡ p.givens.jobs
+  pub tasked : length p.tasks ≡ length p.names
+  pub fitting : all_fit p.tasks ≡ true
+  pub budgeted : length p.budgets ≡ p.givens.workers
+  pub within : all_within p.givens.workers p.moves ≡ true
+
+with_keeps : (top : TopSeen) (g : Givens) (jobs : List Job) (p : PlanSeen) → TopKeeps top → div_ceil (length jobs) top.block ≡ g.jobs → top.workers ≡ g.workers → plan_with top g jobs ≡ Ok p → Keeps p
+unfolding plan_with
+with_keeps top g jobs p keeps count workers e =
+    let (fine, of_fine, e1) = bind_ok (fine_jobs [] 1 jobs) _ p e in
+    let (moves, of_moves, e2) = bind_ok (read_schedule top.version top.workers top.schedule) _ p e1 in
+    let (budgets, of_budgets, e3) = bind_ok (budgets_within top.workers top.rounds top.budgets) _ p e2 in
+    let plan : PlanSeen = record { version = top.version; block = top.block; givens = g; names = map (λ job. job.name) jobs; tasks = map (λ job. job.task) jobs; moves = moves; rounds = top.rounds; budgets = budgets } in
+    let same : plan ≡ p = ok_is plan p e3 in
+    subst Keeps same (record {
+      form = keeps.form;
+      blocks = simp length-map count;
+      tasked = simp length-map;
+      fitting = jobs_fit [] 1 jobs fine of_fine;
+      budgeted = within_many top.workers top.rounds top.budgets budgets keeps.budgets of_budgets ∙ workers;
+      within = subst (λ (m : ℕ). all_within m moves ≡ true) workers (schedule_within top.version top.workers top.schedule moves of_moves);
+    })
+
+in_keeps : (doc : Members) (p : PlanSeen) → plan_in doc ≡ Ok p → Keeps p
+unfolding plan_in
+in_keeps doc p e =
+    let (top, of_top, e1) = bind_ok (top_of doc) _ p e in
+    let (jobs, of_jobs, e2) = bind_ok (read_jobs top.jobs) _ p e1 in
+    let (g, of_g, e3) = bind_ok (or_bad_givens (givens_of (div_ceil (length jobs) top.block) top.workers top.beta)) _ p e2 in
+    let (count, workers) = numbers_kept (div_ceil (length jobs) top.block) top.workers top.beta (first_fault (div_ceil (length jobs) top.block) top.workers top.beta) refl g of_g in
+    with_keeps top g jobs p (top_keeps doc top of_top) count workers e3
+
+-- each plan that a text has by the definition keeps this
+pub plan_keeps : (bytes : List ℕ) (p : PlanSeen) → plan_of bytes ≡ Ok p → Keeps p
+unfolding plan_of
+plan_keeps bytes p e =
+    let short = unless_ok (leb (length bytes) 1048576) TooLong (document bytes >>= λ doc. plan_in doc) p e in
+    let (doc, of_doc, e1) = bind_ok (document bytes) plan_in p short.1 in
+    in_keeps doc p e1

@@ -1,0 +1,4 @@
+pub mod Marks
+pub mod Blocks
+pub mod Whole
+pub mod Rounds

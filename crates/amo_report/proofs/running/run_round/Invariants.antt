@@ -1,0 +1,9 @@
+use Rattle.std.proofs.Common.{◌≡◌}
+use Rattle.amo_sets.specs.Lists.{table}
+use Rattle.amo_kk.specs.World.{world_after_moves}
+use Rattle.amo_kk.specs.declared.event.Move.TheVariants.{Turn}
+use Rattle.amo_report.proofs.running.run_round.Given as goal
+
+-- the workers so far have had their turn
+abbrev pub invariant-loop-before : goal.invariant-loop-before
+invariant-loop-before l = l.world ≡ record { givens = l.fn.world.givens; world = world_after_moves l.fn.world.givens l.fn.world.world (table l.before (λ p. Turn p)) }

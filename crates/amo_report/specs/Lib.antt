@@ -1,0 +1,16 @@
+pub mod Streams
+pub mod RoomSeen
+pub mod StreamedSeen
+pub mod ReadFaults
+pub mod Escaped
+pub mod Numbers
+pub mod Happened
+pub mod EventLines
+pub mod Tallies
+pub mod Results
+pub mod Report
+pub mod Check
+pub mod CheckHeads
+pub mod FaultTexts
+pub mod Texts
+pub mod Replays

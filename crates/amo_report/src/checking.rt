@@ -1,0 +1,31 @@
+//! The text of a check.
+ghost use Rattle.std.specs.Prelude.{◌≡◌, ◌++◌, OnOk, IfOk, string_bytes, length};
+ghost use Rattle.amo_report.specs.Check.{check_line};
+ghost use Rattle.amo_report.specs.CheckHeads.{check_of_heads};
+
+use super::numbers::push_numbers;
+use amo_plan::Heads;
+use std::alloc::{AllocError, Global};
+
+/// Appends how many moves and rounds there are, and ends the line.
+#[tactic(auto, unfolding(crate::specs::Check::check_line))]
+fn push_check(out: &mut String, heads: &Heads) -> Result<(), AllocError>
+    ensures { OnOk result (string_bytes out.new ≡ string_bytes out.old ++ check_of_heads heads.now) }
+{
+    let moves = heads.moves.as_slice().len();
+    let rounds = heads.rounds;
+    let jobs = heads.names.as_slice().len();
+    out.push_str("ok ")?;
+    push_numbers(out, heads.version, heads.block, jobs, heads.givens)?;
+    writeln!(out, " moves {moves} rounds {rounds}")
+}
+
+/// The line that says that a plan is one, with its numbers: `ok jobs N workers M beta B moves K rounds R`, and
+/// from version 2 on the numbers of blocks. The only error is want of memory.
+pub fn check_text(alloc: Global, heads: &Heads) -> Result<String, AllocError>
+    ensures { IfOk result (λ s. string_bytes s ≡ check_of_heads heads.now) }
+{
+    let mut out = String::new(alloc);
+    push_check(&mut out, heads)?;
+    Ok(out)
+}

@@ -1,0 +1,33 @@
+//! From bytes to bytes: sources and sinks, the texts that are printed of a plan and of what became of it, and the
+//! replay of a plan's schedule from the plan's bytes to the report's.
+#![tactic(auto)]
+
+mod bytes;
+mod checking;
+mod copying;
+mod escaped;
+mod events;
+mod faults;
+mod numbers;
+mod replaying;
+mod report;
+mod results;
+mod room;
+mod running;
+mod streamed;
+mod streams;
+mod tallies;
+mod unclaimed;
+
+pub use bytes::Bytes;
+pub use checking::check_text;
+pub use copying::{MOST_READ, ReadFault, read_all, write_all};
+pub use faults::fault_text;
+pub use replaying::{ReplayFault, check, read_source, replay};
+pub use report::report_text;
+pub use room::Room;
+pub use streamed::Streamed;
+pub use streams::{Failed, Sink, Source};
+
+#[cfg(test)]
+mod tests;

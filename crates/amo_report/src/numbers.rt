@@ -1,0 +1,52 @@
+//! Writes the numbers with which a text begins.
+ghost use Rattle.std.specs.Prelude.{◌≡◌, ◌++◌, OnOk, string_bytes};
+ghost use Rattle.amo_report.specs.Numbers.{block_part, numbers_part, first_line};
+
+use amo_kk::Givens;
+use std::alloc::AllocError;
+
+/// Appends what a text says of blocks: nothing in version 1.
+#[tactic(auto, unfolding(crate::specs::Numbers::block_part))]
+fn push_block(out: &mut String, version: u32, block: u32, givens: Givens) -> Result<(), AllocError>
+    ensures { OnOk result (string_bytes out.new ≡ string_bytes out.old ++ block_part version block givens) }
+{
+    if version == 1 {
+        return Ok(());
+    }
+    let blocks = givens.jobs;
+    write!(out, " block {block} blocks {blocks}")
+}
+
+/// Appends the numbers of jobs and workers and the threshold.
+#[tactic(auto, unfolding(crate::specs::Numbers::numbers_part))]
+pub fn push_numbers(
+    out: &mut String,
+    version: u32,
+    block: u32,
+    jobs: usize,
+    givens: Givens,
+) -> Result<(), AllocError>
+    ensures { OnOk result (string_bytes out.new ≡ string_bytes out.old ++ numbers_part version block jobs givens) }
+{
+    let workers = givens.workers;
+    let beta = givens.beta;
+    write!(out, "jobs {jobs}")?;
+    push_block(out, version, block, givens)?;
+    write!(out, " workers {workers} beta {beta}")
+}
+
+/// Appends the first line of a report: these numbers and the bound.
+#[tactic(auto, unfolding(crate::specs::Numbers::first_line))]
+pub fn push_first_line(
+    out: &mut String,
+    version: u32,
+    block: u32,
+    jobs: usize,
+    givens: Givens,
+) -> Result<(), AllocError>
+    ensures { OnOk result (string_bytes out.new ≡ string_bytes out.old ++ first_line version block jobs givens) }
+{
+    let bound = givens.bound();
+    push_numbers(out, version, block, jobs, givens)?;
+    writeln!(out, " bound {bound}")
+}

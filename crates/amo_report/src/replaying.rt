@@ -1,0 +1,108 @@
+//! From the bytes of a plan to the bytes of its text.
+ghost use Rattle.std.specs.Prelude.{◌≡◌, false, Ok, OnOk, IfOk, IfErr, IfSome, string_bytes};
+ghost use Rattle.std.specs.Io.KnownBytes.{IsAtEnd};
+ghost use Rattle.amo_plan.specs.Plan.{plan_of};
+ghost use Rattle.amo_plan.specs.PlanSeen.{plan_seen};
+ghost use Rattle.amo_report.specs.Check.{check_of};
+ghost use Rattle.amo_report.specs.Texts.{report_of};
+ghost use Rattle.amo_report.specs.Replays.{IsNoPlan, Refuses, Writes};
+
+use super::checking::check_text;
+use super::copying::{ReadFault, read_all, write_all};
+use super::report::report_text;
+use super::running::run_plan;
+use super::streams::{Failed, Sink, Source};
+use amo_plan::{Plan, PlanFault, read_plan};
+use std::alloc::{AllocError, Global};
+
+/// Why the text of a plan was not written, or not all of it.
+#[derive(Clone, Copy, Debug, PartialEq, Eq)]
+pub enum ReplayFault {
+    /// The source holds no plan, for this fault, which isn't want of memory. Nothing was written.
+    Plan(PlanFault),
+    /// The source failed. Nothing was written.
+    Read,
+    /// A write or the flush failed. A beginning of the text was written.
+    Write,
+    /// Memory was refused. Nothing was written.
+    NoMemory,
+}
+
+/// Reads a plan from all bytes of a source that has not failed. `Plan(f)` comes just where the bytes give the fault
+/// f, memory aside; `Read` only where the source has failed; `Write` never.
+#[tactic(auto, using(crate::proofs::Whole::whole, crate::proofs::Whole::at_end))]
+pub fn read_source<R: Source>(alloc: Global, reader: &mut R) -> Result<Plan, ReplayFault>
+    requires { R.failed reader.old ≡ false }
+    ensures plan { IfOk result (λ p. IfSome (R.remaining reader.old) (λ bytes. plan_of bytes ≡ Ok (plan_seen p))) }
+    ensures end { OnOk result (IsAtEnd (R.remaining reader.new)) }
+    ensures refused { IfErr result (λ e. IsNoPlan e (R.remaining reader.old) (R.failed reader.new)) }
+{
+    let bytes = match read_all(alloc, reader) {
+        Ok(bytes) => bytes,
+        Err(ReadFault::Failed) => return Err(ReplayFault::Read),
+        Err(ReadFault::NoMemory) => return Err(ReplayFault::NoMemory),
+    };
+    match read_plan(alloc, &bytes) {
+        Ok(plan) => Ok(plan),
+        Err(fault) if fault.is_memory() => Err(ReplayFault::NoMemory),
+        Err(fault) => Err(ReplayFault::Plan(fault)),
+    }
+}
+
+/// The report of a plan, in the world after its schedule and its rounds. The only error is want of memory.
+fn plan_report(alloc: Global, plan: &Plan) -> Result<String, AllocError>
+    ensures { IfOk result (λ s. string_bytes s ≡ report_of (plan_seen plan.now)) }
+{
+    let world = run_plan(alloc, plan)?;
+    report_text(alloc, plan, &world)
+}
+
+/// Reads a plan to the end of the reader, runs its schedule and its rounds in the opening world, and writes the report
+/// and nothing else. Neither stream may have failed. What each fault leaves is said at `ReplayFault`.
+pub fn replay<R: Source, W: Sink>(
+    alloc: Global,
+    reader: &mut R,
+    writer: &mut W,
+) -> Result<(), ReplayFault>
+    requires reader { R.failed reader.old ≡ false }
+    requires writer { W.failed writer.old ≡ false }
+    ensures end { OnOk result (IsAtEnd (R.remaining reader.new)) }
+    ensures text { OnOk result (Writes report_of (R.remaining reader.old) (W.contents writer.old) (W.contents writer.new)) }
+    ensures refused { IfErr result (λ e. Refuses report_of e (R.remaining reader.old) (R.failed reader.new)
+        (W.contents writer.old) (W.contents writer.new) (W.failed writer.new)) }
+{
+    let plan = read_source(alloc, reader)?;
+    let text = match plan_report(alloc, &plan) {
+        Ok(text) => text,
+        Err(AllocError) => return Err(ReplayFault::NoMemory),
+    };
+    match write_all(writer, text.as_bytes()) {
+        Ok(()) => Ok(()),
+        Err(Failed) => Err(ReplayFault::Write),
+    }
+}
+
+/// Reads a plan to the end of the reader, and writes its check text and nothing else. Neither may have failed. What
+/// each fault leaves is said at `ReplayFault`.
+pub fn check<R: Source, W: Sink>(
+    alloc: Global,
+    reader: &mut R,
+    writer: &mut W,
+) -> Result<(), ReplayFault>
+    requires reader { R.failed reader.old ≡ false }
+    requires writer { W.failed writer.old ≡ false }
+    ensures end { OnOk result (IsAtEnd (R.remaining reader.new)) }
+    ensures text { OnOk result (Writes check_of (R.remaining reader.old) (W.contents writer.old) (W.contents writer.new)) }
+    ensures refused { IfErr result (λ e. Refuses check_of e (R.remaining reader.old) (R.failed reader.new)
+        (W.contents writer.old) (W.contents writer.new) (W.failed writer.new)) }
+{
+    let plan = read_source(alloc, reader)?;
+    let text = match check_text(alloc, &plan.heads) {
+        Ok(text) => text,
+        Err(AllocError) => return Err(ReplayFault::NoMemory),
+    };
+    match write_all(writer, text.as_bytes()) {
+        Ok(()) => Ok(()),
+        Err(Failed) => Err(ReplayFault::Write),
+    }
+}

@@ -1,0 +1,65 @@
+//! The report of a plan.
+ghost use Rattle.std.specs.Prelude.{◌≡◌, ◌++◌, ◌<◌, ◌^◌, OnOk, IfOk, string_bytes, length};
+ghost use Rattle.amo_plan.specs.PlanSeen.{plan_seen};
+ghost use Rattle.amo_report.specs.Report.{happened_lines, outcome_lines, report_lines};
+ghost use Rattle.amo_report.specs.Texts.{report_in};
+
+use super::events::{push_events, push_workers};
+use super::numbers::push_first_line;
+use super::results::push_results;
+use super::running::all_turns;
+use super::tallies::push_performed;
+use super::unclaimed::push_unclaimed;
+use amo_kk::Event;
+use amo_kk::laws::runs_are_short;
+use amo_plan::Plan;
+use amo_world::World;
+use std::alloc::{AllocError, Global};
+
+/// Appends what happened.
+#[tactic(auto, unfolding(crate::specs::Report::happened_lines))]
+fn push_happened(out: &mut String, history: &[Event], turns: &[u64]) -> Result<(), AllocError>
+    ensures { OnOk result (string_bytes out.new ≡ string_bytes out.old ++ happened_lines history.now turns.now) }
+{
+    push_events(out, history)?;
+    push_workers(out, history, turns)
+}
+
+/// Appends what came of it.
+#[tactic(auto, unfolding(crate::specs::Report::outcome_lines))]
+fn push_outcome(alloc: Global, out: &mut String, plan: &Plan, history: &[Event]) -> Result<(), AllocError>
+    requires { length history.now < 2 ^ 32 }
+    ensures { OnOk result (string_bytes out.new ≡ string_bytes out.old ++ outcome_lines (plan_seen plan.now) history.now) }
+{
+    let heads = &plan.heads;
+    let names = heads.names.as_slice();
+    push_results(alloc, out, heads.block, names, plan.tasks.as_slice(), history)?;
+    push_performed(out, heads.version, heads.block, names.len(), history)?;
+    push_unclaimed(alloc, out, heads.givens.jobs, history)
+}
+
+/// The report of a plan, given the history and how many turns each worker has had.
+#[tactic(auto, unfolding(crate::specs::Report::report_lines))]
+fn history_report(alloc: Global, plan: &Plan, history: &[Event], turns: &[u64]) -> Result<String, AllocError>
+    requires { length history.now < 2 ^ 32 }
+    ensures { IfOk result (λ s. string_bytes s ≡ report_lines (plan_seen plan.now) history.now turns.now) }
+{
+    let mut out = String::new(alloc);
+    let heads = &plan.heads;
+    let jobs = heads.names.as_slice().len();
+    push_first_line(&mut out, heads.version, heads.block, jobs, heads.givens)?;
+    push_happened(&mut out, history, turns)?;
+    push_outcome(alloc, &mut out, plan, history)?;
+    Ok(out)
+}
+
+/// The report of a plan in a world of the plan's givens: its numbers, the history, how each worker went, the results
+/// of what was performed, and which jobs nobody has claimed. The only error is want of memory.
+pub fn report_text(alloc: Global, plan: &Plan, world: &World) -> Result<String, AllocError>
+    requires { world.now.givens ≡ plan.now.heads.givens }
+    ensures { IfOk result (λ s. string_bytes s ≡ report_in (plan_seen plan.now) world.now.world) }
+{
+    runs_are_short();
+    let turns = all_turns(alloc, world)?;
+    history_report(alloc, plan, world.history(), &turns)
+}

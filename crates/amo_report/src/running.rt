@@ -1,0 +1,51 @@
+//! Runs the moves of a plan.
+ghost use Rattle.std.specs.Prelude.{◌≡◌, IfOk};
+ghost use Rattle.amo_sets.specs.Lists.{table};
+ghost use Rattle.amo_kk.specs.World.{world_after_moves};
+ghost use Rattle.amo_plan.specs.PlanSeen.{plan_seen};
+ghost use Rattle.amo_report.specs.Texts.{round, rounds, world_of, turns_of};
+
+use amo_plan::Plan;
+use amo_world::World;
+use std::alloc::{AllocError, Global};
+
+/// One turn of each worker, in the order of their numbers.
+fn run_round(world: &mut World)
+    ensures { world.new ≡ record { givens = world.old.givens; world = world_after_moves world.old.givens world.old.world (round world.old.givens.workers) } }
+{
+    let workers = world.givens().workers;
+    for before in 0..workers {
+        let _turned = world.turn(before + 1);
+    }
+}
+
+/// So many rounds.
+fn run_rounds(world: &mut World, count: u32)
+    ensures { world.new ≡ record { givens = world.old.givens; world = world_after_moves world.old.givens world.old.world (rounds world.old.givens.workers count) } }
+{
+    for _done in 0..count {
+        run_round(world);
+    }
+}
+
+/// The world of a plan: after its schedule and its rounds. The only error is want of memory.
+pub fn run_plan(alloc: Global, plan: &Plan) -> Result<World, AllocError>
+    ensures { IfOk result (λ w. w ≡ record { givens = (plan_seen plan.now).givens; world = world_of (plan_seen plan.now) }) }
+{
+    let mut world = World::new(alloc, plan.heads.givens)?;
+    world.run(plan.heads.moves.as_slice());
+    run_rounds(&mut world, plan.heads.rounds);
+    Ok(world)
+}
+
+/// Each worker's number of turns, in the order of their numbers. The only error is want of memory.
+pub fn all_turns(alloc: Global, world: &World) -> Result<Vec<u64>, AllocError>
+    ensures { IfOk result (λ v. v.items ≡ turns_of world.now.givens world.now.world) }
+{
+    let workers = world.givens().workers;
+    let mut turns = Vec::with_capacity(alloc, workers as usize)?;
+    for before in 0..workers {
+        turns.push(world.turns_of(before + 1))?;
+    }
+    Ok(turns)
+}

@@ -1,0 +1,120 @@
+//! Check texts, fault texts, and reports of worlds that were run by hand.
+use super::super::*;
+use super::{FIVE_JOBS, ONE_WORKER, ONE_WORKER_REPORT, text_of};
+use amo_kk::GivensFault;
+use amo_plan::{PlanFault, read_plan};
+use amo_world::World;
+use std::alloc::{AllocError, Global};
+use std::test::Fail;
+
+#[test]
+fn faults_have_these_lines(rt: HostRuntime) -> Result<(), Fail> {
+    for (fault, line) in [
+        (PlanFault::NotToml, "fault 1 NotToml\n"),
+        (PlanFault::UnknownKey(0), "fault 2 UnknownKey 0\n"),
+        (PlanFault::MissingKey(2), "fault 3 MissingKey 2\n"),
+        (PlanFault::WrongKind(1), "fault 4 WrongKind 1\n"),
+        (PlanFault::BadGivens(GivensFault::TooManyJobs), "fault 5 BadGivens 1 TooManyJobs\n"),
+        (PlanFault::BadGivens(GivensFault::NoWorkers), "fault 5 BadGivens 2 NoWorkers\n"),
+        (PlanFault::BadGivens(GivensFault::TooManyWorkers), "fault 5 BadGivens 3 TooManyWorkers\n"),
+        (PlanFault::BadGivens(GivensFault::BetaLow), "fault 5 BadGivens 4 BetaLow\n"),
+        (PlanFault::BadGivens(GivensFault::BetaHigh), "fault 5 BadGivens 5 BetaHigh\n"),
+        (PlanFault::TwoNames(2), "fault 6 TwoNames 2\n"),
+        (PlanFault::BadName(1), "fault 7 BadName 1\n"),
+        (PlanFault::SumTooLarge(1), "fault 8 SumTooLarge 1\n"),
+        (PlanFault::BadScheduleWord(2), "fault 9 BadScheduleWord 2\n"),
+        (PlanFault::NoSuchWorker(1), "fault 10 NoSuchWorker 1\n"),
+        (PlanFault::TooLong, "fault 11 TooLong\n"),
+        (PlanFault::NoMemory, "fault 12 NoMemory\n"),
+    ] {
+        assert_eq!(rt; fault_text(rt.alloc(), &fault)?.as_str(), line);
+    }
+    Ok(())
+}
+
+/// The check text of a plan.
+fn check_of(alloc: Global, text: &str) -> Result<String, Fail> {
+    let plan = read_plan(alloc, text.as_bytes())?;
+    Ok(check_text(alloc, &plan.heads)?)
+}
+
+#[test]
+fn checks_have_these_texts(rt: HostRuntime) -> Result<(), Fail> {
+    for (plan, line) in [
+        (ONE_WORKER, "ok jobs 3 workers 1 beta 1 moves 9 rounds 0\n"),
+        (
+            "version = 1\nworkers = 2\nbeta = 7\nschedule = \"1*3 x2 1\"\nrounds = 40\n",
+            "ok jobs 0 workers 2 beta 7 moves 5 rounds 40\n",
+        ),
+    ] {
+        assert_eq!(rt; check_of(rt.alloc(), plan)?.as_str(), line);
+        let mut out = Room::new(rt.alloc(), 100)?;
+        check(rt.alloc(), &mut Bytes::new(plan.as_bytes()), &mut out)?;
+        assert_eq!(rt; text_of(&out), line);
+    }
+    Ok(())
+}
+
+/// The report of five jobs and two workers, after worker 2 announces a job and leaves and 1 has 20 turns.
+fn report_of_leaving(alloc: Global) -> Result<String, Fail> {
+    let text = format!(in alloc; "version = 1\nworkers = 2\nbeta = 2\n{FIVE_JOBS}")?;
+    let plan = read_plan(alloc, text.as_bytes())?;
+    let mut world = World::new(alloc, plan.heads.givens)?;
+    if plan.heads.givens.workers == 2 {
+        let _moved = world.turn(2);
+        let _left = world.leave(2);
+        for _turn in 0..20 {
+            let _turned = world.turn(1);
+        }
+    }
+    Ok(report_text(alloc, &plan, &world)?)
+}
+
+#[test]
+fn a_worker_that_left_frees_its_job(rt: HostRuntime) -> Result<(), Fail> {
+    assert_eq!(rt; report_of_leaving(rt.alloc())?.as_str(),
+        "jobs 5 workers 2 beta 2 bound 3\n1 left 2\n2 claimed 1 1\n3 done 1 1\n4 claimed 1 2\n5 done 1 2\n6 claimed 1 3\n7 done 1 3\n8 claimed 1 4\n9 done 1 4\n10 ended 1\nworker 1 ended turns 20 claimed 4 done 4\nworker 2 left turns 2 claimed 0 done 0\nresult 1 a 1\nresult 2 b 2\nresult 3 c 3\nresult 4 d 4\nperformed 4\nunclaimed 5\n");
+    Ok(())
+}
+
+/// The plan of one worker, read from a source.
+fn one_worker(alloc: Global) -> Result<amo_plan::Plan, ReplayFault> {
+    read_source(alloc, &mut Bytes::new(ONE_WORKER.as_bytes()))
+}
+
+#[test]
+fn the_opening_world_is_reported(rt: HostRuntime) -> Result<(), Fail> {
+    let plan = one_worker(rt.alloc())?;
+    let world = World::new(rt.alloc(), plan.heads.givens)?;
+    assert_eq!(rt; report_text(rt.alloc(), &plan, &world)?.as_str(),
+        "jobs 3 workers 1 beta 1 bound 3\nworker 1 running turns 0 claimed 0 done 0\nperformed 0\nunclaimed 1 2 3\n");
+    Ok(())
+}
+
+/// Each text, or want of memory.
+#[test]
+fn refused_texts(rt: HostRuntime) {
+    match fault_text(rt.alloc(), &PlanFault::WrongKind(1)) {
+        Ok(text) => assert_eq!(rt; text.as_str(), "fault 4 WrongKind 1\n"),
+        Err(AllocError) => {}
+    }
+    let plan = match one_worker(rt.alloc()) {
+        Ok(plan) => plan,
+        Err(fault) => {
+            assert!(rt; matches!(fault, ReplayFault::NoMemory));
+            return;
+        }
+    };
+    match check_text(rt.alloc(), &plan.heads) {
+        Ok(text) => assert_eq!(rt; text.as_str(), "ok jobs 3 workers 1 beta 1 moves 9 rounds 0\n"),
+        Err(AllocError) => {}
+    }
+    if let Ok(mut world) = World::new(rt.alloc(), plan.heads.givens) {
+        assert!(rt; world.in_range(plan.heads.moves.as_slice()));
+        world.run(plan.heads.moves.as_slice());
+        match report_text(rt.alloc(), &plan, &world) {
+            Ok(text) => assert_eq!(rt; text.as_str(), ONE_WORKER_REPORT),
+            Err(AllocError) => {}
+        }
+    }
+}

@@ -1,0 +1,63 @@
+//! Worked schedules, judged lists, and want of memory.
+use super::*;
+use amo_kk::{Givens, Leaving, Move};
+use std::alloc::Global;
+use std::process::Abort;
+use std::test::Fail;
+
+mod judged;
+mod leavings;
+mod schedules;
+
+/// The opening world of so many jobs, workers and that threshold.
+fn opening(alloc: Global, numbers: (u64, u64, u64)) -> Result<World, Fail> {
+    let givens = Givens::try_new(numbers.0, numbers.1, numbers.2)?;
+    Ok(World::new(alloc, givens)?)
+}
+
+/// Makes each move so many times.
+fn make(rt: &impl Abort, world: &mut World, schedule: &[(Move, u32)]) {
+    for (one, times) in schedule {
+        let moves = [*one];
+        for _ in 0..*times {
+            assert!(rt; world.in_range(&moves));
+            world.run(&moves);
+        }
+    }
+}
+
+/// The answer of a turn of worker p.
+fn turn(rt: &impl Abort, world: &mut World, p: u32) -> Turned {
+    assert!(rt; 1 <= p && p <= world.givens().workers());
+    world.turn(p)
+}
+
+/// The answer of a stop of worker p.
+fn halt(rt: &impl Abort, world: &mut World, p: u32) -> bool {
+    assert!(rt; 1 <= p && p <= world.givens().workers());
+    world.halt(p)
+}
+
+/// What becomes of worker p that is asked to leave.
+fn leave(rt: &impl Abort, world: &mut World, p: u32) -> Leaving {
+    assert!(rt; 1 <= p && p <= world.givens().workers());
+    world.leave(p)
+}
+
+/// How many events worker p has had.
+fn turns_of(rt: &impl Abort, world: &World, p: u32) -> u64 {
+    assert!(rt; 1 <= p && p <= world.givens().workers());
+    world.turns_of(p)
+}
+
+/// The world has just this history, and just these jobs are unclaimed.
+fn expect_world(rt: &impl Abort, world: &World, history: &[Event], unclaimed: &[u32]) {
+    assert!(rt; world.history() == history);
+    assert_eq!(rt; world.unclaimed_len() as usize, unclaimed.len());
+    let jobs = world.givens().jobs();
+    for k in 0..jobs {
+        let j = k + 1;
+        assert!(rt; j <= world.givens().jobs());
+        assert_eq!(rt; world.is_unclaimed(j), unclaimed.contains(&j), "job {j}");
+    }
+}

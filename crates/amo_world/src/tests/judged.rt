@@ -1,0 +1,46 @@
+//! Lists of events before the judge.
+use super::*;
+use Event::{Claimed, Done, Ended, Halted, Left};
+use Verdict::{FirstBad, Lawful};
+use std::alloc::AllocError;
+
+/// What the judge says with so many jobs, two workers and the threshold 2.
+fn verdict(alloc: Global, jobs: u64, events: &[Event]) -> Result<Verdict, Fail> {
+    let givens = Givens::try_new(jobs, 2, 2)?;
+    Ok(judge(alloc, givens, events)?)
+}
+
+#[test]
+fn the_first_event_that_is_no_step_is_named(rt: HostRuntime) -> Result<(), Fail> {
+    let alloc = rt.alloc();
+    assert!(rt; verdict(alloc, 2, &[])? == Lawful);
+    assert!(rt; verdict(alloc, 2, &[Claimed(1, 1), Claimed(2, 1)])? == FirstBad(2));
+    assert!(rt; verdict(alloc, 2, &[Claimed(1, 1), Done(1, 1), Ended(1)])? == Lawful);
+    assert!(rt; verdict(alloc, 2, &[Halted(1), Claimed(1, 1)])? == FirstBad(2));
+    assert!(rt; verdict(alloc, 2, &[Halted(1), Halted(1)])? == FirstBad(2));
+    assert!(rt; verdict(alloc, 2, &[Done(1, 1)])? == FirstBad(1));
+    assert!(rt; verdict(alloc, 2, &[Claimed(3, 1)])? == FirstBad(1));
+    assert!(rt; verdict(alloc, 5, &[Ended(1)])? == FirstBad(1));
+    Ok(())
+}
+
+#[test]
+fn who_has_left_takes_no_step(rt: HostRuntime) -> Result<(), Fail> {
+    let alloc = rt.alloc();
+    assert!(rt; verdict(alloc, 2, &[Left(1), Ended(2)])? == Lawful);
+    assert!(rt; verdict(alloc, 2, &[Left(1), Claimed(1, 1)])? == FirstBad(2));
+    assert!(rt; verdict(alloc, 2, &[Claimed(1, 1), Left(1)])? == FirstBad(2));
+    assert!(rt; verdict(alloc, 2, &[Left(1), Left(1)])? == FirstBad(2));
+    assert!(rt; verdict(alloc, 2, &[Claimed(1, 1), Done(1, 1), Left(1)])? == Lawful);
+    Ok(())
+}
+
+#[test]
+fn refused_judge(rt: HostRuntime) {
+    if let Ok(givens) = Givens::try_new(2, 2, 2) {
+        match judge(rt.alloc(), givens, &[Claimed(1, 1), Claimed(2, 1)]) {
+            Ok(verdict) => assert!(rt; verdict == FirstBad(2)),
+            Err(AllocError) => {}
+        }
+    }
+}
