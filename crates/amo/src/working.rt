@@ -1,0 +1,101 @@
+//! The whole program, over any source and any two sinks.
+ghost use Rattle.std.specs.Prelude.{◌≡◌, false, None, map, OnOk, IfErr};
+ghost use Rattle.amo.specs.Commands.{asked};
+ghost use Rattle.amo.specs.Statuses.{Says, IsTold, IsDone, IsFault, Ends, change};
+
+use super::commands::asked;
+use super::fault::Fault;
+use super::request::Request;
+use amo_report::{Sink, Source, fault_text, replay, write_all};
+use std::alloc::{AllocError, Global};
+
+/// Does what the words ask for. Nothing is read or written where they are no command.
+fn serve<S: Source, W: Sink>(
+    alloc: Global,
+    words: &[&str],
+    reader: &mut S,
+    out: &mut W,
+) -> Result<(), Fault>
+    requires reader { S.failed reader.old ≡ false }
+    requires out { W.failed out.old ≡ false }
+    ensures done { OnOk result (IsDone (asked (map (λ w. w.now) words.now))
+        (change (S.remaining reader.old) (S.remaining reader.new) (S.failed reader.new))
+        (change (W.contents out.old) (W.contents out.new) (W.failed out.new))) }
+    ensures fault { IfErr result (λ fault. IsFault fault (asked (map (λ w. w.now) words.now))
+        (change (S.remaining reader.old) (S.remaining reader.new) (S.failed reader.new))
+        (change (W.contents out.old) (W.contents out.new) (W.failed out.new))) }
+    ensures untouched { asked (map (λ w. w.now) words.now) ≡ None → (reader.new ≡ reader.old) × (out.new ≡ out.old) }
+{
+    match asked(alloc, words)? {
+        Request::Replay => Ok(replay(alloc, reader, out)?),
+    }
+}
+
+/// Gives a line to the sink. That this fails changes nothing.
+fn say<E: Sink>(err: &mut E, line: &str)
+    ensures { Says (change (E.contents err.old) (E.contents err.new) (E.failed err.new)) line.now }
+{
+    let _ = write_all(err, line.as_bytes());
+}
+
+/// Tells of the fault, or of want of memory where there is none for its line, and answers the status.
+#[tactic(auto, using(crate::proofs::Endings::told))]
+fn refuse<E: Sink>(alloc: Global, err: &mut E, fault: Fault) -> u8
+    ensures { IsTold fault (change (E.contents err.old) (E.contents err.new) (E.failed err.new)) result }
+{
+    match fault {
+        Fault::Plan(fault) => match fault_text(alloc, &fault) {
+            Ok(text) => {
+                say(err, text.as_str());
+                1
+            }
+            Err(AllocError) => {
+                say(err, "fault memory\n");
+                3
+            }
+        },
+        Fault::NoCommand => {
+            say(err, "fault words\n");
+            2
+        }
+        Fault::NoMemory => {
+            say(err, "fault memory\n");
+            3
+        }
+        Fault::Read => {
+            say(err, "fault read\n");
+            4
+        }
+        Fault::Write => {
+            say(err, "fault write\n");
+            4
+        }
+    }
+}
+
+/// Does what the words ask for, and answers the exit status of the program: 0 where it was done, 1 where the
+/// plan was refused, 2 where the words are no command, 3 where memory was refused, 4 where a read or a write
+/// failed. With each but 0 one line is written to `err`; that this fails changes nothing. Where the words are no
+/// command nothing is read or written to `out`.
+#[tactic(auto, using(crate::proofs::Endings::ends_by))]
+pub fn work<R, S: Source, W: Sink, E: Sink>(
+    _rt: &R,
+    alloc: Global,
+    words: &[&str],
+    reader: &mut S,
+    out: &mut W,
+    err: &mut E,
+) -> u8
+    requires reader { S.failed reader.old ≡ false }
+    requires out { W.failed out.old ≡ false }
+    ensures ends { Ends (asked (map (λ w. w.now) words.now))
+        (change (S.remaining reader.old) (S.remaining reader.new) (S.failed reader.new))
+        (change (W.contents out.old) (W.contents out.new) (W.failed out.new))
+        (change (E.contents err.old) (E.contents err.new) (E.failed err.new)) result }
+    ensures untouched { asked (map (λ w. w.now) words.now) ≡ None → (reader.new ≡ reader.old) × (out.new ≡ out.old) }
+{
+    match serve(alloc, words, reader, out) {
+        Ok(()) => 0,
+        Err(fault) => refuse(alloc, err, fault),
+    }
+}
