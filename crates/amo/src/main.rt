@@ -6,10 +6,9 @@ ghost use Rattle.std.specs.Prelude.{◌≤◌, IfOk};
 mod commands;
 mod fault;
 mod request;
-mod working;
-
 #[cfg(test)]
 mod tests;
+mod working;
 
 use amo_report::Streamed;
 use std::io;

@@ -10,10 +10,12 @@ use amo_report::{Bytes, Room, Source};
 use std::alloc::{AllocError, Global};
 
 /// A plan of one worker and three jobs, which performs them all.
-const PLAN: &str = "version = 1\nworkers = 1\nbeta = 1\nschedule = \"1*9\"\n\n[[job]]\nname = \"a\"\nsay = \"one\"\n\n[[job]]\nname = \"b\"\nsay = \"two\"\n\n[[job]]\nname = \"c\"\nsay = \"three\"\n";
+const PLAN: &str =
+    "version = 1\nworkers = 1\nbeta = 1\nschedule = \"1*9\"\n\n[[job]]\nname = \"a\"\nsay = \"one\"\n\n[[job]]\nname = \"b\"\nsay = \"two\"\n\n[[job]]\nname = \"c\"\nsay = \"three\"\n";
 
 /// The report of `PLAN`.
-const REPORT: &str = "jobs 3 workers 1 beta 1 bound 3\n1 claimed 1 1\n2 done 1 1\n3 claimed 1 2\n4 done 1 2\n5 claimed 1 3\n6 done 1 3\n7 ended 1\nworker 1 ended turns 9 claimed 3 done 3\nresult 1 a one\nresult 2 b two\nresult 3 c three\nperformed 3\nunclaimed\n";
+const REPORT: &str =
+    "jobs 3 workers 1 beta 1 bound 3\n1 claimed 1 1\n2 done 1 1\n3 claimed 1 2\n4 done 1 2\n5 claimed 1 3\n6 done 1 3\n7 ended 1\nworker 1 ended turns 9 claimed 3 done 3\nresult 1 a one\nresult 2 b two\nresult 3 c three\nperformed 3\nunclaimed\n";
 
 /// What is left of a call of `work`.
 #[derive(Drop)]

@@ -22,8 +22,8 @@ event_lines i (e ∷ es) = event_line i e ++ event_lines (i + 1) es
 unfoldable pub worker_line : List Event → ℕ → ℕ → List ℕ
 worker_line history p turns =
     codes "worker " ++ decimal p ++ codes " " ++ state_of p history ++ codes " turns " ++ decimal turns
-        ++ codes " claimed " ++ decimal (count_by (is_claim_of p) history)
-        ++ codes " done " ++ decimal (count_by (is_done_of p) history) ++ codes "\n"
+    ++ codes " claimed " ++ decimal (count_by (is_claim_of p) history)
+    ++ codes " done " ++ decimal (count_by (is_done_of p) history) ++ codes "\n"
 
 -- a line for each worker, numbered from p, with its number of turns
 abbrev pub worker_lines : List Event → ℕ → List ℕ → List ℕ

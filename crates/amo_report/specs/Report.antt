@@ -15,8 +15,8 @@ happened_lines history turns = event_lines 1 history ++ worker_lines history 1 t
 unfoldable pub outcome_lines : PlanSeen → List Event → List ℕ
 outcome_lines p history =
     done_results p.block p.names p.tasks history
-        ++ performed_line p.version p.block (length p.names) history
-        ++ unclaimed_line p.givens.jobs history
+    ++ performed_line p.version p.block (length p.names) history
+    ++ unclaimed_line p.givens.jobs history
 
 -- the first line, what happened, and what came of it
 unfoldable pub report_lines : PlanSeen → List Event → List ℕ → List ℕ

@@ -17,7 +17,11 @@ fn hex_digit(number: u8) -> u8
     ensures digit { result ≡ hex_digit number }
     ensures ascii { result < 128 }
 {
-    if number < 10 { 48 + number } else { 87 + number }
+    if number < 10 {
+        48 + number
+    } else {
+        87 + number
+    }
 }
 
 /// Appends a byte as it is printed.

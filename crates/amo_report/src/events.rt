@@ -67,19 +67,30 @@ fn is_done_of(worker: usize, event: &Event) -> bool
 fn claims_of(worker: usize, history: &[Event]) -> usize
     ensures { result ≡ count_by (is_claim_of worker) history.now }
 {
-    history.iter().filter(|event| is_claim_of(worker, event)).count()
+    history
+        .iter()
+        .filter(|event| is_claim_of(worker, event))
+        .count()
 }
 
 /// How many performances of the worker the history has.
 fn dones_of(worker: usize, history: &[Event]) -> usize
     ensures { result ≡ count_by (is_done_of worker) history.now }
 {
-    history.iter().filter(|event| is_done_of(worker, event)).count()
+    history
+        .iter()
+        .filter(|event| is_done_of(worker, event))
+        .count()
 }
 
 /// Appends the line of a worker that has had so many turns.
 #[tactic(auto, unfolding(crate::specs::EventLines::worker_line))]
-fn push_worker(out: &mut String, history: &[Event], worker: usize, turns: u64) -> Result<(), AllocError>
+fn push_worker(
+    out: &mut String,
+    history: &[Event],
+    worker: usize,
+    turns: u64,
+) -> Result<(), AllocError>
     ensures { OnOk result (string_bytes out.new ≡ string_bytes out.old ++ worker_line history.now worker turns) }
 {
     let state = state_of(worker, history);

@@ -27,20 +27,37 @@ fn push_happened(out: &mut String, history: &[Event], turns: &[u64]) -> Result<(
 
 /// Appends what came of it.
 #[tactic(auto, unfolding(crate::specs::Report::outcome_lines))]
-fn push_outcome(alloc: Global, out: &mut String, plan: &Plan, history: &[Event]) -> Result<(), AllocError>
+fn push_outcome(
+    alloc: Global,
+    out: &mut String,
+    plan: &Plan,
+    history: &[Event],
+) -> Result<(), AllocError>
     requires { length history.now < 2 ^ 32 }
     ensures { OnOk result (string_bytes out.new ≡ string_bytes out.old ++ outcome_lines (plan_seen plan.now) history.now) }
 {
     let heads = &plan.heads;
     let names = heads.names.as_slice();
-    push_results(alloc, out, heads.block, names, plan.tasks.as_slice(), history)?;
+    push_results(
+        alloc,
+        out,
+        heads.block,
+        names,
+        plan.tasks.as_slice(),
+        history,
+    )?;
     push_performed(out, heads.version, heads.block, names.len(), history)?;
     push_unclaimed(alloc, out, heads.givens.jobs, history)
 }
 
 /// The report of a plan, given the history and how many turns each worker has had.
 #[tactic(auto, unfolding(crate::specs::Report::report_lines))]
-fn history_report(alloc: Global, plan: &Plan, history: &[Event], turns: &[u64]) -> Result<String, AllocError>
+fn history_report(
+    alloc: Global,
+    plan: &Plan,
+    history: &[Event],
+    turns: &[u64],
+) -> Result<String, AllocError>
     requires { length history.now < 2 ^ 32 }
     ensures { IfOk result (λ s. string_bytes s ≡ report_lines (plan_seen plan.now) history.now turns.now) }
 {

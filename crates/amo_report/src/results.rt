@@ -21,7 +21,13 @@ pub fn push_result(out: &mut String, job: usize, name: &str, text: &[u8]) -> Res
 }
 
 /// Appends the line of a task's result.
-fn push_task(alloc: Global, out: &mut String, job: usize, name: &Text, task: &Task) -> Result<(), AllocError>
+fn push_task(
+    alloc: Global,
+    out: &mut String,
+    job: usize,
+    name: &Text,
+    task: &Task,
+) -> Result<(), AllocError>
     requires { IsTrue (fits task.now) }
     ensures { OnOk result (string_bytes out.new ≡ string_bytes out.old ++ result_line job name.now (result_text task.now)) }
 {
@@ -30,7 +36,13 @@ fn push_task(alloc: Global, out: &mut String, job: usize, name: &Text, task: &Ta
 }
 
 /// Appends the results of jobs that are numbered from `before + 1`.
-fn push_tasks(alloc: Global, out: &mut String, before: usize, names: &[Text], tasks: &[Task]) -> Result<(), AllocError>
+fn push_tasks(
+    alloc: Global,
+    out: &mut String,
+    before: usize,
+    names: &[Text],
+    tasks: &[Task],
+) -> Result<(), AllocError>
     requires fit { all_fit tasks.now ≡ true }
     requires as_many { length tasks.now ≡ length names.now }
     requires few { before + length names.now < 2 ^ 64 }

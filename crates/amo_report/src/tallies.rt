@@ -61,7 +61,12 @@ fn push_blocks(out: &mut String, dones: usize, jobs: u64) -> Result<(), AllocErr
 }
 
 /// Appends how many blocks were performed, and how many jobs stand in them.
-fn push_performed_blocks(out: &mut String, block: u32, jobs: usize, history: &[Event]) -> Result<(), AllocError>
+fn push_performed_blocks(
+    out: &mut String,
+    block: u32,
+    jobs: usize,
+    history: &[Event],
+) -> Result<(), AllocError>
     requires { length history.now < 2 ^ 32 }
     ensures { OnOk result (string_bytes out.new ≡ string_bytes out.old ++ performed_blocks block jobs history.now) }
 {

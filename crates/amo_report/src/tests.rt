@@ -8,16 +8,20 @@ mod streams;
 mod texts;
 
 /// One worker performs three jobs and ends.
-pub const ONE_WORKER: &str = "version = 1\nworkers = 1\nbeta = 1\nschedule = \"1*9\"\n\n[[job]]\nname = \"a\"\nsay = \"one\"\n\n[[job]]\nname = \"b\"\nsay = \"two\"\n\n[[job]]\nname = \"c\"\nsay = \"three\"\n";
+pub const ONE_WORKER: &str =
+    "version = 1\nworkers = 1\nbeta = 1\nschedule = \"1*9\"\n\n[[job]]\nname = \"a\"\nsay = \"one\"\n\n[[job]]\nname = \"b\"\nsay = \"two\"\n\n[[job]]\nname = \"c\"\nsay = \"three\"\n";
 
 /// The report of one worker.
-pub const ONE_WORKER_REPORT: &str = "jobs 3 workers 1 beta 1 bound 3\n1 claimed 1 1\n2 done 1 1\n3 claimed 1 2\n4 done 1 2\n5 claimed 1 3\n6 done 1 3\n7 ended 1\nworker 1 ended turns 9 claimed 3 done 3\nresult 1 a one\nresult 2 b two\nresult 3 c three\nperformed 3\nunclaimed\n";
+pub const ONE_WORKER_REPORT: &str =
+    "jobs 3 workers 1 beta 1 bound 3\n1 claimed 1 1\n2 done 1 1\n3 claimed 1 2\n4 done 1 2\n5 claimed 1 3\n6 done 1 3\n7 ended 1\nworker 1 ended turns 9 claimed 3 done 3\nresult 1 a one\nresult 2 b two\nresult 3 c three\nperformed 3\nunclaimed\n";
 
 /// The jobs `a`, `b` and `c`, which say `one`, `two` and `three`.
-const THREE_JOBS: &str = "job = [{name = \"a\", say = \"one\"}, {name = \"b\", say = \"two\"}, {name = \"c\", say = \"three\"}]\n";
+const THREE_JOBS: &str =
+    "job = [{name = \"a\", say = \"one\"}, {name = \"b\", say = \"two\"}, {name = \"c\", say = \"three\"}]\n";
 
 /// Five jobs of one letter each.
-const FIVE_JOBS: &str = "job = [{name = \"a\", say = \"1\"}, {name = \"b\", say = \"2\"}, {name = \"c\", say = \"3\"}, {name = \"d\", say = \"4\"}, {name = \"e\", say = \"5\"}]\n";
+const FIVE_JOBS: &str =
+    "job = [{name = \"a\", say = \"1\"}, {name = \"b\", say = \"2\"}, {name = \"c\", say = \"3\"}, {name = \"d\", say = \"4\"}, {name = \"e\", say = \"5\"}]\n";
 
 /// The text that a sink holds.
 pub fn text_of(out: &Room) -> &str {
@@ -77,7 +81,8 @@ fn reports_have_these_texts(rt: HostRuntime) -> Result<(), Fail> {
 #[test]
 fn rounds_follow_the_schedule(rt: HostRuntime) -> Result<(), Fail> {
     let two_jobs = "job = [{name = \"a\", say = \"x\"}, {name = \"b\", add = [2, 40]}]\n";
-    let report = "jobs 2 workers 2 beta 2 bound 0\n1 claimed 1 1\n2 claimed 2 2\n3 done 1 1\n4 ended 1\n5 done 2 2\n6 ended 2\nworker 1 ended turns 5 claimed 1 done 1\nworker 2 ended turns 5 claimed 1 done 1\nresult 1 a x\nresult 2 b 42\nperformed 2\nunclaimed\n";
+    let report =
+        "jobs 2 workers 2 beta 2 bound 0\n1 claimed 1 1\n2 claimed 2 2\n3 done 1 1\n4 ended 1\n5 done 2 2\n6 ended 2\nworker 1 ended turns 5 claimed 1 done 1\nworker 2 ended turns 5 claimed 1 done 1\nresult 1 a x\nresult 2 b 42\nperformed 2\nunclaimed\n";
     for heads in [
         "version = 1\nworkers = 2\nbeta = 2\nrounds = 5\n",
         "version = 1\nworkers = 2\nbeta = 2\nschedule = \"1 2 1 2\"\nrounds = 3\n",
@@ -99,7 +104,10 @@ fn results_are_escaped(rt: HostRuntime) -> Result<(), Fail> {
     let results = text_of(&out)
         .split_once("result 1")
         .map_or("no result", |halves| halves.1);
-    assert_eq!(rt; results, " t a\\x09\\x5c\nresult 2 none \nresult 3 u ~\\xc3\\xa9 \nperformed 3\nunclaimed\n");
+    assert_eq!(rt;
+        results,
+        " t a\\x09\\x5c\nresult 2 none \nresult 3 u ~\\xc3\\xa9 \nperformed 3\nunclaimed\n"
+    );
     Ok(())
 }
 
@@ -107,7 +115,10 @@ fn results_are_escaped(rt: HostRuntime) -> Result<(), Fail> {
 fn plans_that_are_refused_write_nothing(rt: HostRuntime) -> Result<(), Fail> {
     for (plan, fault) in [
         ("", "fault 3 MissingKey 0\n"),
-        ("version = 1\nworkers = 2\nbeta = 1\n", "fault 5 BadGivens 4 BetaLow\n"),
+        (
+            "version = 1\nworkers = 2\nbeta = 1\n",
+            "fault 5 BadGivens 4 BetaLow\n",
+        ),
         ("color", "fault 1 NotToml\n"),
     ] {
         let mut out = Room::new(rt.alloc(), 1000)?;

@@ -48,7 +48,12 @@ fn push_unmarked(out: &mut String, marks: &[bool]) -> Result<(), AllocError>
 }
 
 /// Appends, of so many jobs, the number of each that nobody has claimed, after a space.
-fn push_unclaimed_jobs(alloc: Global, out: &mut String, jobs: u32, history: &[Event]) -> Result<(), AllocError>
+fn push_unclaimed_jobs(
+    alloc: Global,
+    out: &mut String,
+    jobs: u32,
+    history: &[Event],
+) -> Result<(), AllocError>
     ensures { OnOk result (string_bytes out.new ≡ string_bytes out.old ++ spaced (unclaimed_jobs jobs history.now)) }
 {
     let marks = claimed_marks(alloc, jobs, history)?;
@@ -57,7 +62,12 @@ fn push_unclaimed_jobs(alloc: Global, out: &mut String, jobs: u32, history: &[Ev
 
 /// Appends the line of the jobs, of so many, that nobody has claimed.
 #[tactic(auto, unfolding(crate::specs::Tallies::unclaimed_line))]
-pub fn push_unclaimed(alloc: Global, out: &mut String, jobs: u32, history: &[Event]) -> Result<(), AllocError>
+pub fn push_unclaimed(
+    alloc: Global,
+    out: &mut String,
+    jobs: u32,
+    history: &[Event],
+) -> Result<(), AllocError>
     ensures { OnOk result (string_bytes out.new ≡ string_bytes out.old ++ unclaimed_line jobs history.now) }
 {
     out.push_str("unclaimed")?;

@@ -4,7 +4,8 @@ use amo_report::Bytes;
 use std::test::Fail;
 
 /// The report of a plan of one worker without jobs.
-const NO_JOBS: &str = "jobs 0 workers 1 beta 1 bound 0\n1 ended 1\nworker 1 ended turns 0 claimed 0 done 0\nperformed 0\nunclaimed\n";
+const NO_JOBS: &str =
+    "jobs 0 workers 1 beta 1 bound 0\n1 ended 1\nworker 1 ended turns 0 claimed 0 done 0\nperformed 0\nunclaimed\n";
 
 #[test]
 fn a_replay_writes_the_report_alone(rt: HostRuntime) -> Result<(), Fail> {
@@ -49,10 +50,22 @@ fn is_refused(ran: &Ending, line: &str) -> bool {
 fn a_refused_plan_gives_its_line(rt: HostRuntime) -> Result<(), Fail> {
     for (plan, line) in [
         ("version = ", "fault 1 NotToml\n"),
-        ("version = 1\nworkers = 1\nbeta = 1\nmore = 1\n", "fault 2 UnknownKey 0\n"),
-        ("version = 1\nworkers = 1\nbeta = \"1\"\n", "fault 4 WrongKind 0\n"),
-        ("version = 1\nworkers = 1\nbeta = 0\n", "fault 5 BadGivens 4 BetaLow\n"),
-        ("version = 1\nworkers = 1\nbeta = 1\nschedule = \"2\"\n", "fault 10 NoSuchWorker 1\n"),
+        (
+            "version = 1\nworkers = 1\nbeta = 1\nmore = 1\n",
+            "fault 2 UnknownKey 0\n",
+        ),
+        (
+            "version = 1\nworkers = 1\nbeta = \"1\"\n",
+            "fault 4 WrongKind 0\n",
+        ),
+        (
+            "version = 1\nworkers = 1\nbeta = 0\n",
+            "fault 5 BadGivens 4 BetaLow\n",
+        ),
+        (
+            "version = 1\nworkers = 1\nbeta = 1\nschedule = \"2\"\n",
+            "fault 10 NoSuchWorker 1\n",
+        ),
     ] {
         let ran = replay_plan(rt.alloc(), plan)?;
         assert!(rt; is_refused(&ran, line), "at {plan}");
@@ -82,10 +95,16 @@ fn each_beginning_of_a_plan_is_a_plan_or_is_refused(rt: HostRuntime) -> Result<(
         let mut reader = Bytes::new(&bytes[..end]);
         let ran = run_words(rt.alloc(), &["replay"], &mut reader, 1000)?;
         match ran.status {
-            0 => assert!(rt; ran.err().is_empty() && ran.out().starts_with("jobs "), "at {end}"),
+            0 => assert!(rt;
+                ran.err().is_empty() && ran.out().starts_with("jobs "),
+                "at {end}"
+            ),
             status => {
                 assert_eq!(rt; status, 1, "at {end}");
-                assert!(rt; ran.out().is_empty() && ran.err().starts_with("fault "), "at {end}");
+                assert!(rt;
+                    ran.out().is_empty() && ran.err().starts_with("fault "),
+                    "at {end}"
+                );
             }
         }
     }

@@ -94,7 +94,12 @@ fn a_failing_read_gives_its_line(rt: HostRuntime) -> Result<(), Fail> {
 
 #[test]
 fn a_full_writer_gives_its_line(rt: HostRuntime) -> Result<(), Fail> {
-    let ran = run_words(rt.alloc(), &["replay"], &mut Bytes::new(PLAN.as_bytes()), 10)?;
+    let ran = run_words(
+        rt.alloc(),
+        &["replay"],
+        &mut Bytes::new(PLAN.as_bytes()),
+        10,
+    )?;
     assert_eq!(rt; ran.status, 4);
     assert_eq!(rt; ran.out(), "jobs 3 wor");
     assert_eq!(rt; ran.err(), "fault write\n");
@@ -106,7 +111,14 @@ fn a_failing_flush_is_a_failing_write(rt: HostRuntime) -> Result<(), Fail> {
     let mut reader = Bytes::new(PLAN.as_bytes());
     let mut out = NoFlush { failed: false };
     let mut err = Room::new(rt.alloc(), 100)?;
-    let status = work(&(), rt.alloc(), &["replay"], &mut reader, &mut out, &mut err);
+    let status = work(
+        &(),
+        rt.alloc(),
+        &["replay"],
+        &mut reader,
+        &mut out,
+        &mut err,
+    );
     assert_eq!(rt; status, 4);
     assert_eq!(rt; text_of(&err), "fault write\n");
     Ok(())

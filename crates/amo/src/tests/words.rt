@@ -18,7 +18,18 @@ fn no_words_are_no_command(rt: HostRuntime) -> Result<(), Fail> {
 
 #[test]
 fn another_word_is_no_command(rt: HostRuntime) -> Result<(), Fail> {
-    for word in ["", "help", "--help", "-h", "--version", "repl", "Replay", "replay ", "--", "check"] {
+    for word in [
+        "",
+        "help",
+        "--help",
+        "-h",
+        "--version",
+        "repl",
+        "Replay",
+        "replay ",
+        "--",
+        "check",
+    ] {
         assert!(rt; is_no_command(rt.alloc(), &[word])?, "at {word}");
     }
     Ok(())
@@ -34,7 +45,10 @@ fn a_word_too_many_is_no_command(rt: HostRuntime) -> Result<(), Fail> {
         ("amo", "replay"),
         ("help", "replay"),
     ] {
-        assert!(rt; is_no_command(rt.alloc(), &[first, second])?, "at {first} {second}");
+        assert!(rt;
+            is_no_command(rt.alloc(), &[first, second])?,
+            "at {first} {second}"
+        );
     }
     Ok(())
 }

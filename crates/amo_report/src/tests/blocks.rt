@@ -8,7 +8,8 @@ use std::process::Abort;
 use std::test::Fail;
 
 /// One worker, six turns, and the jobs `a`, `b` and `c`.
-const SIX_TURNS: &str = "version = 1\nworkers = 1\nbeta = 1\nschedule = \"1*6\"\njob = [{name = \"a\", say = \"one\"}, {name = \"b\", say = \"two\"}, {name = \"c\", say = \"three\"}]\n";
+const SIX_TURNS: &str =
+    "version = 1\nworkers = 1\nbeta = 1\nschedule = \"1*6\"\njob = [{name = \"a\", say = \"one\"}, {name = \"b\", say = \"two\"}, {name = \"c\", say = \"three\"}]\n";
 
 /// The same in the second version of the format, two jobs a block.
 fn in_blocks(rt: &impl Abort, alloc: Global) -> Result<Plan, Fail> {
@@ -83,7 +84,9 @@ fn blocks_have_these_reports(rt: HostRuntime) -> Result<(), Fail> {
 #[test]
 fn blocks_have_this_check_text(rt: HostRuntime) -> Result<(), Fail> {
     let plan = in_blocks(&rt, rt.alloc())?;
-    assert_eq!(rt; check_text(rt.alloc(), &plan.heads)?.as_str(),
-        "ok jobs 3 block 2 blocks 2 workers 1 beta 1 moves 6 rounds 0\n");
+    assert_eq!(rt;
+        check_text(rt.alloc(), &plan.heads)?.as_str(),
+        "ok jobs 3 block 2 blocks 2 workers 1 beta 1 moves 6 rounds 0\n"
+    );
     Ok(())
 }

@@ -165,7 +165,11 @@ fn a_writer_that_takes_nothing_fails(rt: HostRuntime) -> Result<(), Fail> {
             taken,
             flushes: true,
         });
-        let answer = replay(rt.alloc(), &mut Bytes::new(ONE_WORKER.as_bytes()), &mut writer);
+        let answer = replay(
+            rt.alloc(),
+            &mut Bytes::new(ONE_WORKER.as_bytes()),
+            &mut writer,
+        );
         assert!(rt; matches!(answer, Err(ReplayFault::Write)));
         let Stubborn { taken, flushes: _ } = writer.into_inner();
         assert_eq!(rt; taken.as_slice(), &ONE_WORKER_REPORT.as_bytes()[..room]);
@@ -180,7 +184,11 @@ fn a_failing_flush_is_a_failing_write(rt: HostRuntime) -> Result<(), Fail> {
         taken,
         flushes: false,
     });
-    let answer = replay(rt.alloc(), &mut Bytes::new(ONE_WORKER.as_bytes()), &mut writer);
+    let answer = replay(
+        rt.alloc(),
+        &mut Bytes::new(ONE_WORKER.as_bytes()),
+        &mut writer,
+    );
     assert!(rt; matches!(answer, Err(ReplayFault::Write)));
     let Stubborn { taken, flushes: _ } = writer.into_inner();
     assert_eq!(rt; text_of(&taken), ONE_WORKER_REPORT);

@@ -14,11 +14,26 @@ fn faults_have_these_lines(rt: HostRuntime) -> Result<(), Fail> {
         (PlanFault::UnknownKey(0), "fault 2 UnknownKey 0\n"),
         (PlanFault::MissingKey(2), "fault 3 MissingKey 2\n"),
         (PlanFault::WrongKind(1), "fault 4 WrongKind 1\n"),
-        (PlanFault::BadGivens(GivensFault::TooManyJobs), "fault 5 BadGivens 1 TooManyJobs\n"),
-        (PlanFault::BadGivens(GivensFault::NoWorkers), "fault 5 BadGivens 2 NoWorkers\n"),
-        (PlanFault::BadGivens(GivensFault::TooManyWorkers), "fault 5 BadGivens 3 TooManyWorkers\n"),
-        (PlanFault::BadGivens(GivensFault::BetaLow), "fault 5 BadGivens 4 BetaLow\n"),
-        (PlanFault::BadGivens(GivensFault::BetaHigh), "fault 5 BadGivens 5 BetaHigh\n"),
+        (
+            PlanFault::BadGivens(GivensFault::TooManyJobs),
+            "fault 5 BadGivens 1 TooManyJobs\n",
+        ),
+        (
+            PlanFault::BadGivens(GivensFault::NoWorkers),
+            "fault 5 BadGivens 2 NoWorkers\n",
+        ),
+        (
+            PlanFault::BadGivens(GivensFault::TooManyWorkers),
+            "fault 5 BadGivens 3 TooManyWorkers\n",
+        ),
+        (
+            PlanFault::BadGivens(GivensFault::BetaLow),
+            "fault 5 BadGivens 4 BetaLow\n",
+        ),
+        (
+            PlanFault::BadGivens(GivensFault::BetaHigh),
+            "fault 5 BadGivens 5 BetaHigh\n",
+        ),
         (PlanFault::TwoNames(2), "fault 6 TwoNames 2\n"),
         (PlanFault::BadName(1), "fault 7 BadName 1\n"),
         (PlanFault::SumTooLarge(1), "fault 8 SumTooLarge 1\n"),
@@ -72,8 +87,10 @@ fn report_of_leaving(alloc: Global) -> Result<String, Fail> {
 
 #[test]
 fn a_worker_that_left_frees_its_job(rt: HostRuntime) -> Result<(), Fail> {
-    assert_eq!(rt; report_of_leaving(rt.alloc())?.as_str(),
-        "jobs 5 workers 2 beta 2 bound 3\n1 left 2\n2 claimed 1 1\n3 done 1 1\n4 claimed 1 2\n5 done 1 2\n6 claimed 1 3\n7 done 1 3\n8 claimed 1 4\n9 done 1 4\n10 ended 1\nworker 1 ended turns 20 claimed 4 done 4\nworker 2 left turns 2 claimed 0 done 0\nresult 1 a 1\nresult 2 b 2\nresult 3 c 3\nresult 4 d 4\nperformed 4\nunclaimed 5\n");
+    assert_eq!(rt;
+        report_of_leaving(rt.alloc())?.as_str(),
+        "jobs 5 workers 2 beta 2 bound 3\n1 left 2\n2 claimed 1 1\n3 done 1 1\n4 claimed 1 2\n5 done 1 2\n6 claimed 1 3\n7 done 1 3\n8 claimed 1 4\n9 done 1 4\n10 ended 1\nworker 1 ended turns 20 claimed 4 done 4\nworker 2 left turns 2 claimed 0 done 0\nresult 1 a 1\nresult 2 b 2\nresult 3 c 3\nresult 4 d 4\nperformed 4\nunclaimed 5\n"
+    );
     Ok(())
 }
 
@@ -86,8 +103,10 @@ fn one_worker(alloc: Global) -> Result<amo_plan::Plan, ReplayFault> {
 fn the_opening_world_is_reported(rt: HostRuntime) -> Result<(), Fail> {
     let plan = one_worker(rt.alloc())?;
     let world = World::new(rt.alloc(), plan.heads.givens)?;
-    assert_eq!(rt; report_text(rt.alloc(), &plan, &world)?.as_str(),
-        "jobs 3 workers 1 beta 1 bound 3\nworker 1 running turns 0 claimed 0 done 0\nperformed 0\nunclaimed 1 2 3\n");
+    assert_eq!(rt;
+        report_text(rt.alloc(), &plan, &world)?.as_str(),
+        "jobs 3 workers 1 beta 1 bound 3\nworker 1 running turns 0 claimed 0 done 0\nperformed 0\nunclaimed 1 2 3\n"
+    );
     Ok(())
 }
 
@@ -106,7 +125,10 @@ fn refused_texts(rt: HostRuntime) {
         }
     };
     match check_text(rt.alloc(), &plan.heads) {
-        Ok(text) => assert_eq!(rt; text.as_str(), "ok jobs 3 workers 1 beta 1 moves 9 rounds 0\n"),
+        Ok(text) => assert_eq!(rt;
+            text.as_str(),
+            "ok jobs 3 workers 1 beta 1 moves 9 rounds 0\n"
+        ),
         Err(AllocError) => {}
     }
     if let Ok(mut world) = World::new(rt.alloc(), plan.heads.givens) {
