@@ -22,7 +22,7 @@ use Rattle.amo_plan.specs.Schedule.{read_schedule}
 use Rattle.amo_plan.specs.Steps.{◌>>=◌, or_fault, unless, is_between}
 use Rattle.amo_plan.specs.Top.{TopSeen, MoreSeen, newest_version, version_of, block_in, block_of, so_many, jobs_of, text_of, rounds_of, budgets_of, is_two, is_top_key, form_of, more_values, top_values, top_of}
 use Rattle.amo_plan.specs.Tree.{has, each_key, natural, naturals_in, natural_at}
-use Rattle.amo_plan.proofs.FineLemmas.{jobs_fit}
+use Rattle.amo_plan.proofs.FineLemmas.{AreNames, jobs_fit, jobs_named}
 use Rattle.amo_plan.proofs.StepsLemmas.{bind_ok, ok_is, or_ok, unless_ok}
 use Rattle.amo_plan.proofs.WithinLemmas.{schedule_within, taken}
 
@@ -98,7 +98,7 @@ top_keeps doc top e =
     let (more, of_more, e5) = bind_ok (more_values workers doc) _ top e4 in
     let seen : TopSeen = record { version = form.version; block = form.block; workers = workers; beta = beta; jobs = jobs; schedule = more.schedule; rounds = more.rounds; budgets = more.budgets } in
     let same : seen ≡ top = ok_is seen top e5 in
-    subst TopKeeps same (record { form = form_known doc form of_form; budgets = more_many workers doc more of_more })
+    subst TopKeeps {x = seen} same (record { form = form_known doc form of_form; budgets = more_many workers doc more of_more })
 
 -- budgets within their limit are as many as the workers
 small_many : (m : ℕ) (o : Option (List ℕ)) (out : List ℕ) → IfSome o (λ ys. length ys ≡ m) → small_budgets m o ≡ Ok out → length out ≡ m
@@ -122,6 +122,7 @@ pub record Keeps (p : PlanSeen) : Type 0 where
   pub form : is_form p.version p.block ≡ true
   pub blocks : div_ceil (length p.names) p.block ≡ p.givens.jobs
   pub tasked : length p.tasks ≡ length p.names
+  pub named : AreNames [] p.names
   pub fitting : all_fit p.tasks ≡ true
   pub budgeted : length p.budgets ≡ p.givens.workers
   pub within : all_within p.givens.workers p.moves ≡ true
@@ -138,6 +139,7 @@ with_keeps top g jobs p keeps count workers e =
       form = keeps.form;
       blocks = simp length-map count;
       tasked = simp length-map;
+      named = jobs_named [] 1 jobs fine of_fine;
       fitting = jobs_fit [] 1 jobs fine of_fine;
       budgeted = within_many top.workers top.rounds top.budgets budgets keeps.budgets of_budgets ∙ workers;
       within = subst (λ (m : ℕ). all_within m moves ≡ true) workers (schedule_within top.version top.workers top.schedule moves of_moves);

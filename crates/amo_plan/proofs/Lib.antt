@@ -7,3 +7,4 @@ pub mod WithinLemmas
 pub mod FineLemmas
 pub mod BlocksLemmas
 pub mod KeepsLemmas
+pub mod AnswerLemmas

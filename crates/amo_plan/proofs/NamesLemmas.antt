@@ -39,7 +39,8 @@ Names = BTreeMap (Bor (List ℕ)) (Unit {0})
 abbrev pub has_name : Names → Key → Bool
 has_name names q = is_some (get_by (λ k. slice_cmp nat_cmp q k.now) names)
 
-bytes_eq-same : (xs ys : List ℕ) → bytes_eq xs ys ≡ bytes_eq ys xs
+-- equality of texts has no order
+pub bytes_eq-same : (xs ys : List ℕ) → bytes_eq xs ys ≡ bytes_eq ys xs
 bytes_eq-same xs ys = same_from_decides (bytes_eq xs ys) (bytes_eq ys xs) (bytes_eq-Decides xs ys) (Decides-like (bytes_eq ys xs) sym sym (bytes_eq-Decides ys xs))
 
 some_cond : {A : Type 0} (b : Bool) (x : A) (o : Option A) → is_some (cond b (Some x) o) ≡ (b || is_some o)

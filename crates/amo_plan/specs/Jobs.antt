@@ -30,6 +30,7 @@ job_at j ms =
       task ← or_fault (task_of (get_member (codes "say") ms) (get_member (codes "add") ms)) (WrongKind j)
       Ok (record { name = name; task = task })))
 
+-- the jobs, one after the other
 abbrev pub read_jobs : List Members → Result (List Job) PlanFault
 read_jobs tables = each job_at 1 tables
 

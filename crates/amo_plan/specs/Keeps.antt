@@ -21,6 +21,7 @@ mover (Leave p) = p
 abbrev pub is_within : ℕ → Move → Bool
 is_within m move = is_between 1 m (mover move)
 
+-- each move is
 abbrev pub all_within : ℕ → List Move → Bool
 all_within m moves = list_all (is_within m) moves
 

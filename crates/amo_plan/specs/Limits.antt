@@ -5,6 +5,7 @@ use Rattle.amo_plan.specs.declared.fault.PlanFault.{PlanFault}
 use Rattle.amo_plan.specs.declared.fault.PlanFault.TheVariants.{TooLong}
 use Rattle.amo_plan.specs.Steps.{unless}
 
+-- at most ten million steps
 abbrev pub is_small : ℕ → Bool
 is_small budget = nat_le budget 10000000
 

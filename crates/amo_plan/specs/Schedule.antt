@@ -21,6 +21,7 @@ is_word w = not (length w == 0)
 abbrev pub words_of : List ℕ → List (List ℕ)
 words_of text = filter is_word (slice_split is_space text)
 
+-- 0 to 9
 abbrev pub is_digit : ℕ → Bool
 is_digit b = nat_le 48 b && nat_le b 57
 
@@ -39,9 +40,11 @@ abbrev pub turns_of : Option ℕ → Option ℕ → Option Word
 turns_of (Some k) (Some c) = Some (Turns k c)
 turns_of _ _ = None
 
+-- an x begins the stop of a worker
 abbrev pub is_x : ℕ → Bool
 is_x b = b == 120
 
+-- an asterisk parts a worker from its count
 abbrev pub is_asterisk : ℕ → Bool
 is_asterisk b = b == 42
 
@@ -50,6 +53,7 @@ abbrev pub turns_at : Option ℕ → List ℕ → Option Word
 turns_at None w = turns_of (number_of w) (Some 1)
 turns_at (Some i) w = turns_of (number_of (take i w)) (number_of (drop (i + 1) w))
 
+-- turns of a worker
 unfoldable pub turns_word : List ℕ → Option Word
 turns_word w = turns_at (position is_asterisk w) w
 
@@ -74,6 +78,7 @@ worker_of (Departure k) = k
 unfoldable pub word_at : ℕ → ℕ → ℕ → List ℕ → Result Word PlanFault
 word_at version m i w = or_fault (word_of version w) (BadScheduleWord i) >>= λ word. unless (nat_le (worker_of word) m) (NoSuchWorker i) (Ok word)
 
+-- what the words say
 abbrev pub read_words : ℕ → ℕ → List (List ℕ) → Result (List Word) PlanFault
 read_words version m ws = each (word_at version m) 1 ws
 
@@ -83,6 +88,7 @@ moves_of_word (Turns k c) = replicate c (Turn k)
 moves_of_word (Stop k) = Halt k ∷ []
 moves_of_word (Departure k) = Leave k ∷ []
 
+-- the moves of the words, one after the other
 abbrev pub moves_of : List Word → List Move
 moves_of ws = flat_map moves_of_word ws
 

@@ -28,9 +28,11 @@ newest_version = 1  -- limit: 2, which has blocks and the words of leaving, is l
 abbrev pub known_version : ℕ → Option ℕ
 known_version v = if is_between 1 newest_version v then Some v else None
 
+-- the version of a document, if it is one that there is
 abbrev pub version_of : Members → Option ℕ
 version_of doc = option_and_then known_version (natural_at (codes "version") doc)
 
+-- the version is 2
 abbrev pub is_two : Option ℕ → Bool
 is_two (Some v) = v == 2
 is_two None = false
@@ -39,13 +41,15 @@ is_two None = false
 abbrev pub top_keys : List Key
 top_keys = codes "version" ∷ codes "workers" ∷ codes "beta" ∷ codes "job" ∷ codes "schedule" ∷ codes "rounds" ∷ codes "budgets" ∷ []
 
+-- the key is one of them, where `block` is one if the test says so
 abbrev pub is_top_key : Bool → Key → Bool
 is_top_key with_block k = is_known top_keys k || (with_block && bytes_eq k (codes "block"))
 
--- an integer of 1..=4096, or 1
+-- how many jobs a block may have
 abbrev pub known_block : ℕ → Option ℕ
 known_block g = if is_between 1 4096 g then Some g else None
 
+-- an integer of 1..=4096, or 1 where there is none
 abbrev pub block_in : Option Data → Option ℕ
 block_in None = Some 1
 block_in (Some d) = option_and_then known_block (natural d)
@@ -54,25 +58,26 @@ block_in (Some d) = option_and_then known_block (natural d)
 abbrev pub block_of : ℕ → Members → Option ℕ
 block_of version doc = if version == 2 then block_in (get_member (codes "block") doc) else Some 1
 
--- an array of tables, or nothing
+-- an array of tables; no key, no jobs
 abbrev pub jobs_of : Option Data → Option (List Members)
 jobs_of None = Some []
 jobs_of (Some d) = option_and_then tables_of (as_array d)
 
--- a text, or nothing
+-- a text; no key, no words
 abbrev pub text_of : Option Data → Option (List ℕ)
 text_of None = Some []
 text_of (Some d) = as_str d
 
--- an integer that is not negative, or 0
+-- an integer that is not negative; no key, no rounds
 abbrev pub rounds_of : Option Data → Option ℕ
 rounds_of None = Some 0
 rounds_of (Some d) = natural d
 
--- an array of so many integers that are not negative, or nothing
+-- the budgets that are named, if they are so many
 abbrev pub so_many : ℕ → List ℕ → Option (Option (List ℕ))
 so_many m xs = if length xs == m then Some (Some xs) else None
 
+-- an array of m integers that are not negative, or nothing
 abbrev pub budgets_of : ℕ → Option Data → Option (Option (List ℕ))
 budgets_of m None = Some None
 budgets_of m (Some d) = option_and_then (so_many m) (naturals_in d)

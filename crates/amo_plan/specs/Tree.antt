@@ -4,6 +4,7 @@ use Rattle.std.specs.List.{list_any}
 use Rattle.std.specs.Str.{bytes_eq}
 use Rattle.toml.specs.Data.{Data, Items, no_items, item, Members, no_members, member, as_integer, as_str, as_array, as_table, get_member}
 
+-- a key, by its bytes
 abbrev pub Key : Type 0
 Key = List ℕ
 
@@ -25,9 +26,11 @@ abbrev pub natural_of : ℤ → Option ℕ
 natural_of (pos n) = Some n
 natural_of (negsuc n) = None
 
+-- the same of a value
 abbrev pub natural : Data → Option ℕ
 natural d = option_and_then natural_of (as_integer d)
 
+-- the same at a key
 abbrev pub natural_at : Key → Members → Option ℕ
 natural_at key ms = option_and_then natural (get_member key ms)
 

@@ -16,10 +16,12 @@ use super::tree::{has_key, naturals, text_at, value_at};
 use std::alloc::Global;
 use toml::{Table, Value};
 
-/// A job.
+/// A job, of which only the kinds of its values are tested yet.
 #[derive(Debug, Drop)]
 pub struct Job {
+    /// What it is called.
     pub name: Text,
+    /// What it does.
     pub task: Task,
 }
 

@@ -20,30 +20,41 @@ const NEWEST_VERSION: u64 = 1; // limit: 2, which has blocks and the words of le
 /// The version, and how many jobs make a block.
 #[derive(Clone, Copy, Debug, PartialEq, Eq)]
 pub struct Form {
+    /// The version, 1 or 2.
     pub version: u32,
+    /// How many jobs make a block, 1 to 4096.
     pub block: u32,
 }
 
 /// The values that may be absent, but for the jobs.
 #[derive(Drop)]
 pub struct More<'a> {
+    /// The text of the schedule, empty where the key is absent.
     pub schedule: &'a str,
+    /// How many rounds, 0 where the key is absent. Their limit isn't tested yet.
     pub rounds: u64,
-    /// None where the key is absent.
+    /// As many budgets as workers; None where the key is absent. Their limit isn't tested yet.
     pub budgets: Option<Vec<u64>>,
 }
 
 /// What the top level says.
 #[derive(Drop)]
 pub struct Top<'a> {
+    /// The version, 1 or 2.
     pub version: u32,
+    /// How many jobs make a block, 1 to 4096.
     pub block: u32,
+    /// How many workers there are to be. No limit is tested yet.
     pub workers: u64,
+    /// The threshold. No limit is tested yet.
     pub beta: u64,
+    /// The tables of the jobs, none where the key is absent.
     pub jobs: Vec<&'a Table>,
+    /// The text of the schedule, empty where the key is absent.
     pub schedule: &'a str,
+    /// How many rounds, 0 where the key is absent. Their limit isn't tested yet.
     pub rounds: u64,
-    /// None where the key is absent.
+    /// As many budgets as workers; None where the key is absent. Their limit isn't tested yet.
     pub budgets: Option<Vec<u64>>,
 }
 

@@ -1,5 +1,5 @@
 -- The moves of a plan, one part after the other.
-use Rattle.std.proofs.Common.{◌≡◌, ℕ, ◌+◌, Bool, true, ◌&&◌, List, [], ◌∷◌, ◌++◌, refl, sym, ap, ◌∙◌, add-one}
+use Rattle.std.proofs.Common.{◌≡◌, ℕ, ◌+◌, true, ◌&&◌, List, [], ◌∷◌, ◌++◌, refl, sym, ap, ◌∙◌, add-one}
 use Rattle.amo_sets.specs.Lists.{table}
 use Rattle.amo_kk.specs.World.{world_after_move, world_after_moves, are_in_range}
 use Rattle.amo_kk.specs.declared.givens.Givens.{Givens}

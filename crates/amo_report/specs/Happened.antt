@@ -1,5 +1,5 @@
 -- What a history says of a worker and of a job.
-use Rattle.std.specs.Prelude.{ℕ, Bool, true, false, not, List, [], ◌∷◌, ◌==◌, if◌then◌else◌, count_by, codes}
+use Rattle.std.specs.Prelude.{ℕ, Bool, true, false, not, List, [], ◌∷◌, ◌==◌, if◌then◌else◌, codes}
 use Rattle.amo_sets.specs.Sets.{has, members}
 use Rattle.amo_kk.specs.Run.{claimed_jobs}
 use Rattle.amo_kk.specs.declared.event.Event.{Event}

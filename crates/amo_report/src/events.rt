@@ -45,6 +45,7 @@ fn state_of(worker: usize, history: &[Event]) -> &'static str
     "running"
 }
 
+/// Whether the event is a claim of the worker.
 fn is_claim_of(worker: usize, event: &Event) -> bool
     ensures { result ≡ is_claim_of worker event.now }
 {
@@ -54,6 +55,7 @@ fn is_claim_of(worker: usize, event: &Event) -> bool
     }
 }
 
+/// Whether the event is a performance of the worker.
 fn is_done_of(worker: usize, event: &Event) -> bool
     ensures { result ≡ is_done_of worker event.now }
 {

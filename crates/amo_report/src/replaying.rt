@@ -5,7 +5,7 @@ ghost use Rattle.amo_plan.specs.Plan.{plan_of};
 ghost use Rattle.amo_plan.specs.PlanSeen.{plan_seen};
 ghost use Rattle.amo_report.specs.Check.{check_of};
 ghost use Rattle.amo_report.specs.Texts.{report_of};
-ghost use Rattle.amo_report.specs.Replays.{IsNoPlan, Refuses, Writes};
+ghost use Rattle.amo_report.specs.Replays.{IsNoPlan, IsNoPlanMemory, Refuses, Writes};
 
 use super::checking::check_text;
 use super::copying::{ReadFault, read_all, write_all};
@@ -35,6 +35,7 @@ pub fn read_source<R: Source>(alloc: Global, reader: &mut R) -> Result<Plan, Rep
     requires { R.failed reader.old ≡ false }
     ensures plan { IfOk result (λ p. IfSome (R.remaining reader.old) (λ bytes. plan_of bytes ≡ Ok (plan_seen p))) }
     ensures end { OnOk result (IsAtEnd (R.remaining reader.new)) }
+    ensures memory { IfErr result IsNoPlanMemory }
     ensures refused { IfErr result (λ e. IsNoPlan e (R.remaining reader.old) (R.failed reader.new)) }
 {
     let bytes = match read_all(alloc, reader) {
@@ -68,6 +69,7 @@ pub fn replay<R: Source, W: Sink>(
     requires writer { W.failed writer.old ≡ false }
     ensures end { OnOk result (IsAtEnd (R.remaining reader.new)) }
     ensures text { OnOk result (Writes report_of (R.remaining reader.old) (W.contents writer.old) (W.contents writer.new)) }
+    ensures memory { IfErr result IsNoPlanMemory }
     ensures refused { IfErr result (λ e. Refuses report_of e (R.remaining reader.old) (R.failed reader.new)
         (W.contents writer.old) (W.contents writer.new) (W.failed writer.new)) }
 {
@@ -93,6 +95,7 @@ pub fn check<R: Source, W: Sink>(
     requires writer { W.failed writer.old ≡ false }
     ensures end { OnOk result (IsAtEnd (R.remaining reader.new)) }
     ensures text { OnOk result (Writes check_of (R.remaining reader.old) (W.contents writer.old) (W.contents writer.new)) }
+    ensures memory { IfErr result IsNoPlanMemory }
     ensures refused { IfErr result (λ e. Refuses check_of e (R.remaining reader.old) (R.failed reader.new)
         (W.contents writer.old) (W.contents writer.new) (W.failed writer.new)) }
 {

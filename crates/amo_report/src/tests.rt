@@ -1,6 +1,10 @@
 //! Reports of worked plans, from their bytes.
 use super::*;
+use amo_kk::Move;
+use amo_plan::Plan;
+use amo_world::World;
 use std::alloc::Global;
+use std::process::Abort;
 use std::test::Fail;
 
 mod blocks;
@@ -28,7 +32,20 @@ pub fn text_of(out: &Room) -> &str {
     std::str::from_utf8(out.as_slice()).unwrap_or("no text")
 }
 
-/// What replay writes for a plan of these two parts, or `None` where it writes nothing.
+/// The report of a plan after these moves in its opening world.
+pub fn report_after(
+    rt: &impl Abort,
+    alloc: Global,
+    plan: &Plan,
+    moves: &[Move],
+) -> Result<String, Fail> {
+    let mut world = World::new(alloc, plan.heads.givens)?;
+    assert!(rt; world.in_range(moves));
+    world.run(moves);
+    Ok(report_text(alloc, plan, &world)?)
+}
+
+/// What replay writes for a plan of these two parts.
 fn report_of(alloc: Global, heads: &str, jobs: &str) -> Result<Room, Fail> {
     let plan = format!(in alloc; "{heads}{jobs}")?;
     let mut out = Room::new(alloc, 2000)?;

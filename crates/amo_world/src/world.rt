@@ -250,7 +250,8 @@ impl World {
     pub fn unclaimed_len(&self) -> u32
         ensures { result ≡ length (object_of self.now.givens self.now.world).unclaimed }
     {
-        self.givens.jobs - claim_count(&self.history)
+        let jobs = self.givens.jobs;
+        jobs - claim_count(&self.history)
     }
 
     /// How many jobs were performed.

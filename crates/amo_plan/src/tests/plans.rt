@@ -123,8 +123,15 @@ fn a_cut_between_lines_is_told_by_what_is_left(rt: HostRuntime) -> Result<(), Fa
 
 #[test]
 fn refused_read_plan(rt: HostRuntime) -> Result<(), Fail> {
-    match read_plan(rt.alloc(), THREE.as_bytes()) {
-        Ok(plan) => assert_three(&rt, &plan),
+    let text = "version = 1\nworkers = 1\nbeta = 1\nschedule = \"1\"\nbudgets = [7]
+job = [{name = \"a\", say = \"one\"}, {name = \"b\", add = [2]}]\n";
+    match read_plan(rt.alloc(), text.as_bytes()) {
+        Ok(plan) => {
+            assert_job(&rt, &plan, 0, "a", "one");
+            assert_eq!(rt; plan.tasks.as_slice().len(), 2);
+            assert_eq!(rt; plan.heads.moves.as_slice(), [Move::Turn(1)].as_slice());
+            assert_eq!(rt; plan.heads.budgets.as_slice(), [7u64].as_slice());
+        }
         Err(fault) => assert_eq!(rt; fault, PlanFault::NoMemory),
     }
     Ok(())

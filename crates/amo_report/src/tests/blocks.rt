@@ -1,8 +1,8 @@
 //! Texts of plans whose jobs stand in blocks.
 use super::super::*;
-use amo_kk::Givens;
+use super::report_after;
+use amo_kk::{Givens, Move};
 use amo_plan::{Heads, Plan, read_plan};
-use amo_world::World;
 use std::alloc::Global;
 use std::process::Abort;
 use std::test::Fail;
@@ -41,42 +41,27 @@ fn in_blocks(rt: &impl Abort, alloc: Global) -> Result<Plan, Fail> {
     })
 }
 
-/// The report after some turns, an attempt to leave, and more turns.
-fn report_after(rt: &impl Abort, alloc: Global, turns: u32, more: u32) -> Result<String, Fail> {
-    let plan = in_blocks(rt, alloc)?;
-    let mut world = World::new(alloc, plan.heads.givens)?;
-    assert_eq!(rt; plan.heads.givens.workers, 1);
-    for _turn in 0..turns {
-        let _turned = world.turn(1);
-    }
-    let _leaving = world.leave(1);
-    for _turn in 0..more {
-        let _turned = world.turn(1);
-    }
-    Ok(report_text(alloc, &plan, &world)?)
-}
-
 #[test]
 fn blocks_have_these_reports(rt: HostRuntime) -> Result<(), Fail> {
-    for (turns, more, report) in [
+    let turn = Move::Turn(1);
+    let leave = Move::Leave(1);
+    for (moves, report) in [
         (
-            6,
-            0,
+            [turn, turn, turn, turn, turn, turn],
             "jobs 3 block 2 blocks 2 workers 1 beta 1 bound 2\n1 claimed 1 1\n2 done 1 1\n3 claimed 1 2\n4 done 1 2\n5 ended 1\nworker 1 ended turns 6 claimed 2 done 2\nresult 1 a one\nresult 2 b two\nresult 3 c three\nperformed blocks 2 jobs 3\nunclaimed\n",
         ),
         (
-            3,
-            1,
+            [turn, turn, turn, leave, turn, turn],
             "jobs 3 block 2 blocks 2 workers 1 beta 1 bound 2\n1 claimed 1 1\n2 done 1 1\n3 left 1\nworker 1 left turns 4 claimed 1 done 1\nresult 1 a one\nresult 2 b two\nperformed blocks 1 jobs 2\nunclaimed 2\n",
         ),
         (
-            2,
-            1,
+            [turn, turn, leave, leave, leave, turn],
             "jobs 3 block 2 blocks 2 workers 1 beta 1 bound 2\n1 claimed 1 1\n2 done 1 1\nworker 1 running turns 3 claimed 1 done 1\nresult 1 a one\nresult 2 b two\nperformed blocks 1 jobs 2\nunclaimed 2\n",
         ),
     ] {
-        let text = report_after(&rt, rt.alloc(), turns, more)?;
-        assert_eq!(rt; text.as_str(), report, "after {turns} turns");
+        let plan = in_blocks(&rt, rt.alloc())?;
+        let text = report_after(&rt, rt.alloc(), &plan, &moves)?;
+        assert_eq!(rt; text.as_str(), report);
     }
     Ok(())
 }

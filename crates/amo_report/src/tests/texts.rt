@@ -1,8 +1,8 @@
 //! Check texts, fault texts, and reports of worlds that were run by hand.
 use super::super::*;
-use super::{FIVE_JOBS, ONE_WORKER, ONE_WORKER_REPORT, text_of};
-use amo_kk::GivensFault;
-use amo_plan::{PlanFault, read_plan};
+use super::{FIVE_JOBS, ONE_WORKER, ONE_WORKER_REPORT, report_after, text_of};
+use amo_kk::{GivensFault, Move};
+use amo_plan::{Plan, PlanFault, read_plan};
 use amo_world::World;
 use std::alloc::{AllocError, Global};
 use std::test::Fail;
@@ -70,41 +70,35 @@ fn checks_have_these_texts(rt: HostRuntime) -> Result<(), Fail> {
     Ok(())
 }
 
-/// The report of five jobs and two workers, after worker 2 announces a job and leaves and 1 has 20 turns.
-fn report_of_leaving(alloc: Global) -> Result<String, Fail> {
+/// Five jobs and two workers.
+fn two_workers(alloc: Global) -> Result<Plan, Fail> {
     let text = format!(in alloc; "version = 1\nworkers = 2\nbeta = 2\n{FIVE_JOBS}")?;
-    let plan = read_plan(alloc, text.as_bytes())?;
-    let mut world = World::new(alloc, plan.heads.givens)?;
-    if plan.heads.givens.workers == 2 {
-        let _moved = world.turn(2);
-        let _left = world.leave(2);
-        for _turn in 0..20 {
-            let _turned = world.turn(1);
-        }
-    }
-    Ok(report_text(alloc, &plan, &world)?)
+    Ok(read_plan(alloc, text.as_bytes())?)
 }
 
 #[test]
 fn a_worker_that_left_frees_its_job(rt: HostRuntime) -> Result<(), Fail> {
+    let plan = two_workers(rt.alloc())?;
+    let mut moves = [Move::Turn(1); 22];
+    moves[0] = Move::Turn(2);
+    moves[1] = Move::Leave(2);
     assert_eq!(rt;
-        report_of_leaving(rt.alloc())?.as_str(),
+        report_after(&rt, rt.alloc(), &plan, &moves)?.as_str(),
         "jobs 5 workers 2 beta 2 bound 3\n1 left 2\n2 claimed 1 1\n3 done 1 1\n4 claimed 1 2\n5 done 1 2\n6 claimed 1 3\n7 done 1 3\n8 claimed 1 4\n9 done 1 4\n10 ended 1\nworker 1 ended turns 20 claimed 4 done 4\nworker 2 left turns 2 claimed 0 done 0\nresult 1 a 1\nresult 2 b 2\nresult 3 c 3\nresult 4 d 4\nperformed 4\nunclaimed 5\n"
     );
     Ok(())
 }
 
 /// The plan of one worker, read from a source.
-fn one_worker(alloc: Global) -> Result<amo_plan::Plan, ReplayFault> {
+fn one_worker(alloc: Global) -> Result<Plan, ReplayFault> {
     read_source(alloc, &mut Bytes::new(ONE_WORKER.as_bytes()))
 }
 
 #[test]
 fn the_opening_world_is_reported(rt: HostRuntime) -> Result<(), Fail> {
     let plan = one_worker(rt.alloc())?;
-    let world = World::new(rt.alloc(), plan.heads.givens)?;
     assert_eq!(rt;
-        report_text(rt.alloc(), &plan, &world)?.as_str(),
+        report_after(&rt, rt.alloc(), &plan, &[])?.as_str(),
         "jobs 3 workers 1 beta 1 bound 3\nworker 1 running turns 0 claimed 0 done 0\nperformed 0\nunclaimed 1 2 3\n"
     );
     Ok(())

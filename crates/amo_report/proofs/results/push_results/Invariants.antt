@@ -1,5 +1,4 @@
 use Rattle.std.proofs.Common.{◌≡◌, ◌++◌, drop, string_bytes}
-use Rattle.amo_kk.specs.Run.{done_jobs}
 use Rattle.amo_report.specs.Results.{done_results}
 use Rattle.amo_report.proofs.results.push_results.Given as goal
 

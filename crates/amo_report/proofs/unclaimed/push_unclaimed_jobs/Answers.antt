@@ -1,4 +1,4 @@
-use Rattle.std.proofs.Common.{◌≡◌, List, ℕ, Bool, false, not, OnOk, ap, subst, string_bytes, ◌++◌, ◌∙◌}
+use Rattle.std.proofs.Common.{◌≡◌, List, ℕ, Bool, false, OnOk, ap, subst, string_bytes, ◌++◌, ◌∙◌}
 use Rattle.amo_sets.specs.Lists.{numbered}
 use Rattle.amo_report.specs.Numbers.{spaced}
 use Rattle.amo_report.proofs.Marks.{unmarked_unclaimed}
