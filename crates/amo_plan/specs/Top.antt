@@ -22,7 +22,7 @@ pub record TopSeen : Type 0 where
 
 -- the newest version of the format
 abbrev pub newest_version : ℕ
-newest_version = 1  -- limit: 2, which has blocks and the words of leaving, is left out for now
+newest_version = 2
 
 -- a version that there is
 abbrev pub known_version : ℕ → Option ℕ

@@ -8,6 +8,7 @@ mod faults;
 mod limits;
 mod plans;
 mod results;
+mod version2;
 
 /// The heads of a plan of two workers, to which more is added.
 pub const HEADS: &str = "version = 1\nworkers = 2\nbeta = 2\n";

@@ -15,7 +15,7 @@ use std::alloc::Global;
 use toml::{Table, Value};
 
 /// The newest version of the format.
-const NEWEST_VERSION: u64 = 1; // limit: 2, which has blocks and the words of leaving, is left out for now
+const NEWEST_VERSION: u64 = 2;
 
 /// The version, and how many jobs make a block.
 #[derive(Clone, Copy, Debug, PartialEq, Eq)]

@@ -50,10 +50,6 @@ fn a_fault_is_told_at_its_place(rt: HostRuntime) -> Result<(), Fail> {
             PlanFault::WrongKind(0),
         ),
         (
-            "version = 2\nworkers = 1\nbeta = 1\n",
-            PlanFault::WrongKind(0),
-        ),
-        (
             "version = 3\nworkers = 1\nbeta = 1\n",
             PlanFault::WrongKind(0),
         ),
