@@ -1,12 +1,11 @@
 -- How a command ends, from the fault that came and what was told of it.
-use Rattle.std.proofs.Common.{◌≡◌, ◌⊎◌, inl, inr, ℕ, Option, refl, sym, subst, arith}
-use Rattle.std.specs.Prelude.{◌≤◌}
+use Rattle.std.proofs.Common.{◌≡◌, inl, inr, ℕ, Option, sym, subst, arith}
 use Rattle.amo_plan.specs.declared.fault.PlanFault.{PlanFault}
 use Rattle.amo.specs.declared.request.Request.{Request}
 use Rattle.amo.specs.declared.fault.Fault.{Fault}
 use Rattle.amo.specs.declared.fault.Fault.TheVariants.{Plan, NoCommand, NoMemory, Read, Write}
 use Rattle.amo.specs.Faults.{line_of, status_of}
-use Rattle.amo.specs.Statuses.{Change, Says, IsFault, EndsBy, Ends, Tells, IsTold}
+use Rattle.amo.specs.Statuses.{Change, Says, IsFault, Ends, Tells, IsTold}
 
 told_itself : (fault : Fault) (err : Change) (status : ℕ) → Tells fault err status → IsTold fault err status
 told_itself (Plan f) err status h = inl h

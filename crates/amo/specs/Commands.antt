@@ -3,7 +3,7 @@ use Rattle.std.specs.Prelude.{◌≡◌, List, [], ◌∷◌, Option, Some, None
 use Rattle.std.specs.Str.{bytes_eq}
 use Rattle.clap.specs.Words.{App, Row, Text, new_app, with_subcommand, subcommand_of, fault_of}
 use Rattle.amo.specs.declared.request.Request.{Request}
-use Rattle.amo.specs.declared.request.Request.TheVariants.{Replay}
+use Rattle.amo.specs.declared.request.Request.TheVariants.{Replay, Check}
 use Rattle.amo.specs.declared.request.RequestFault.{RequestFault}
 use Rattle.amo.specs.declared.request.RequestFault.TheVariants.{NoCommand}
 
@@ -11,17 +11,24 @@ use Rattle.amo.specs.declared.request.RequestFault.TheVariants.{NoCommand}
 abbrev pub replay_app : App
 replay_app = new_app (codes "replay")
 
+-- the subcommand `check`, which takes nothing
+abbrev pub check_app : App
+check_app = new_app (codes "check")
+
 -- the same app, which wants a subcommand
 abbrev pub wanting_subcommand : App → App
 wanting_subcommand a = record a { top = record a.top { subcommand_required = true } }
 
 -- the program as `clap` sees it: `amo` with a subcommand for each request
 abbrev pub amo_app : App
-amo_app = with_subcommand (wanting_subcommand (new_app (codes "amo"))) replay_app.top
+amo_app = with_subcommand (with_subcommand (wanting_subcommand (new_app (codes "amo"))) replay_app.top) check_app.top
 
 -- what a subcommand of this name with these texts asks for
 unfoldable pub request_of_row : Text → List Row → Option Request
-request_of_row name rows = if bytes_eq name (codes "replay") then Some Replay else None
+request_of_row name rows =
+    if bytes_eq name (codes "replay") then Some Replay
+    else (if bytes_eq name (codes "check") then Some Check
+    else None)
 
 -- this, where there are no faults
 abbrev pub unless_any : {A B : Type 0} → List A → Option B → Option B

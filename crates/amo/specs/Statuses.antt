@@ -6,9 +6,10 @@ use Rattle.amo_plan.specs.declared.fault.PlanFault.{PlanFault}
 use Rattle.amo_plan.specs.declared.fault.PlanFault.TheVariants.{NoMemory as NoMemoryForPlan}
 use Rattle.amo_report.specs.Streams.{AppendsFront}
 use Rattle.amo_report.specs.Replays.{Writes, WritesFront}
+use Rattle.amo_report.specs.Check.{check_of}
 use Rattle.amo_report.specs.Texts.{report_of}
 use Rattle.amo.specs.declared.request.Request.{Request}
-use Rattle.amo.specs.declared.request.Request.TheVariants.{Replay}
+use Rattle.amo.specs.declared.request.Request.TheVariants.{Replay, Check}
 use Rattle.amo.specs.declared.fault.Fault.{Fault}
 use Rattle.amo.specs.declared.fault.Fault.TheVariants.{Plan, NoCommand, NoMemory, Read, Write}
 use Rattle.amo.specs.Faults.{line_of, status_of}
@@ -36,6 +37,7 @@ pub record Says (s : Change) (line : List ℕ) : Type 0 where
 -- the text that a request wants of a plan
 abbrev pub text_of : Request → PlanSeen → List ℕ
 text_of Replay = report_of
+text_of Check = check_of
 
 -- The wanted text of the reader's plan was written to `out`, and nothing else, and the reader is at its end.
 pub record IsDone (wanted : Option Request) (reader out : Change) : Type 0 where

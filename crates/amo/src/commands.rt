@@ -13,9 +13,11 @@ fn amo_command<'a>(alloc: Global) -> Result<Command<'a>, AllocError>
     ensures { IfOk result (λ c. app_of c ≡ amo_app) }
 {
     let replay = Command::new(alloc, "replay");
+    let check = Command::new(alloc, "check");
     Command::new(alloc, "amo")
         .subcommand_required(true)
-        .subcommand(replay)
+        .subcommand(replay)?
+        .subcommand(check)
 }
 
 /// What the subcommand of this name asks for.
@@ -25,6 +27,7 @@ fn request_of_row(name: &str, _matches: &ArgMatches<'_>) -> Option<Request>
 {
     match name {
         "replay" => Some(Request::Replay),
+        "check" => Some(Request::Check),
         _ => None,
     }
 }

@@ -1,4 +1,5 @@
-//! Replays plans: `amo replay` reads a plan from standard input and writes the report of its replay.
+//! Replays plans: `amo replay` reads a plan from standard input and writes the report of its replay, and `amo check`
+//! writes its check text.
 #![tactic(auto)]
 
 ghost use Rattle.std.specs.Prelude.{◌≤◌, IfOk};
@@ -6,8 +7,6 @@ ghost use Rattle.std.specs.Prelude.{◌≤◌, IfOk};
 mod commands;
 mod fault;
 mod request;
-#[cfg(test)]
-mod tests;
 mod working;
 
 use amo_report::Streamed;
@@ -38,3 +37,6 @@ fn main(rt: HostRuntime) -> ExitCode {
         Err(_) => ExitCode::from(3),
     }
 }
+
+#[cfg(test)]
+mod tests;

@@ -9,6 +9,8 @@ use std::alloc::{AllocError, AllocFailed};
 pub enum Request {
     /// To replay the plan that is read, and to write its report.
     Replay,
+    /// To say that the plan that is read is one, with its numbers.
+    Check,
 }
 
 /// Why words ask for nothing.

@@ -41,6 +41,16 @@ fn a_plan_without_jobs_ends_at_once(rt: HostRuntime) -> Result<(), Fail> {
     Ok(())
 }
 
+#[test]
+fn a_check_writes_the_check_text_alone(rt: HostRuntime) -> Result<(), Fail> {
+    let mut reader = Bytes::new(PLAN.as_bytes());
+    let ran = run_words(rt.alloc(), &["check"], &mut reader, 1000)?;
+    assert_eq!(rt; ran.status, 0);
+    assert_eq!(rt; ran.out(), "ok jobs 3 workers 1 beta 1 moves 9 rounds 0\n");
+    assert_eq!(rt; ran.err(), "");
+    Ok(())
+}
+
 /// A refused plan: status 1, its line, and nothing on `out`.
 fn is_refused(ran: &Ending, line: &str) -> bool {
     ran.status == 1 && ran.out().is_empty() && ran.err() == line

@@ -28,7 +28,7 @@ fn another_word_is_no_command(rt: HostRuntime) -> Result<(), Fail> {
         "Replay",
         "replay ",
         "--",
-        "check",
+        "checks",
     ] {
         assert!(rt; is_no_command(rt.alloc(), &[word])?, "at {word}");
     }
