@@ -11,7 +11,7 @@ use Rattle.amo_kk.specs.Record.{is_open, is_over, wants_nothing, jobs_in_hand}
 use Rattle.amo_kk.specs.Choice.{chosen_job, record_after_choice, record_after_check}
 use Rattle.amo_kk.specs.Event.{want_in, want, with_announced, record_at_row, record_after_phase, record_after}
 use Rattle.amo_kk.specs.World.{nobody, process, loaded_value, process_after, world_after_event, world_after_turn}
-use Rattle.amo_kk.specs.Alone.{is_claiming, claims_or_ends, world_after_turns, IsFirstToSettle}
+use Rattle.amo_kk.specs.Alone.{is_claiming, claims_or_ends, world_after_turns, IsFirstToSettle, stores_announcement, want_at, turns_that}
 use Rattle.amo_kk.specs.Lawful.{IsLawful}
 use Rattle.amo_kk.specs.declared.givens.Givens.{Givens}
 use Rattle.amo_kk.specs.declared.phase.Phase.{Phase}
@@ -23,23 +23,24 @@ use Rattle.amo_sets.proofs.Numbers.{numbered-put_same, numbered-put_other, has-a
 use Rattle.amo_kk.proofs.Choice.{after_rests, chosen_is, choice_cases, check_cases, to_row_cases, to_announcement_cases, next_other_next}
 use Rattle.amo_kk.proofs.Kept.{numbered_next, noted_cases, noted_same, noted_kept, others_room, others_next, first_other, none_before, done_job}
 use Rattle.amo_kk.proofs.Worlds.{turn_lawful, here_is_worker, put_here}
-use Rattle.amo_kk.proofs.Runs.{stored_local, stored_gone}
+use Rattle.amo_kk.proofs.OwnTurns.{is_false, next_record, turned, stored, stored_within, stored_in, stored_in_want, to_begin, turns_that-suc, left_from}
 
--- one of the next k turns of p claims a job or ends p
-abbrev claims_or_ends_within : Givens → ℕ → ℕ → World → Bool
-claims_or_ends_within g p zero w = false
-claims_or_ends_within g p (suc k) w = claims_or_ends g w p || claims_or_ends_within g p k (world_after_turn g w p)
+-- one of the next k turns of p claims a job or ends p, and up to it at most n announcements are stored
+abbrev SettlesWithin : Givens → ℕ → ℕ → ℕ → World → Type 0
+SettlesWithin g p zero n w = ⊥
+SettlesWithin g p (suc k) n w = (stored w p ≤ n) × ((claims_or_ends g w p ≡ true) ⊎ SettlesWithin g p k (n - stored w p) (world_after_turn g w p))
 
 -- and so one of them is the first
-first_of_them : (g : Givens) (p k : ℕ) (w : World) → claims_or_ends_within g p k w ≡ true → (i : ℕ) × (i < k) × IsFirstToSettle g w p i
-first_of_them g p zero w h = absurd (true≢false (sym h))
-first_of_them g p (suc k) w h = go (claims_or_ends g w p) refl h (first_of_them g p k (world_after_turn g w p))
+first_of_them : (g : Givens) (p k n : ℕ) (w : World) → SettlesWithin g p k n w → (i : ℕ) × (i < k) × IsFirstToSettle g w p i × (stored_within g w p i ≤ n)
+first_of_them g p zero n w h = absurd h
+first_of_them g p (suc k) n w h = go (claims_or_ends g w p) refl h.1 (first_of_them g p k (n - stored w p) (world_after_turn g w p))
   where
-    go : (b : Bool) → claims_or_ends g w p ≡ b → (b || claims_or_ends_within g p k (world_after_turn g w p)) ≡ true
-        → (claims_or_ends_within g p k (world_after_turn g w p) ≡ true → (i : ℕ) × (i < k) × IsFirstToSettle g (world_after_turn g w p) p i)
-        → (i : ℕ) × (i < suc k) × IsFirstToSettle g w p i
-    go true e h next = (0, omega arith, record { none_before = λ i l. absurd (omega arith); this_one = e })
-    go false e h next = (suc (next h).0, suc_less (next h).0 k (next h).1, record { none_before = none; this_one = (next h).2.this_one })
+    go : (b : Bool) → claims_or_ends g w p ≡ b → (claims_or_ends g w p ≡ true) ⊎ SettlesWithin g p k (n - stored w p) (world_after_turn g w p)
+        → (SettlesWithin g p k (n - stored w p) (world_after_turn g w p) → (i : ℕ) × (i < k) × IsFirstToSettle g (world_after_turn g w p) p i × (stored_within g (world_after_turn g w p) p i ≤ n - stored w p))
+        → (i : ℕ) × (i < suc k) × IsFirstToSettle g w p i × (stored_within g w p i ≤ n)
+    go true e s next = (0, omega arith, record { none_before = λ i l. absurd (omega arith); this_one = e }, h.0)
+    go false e (inl t) next = absurd (true≢false (sym t ∙ e))
+    go false e (inr s) next = (suc (next s).0, suc_less (next s).0 k (next s).1, record { none_before = none; this_one = (next s).2.this_one }, all (next s).0 (next s).3)
       where
         suc_less : (i k : ℕ) → i < k → suc i < suc k
         suc_less i k l = omega arith
@@ -47,9 +48,12 @@ first_of_them g p (suc k) w h = go (claims_or_ends g w p) refl h (first_of_them 
         less : (i k : ℕ) → suc i < suc k → i < k
         less i k l = omega arith
 
-        none : (i : ℕ) → i < suc (next h).0 → claims_or_ends g (world_after_turns g w p i) p ≡ false
+        none : (i : ℕ) → i < suc (next s).0 → claims_or_ends g (world_after_turns g w p i) p ≡ false
         none zero l = e
-        none (suc i) l = (next h).2.none_before i (less i (next h).0 l)
+        none (suc i) l = (next s).2.none_before i (less i (next s).0 l)
+
+        all : (i : ℕ) → stored_within g (world_after_turn g w p) p i ≤ n - stored w p → stored_within g w p (suc i) ≤ n
+        all i l = let here : stored w p ≤ n = h.0 in let first = turns_that-suc (λ k. stores_announcement (want_at g w p k)) i in omega arith
 
 -- sums over 1..n
 
@@ -68,10 +72,6 @@ total_less (suc n) q f h a b l rest = ⊎_elim
     (λ m. let below = total_less n q f h a (omega arith) l rest in let here = rest (suc n) (λ x. m (sym x)) in omega arith)
     (cases_eq q (suc n))
 
-is_false : (b : Bool) → (b ≡ true → ⊥) → b ≡ false
-is_false true h = absurd (h refl)
-is_false false h = refl
-
 front_distinct : (xs ys : List ℕ) → AreDistinct (xs ++ ys) → AreDistinct xs
 front_distinct [] ys d = tt
 front_distinct (x ∷ xs) ys d = (is_false (has xs x) (λ t. true≢false (sym (has-append xs ys x ∙ left (has xs x) (has ys x) t) ∙ d.0)), front_distinct xs ys d.1)
@@ -84,63 +84,43 @@ module _ (g : Givens) (ok : AreGivens g) (p : ℕ) (o : IsWorker g p) (at : ℕ 
   abbrev Same : World → Type 0
   Same w = (q : ℕ) → q ≢ p → process w q ≡ at q
 
-  -- in each such world in which p has the record x, p settles within k turns, where x is not over
-  abbrev Ready : ℕ → Record → Type 0
-  Ready k x = is_over x.phase ≡ false → (w : World) → IsLawful g w → Same w → (process w p).gone ≡ false → (process w p).local ≡ x → claims_or_ends_within g p k w ≡ true
+  -- in each such world in which p has the record x, p settles within k turns and n stores, where x is not over
+  abbrev Ready : ℕ → ℕ → Record → Type 0
+  Ready k n x = is_over x.phase ≡ false → (w : World) → IsLawful g w → Same w → (process w p).gone ≡ false → (process w p).local ≡ x → SettlesWithin g p k n w
 
-  step : (k : ℕ) (w : World) → IsLawful g w → Same w → (process w p).gone ≡ false → Ready k (let r = (process w p).local in record_after g p (loaded_value w (want r)) r) → claims_or_ends_within g p (suc k) w ≡ true
-  step k w law same here ready = go (is_over (let r = (process w p).local in record_after g p (loaded_value w (want r)) r).phase) refl
+  step : (k n : ℕ) (w : World) (phase : Phase) → (process w p).local.phase ≡ phase → stored_in phase ≤ n → IsLawful g w → Same w → (process w p).gone ≡ false → Ready k (n - stored_in phase) (next_record g w p) → SettlesWithin g p (suc k) n w
+  step k n w phase is enough law same here ready = (subst (λ x. x ≤ n) (sym paid) enough, go (is_over (next_record g w p).phase) refl)
     where
       r : Record
       r = (process w p).local
 
-      x : Record
-      x = record_after g p (loaded_value w (want r)) r
-
-      a : Process
-      a = process_after (want r) (process w p) x
-
-      is_turned : world_after_turn g w p ≡ world_after_event g w p (process w p)
-      is_turned = ap (λ b. if b then w else world_after_event g w p (process w p)) here
-
-      now_p : process (world_after_turn g w p) p ≡ a
-      now_p = ap (λ v. process v p) is_turned ∙ put_here g w p a law.size o
-
-      now_q : (q : ℕ) → q ≢ p → process (world_after_turn g w p) q ≡ at q
-      now_q q n = ap (λ v. process v q) is_turned ∙ numbered-put_other nobody a w.processes p q n ∙ same q n
-
-      left : (a b c : Bool) → b ≡ true → ((a || b) || c) ≡ true
-      left a b c h = grind arith
+      paid : stored w p ≡ stored_in phase
+      paid = ap (λ x. if stores_announcement (want_in r x) then 1 else 0) is ∙ stored_in_want r phase
 
       right : (a b : Bool) → b ≡ true → (a || b) ≡ true
       right a b h = grind arith
 
-      go : (b : Bool) → is_over x.phase ≡ b → claims_or_ends_within g p (suc k) w ≡ true
-      go true e = left (is_claiming r.phase) (is_over x.phase) (claims_or_ends_within g p k (world_after_turn g w p)) e
-      go false e = right (claims_or_ends g w p) (claims_or_ends_within g p k (world_after_turn g w p))
-          (ready e (world_after_turn g w p) (turn_lawful g w p ok law) now_q
-          (ap (λ (y : Process). y.gone) now_p ∙ stored_gone (want r) (process w p) x ∙ after_rests g p (loaded_value w (want r)) r (is_false _ (λ h. true≢false (sym ((law.lawful.sound p o).gone h) ∙ here))) ∙ e)
-          (ap (λ (y : Process). y.local) now_p ∙ stored_local (want r) (process w p) x))
+      go : (b : Bool) → is_over (next_record g w p).phase ≡ b → (claims_or_ends g w p ≡ true) ⊎ SettlesWithin g p k (n - stored w p) (world_after_turn g w p)
+      go true e = inl (right (is_claiming r.phase) (is_over (next_record g w p).phase) e)
+      go false e =
+          let t = turned g w p ok law here e in
+          inr (subst (λ x. SettlesWithin g p k (n - x) (world_after_turn g w p)) (sym paid) (ready e (world_after_turn g w p) t.law (λ q n. t.others q n ∙ same q n) t.here t.local))
 
   -- a record after its phase is known
-  by_phase : (k v : ℕ) (r : Record) (phase : Phase) → r.phase ≡ phase → Ready k (record (record_after_phase g p v r phase) { steps = min (r.steps + 1) (2 ^ 64 - 1) }) → Ready k (record_after g p v r)
-  by_phase k v r phase is h = subst (λ x. Ready k (record (record_after_phase g p v r x) { steps = min (r.steps + 1) (2 ^ 64 - 1) })) (sym is) h
+  by_phase : (k n v : ℕ) (r : Record) (phase : Phase) → r.phase ≡ phase → Ready k n (record (record_after_phase g p v r phase) { steps = min (r.steps + 1) (2 ^ 64 - 1) }) → Ready k n (record_after g p v r)
+  by_phase k n v r phase is h = subst (λ x. Ready k n (record (record_after_phase g p v r x) { steps = min (r.steps + 1) (2 ^ 64 - 1) })) (sym is) h
 
-  claims_now : (k : ℕ) (w : World) (j : ℕ) → (process w p).local.phase ≡ Claiming j → claims_or_ends_within g p (suc k) w ≡ true
-  claims_now k w j is = first (is_claiming (process w p).local.phase) _ _ (ap is_claiming is)
+  claims_now : (k n : ℕ) (w : World) (j : ℕ) → (process w p).local.phase ≡ Claiming j → SettlesWithin g p (suc k) n w
+  claims_now k n w j is = (subst (λ x. (if stores_announcement (want_in (process w p).local x) then 1 else 0) ≤ n) (sym is) (omega arith), inl (left (is_claiming (process w p).local.phase) _ (ap is_claiming is)))
     where
-      first : (a b c : Bool) → a ≡ true → ((a || b) || c) ≡ true
-      first a b c h = grind arith
-
-  -- how many of the others are not before q
-  abbrev left_from : ℕ → ℕ
-  left_from q = g.workers - 1 - others_before p q
+      left : (a b : Bool) → a ≡ true → (a || b) ≡ true
+      left a b h = grind arith
 
   -- turns from this phase to the check's end, entries of rows apart
   abbrev cost : Phase → ℕ
   cost (Announcing j) = 1 + 2 * (g.workers - 1)
-  cost (Trying j q) = left_from q + (g.workers - 1)
-  cost (Reading j q) = left_from q
+  cost (Trying j q) = left_from g p q + (g.workers - 1)
+  cost (Reading j q) = left_from g p q
   cost (Claiming j) = 0
   cost (Holding j) = 2 + 2 * (g.workers - 1)
   cost Over = 0
@@ -164,13 +144,14 @@ module _ (g : Givens) (ok : AreGivens g) (p : ℕ) (o : IsWorker g p) (at : ℕ 
   IsOn Left j = ⊥
 
   -- an attempt on j that passes its check: all rows are read, and nobody announces j
-  record Passes (r : Record) (j k : ℕ) : Type 0 where
+  record Passes (r : Record) (j k n : ℕ) : Type 0 where
     on : IsOn r.phase j
     read : (q : ℕ) → IsOther g p q → length (at q).local.dones ≤ numbered 0 r.fronts q
     unknown : has r.known j ≡ false
     untried : has r.tried j ≡ false
     apart : (q : ℕ) → IsOther g p q → (at q).next ≢ j
     bound : cost r.phase < k
+    stores : to_begin r.phase ≤ n
 
   check_open : (j : ℕ) (r : Record) → has r.known j ≡ false → has r.tried j ≡ false → record_after_check g p j r ≡ record r { phase = Claiming j }
   check_open j r a b = λ i. if not (a i) && not (b i) then record r { phase = Claiming j } else record_after_choice g p r
@@ -185,9 +166,9 @@ module _ (g : Givens) (ok : AreGivens g) (p : ℕ) (o : IsWorker g p) (at : ℕ 
       ap (λ phase. loaded_value w (want_in (process w p).local phase)) is ∙ numbered_next 0 (process w q).row (numbered 0 (process w p).local.fronts q)
       ∙ (law.lawful.sound q other.worker).row (numbered 0 (process w p).local.fronts q) ∙ ap (λ (x : Process). get_or x.local.dones (numbered 0 (process w p).local.fronts q) 0) (same q other.differs)
 
-  passes_step : (k j : ℕ) → ((w : World) → IsLawful g w → Same w → (process w p).gone ≡ false → Passes (process w p).local j k → claims_or_ends_within g p k w ≡ true)
-      → (w : World) → IsLawful g w → Same w → (process w p).gone ≡ false → Passes (process w p).local j (suc k) → claims_or_ends_within g p (suc k) w ≡ true
-  passes_step k j next w law same here l = go (process w p).local.phase refl
+  passes_step : (k j : ℕ) → ((n : ℕ) (w : World) → IsLawful g w → Same w → (process w p).gone ≡ false → Passes (process w p).local j k n → SettlesWithin g p k n w)
+      → (n : ℕ) (w : World) → IsLawful g w → Same w → (process w p).gone ≡ false → Passes (process w p).local j (suc k) n → SettlesWithin g p (suc k) n w
+  passes_step k j next n w law same here l = go (process w p).local.phase refl
     where
       r : Record
       r = (process w p).local
@@ -198,54 +179,55 @@ module _ (g : Givens) (ok : AreGivens g) (p : ℕ) (o : IsWorker g p) (at : ℕ 
       s : ℕ
       s = min (r.steps + 1) (2 ^ 64 - 1)
 
-      to : (x : Record) → Passes x j k → Ready k x
-      to x h _ w' law' same' here' e = next w' law' same' here' (subst (λ y. Passes y j k) (sym e) h)
+      to : (m : ℕ) (x : Record) → Passes x j k m → Ready k m x
+      to m x h _ w' law' same' here' e = next m w' law' same' here' (subst (λ y. Passes y j k m) (sym e) h)
 
-      claim : (i : ℕ) (tried : List ℕ) → i ≡ j → has tried j ≡ false → 1 ≤ k → Ready k (record (record_after_check g p i (record r { tried = tried })) { steps = s })
-      claim i tried e none some = subst (λ x. Ready k (record x { steps = s })) (sym (check_open i (record r { tried = tried }) (subst (λ x. has r.known x ≡ false) (sym e) l.unknown) (subst (λ x. has tried x ≡ false) (sym e) none)))
-          (to _ (record { on = e; read = l.read; unknown = l.unknown; untried = none; apart = l.apart; bound = some }))
+      claim : (m i : ℕ) (tried : List ℕ) → i ≡ j → has tried j ≡ false → 1 ≤ k → Ready k m (record (record_after_check g p i (record r { tried = tried })) { steps = s })
+      claim m i tried e none some = subst (λ x. Ready k m (record x { steps = s })) (sym (check_open i (record r { tried = tried }) (subst (λ x. has r.known x ≡ false) (sym e) l.unknown) (subst (λ x. has tried x ≡ false) (sym e) none)))
+          (to _ _ (record { on = e; read = l.read; unknown = l.unknown; untried = none; apart = l.apart; bound = some; stores = omega arith }))
 
-      go : (phase : Phase) → r.phase ≡ phase → claims_or_ends_within g p (suc k) w ≡ true
+      go : (phase : Phase) → r.phase ≡ phase → SettlesWithin g p (suc k) n w
       go (Announcing i) is =
           let on : i ≡ j = subst (λ x. IsOn x j) is l.on in
           let b : 1 + 2 * (g.workers - 1) < suc k = subst (λ x. cost x < suc k) is l.bound in
-          step k w law same here (by_phase k v r (Announcing i) is (to_announcement_cases g p i (next_other p 0) r (λ x. Ready k (record x { steps = s }))
-          (λ in_range. to _ (record { on = on; read = l.read; unknown = l.unknown; untried = l.untried; apart = l.apart; bound = omega arith }))
-          (λ above. to_row_cases g p i (next_other p 0) r (λ x. Ready k (record x { steps = s }))
+          let c : 1 ≤ n = subst (λ x. to_begin x ≤ n) is l.stores in
+          step k n w (Announcing i) is c law same here (by_phase k (n - 1) v r (Announcing i) is (to_announcement_cases g p i (next_other p 0) r (λ x. Ready k (n - 1) (record x { steps = s }))
+          (λ in_range. to _ _ (record { on = on; read = l.read; unknown = l.unknown; untried = l.untried; apart = l.apart; bound = omega arith; stores = omega arith }))
+          (λ above. to_row_cases g p i (next_other p 0) r (λ x. Ready k (n - 1) (record x { steps = s }))
           (λ in_range. absurd (omega arith))
-          (λ _. claim i r.tried on l.untried (omega arith)))))
+          (λ _. claim _ i r.tried on l.untried (omega arith)))))
       go (Trying i q0) is =
           let stands : IsJob g i × IsOther g p q0 × (length r.tried ≤ others_before p q0) = rw is at (law.lawful.sound p o).local.stands in
           let on : i ≡ j = subst (λ x. IsOn x j) is l.on in
-          let b : left_from q0 + (g.workers - 1) < suc k = subst (λ x. cost x < suc k) is l.bound in
+          let b : left_from g p q0 + (g.workers - 1) < suc k = subst (λ x. cost x < suc k) is l.bound in
           let room = others_room p q0 g.workers o.low o.high stands.1.worker.low stands.1.worker.high stands.1.differs in
           let more = others_next p q0 o.low stands.1.worker.low stands.1.differs in
           let none : has (with_announced v r.tried) j ≡ false = is_false (has (with_announced v r.tried) j) (λ t. ⊎_elim (λ x. l.apart q0 stands.1 (sym (hears_next w same i q0 stands.1 is) ∙ x.1)) (λ x. true≢false (sym x ∙ l.untried)) (noted_cases v j r.tried t)) in
-          step k w law same here (by_phase k v r (Trying i q0) is (to_announcement_cases g p i (next_other p q0) (record r { tried = with_announced v r.tried }) (λ x. Ready k (record x { steps = s }))
-          (λ in_range. to _ (record { on = on; read = l.read; unknown = l.unknown; untried = none; apart = l.apart; bound = omega arith }))
-          (λ above. to_row_cases g p i (next_other p 0) (record r { tried = with_announced v r.tried }) (λ x. Ready k (record x { steps = s }))
-          (λ in_range. to _ (record { on = on; read = l.read; unknown = l.unknown; untried = none; apart = l.apart; bound = omega arith }))
+          step k n w (Trying i q0) is (omega arith) law same here (by_phase k (n - 0) v r (Trying i q0) is (to_announcement_cases g p i (next_other p q0) (record r { tried = with_announced v r.tried }) (λ x. Ready k (n - 0) (record x { steps = s }))
+          (λ in_range. to _ _ (record { on = on; read = l.read; unknown = l.unknown; untried = none; apart = l.apart; bound = omega arith; stores = omega arith }))
+          (λ above. to_row_cases g p i (next_other p 0) (record r { tried = with_announced v r.tried }) (λ x. Ready k (n - 0) (record x { steps = s }))
+          (λ in_range. to _ _ (record { on = on; read = l.read; unknown = l.unknown; untried = none; apart = l.apart; bound = omega arith; stores = omega arith }))
           (λ nobody_there. absurd (let f = (first_other g (process w) law.lawful p o q0 stands.1).worker.high in omega arith)))))
       go (Reading i q0) is =
           let stands : IsJob g i × IsOther g p q0 = rw is at (law.lawful.sound p o).local.stands in
           let on : i ≡ j = subst (λ x. IsOn x j) is l.on in
-          let b : left_from q0 < suc k = subst (λ x. cost x < suc k) is l.bound in
+          let b : left_from g p q0 < suc k = subst (λ x. cost x < suc k) is l.bound in
           let room = others_room p q0 g.workers o.low o.high stands.1.worker.low stands.1.worker.high stands.1.differs in
           let more = others_next p q0 o.low stands.1.worker.low stands.1.differs in
           let nothing : v ≡ 0 = hears_done w law same i q0 stands.1 is ∙ get_or_past (at q0).local.dones (numbered 0 r.fronts q0) 0 (l.read q0 stands.1) in
-          step k w law same here (by_phase k v r (Reading i q0) is (subst (λ c. Ready k (record (if c then record_at_row g p i (next_other p q0) r else record r { known = with_number v r.known; fronts = put r.fronts q0 (numbered 0 r.fronts q0 + 1) }) { steps = s }))
+          step k n w (Reading i q0) is (omega arith) law same here (by_phase k (n - 0) v r (Reading i q0) is (subst (λ c. Ready k (n - 0) (record (if c then record_at_row g p i (next_other p q0) r else record r { known = with_number v r.known; fronts = put r.fronts q0 (numbered 0 r.fronts q0 + 1) }) { steps = s }))
           (sym (eq-eqb v 0 nothing))
-          (to_row_cases g p i (next_other p q0) r (λ x. Ready k (record x { steps = s }))
-          (λ in_range. to _ (record { on = on; read = l.read; unknown = l.unknown; untried = l.untried; apart = l.apart; bound = omega arith }))
-          (λ above. claim i r.tried on l.untried (omega arith)))))
-      go (Claiming i) is = claims_now k w i is
+          (to_row_cases g p i (next_other p q0) r (λ x. Ready k (n - 0) (record x { steps = s }))
+          (λ in_range. to _ _ (record { on = on; read = l.read; unknown = l.unknown; untried = l.untried; apart = l.apart; bound = omega arith; stores = omega arith }))
+          (λ above. claim _ i r.tried on l.untried (omega arith)))))
+      go (Claiming i) is = claims_now k n w i is
       go (Holding i) is = absurd (subst (λ x. IsOn x j) is l.on)
       go Over is = absurd (subst (λ x. IsOn x j) is l.on)
       go Left is = absurd (subst (λ x. IsOn x j) is l.on)
 
-  passes : (k j : ℕ) (w : World) → IsLawful g w → Same w → (process w p).gone ≡ false → Passes (process w p).local j k → claims_or_ends_within g p k w ≡ true
-  passes zero j w law same here l = absurd (let b = l.bound in omega arith)
-  passes (suc k) j w law same here l = passes_step k j (passes k j) w law same here l
+  passes : (k j n : ℕ) (w : World) → IsLawful g w → Same w → (process w p).gone ≡ false → Passes (process w p).local j k n → SettlesWithin g p k n w
+  passes zero j n w law same here l = absurd (let b = l.bound in omega arith)
+  passes (suc k) j n w law same here l = passes_step k j (passes k j) n w law same here l
 
   -- the announcement of q is noted
   abbrev IsNoted : Record → ℕ → Type 0
@@ -262,15 +244,16 @@ module _ (g : Givens) (ok : AreGivens g) (p : ℕ) (o : IsWorker g p) (at : ℕ 
   Sees r Left = Unit {0}
 
   -- an attempt that began alone: if it fails, the next one passes
-  record Began (r : Record) (k : ℕ) : Type 0 where
+  record Began (r : Record) (k n : ℕ) : Type 0 where
     sees : Sees r r.phase
     bound : cost r.phase + unread r + whole_attempt < k
+    stores : to_begin r.phase + 1 ≤ n
 
   -- a choice after such an attempt
-  chosen_passes : (k n : ℕ) (r : Record) → length r.tried < g.workers → g.beta ≤ count g.jobs (is_open r) → whole_attempt < k
+  chosen_passes : (k n steps : ℕ) (r : Record) → length r.tried < g.workers → g.beta ≤ count g.jobs (is_open r) → whole_attempt < k → 1 ≤ n
       → ((q : ℕ) → IsOther g p q → IsNoted r q) → ((q : ℕ) → IsOther g p q → length (at q).local.dones ≤ numbered 0 r.fronts q)
-      → Passes (record r { phase = Announcing (chosen_job g p r); tried = []; steps = n }) (chosen_job g p r) k
-  chosen_passes k n r few many room noted_all read_all =
+      → Passes (record r { phase = Announcing (chosen_job g p r); tried = []; steps = steps }) (chosen_job g p r) k n
+  chosen_passes k n steps r few many room enough noted_all read_all =
       let c = chosen_is g p r o ok.beta_low few many in
       let e = chosen_job g p r in
       let open_now = both (has r.known e) (has r.tried e) c.passes in
@@ -281,22 +264,23 @@ module _ (g : Givens) (ok : AreGivens g) (p : ℕ) (o : IsWorker g p) (at : ℕ 
         untried = refl;
         apart = λ q other same. ⊎_elim (λ (z : (at q).next ≡ 0). let l = c.low in omega arith) (λ t. true≢false (sym t ∙ ap (λ x. has r.tried x) same ∙ open_now.1)) (noted_all q other);
         bound = room;
+        stores = enough;
       }
     where
       both : (a b : Bool) → (not a && not b) ≡ true → (a ≡ false) × (b ≡ false)
       both a b h = grind arith
 
   -- the check after such an attempt
-  rechecks : (k n i : ℕ) → ((w : World) → IsLawful g w → Same w → (process w p).gone ≡ false → Began (process w p).local k → claims_or_ends_within g p k w ≡ true)
-      → (r : Record) → length r.tried < g.workers → whole_attempt < k → unread r + whole_attempt < k
+  rechecks : (k n steps i : ℕ) → ((n : ℕ) (w : World) → IsLawful g w → Same w → (process w p).gone ≡ false → Began (process w p).local k n → SettlesWithin g p k n w)
+      → (r : Record) → length r.tried < g.workers → whole_attempt < k → 1 ≤ n → unread r + whole_attempt < k
       → ((q : ℕ) → IsOther g p q → IsNoted r q) → ((q : ℕ) → IsOther g p q → length (at q).local.dones ≤ numbered 0 r.fronts q)
-      → Ready k (record (record_after_check g p i r) { steps = n })
-  rechecks k n i next r few room more noted_all read_all =
-      check_cases g p i r (λ x. Ready k (record x { steps = n }))
-      (λ not_known not_tried _ w law same here e. next w law same here (subst (λ y. Began y k) (sym e) (record { sees = tt; bound = omega arith })))
-      (choice_cases g p r (λ x. Ready k (record x { steps = n }))
+      → Ready k n (record (record_after_check g p i r) { steps = steps })
+  rechecks k n steps i next r few room enough more noted_all read_all =
+      check_cases g p i r (λ x. Ready k n (record x { steps = steps }))
+      (λ not_known not_tried _ w law same here e. next n w law same here (subst (λ y. Began y k n) (sym e) (record { sees = tt; bound = omega arith; stores = omega arith })))
+      (choice_cases g p r (λ x. Ready k n (record x { steps = steps }))
       (λ over alive. absurd (true≢false alive))
-      (λ many _ w law same here e. passes k (chosen_job g p r) w law same here (subst (λ y. Passes y (chosen_job g p r) k) (sym e) (chosen_passes k n r few many room noted_all read_all))))
+      (λ many _ w law same here e. passes k (chosen_job g p r) n w law same here (subst (λ y. Passes y (chosen_job g p r) k n) (sym e) (chosen_passes k n steps r few many room enough noted_all read_all))))
 
   -- one entry read
   unread_less : (w : World) → IsLawful g w → (r : Record) (q0 v : ℕ) (known : List ℕ) → IsOther g p q0 → length r.fronts ≡ g.workers → numbered 0 r.fronts q0 < length (at q0).local.dones
@@ -341,9 +325,9 @@ module _ (g : Givens) (ok : AreGivens g) (p : ℕ) (o : IsWorker g p) (at : ℕ 
       (subst (λ y. (y ≡ 0) ⊎ (has (with_announced v r.tried) y ≡ true)) is (⊎_elim (λ (z : v ≡ 0). inl z) (λ n. inr (noted_same v r.tried (omega arith))) (cases_eq v 0))))
       (cases_lt q q0)
 
-  began_step : (k : ℕ) → ((w : World) → IsLawful g w → Same w → (process w p).gone ≡ false → Began (process w p).local k → claims_or_ends_within g p k w ≡ true)
-      → (w : World) → IsLawful g w → Same w → (process w p).gone ≡ false → Began (process w p).local (suc k) → claims_or_ends_within g p (suc k) w ≡ true
-  began_step k next w law same here l = go (process w p).local.phase refl
+  began_step : (k : ℕ) → ((n : ℕ) (w : World) → IsLawful g w → Same w → (process w p).gone ≡ false → Began (process w p).local k n → SettlesWithin g p k n w)
+      → (n : ℕ) (w : World) → IsLawful g w → Same w → (process w p).gone ≡ false → Began (process w p).local (suc k) n → SettlesWithin g p (suc k) n w
+  began_step k next n w law same here l = go (process w p).local.phase refl
     where
       r : Record
       r = (process w p).local
@@ -357,29 +341,31 @@ module _ (g : Givens) (ok : AreGivens g) (p : ℕ) (o : IsWorker g p) (at : ℕ 
       few : length r.tried < g.workers
       few = (law.lawful.sound p o).local.tried_few
 
-      to : (x : Record) → Began x k → Ready k x
-      to x h _ w' law' same' here' e = next w' law' same' here' (subst (λ y. Began y k) (sym e) h)
+      to : (m : ℕ) (x : Record) → Began x k m → Ready k m x
+      to m x h _ w' law' same' here' e = next m w' law' same' here' (subst (λ y. Began y k m) (sym e) h)
 
-      go : (phase : Phase) → r.phase ≡ phase → claims_or_ends_within g p (suc k) w ≡ true
+      go : (phase : Phase) → r.phase ≡ phase → SettlesWithin g p (suc k) n w
       go (Announcing i) is =
           let b : 1 + 2 * (g.workers - 1) + unread r + whole_attempt < suc k = subst (λ x. cost x + unread r + whole_attempt < suc k) is l.bound in
           let nobody_else : g.workers < next_other p 0 → (q : ℕ) → IsOther g p q → ⊥ = λ h q other. let f = (first_other g (process w) law.lawful p o q other).worker.high in omega arith in
-          step k w law same here (by_phase k v r (Announcing i) is (to_announcement_cases g p i (next_other p 0) r (λ x. Ready k (record x { steps = s }))
-          (λ in_range. to _ (record { sees = λ q other h. absurd (none_before g (process w) law.lawful p o q other h); bound = omega arith }))
-          (λ above. to_row_cases g p i (next_other p 0) r (λ x. Ready k (record x { steps = s }))
+          let c : 1 + 1 ≤ n = subst (λ x. to_begin x + 1 ≤ n) is l.stores in
+          step k n w (Announcing i) is (omega arith) law same here (by_phase k (n - 1) v r (Announcing i) is (to_announcement_cases g p i (next_other p 0) r (λ x. Ready k (n - 1) (record x { steps = s }))
+          (λ in_range. to _ _ (record { sees = λ q other h. absurd (none_before g (process w) law.lawful p o q other h); bound = omega arith; stores = omega arith }))
+          (λ above. to_row_cases g p i (next_other p 0) r (λ x. Ready k (n - 1) (record x { steps = s }))
           (λ in_range. absurd (omega arith))
-          (λ _. rechecks k s i next r few (omega arith) (omega arith) (λ q other. absurd (nobody_else above q other)) (λ q other. absurd (nobody_else above q other))))))
+          (λ _. rechecks k _ s i next r few (omega arith) (omega arith) (omega arith) (λ q other. absurd (nobody_else above q other)) (λ q other. absurd (nobody_else above q other))))))
       go (Trying i q0) is =
           let stands : IsJob g i × IsOther g p q0 × (length r.tried ≤ others_before p q0) = rw is at (law.lawful.sound p o).local.stands in
           let sees : (q : ℕ) → IsOther g p q → q < q0 → IsNoted r q = subst (λ x. Sees r x) is l.sees in
-          let b : left_from q0 + (g.workers - 1) + unread r + whole_attempt < suc k = subst (λ x. cost x + unread r + whole_attempt < suc k) is l.bound in
+          let b : left_from g p q0 + (g.workers - 1) + unread r + whole_attempt < suc k = subst (λ x. cost x + unread r + whole_attempt < suc k) is l.bound in
           let room = others_room p q0 g.workers o.low o.high stands.1.worker.low stands.1.worker.high stands.1.differs in
           let more = others_next p q0 o.low stands.1.worker.low stands.1.differs in
           let noted_now = noted_to r v q0 (hears_next w same i q0 stands.1 is) sees in
-          step k w law same here (by_phase k v r (Trying i q0) is (to_announcement_cases g p i (next_other p q0) (record r { tried = with_announced v r.tried }) (λ x. Ready k (record x { steps = s }))
-          (λ in_range. to _ (record { sees = noted_now; bound = omega arith }))
-          (λ above. to_row_cases g p i (next_other p 0) (record r { tried = with_announced v r.tried }) (λ x. Ready k (record x { steps = s }))
-          (λ in_range. to _ (record { sees = ((λ q other. noted_now q other (let h = other.worker.high in omega arith)), λ q other h. absurd (none_before g (process w) law.lawful p o q other h)); bound = omega arith }))
+          let c : 0 + 1 ≤ n = subst (λ x. to_begin x + 1 ≤ n) is l.stores in
+          step k n w (Trying i q0) is (omega arith) law same here (by_phase k (n - 0) v r (Trying i q0) is (to_announcement_cases g p i (next_other p q0) (record r { tried = with_announced v r.tried }) (λ x. Ready k (n - 0) (record x { steps = s }))
+          (λ in_range. to _ _ (record { sees = noted_now; bound = omega arith; stores = omega arith }))
+          (λ above. to_row_cases g p i (next_other p 0) (record r { tried = with_announced v r.tried }) (λ x. Ready k (n - 0) (record x { steps = s }))
+          (λ in_range. to _ _ (record { sees = ((λ q other. noted_now q other (let h = other.worker.high in omega arith)), λ q other h. absurd (none_before g (process w) law.lawful p o q other h)); bound = omega arith; stores = omega arith }))
           (λ nobody_there. absurd (let f = (first_other g (process w) law.lawful p o q0 stands.1).worker.high in omega arith)))))
       go (Reading i q0) is = ⊎_elim zero_there some_there (cases_eq v 0)
         where
@@ -389,8 +375,11 @@ module _ (g : Givens) (ok : AreGivens g) (p : ℕ) (o : IsWorker g p) (at : ℕ 
           sees : ((q : ℕ) → IsOther g p q → IsNoted r q) × ((q : ℕ) → IsOther g p q → q < q0 → length (at q).local.dones ≤ numbered 0 r.fronts q)
           sees = subst (λ x. Sees r x) is l.sees
 
-          b : left_from q0 + unread r + whole_attempt < suc k
+          b : left_from g p q0 + unread r + whole_attempt < suc k
           b = subst (λ x. cost x + unread r + whole_attempt < suc k) is l.bound
+
+          c : 0 + 1 ≤ n
+          c = subst (λ x. to_begin x + 1 ≤ n) is l.stores
 
           room : suc (others_before p q0) < g.workers
           room = others_room p q0 g.workers o.low o.high stands.1.worker.low stands.1.worker.high stands.1.differs
@@ -401,12 +390,13 @@ module _ (g : Givens) (ok : AreGivens g) (p : ℕ) (o : IsWorker g p) (at : ℕ 
           hears : v ≡ get_or (at q0).local.dones (numbered 0 r.fronts q0) 0
           hears = hears_done w law same i q0 stands.1 is
 
-          so_then : (c : Bool) → (v == 0) ≡ c → Ready k (record (if c then record_at_row g p i (next_other p q0) r else record r { known = with_number v r.known; fronts = put r.fronts q0 (numbered 0 r.fronts q0 + 1) }) { steps = s }) → claims_or_ends_within g p (suc k) w ≡ true
-          so_then c e ready = step k w law same here (by_phase k v r (Reading i q0) is (subst (λ c. Ready k (record (if c then record_at_row g p i (next_other p q0) r else record r { known = with_number v r.known; fronts = put r.fronts q0 (numbered 0 r.fronts q0 + 1) }) { steps = s })) (sym e) ready))
+          so_then : (c : Bool) → (v == 0) ≡ c → Ready k (n - 0) (record (if c then record_at_row g p i (next_other p q0) r else record r { known = with_number v r.known; fronts = put r.fronts q0 (numbered 0 r.fronts q0 + 1) }) { steps = s }) → SettlesWithin g p (suc k) n w
+          so_then c e ready = step k n w (Reading i q0) is (omega arith) law same here (by_phase k (n - 0) v r (Reading i q0) is (subst (λ c. Ready k (n - 0) (record (if c then record_at_row g p i (next_other p q0) r else record r { known = with_number v r.known; fronts = put r.fronts q0 (numbered 0 r.fronts q0 + 1) }) { steps = s })) (sym e) ready))
 
-          zero_there : v ≡ 0 → claims_or_ends_within g p (suc k) w ≡ true
+          zero_there : v ≡ 0 → SettlesWithin g p (suc k) n w
           zero_there z =
               let b' = b in
+              let c' = c in
               let room' = room in
               let more' = more in
               let whole_row = read_all_of w law same q0 (numbered 0 r.fronts q0) stands.1 (sym hears ∙ z) in
@@ -414,38 +404,41 @@ module _ (g : Givens) (ok : AreGivens g) (p : ℕ) (o : IsWorker g p) (at : ℕ 
               (λ (m : q < q0). sees.1 q other m)
               (λ (m : q0 ≤ q). let n = next_other_next p q0 q other.differs h in let e : q0 ≡ q = omega arith in subst (λ x. length (at x).local.dones ≤ numbered 0 r.fronts x) e whole_row)
               (cases_lt q q0) in
-              so_then true (eq-eqb v 0 z) (to_row_cases g p i (next_other p q0) r (λ x. Ready k (record x { steps = s }))
-              (λ in_range. to _ (record { sees = (sees.0, rows); bound = omega arith }))
-              (λ above. rechecks k s i next r few (omega arith) (omega arith) sees.0 (λ q other. rows q other (let h = other.worker.high in omega arith))))
+              so_then true (eq-eqb v 0 z) (to_row_cases g p i (next_other p q0) r (λ x. Ready k (n - 0) (record x { steps = s }))
+              (λ in_range. to _ _ (record { sees = (sees.0, rows); bound = omega arith; stores = omega arith }))
+              (λ above. rechecks k _ s i next r few (omega arith) (omega arith) (omega arith) sees.0 (λ q other. rows q other (let h = other.worker.high in omega arith))))
 
-          some_there : (v ≡ 0 → ⊥) → claims_or_ends_within g p (suc k) w ≡ true
-          some_there n =
+          some_there : (v ≡ 0 → ⊥) → SettlesWithin g p (suc k) n w
+          some_there nonzero =
               let size = (law.lawful.sound p o).local.fronts in
-              let below : numbered 0 r.fronts q0 < length (at q0).local.dones = ⊎_elim (λ m. m) (λ (m : length (at q0).local.dones ≤ numbered 0 r.fronts q0). absurd (n (hears ∙ get_or_past (at q0).local.dones (numbered 0 r.fronts q0) 0 m))) (cases_lt (numbered 0 r.fronts q0) (length (at q0).local.dones)) in
+              let below : numbered 0 r.fronts q0 < length (at q0).local.dones = ⊎_elim (λ m. m) (λ (m : length (at q0).local.dones ≤ numbered 0 r.fronts q0). absurd (nonzero (hears ∙ get_or_past (at q0).local.dones (numbered 0 r.fronts q0) 0 m))) (cases_lt (numbered 0 r.fronts q0) (length (at q0).local.dones)) in
               let less = unread_less w law r q0 v (with_number v r.known) stands.1 size below in
               let bound_now = l.bound in
-              so_then false (ne_eqb v 0 n) (to _ (record {
+              let c' = c in
+              so_then false (ne_eqb v 0 nonzero) (to _ _ (record {
                 sees = subst (λ x. Sees (record r { known = with_number v r.known; fronts = put r.fronts q0 (numbered 0 r.fronts q0 + 1); steps = s }) x) (sym is)
                     (sees.0, λ q other h. subst (λ x. length (at q).local.dones ≤ x) (sym (numbered-put_other 0 (numbered 0 r.fronts q0 + 1) r.fronts q0 q (λ e. omega arith))) (sees.1 q other h));
                 bound = omega arith;
+                stores = subst (λ x. to_begin x + 1 ≤ n - 0) (sym is) (omega arith);
               }))
-      go (Claiming i) is = claims_now k w i is
+      go (Claiming i) is = claims_now k n w i is
       go (Holding i) is =
           let b : 2 + 2 * (g.workers - 1) + unread r + whole_attempt < suc k = subst (λ x. cost x + unread r + whole_attempt < suc k) is l.bound in
-          step k w law same here (by_phase k v r (Holding i) is (choice_cases g p (record r { dones = r.dones ++ i ∷ []; known = with_number i r.known }) (λ x. Ready k (record x { steps = s }))
+          let c : 1 + 1 ≤ n = subst (λ x. to_begin x + 1 ≤ n) is l.stores in
+          step k n w (Holding i) is (omega arith) law same here (by_phase k (n - 0) v r (Holding i) is (choice_cases g p (record r { dones = r.dones ++ i ∷ []; known = with_number i r.known }) (λ x. Ready k (n - 0) (record x { steps = s }))
           (λ over alive. absurd (true≢false alive))
-          (λ many. to _ (record { sees = tt; bound = omega arith }))))
+          (λ many. to _ _ (record { sees = tt; bound = omega arith; stores = omega arith }))))
       go Over is = absurd (true≢false (sym ((law.lawful.sound p o).gone (ap wants_nothing is)) ∙ here))
       go Left is = absurd (true≢false (sym ((law.lawful.sound p o).gone (ap wants_nothing is)) ∙ here))
 
-  began : (k : ℕ) (w : World) → IsLawful g w → Same w → (process w p).gone ≡ false → Began (process w p).local k → claims_or_ends_within g p k w ≡ true
-  began zero w law same here l = absurd (let b = l.bound in omega arith)
-  began (suc k) w law same here l = began_step k (began k) w law same here l
+  began : (k n : ℕ) (w : World) → IsLawful g w → Same w → (process w p).gone ≡ false → Began (process w p).local k n → SettlesWithin g p k n w
+  began zero n w law same here l = absurd (let b = l.bound in omega arith)
+  began (suc k) n w law same here l = began_step k (began k) n w law same here l
 
   -- any attempt: if it fails, the next one began alone
-  goes_step : (k : ℕ) → ((w : World) → IsLawful g w → Same w → (process w p).gone ≡ false → cost (process w p).local.phase + unread (process w p).local + 2 * whole_attempt < k → claims_or_ends_within g p k w ≡ true)
-      → (w : World) → IsLawful g w → Same w → (process w p).gone ≡ false → cost (process w p).local.phase + unread (process w p).local + 2 * whole_attempt < suc k → claims_or_ends_within g p (suc k) w ≡ true
-  goes_step k next w law same here l = go (process w p).local.phase refl
+  goes_step : (k : ℕ) → ((n : ℕ) (w : World) → IsLawful g w → Same w → (process w p).gone ≡ false → cost (process w p).local.phase + unread (process w p).local + 2 * whole_attempt < k → to_begin (process w p).local.phase + 2 ≤ n → SettlesWithin g p k n w)
+      → (n : ℕ) (w : World) → IsLawful g w → Same w → (process w p).gone ≡ false → cost (process w p).local.phase + unread (process w p).local + 2 * whole_attempt < suc k → to_begin (process w p).local.phase + 2 ≤ n → SettlesWithin g p (suc k) n w
+  goes_step k next n w law same here l stores = go (process w p).local.phase refl
     where
       r : Record
       r = (process w p).local
@@ -456,35 +449,39 @@ module _ (g : Givens) (ok : AreGivens g) (p : ℕ) (o : IsWorker g p) (at : ℕ 
       s : ℕ
       s = min (r.steps + 1) (2 ^ 64 - 1)
 
-      to : (x : Record) → cost x.phase + unread x + 2 * whole_attempt < k → Ready k x
-      to x h _ w' law' same' here' e = next w' law' same' here' (subst (λ y. cost y.phase + unread y + 2 * whole_attempt < k) (sym e) h)
+      to : (m : ℕ) (x : Record) → cost x.phase + unread x + 2 * whole_attempt < k → to_begin x.phase + 2 ≤ m → Ready k m x
+      to m x h some _ w' law' same' here' e = next m w' law' same' here' (subst (λ y. cost y.phase + unread y + 2 * whole_attempt < k) (sym e) h) (subst (λ y. to_begin y.phase + 2 ≤ m) (sym e) some)
 
-      checks : (i : ℕ) → unread r + 2 * whole_attempt < k → Ready k (record (record_after_check g p i r) { steps = s })
-      checks i room = check_cases g p i r (λ x. Ready k (record x { steps = s }))
-          (λ _ _. to (record r { phase = Claiming i; steps = s }) (omega arith))
-          (choice_cases g p r (λ x. Ready k (record x { steps = s }))
+      checks : (m i : ℕ) → unread r + 2 * whole_attempt < k → 2 ≤ m → Ready k m (record (record_after_check g p i r) { steps = s })
+      checks m i room enough = check_cases g p i r (λ x. Ready k m (record x { steps = s }))
+          (λ _ _. to m (record r { phase = Claiming i; steps = s }) (omega arith) (omega arith))
+          (choice_cases g p r (λ x. Ready k m (record x { steps = s }))
           (λ over alive. absurd (true≢false alive))
-          (λ many _ w' law' same' here' e. began k w' law' same' here' (subst (λ y. Began y k) (sym e) (record { sees = tt; bound = omega arith }))))
+          (λ many _ w' law' same' here' e. began k m w' law' same' here' (subst (λ y. Began y k m) (sym e) (record { sees = tt; bound = omega arith; stores = omega arith }))))
 
-      go : (phase : Phase) → r.phase ≡ phase → claims_or_ends_within g p (suc k) w ≡ true
-      go (Announcing i) is = began (suc k) w law same here (record { sees = subst (λ x. Sees r x) (sym is) tt; bound = omega arith })
+      go : (phase : Phase) → r.phase ≡ phase → SettlesWithin g p (suc k) n w
+      go (Announcing i) is = began (suc k) n w law same here (record { sees = subst (λ x. Sees r x) (sym is) tt; bound = omega arith; stores = subst (λ x. to_begin x + 1 ≤ n) (sym is) (let c : 1 + 2 ≤ n = subst (λ x. to_begin x + 2 ≤ n) is stores in omega arith) })
       go (Trying i q0) is =
           let stands : IsJob g i × IsOther g p q0 × (length r.tried ≤ others_before p q0) = rw is at (law.lawful.sound p o).local.stands in
-          let b : left_from q0 + (g.workers - 1) + unread r + 2 * whole_attempt < suc k = subst (λ x. cost x + unread r + 2 * whole_attempt < suc k) is l in
+          let b : left_from g p q0 + (g.workers - 1) + unread r + 2 * whole_attempt < suc k = subst (λ x. cost x + unread r + 2 * whole_attempt < suc k) is l in
           let room = others_room p q0 g.workers o.low o.high stands.1.worker.low stands.1.worker.high stands.1.differs in
           let more = others_next p q0 o.low stands.1.worker.low stands.1.differs in
-          step k w law same here (by_phase k v r (Trying i q0) is (to_announcement_cases g p i (next_other p q0) (record r { tried = with_announced v r.tried }) (λ x. Ready k (record x { steps = s }))
-          (λ in_range. to _ (omega arith))
-          (λ above. to_row_cases g p i (next_other p 0) (record r { tried = with_announced v r.tried }) (λ x. Ready k (record x { steps = s }))
-          (λ in_range. to _ (omega arith))
+          let c : 0 + 2 ≤ n = subst (λ x. to_begin x + 2 ≤ n) is stores in
+          step k n w (Trying i q0) is (omega arith) law same here (by_phase k (n - 0) v r (Trying i q0) is (to_announcement_cases g p i (next_other p q0) (record r { tried = with_announced v r.tried }) (λ x. Ready k (n - 0) (record x { steps = s }))
+          (λ in_range. to _ _ (omega arith) (omega arith))
+          (λ above. to_row_cases g p i (next_other p 0) (record r { tried = with_announced v r.tried }) (λ x. Ready k (n - 0) (record x { steps = s }))
+          (λ in_range. to _ _ (omega arith) (omega arith))
           (λ nobody_there. absurd (let f = (first_other g (process w) law.lawful p o q0 stands.1).worker.high in omega arith)))))
       go (Reading i q0) is = ⊎_elim zero_there some_there (cases_eq v 0)
         where
           stands : IsJob g i × IsOther g p q0
           stands = rw is at (law.lawful.sound p o).local.stands
 
-          b : left_from q0 + unread r + 2 * whole_attempt < suc k
+          b : left_from g p q0 + unread r + 2 * whole_attempt < suc k
           b = subst (λ x. cost x + unread r + 2 * whole_attempt < suc k) is l
+
+          c : 0 + 2 ≤ n
+          c = subst (λ x. to_begin x + 2 ≤ n) is stores
 
           room : suc (others_before p q0) < g.workers
           room = others_room p q0 g.workers o.low o.high stands.1.worker.low stands.1.worker.high stands.1.differs
@@ -495,33 +492,35 @@ module _ (g : Givens) (ok : AreGivens g) (p : ℕ) (o : IsWorker g p) (at : ℕ 
           hears : v ≡ get_or (at q0).local.dones (numbered 0 r.fronts q0) 0
           hears = hears_done w law same i q0 stands.1 is
 
-          so_then : (c : Bool) → (v == 0) ≡ c → Ready k (record (if c then record_at_row g p i (next_other p q0) r else record r { known = with_number v r.known; fronts = put r.fronts q0 (numbered 0 r.fronts q0 + 1) }) { steps = s }) → claims_or_ends_within g p (suc k) w ≡ true
-          so_then c e ready = step k w law same here (by_phase k v r (Reading i q0) is (subst (λ c. Ready k (record (if c then record_at_row g p i (next_other p q0) r else record r { known = with_number v r.known; fronts = put r.fronts q0 (numbered 0 r.fronts q0 + 1) }) { steps = s })) (sym e) ready))
+          so_then : (c : Bool) → (v == 0) ≡ c → Ready k (n - 0) (record (if c then record_at_row g p i (next_other p q0) r else record r { known = with_number v r.known; fronts = put r.fronts q0 (numbered 0 r.fronts q0 + 1) }) { steps = s }) → SettlesWithin g p (suc k) n w
+          so_then c e ready = step k n w (Reading i q0) is (omega arith) law same here (by_phase k (n - 0) v r (Reading i q0) is (subst (λ c. Ready k (n - 0) (record (if c then record_at_row g p i (next_other p q0) r else record r { known = with_number v r.known; fronts = put r.fronts q0 (numbered 0 r.fronts q0 + 1) }) { steps = s })) (sym e) ready))
 
-          zero_there : v ≡ 0 → claims_or_ends_within g p (suc k) w ≡ true
+          zero_there : v ≡ 0 → SettlesWithin g p (suc k) n w
           zero_there z =
               let b' = b in
+              let c' = c in
               let room' = room in
               let more' = more in
-              so_then true (eq-eqb v 0 z) (to_row_cases g p i (next_other p q0) r (λ x. Ready k (record x { steps = s }))
-              (λ in_range. to _ (omega arith))
-              (λ above. checks i (omega arith)))
+              so_then true (eq-eqb v 0 z) (to_row_cases g p i (next_other p q0) r (λ x. Ready k (n - 0) (record x { steps = s }))
+              (λ in_range. to _ _ (omega arith) (omega arith))
+              (λ above. checks _ i (omega arith) (omega arith)))
 
-          some_there : (v ≡ 0 → ⊥) → claims_or_ends_within g p (suc k) w ≡ true
-          some_there n =
+          some_there : (v ≡ 0 → ⊥) → SettlesWithin g p (suc k) n w
+          some_there nonzero =
               let size = (law.lawful.sound p o).local.fronts in
-              let below : numbered 0 r.fronts q0 < length (at q0).local.dones = ⊎_elim (λ m. m) (λ (m : length (at q0).local.dones ≤ numbered 0 r.fronts q0). absurd (n (hears ∙ get_or_past (at q0).local.dones (numbered 0 r.fronts q0) 0 m))) (cases_lt (numbered 0 r.fronts q0) (length (at q0).local.dones)) in
+              let below : numbered 0 r.fronts q0 < length (at q0).local.dones = ⊎_elim (λ m. m) (λ (m : length (at q0).local.dones ≤ numbered 0 r.fronts q0). absurd (nonzero (hears ∙ get_or_past (at q0).local.dones (numbered 0 r.fronts q0) 0 m))) (cases_lt (numbered 0 r.fronts q0) (length (at q0).local.dones)) in
               let less = unread_less w law r q0 v (with_number v r.known) stands.1 size below in
               let bound_now = l in
-              so_then false (ne_eqb v 0 n) (to _ (omega arith))
-      go (Claiming i) is = claims_now k w i is
-      go (Holding i) is = began (suc k) w law same here (record { sees = subst (λ x. Sees r x) (sym is) tt; bound = omega arith })
+              let c' = c in
+              so_then false (ne_eqb v 0 nonzero) (to _ _ (omega arith) (omega arith))
+      go (Claiming i) is = claims_now k n w i is
+      go (Holding i) is = began (suc k) n w law same here (record { sees = subst (λ x. Sees r x) (sym is) tt; bound = omega arith; stores = subst (λ x. to_begin x + 1 ≤ n) (sym is) (let c : 1 + 2 ≤ n = subst (λ x. to_begin x + 2 ≤ n) is stores in omega arith) })
       go Over is = absurd (true≢false (sym ((law.lawful.sound p o).gone (ap wants_nothing is)) ∙ here))
       go Left is = absurd (true≢false (sym ((law.lawful.sound p o).gone (ap wants_nothing is)) ∙ here))
 
-  goes : (k : ℕ) (w : World) → IsLawful g w → Same w → (process w p).gone ≡ false → cost (process w p).local.phase + unread (process w p).local + 2 * whole_attempt < k → claims_or_ends_within g p k w ≡ true
-  goes zero w law same here l = absurd (omega arith)
-  goes (suc k) w law same here l = goes_step k (goes k) w law same here l
+  goes : (k n : ℕ) (w : World) → IsLawful g w → Same w → (process w p).gone ≡ false → cost (process w p).local.phase + unread (process w p).local + 2 * whole_attempt < k → to_begin (process w p).local.phase + 2 ≤ n → SettlesWithin g p k n w
+  goes zero n w law same here l stores = absurd (omega arith)
+  goes (suc k) n w law same here l stores = goes_step k (goes k) n w law same here l stores
 
 -- the entries of all rows together are at most the jobs
 
@@ -557,9 +556,10 @@ module _ (g : Givens) (w : World) (law : IsLawful g w) where
       is_false _ (λ m. true≢false (sym (claimed_too (suc k) j o m) ∙ (law.lawful.apart r.0 (suc k) other (record { worker = o; differs = λ e. let l = r.2 in omega arith })).claims j (claimed_too r.0 j other r.3)))) in
       omega arith
 
--- From every lawful world, a worker that isn't gone claims a job or ends within 6 m + n turns of its own.
-pub alone : (g : Givens) (w : World) (p : ℕ) → AreGivens g → IsLawful g w → (process w p).gone ≡ false → claims_or_ends_within g p (6 * g.workers + g.jobs) w ≡ true
-alone g w p ok law here = goes g ok p o (process w) (6 * g.workers + g.jobs) w law (λ q n. refl) here (small (process w p).local.phase refl)
+-- From every lawful world, a worker that isn't gone claims a job or ends within 6 m + n turns of its own, and
+-- begins at most three attempts, or two where it is in one.
+pub alone : (g : Givens) (w : World) (p : ℕ) → AreGivens g → IsLawful g w → (process w p).gone ≡ false → SettlesWithin g p (6 * g.workers + g.jobs) (to_begin (process w p).local.phase + 2) w
+alone g w p ok law here = goes g ok p o (process w) (6 * g.workers + g.jobs) _ w law (λ q n. refl) here (small (process w p).local.phase refl) (omega arith)
   where
     o : IsWorker g p
     o = here_is_worker g w p law.size here
@@ -587,5 +587,9 @@ alone g w p ok law here = goes g ok p o (process w) (6 * g.workers + g.jobs) w l
         bound Over = let e = entries in let s = ok.some in omega arith
         bound Left = let e = entries in let s = ok.some in omega arith
 
+pub stores_few : (g : Givens) (w : World) (p : ℕ) → AreGivens g → IsLawful g w → (process w p).gone ≡ false
+    → (i : ℕ) × (i < 6 * g.workers + g.jobs) × IsFirstToSettle g w p i × (stored_within g w p i ≤ to_begin (process w p).local.phase + 2)
+stores_few g w p ok law here = first_of_them g p (6 * g.workers + g.jobs) _ w (alone g w p ok law here)
+
 pub settles_soon : (g : Givens) (w : World) (p : ℕ) → AreGivens g → IsLawful g w → (process w p).gone ≡ false → (i : ℕ) × (i < 6 * g.workers + g.jobs) × IsFirstToSettle g w p i
-settles_soon g w p ok law here = first_of_them g p (6 * g.workers + g.jobs) w (alone g w p ok law here)
+settles_soon g w p ok law here = let f = stores_few g w p ok law here in (f.0, f.1, f.2)

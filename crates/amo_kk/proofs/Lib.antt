@@ -9,7 +9,9 @@ pub mod Runs
 pub mod Claims
 pub mod Room
 pub mod Words
+pub mod OwnTurns
 pub mod Alone
+pub mod Attempts
 pub mod Shows
 pub mod Worked
 pub mod Bits

@@ -13,7 +13,7 @@ ghost use Rattle.amo_kk.specs.Event.{want};
 ghost use Rattle.amo_kk.specs.World.{process, loaded_value, world_after_turn, world_after_leave, world_after_moves, opening_world};
 ghost use Rattle.amo_kk.specs.Words.{words_of, loaded_word, words_after};
 ghost use Rattle.amo_kk.specs.Answer.{events_of, turn_shown, leave_answer};
-ghost use Rattle.amo_kk.specs.Alone.{IsFirstToSettle};
+ghost use Rattle.amo_kk.specs.Alone.{IsFirstToSettle, FitsThreeAttempts};
 ghost use Rattle.amo_kk.specs.Lawful.{IsLawful, Agrees, object_of};
 ghost use Rattle.amo_kk.specs.declared.givens.Givens.{Givens};
 ghost use Rattle.amo_kk.specs.declared.event.Move.{Move};
@@ -63,6 +63,14 @@ pub fn first_bad_is_the_first()
 pub fn alone_settles_soon()
     ensures { (g : Givens) (w : World) (p : ℕ) → IsLawful g w → (process w p).gone ≡ false
         → (i : ℕ) × (i < 6 * g.workers + g.jobs) × IsFirstToSettle g w p i }
+{}
+
+/// What these turns store and read, that last one among them: at most three attempts go on or begin, each with one
+/// announcement stored; so many attempts read at most `workers - 1` announcements and `workers - 1` zeros each; and
+/// no entry of a row is read twice.
+pub fn alone_takes_three_attempts()
+    ensures { (g : Givens) (w : World) (p i : ℕ) → IsLawful g w → (process w p).gone ≡ false
+        → IsFirstToSettle g w p i → FitsThreeAttempts g w p i }
 {}
 
 /// In one list of words: a turn loads the word that is wanted, and makes just its one store; leaving stores 0 to
