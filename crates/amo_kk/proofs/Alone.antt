@@ -10,8 +10,8 @@ use Rattle.amo_kk.specs.Givens.{AreGivens, IsJob, IsWorker, IsOther, next_other,
 use Rattle.amo_kk.specs.Record.{is_open, is_over, wants_nothing, jobs_in_hand}
 use Rattle.amo_kk.specs.Choice.{chosen_job, record_after_choice, record_after_check}
 use Rattle.amo_kk.specs.Event.{want_in, want, with_announced, record_at_row, record_after_phase, record_after}
-use Rattle.amo_kk.specs.World.{nobody, process, loaded_value, process_after, world_after_event, world_after_turn}
-use Rattle.amo_kk.specs.Alone.{is_claiming, claims_or_ends, world_after_turns, IsFirstToSettle, stores_announcement, want_at, turns_that}
+use Rattle.amo_kk.specs.World.{process, loaded_value, world_after_turn}
+use Rattle.amo_kk.specs.Alone.{is_claiming, claims_or_ends, world_after_turns, IsFirstToSettle, stores_announcement, want_at}
 use Rattle.amo_kk.specs.Lawful.{IsLawful}
 use Rattle.amo_kk.specs.declared.givens.Givens.{Givens}
 use Rattle.amo_kk.specs.declared.phase.Phase.{Phase}
@@ -20,9 +20,9 @@ use Rattle.amo_kk.specs.declared.model.Record.{Record}
 use Rattle.amo_kk.specs.declared.model.Process.{Process}
 use Rattle.amo_kk.specs.declared.model.World.{World}
 use Rattle.amo_sets.proofs.Numbers.{numbered-put_same, numbered-put_other, has-append, has-get_or, count_apart, length_distinct, count_le_all}
-use Rattle.amo_kk.proofs.Choice.{after_rests, chosen_is, choice_cases, check_cases, to_row_cases, to_announcement_cases, next_other_next}
+use Rattle.amo_kk.proofs.Choice.{chosen_is, choice_cases, check_cases, to_row_cases, to_announcement_cases, next_other_next}
 use Rattle.amo_kk.proofs.Kept.{numbered_next, noted_cases, noted_same, noted_kept, others_room, others_next, first_other, none_before, done_job}
-use Rattle.amo_kk.proofs.Worlds.{turn_lawful, here_is_worker, put_here}
+use Rattle.amo_kk.proofs.Worlds.{here_is_worker}
 use Rattle.amo_kk.proofs.OwnTurns.{is_false, next_record, turned, stored, stored_within, stored_in, stored_in_want, to_begin, turns_that-suc, left_from}
 
 -- one of the next k turns of p claims a job or ends p, and up to it at most n announcements are stored

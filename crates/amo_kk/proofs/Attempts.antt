@@ -1,29 +1,27 @@
 -- Alone, a worker makes at most three attempts until it claims or ends, and reads little in each.
-use Rattle.std.proofs.Common.{◌≡◌, ◌≢◌, ◌⊎◌, inl, inr, ⊎_elim, ℕ, zero, suc, ◌+◌, ◌-◌, ◌*◌, ◌^◌, ◌<◌, ◌≤◌, min, Bool, true, false, not, ◌&&◌, ◌||◌, List, [], ◌∷◌, ◌++◌, length, refl, sym, ap, ◌∙◌, subst, arith}
+use Rattle.std.proofs.Common.{◌≡◌, ◌≢◌, ⊎_elim, ℕ, zero, suc, ◌+◌, ◌-◌, ◌*◌, ◌<◌, ◌≤◌, Bool, true, false, not, ◌&&◌, ◌||◌, List, [], ◌∷◌, ◌++◌, length, refl, sym, ap, ◌∙◌, subst, arith}
 use Rattle.std.specs.Prelude.{if◌then◌else◌, ◌==◌, nat_le}
 use Rattle.std.proofs.lemmas.Bool.Decides.{nat_tests}
-use Rattle.std.proofs.lemmas.Bool.{cases_eq, cases_lt, true≢false, eq-eqb, ne_eqb}
+use Rattle.std.proofs.lemmas.Bool.{cases_eq, cases_lt, true≢false, ne_eqb}
 use Rattle.amo_sets.specs.Lists.{numbered, put}
 use Rattle.amo_sets.specs.Sets.{with_number}
 use Rattle.amo_kk.specs.Givens.{AreGivens, IsJob, IsWorker, IsOther, next_other, others_before}
-use Rattle.amo_kk.specs.Record.{is_over}
 use Rattle.amo_kk.specs.Choice.{record_after_choice, record_after_check}
-use Rattle.amo_kk.specs.Event.{want_in, want, with_announced, record_at_row, record_at_announcement, record_after_phase, record_after}
+use Rattle.amo_kk.specs.Event.{want_in, want, with_announced, record_at_row, record_at_announcement, record_after_phase}
 use Rattle.amo_kk.specs.World.{process, loaded_value, world_after_turn}
-use Rattle.amo_kk.specs.Alone.{is_claiming, claims_or_ends, world_after_turns, IsFirstToSettle, want_at, value_at, stores_announcement, reads_announcement, reads_zero, reads_entry, turns_that, attempts_going_on, attempts_within, FitsThreeAttempts}
+use Rattle.amo_kk.specs.Alone.{is_claiming, claims_or_ends, world_after_turns, IsFirstToSettle, want_at, value_at, stores_announcement, reads_announcement, reads_zero, reads_entry, turns_that, attempts_going_on, FitsThreeAttempts}
 use Rattle.amo_kk.specs.Lawful.{IsLawful}
 use Rattle.amo_kk.specs.declared.givens.Givens.{Givens}
 use Rattle.amo_kk.specs.declared.phase.Phase.{Phase}
 use Rattle.amo_kk.specs.declared.phase.Phase.TheVariants.{Announcing, Trying, Reading, Claiming, Holding, Over, Left}
 use Rattle.amo_kk.specs.declared.phase.Want.{Want}
 use Rattle.amo_kk.specs.declared.model.Record.{Record}
-use Rattle.amo_kk.specs.declared.model.Process.{Process}
 use Rattle.amo_kk.specs.declared.model.World.{World}
 use Rattle.amo_sets.proofs.Numbers.{numbered-put_same, numbered-put_other}
 use Rattle.amo_kk.proofs.Choice.{choice_cases, check_cases, to_row_cases, to_announcement_cases}
 use Rattle.amo_kk.proofs.Kept.{others_room, others_next}
 use Rattle.amo_kk.proofs.Worlds.{here_is_worker}
-use Rattle.amo_kk.proofs.OwnTurns.{is_false, next_record, turned, stored, stored_within, stored_in, stored_in_want, to_begin, turns_that-suc, left_from}
+use Rattle.amo_kk.proofs.OwnTurns.{next_record, turned, stored, stored_within, to_begin, turns_that-suc, left_from}
 use Rattle.amo_kk.proofs.Alone.{stores_few}
 
 sum_times : (a b c : ℕ) → (a + b) * c ≡ a * c + b * c

@@ -1,5 +1,5 @@
 -- Worked schedules, first choices, judged lists, ranks and places of words: the definitions give these values.
-use Rattle.std.proofs.Common.{◌≡◌, ℕ, List, [], ◌∷◌, ◌++◌, refl, replicate, Bool, not, ◌&&◌, length}
+use Rattle.std.proofs.Common.{◌≡◌, ℕ, List, [], ◌∷◌, ◌++◌, refl, replicate, Bool, true, false, not, ◌&&◌, length}
 use Rattle.std.specs.Prelude.{Some, None}
 use Rattle.amo_sets.specs.Sets.{has}
 use Rattle.amo_sets.specs.Rank.{count, number_of_rank}
@@ -11,6 +11,7 @@ use Rattle.amo_kk.specs.Choice.{first_record}
 use Rattle.amo_kk.specs.World.{process, world_after_halt, world_after_leave, world_after_moves, opening_world}
 use Rattle.amo_kk.specs.Words.{words_of, done_word}
 use Rattle.amo_kk.specs.Answer.{turn_shown, leave_answer}
+use Rattle.amo_kk.specs.Alone.{claims_or_ends, world_after_turns, want_at, value_at, reads_announcement, reads_zero, reads_entry, turns_that, attempts_within}
 use Rattle.amo_kk.specs.declared.givens.Givens.{Givens}
 use Rattle.amo_kk.specs.declared.givens.GivensFault.TheVariants.{TooManyJobs, NoWorkers, TooManyWorkers, BetaLow, BetaHigh}
 use Rattle.amo_kk.specs.declared.phase.Phase.{Phase}
@@ -338,6 +339,40 @@ judged_done_then_left = refl
 
 judged_early_end : judged five_jobs (Ended 1 ∷ []) ≡ 1
 judged_early_end = refl
+
+-- A worker alone, of five jobs and two workers: worker 2 has done 3 and announces 2, and worker 1, which has done 1,
+-- is about to announce 2. It announces 2, reads 2, reads 3 and then 0 in the row: 2 was tried. It announces 4, reads 2
+-- and 0, and claims.
+
+abbrev both_on_2 : World
+both_on_2 = world_of five_jobs (turns 2 2 ++ (turns 1 3 ++ (turns 2 4 ++ turns 1 2)))
+
+about_to_announce : (process both_on_2 1).local.phase ≡ Announcing 2
+about_to_announce = refl
+
+not_yet : claims_or_ends five_jobs (world_after_turns five_jobs both_on_2 1 6) 1 ≡ false
+not_yet = refl
+
+claims_at_last : claims_or_ends five_jobs (world_after_turns five_jobs both_on_2 1 7) 1 ≡ true
+claims_at_last = refl
+
+two_attempts : attempts_within five_jobs both_on_2 1 7 ≡ 2
+two_attempts = refl
+
+one_goes_on : attempts_within five_jobs (world_after_turns five_jobs both_on_2 1 1) 1 6 ≡ 2
+one_goes_on = refl
+
+two_announcements : turns_that (λ k. reads_announcement (want_at five_jobs both_on_2 1 k)) 7 ≡ 2
+two_announcements = refl
+
+two_zeros : turns_that (λ k. reads_zero (want_at five_jobs both_on_2 1 k) (value_at five_jobs both_on_2 1 k)) 7 ≡ 2
+two_zeros = refl
+
+entry_1_once : turns_that (λ k. reads_entry 2 1 (want_at five_jobs both_on_2 1 k) (value_at five_jobs both_on_2 1 k)) 7 ≡ 1
+entry_1_once = refl
+
+no_entry_2 : turns_that (λ k. reads_entry 2 2 (want_at five_jobs both_on_2 1 k) (value_at five_jobs both_on_2 1 k)) 7 ≡ 0
+no_entry_2 = refl
 
 -- Ranks in 2, 4, 5, 7 without 4, 9.
 
