@@ -23,7 +23,7 @@ use Rattle.amo_sets.proofs.Numbers.{numbered-put_same, numbered-put_other, has-a
 use Rattle.amo_kk.proofs.Choice.{chosen_is, choice_cases, check_cases, to_row_cases, to_announcement_cases, next_other_next}
 use Rattle.amo_kk.proofs.Kept.{numbered_next, noted_cases, noted_same, noted_kept, others_room, others_next, first_other, none_before, done_job}
 use Rattle.amo_kk.proofs.Worlds.{here_is_worker}
-use Rattle.amo_kk.proofs.OwnTurns.{is_false, next_record, turned, stored, stored_within, stored_in, stored_in_want, to_begin, turns_that-suc, left_from}
+use Rattle.amo_kk.proofs.OwnTurns.{is_false, next_record, own_turn, stored, stored_within, stored_in, stored_in_want, to_begin, turns_that-suc, left_from}
 
 -- one of the next k turns of p claims a job or ends p, and up to it at most n announcements are stored
 abbrev SettlesWithin : Givens → ℕ → ℕ → ℕ → World → Type 0
@@ -103,7 +103,7 @@ module _ (g : Givens) (ok : AreGivens g) (p : ℕ) (o : IsWorker g p) (at : ℕ 
       go : (b : Bool) → is_over (next_record g w p).phase ≡ b → (claims_or_ends g w p ≡ true) ⊎ SettlesWithin g p k (n - stored w p) (world_after_turn g w p)
       go true e = inl (right (is_claiming r.phase) (is_over (next_record g w p).phase) e)
       go false e =
-          let t = turned g w p ok law here e in
+          let t = own_turn g w p ok law here e in
           inr (subst (λ x. SettlesWithin g p k (n - x) (world_after_turn g w p)) (sym paid) (ready e (world_after_turn g w p) t.law (λ q n. t.others q n ∙ same q n) t.here t.local))
 
   -- a record after its phase is known

@@ -21,7 +21,7 @@ use Rattle.amo_sets.proofs.Numbers.{numbered-put_same, numbered-put_other}
 use Rattle.amo_kk.proofs.Choice.{choice_cases, check_cases, to_row_cases, to_announcement_cases}
 use Rattle.amo_kk.proofs.Kept.{others_room, others_next}
 use Rattle.amo_kk.proofs.Worlds.{here_is_worker}
-use Rattle.amo_kk.proofs.OwnTurns.{next_record, turned, stored, stored_within, to_begin, turns_that-suc, left_from}
+use Rattle.amo_kk.proofs.OwnTurns.{next_record, own_turn, stored, stored_within, to_begin, turns_that-suc, left_from}
 use Rattle.amo_kk.proofs.Alone.{stores_few}
 
 sum_times : (a b c : ℕ) → (a + b) * c ≡ a * c + b * c
@@ -30,7 +30,7 @@ sum_times a b c = grind arith
 neither : (a b : Bool) → (a || b) ≡ false → b ≡ false
 neither a b h = grind arith
 
--- reading an entry once more, and reading no entry
+-- an entry that is read is the next one after the front, which then stands at it; a zero is no entry
 an_entry : (b : Bool) (front e : ℕ) → (if b && ((front + 1 == e) && true) then 1 else 0) + (if nat_le e (front + 1) then 0 else 1) ≤ (if nat_le e front then 0 else 1) + 0 * 0
 an_entry true front e = let l = entry_next front e in omega arith
   where
@@ -61,7 +61,7 @@ module _ (g : Givens) (ok : AreGivens g) (p : ℕ) where
       → turns_that (λ k. test (want_at g w p k) (value_at g w p k)) i ≤ left (process w p).local + stored_within g w p i * each
   paid test each left pays zero w law here goes_on = let first = pays w law here in omega arith
   paid test each left pays (suc i) w law here goes_on =
-      let t = turned g w p ok law here (neither (is_claiming (process w p).local.phase) _ (goes_on 0 (omega arith))) in
+      let t = own_turn g w p ok law here (neither (is_claiming (process w p).local.phase) _ (goes_on 0 (omega arith))) in
       let rest = paid test each left pays i (world_after_turn g w p) t.law t.here (λ k l. goes_on (suc k) (omega arith)) in
       let there = subst (λ r. turns_that (λ k. test (want_at g (world_after_turn g w p) p k) (value_at g (world_after_turn g w p) p k)) i ≤ left r + stored_within g (world_after_turn g w p) p i * each) t.local rest in
       let first = pays w law here in

@@ -34,12 +34,12 @@ pub record IsTurned (g : Givens) (w : World) (p : ℕ) (v : World) : Type 0 wher
   pub local : (process v p).local ≡ next_record g w p
   pub others : (q : ℕ) → q ≢ p → process v q ≡ process w q
 
--- whoever isn't gone wants something
+-- whoever isn't gone wants a load or a store
 pub wants_some : (g : Givens) (w : World) (p : ℕ) → IsLawful g w → IsWorker g p → (process w p).gone ≡ false → wants_nothing (process w p).local.phase ≡ false
 wants_some g w p law o here = is_false _ (λ h. true≢false (sym ((law.lawful.sound p o).gone h) ∙ here))
 
-pub turned : (g : Givens) (w : World) (p : ℕ) → AreGivens g → IsLawful g w → (process w p).gone ≡ false → is_over (next_record g w p).phase ≡ false → IsTurned g w p (world_after_turn g w p)
-turned g w p ok law here goes_on =
+pub own_turn : (g : Givens) (w : World) (p : ℕ) → AreGivens g → IsLawful g w → (process w p).gone ≡ false → is_over (next_record g w p).phase ≡ false → IsTurned g w p (world_after_turn g w p)
+own_turn g w p ok law here goes_on =
     record {
       law = turn_lawful g w p ok law;
       here = ap (λ (y : Process). y.gone) now_p ∙ stored_gone (want r) (process w p) x ∙ after_rests g p (loaded_value w (want r)) r (wants_some g w p law o here) ∙ goes_on;
@@ -93,7 +93,7 @@ stored_in_want r (Holding j) = refl
 stored_in_want r Over = refl
 stored_in_want r Left = refl
 
--- what the turns 0..i of p store
+-- how many announcements the turns 0..i of p store
 abbrev pub stored_within : Givens → World → ℕ → ℕ → ℕ
 stored_within g w p i = turns_that (λ k. stores_announcement (want_at g w p k)) i
 

@@ -101,8 +101,8 @@ attempts_within g w p i =
     attempts_going_on (process w p).local.phase + turns_that (λ k. stores_announcement (want_at g w p k)) i
 
 -- In the turns 0..i of p at most three attempts go on or begin, each with one announcement stored. By each turn k of
--- these, so many attempts have read at most one announcement and one zero from each of the others. No entry of a row
--- is read twice.
+-- these, at most as many announcements are read for each attempt so far as there are others, and at most as many
+-- zeros. No entry of a row is read twice.
 pub record FitsThreeAttempts (g : Givens) (w : World) (p i : ℕ) : Type 0 where
   pub three : attempts_within g w p i ≤ 3
   pub announcements : (k : ℕ) → k ≤ i → turns_that (λ l. reads_announcement (want_at g w p l)) k ≤ attempts_within g w p k * (g.workers - 1)

@@ -65,9 +65,9 @@ pub fn alone_settles_soon()
         → (i : ℕ) × (i < 6 * g.workers + g.jobs) × IsFirstToSettle g w p i }
 {}
 
-/// What these turns store and read, that last one among them: at most three attempts go on or begin, each with one
-/// announcement stored; so many attempts read at most `workers - 1` announcements and `workers - 1` zeros each; and
-/// no entry of a row is read twice.
+/// What these turns store and read, up to the one that claims or ends: at most three attempts go on or begin, each
+/// with one announcement stored; at each moment at most `workers - 1` announcements and `workers - 1` zeros are read
+/// for each attempt so far; no entry of a row is read twice.
 pub fn alone_takes_three_attempts()
     ensures { (g : Givens) (w : World) (p i : ℕ) → IsLawful g w → (process w p).gone ≡ false
         → IsFirstToSettle g w p i → FitsThreeAttempts g w p i }
