@@ -5,19 +5,18 @@ use Rattle.std.proofs.lemmas.Bool.{cases_lt, cases_eq, cases_Bool, true≢false}
 use Rattle.amo_kk.specs.Givens.{IsWorker}
 use Rattle.amo_kk.specs.Record.{is_over, wants_nothing}
 use Rattle.amo_kk.specs.Event.{want, record_after}
-use Rattle.amo_kk.specs.World.{process, loaded_value, process_after, world_after_event, world_after_turn}
+use Rattle.amo_kk.specs.World.{process, loaded_value, world_after_turn}
 use Rattle.amo_kk.specs.Answer.{shown, turn_shown}
-use Rattle.amo_kk.specs.Alone.{is_claiming, claims_or_ends, world_after_turns}
+use Rattle.amo_kk.specs.Alone.{is_claiming, claims_or_ends, world_after_turns, IsFirstToSettle}
 use Rattle.amo_kk.specs.Lawful.{IsLawful}
 use Rattle.amo_kk.specs.declared.givens.Givens.{Givens}
 use Rattle.amo_kk.specs.declared.phase.Phase.{Phase}
 use Rattle.amo_kk.specs.declared.phase.Phase.TheVariants.{Announcing, Trying, Reading, Claiming, Holding, Over, Left}
-use Rattle.amo_kk.specs.declared.model.Process.{Process}
 use Rattle.amo_kk.specs.declared.model.World.{World}
-use Rattle.amo_kk.proofs.Choice.{after_rests}
-use Rattle.amo_kk.proofs.Worlds.{here_is_worker, put_here, turn_lawful}
-use Rattle.amo_kk.proofs.Runs.{stored_gone}
+use Rattle.amo_kk.proofs.Worlds.{here_is_worker, turn_lawful}
+use Rattle.amo_kk.proofs.OwnTurns.{own_turn}
 use Rattle.amo_kk.proofs.Alone.{settles_soon}
+use Rattle.amo_kk.proofs.Attempts.{fits_three}
 use Rattle.amo_world.specs.Answer.{turned, turn_answer, alone_answer}
 use Rattle.amo_world.specs.Resting.{RunsAlone}
 use Rattle.amo_world.specs.Views.{WorldView}
@@ -133,12 +132,7 @@ module _ (g : Givens) (w : World) (p : ℕ) (law : IsLawful g w) (here : (proces
 
   -- and after a turn that does neither, the worker isn't gone
   here_next : claims_or_ends g w p ≡ false → (process (world_after_turn g w p) p).gone ≡ false
-  here_next h =
-      ap (λ b. (process (if b then w else world_after_event g w p (process w p)) p).gone) here
-      ∙ ap (λ (a : Process). a.gone) (put_here g w p (process_after (want (process w p).local) (process w p) (record_after g p (loaded_value w (want (process w p).local)) (process w p).local)) law.size o)
-      ∙ stored_gone (want (process w p).local) (process w p) (record_after g p (loaded_value w (want (process w p).local)) (process w p).local)
-      ∙ after_rests g p (loaded_value w (want (process w p).local)) (process w p).local going
-      ∙ second (is_claiming (process w p).local.phase) (is_over (record_after g p (loaded_value w (want (process w p).local)) (process w p).local).phase) h
+  here_next h = (own_turn g w p g.limits law here (second (is_claiming (process w p).local.phase) (is_over (record_after g p (loaded_value w (want (process w p).local)) (process w p).local).phase) h)).here
     where
       second : (a b : Bool) → (a || b) ≡ false → b ≡ false
       second true b e = absurd (true≢false e)
@@ -168,12 +162,16 @@ turn_comes_to_rest g before p k w law here way rest =
     record {
       others = k;
       soon = under_way_soon g before p k w law here way;
-      first = record {
-        none_before = way.none;
-        this_one = ap (λ x. claims_or_ends g x p) way.leads ∙ sym (turn_rests g w p way.lawful way.here) ∙ rest;
-      };
+      first = first;
+      few = fits_three g before p k g.limits law here first;
       leads = ap (λ x. world_after_turn g x p) (sym way.leads) ∙ sym (turns_next g before p k);
       answers = turn_alone g w p way.lawful way.here ∙ ap (λ (x : World). alone_answer (process x p).local.phase) (sym way.leads);
+    }
+  where
+    first : IsFirstToSettle g before p k
+    first = record {
+      none_before = way.none;
+      this_one = ap (λ x. claims_or_ends g x p) way.leads ∙ sym (turn_rests g w p way.lawful way.here) ∙ rest;
     }
 
 -- the same, of a turn that made this view and gave this answer

@@ -1,7 +1,7 @@
 -- How a worker that runs alone comes to rest.
 use Rattle.std.specs.Prelude.{◌≡◌, ℕ, suc, ◌+◌, ◌*◌, ◌<◌}
 use Rattle.amo_kk.specs.World.{process}
-use Rattle.amo_kk.specs.Alone.{world_after_turns, IsFirstToSettle}
+use Rattle.amo_kk.specs.Alone.{world_after_turns, IsFirstToSettle, FitsThreeAttempts}
 use Rattle.amo_kk.specs.declared.givens.Givens.{Givens}
 use Rattle.amo_kk.specs.declared.model.World.{World}
 use Rattle.amo_world.specs.declared.answer.Alone.{Alone}
@@ -13,5 +13,6 @@ pub record RunsAlone (g : Givens) (before : World) (p : ℕ) (after : World) (an
   pub others : ℕ
   pub soon : others < 6 * g.workers + g.jobs
   pub first : IsFirstToSettle g before p others
+  pub few : FitsThreeAttempts g before p others
   pub leads : after ≡ world_after_turns g before p (suc others)
   pub answers : answer ≡ alone_answer (process (world_after_turns g before p others) p).local.phase
