@@ -7,7 +7,6 @@ use std::alloc::Global;
 use std::process::Abort;
 use std::test::Fail;
 
-mod blocks;
 mod streams;
 mod texts;
 
@@ -107,6 +106,31 @@ fn rounds_follow_the_schedule(rt: HostRuntime) -> Result<(), Fail> {
     ] {
         let out = report_of(rt.alloc(), heads, two_jobs)?;
         assert_eq!(rt; text_of(&out), report, "for {heads}");
+    }
+    Ok(())
+}
+
+#[test]
+fn blocks_have_these_texts(rt: HostRuntime) -> Result<(), Fail> {
+    for (schedule, report) in [
+        (
+            "1*6",
+            "jobs 3 block 2 blocks 2 workers 1 beta 1 bound 2\n1 claimed 1 1\n2 done 1 1\n3 claimed 1 2\n4 done 1 2\n5 ended 1\nworker 1 ended turns 6 claimed 2 done 2\nresult 1 a one\nresult 2 b two\nresult 3 c three\nperformed blocks 2 jobs 3\nunclaimed\n",
+        ),
+        (
+            "1*3 l1 1",
+            "jobs 3 block 2 blocks 2 workers 1 beta 1 bound 2\n1 claimed 1 1\n2 done 1 1\n3 left 1\nworker 1 left turns 4 claimed 1 done 1\nresult 1 a one\nresult 2 b two\nperformed blocks 1 jobs 2\nunclaimed 2\n",
+        ),
+        (
+            "1*2 l1 1",
+            "jobs 3 block 2 blocks 2 workers 1 beta 1 bound 2\n1 claimed 1 1\n2 done 1 1\nworker 1 running turns 3 claimed 1 done 1\nresult 1 a one\nresult 2 b two\nperformed blocks 1 jobs 2\nunclaimed 2\n",
+        ),
+    ] {
+        let heads = format!(in rt.alloc();
+            "version = 2\nblock = 2\nworkers = 1\nbeta = 1\nschedule = \"{schedule}\"\n"
+        )?;
+        let out = report_of(rt.alloc(), heads.as_str(), THREE_JOBS)?;
+        assert_eq!(rt; text_of(&out), report, "for {schedule}");
     }
     Ok(())
 }

@@ -2,7 +2,7 @@
 use super::super::*;
 use super::{ONE_WORKER, ONE_WORKER_REPORT, text_of};
 use std::io;
-use std::io::{Read, Write};
+use std::io::{Cursor, Read, Write};
 use std::test::Fail;
 
 /// A source of one byte at a time, which fails once so many bytes were given.
@@ -190,6 +190,20 @@ fn a_failing_flush_is_a_failing_write(rt: HostRuntime) -> Result<(), Fail> {
         &mut writer,
     );
     assert!(rt; matches!(answer, Err(ReplayFault::Write)));
+    let Stubborn { taken, flushes: _ } = writer.into_inner();
+    assert_eq!(rt; text_of(&taken), ONE_WORKER_REPORT);
+    Ok(())
+}
+
+#[test]
+fn streams_of_std_give_the_same_report(rt: HostRuntime) -> Result<(), Fail> {
+    let mut reader = Streamed::new(Cursor::new(ONE_WORKER.as_bytes()));
+    let taken = Room::new(rt.alloc(), 1000)?;
+    let mut writer = Streamed::new(Stubborn {
+        taken,
+        flushes: true,
+    });
+    assert!(rt; matches!(replay(rt.alloc(), &mut reader, &mut writer), Ok(())));
     let Stubborn { taken, flushes: _ } = writer.into_inner();
     assert_eq!(rt; text_of(&taken), ONE_WORKER_REPORT);
     Ok(())

@@ -61,6 +61,10 @@ fn checks_have_these_texts(rt: HostRuntime) -> Result<(), Fail> {
             "version = 1\nworkers = 2\nbeta = 7\nschedule = \"1*3 x2 1\"\nrounds = 40\n",
             "ok jobs 0 workers 2 beta 7 moves 5 rounds 40\n",
         ),
+        (
+            "version = 2\nblock = 2\nworkers = 1\nbeta = 1\nschedule = \"1*3 l1 1\"\njob = [{name = \"a\", say = \"\"}, {name = \"b\", say = \"\"}, {name = \"c\", say = \"\"}]\n",
+            "ok jobs 3 block 2 blocks 2 workers 1 beta 1 moves 5 rounds 0\n",
+        ),
     ] {
         assert_eq!(rt; check_of(rt.alloc(), plan)?.as_str(), line);
         let mut out = Room::new(rt.alloc(), 100)?;
