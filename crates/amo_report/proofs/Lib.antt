@@ -2,3 +2,5 @@ pub mod Marks
 pub mod Blocks
 pub mod Whole
 pub mod Rounds
+pub mod Least
+pub mod Explored

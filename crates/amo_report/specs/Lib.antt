@@ -14,3 +14,5 @@ pub mod CheckHeads
 pub mod FaultTexts
 pub mod Texts
 pub mod Replays
+pub mod Summary
+pub mod Explorer

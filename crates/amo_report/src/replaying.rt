@@ -1,14 +1,16 @@
 //! From the bytes of a plan to the bytes of its text.
-ghost use Rattle.std.specs.Prelude.{◌≡◌, false, Ok, OnOk, IfOk, IfErr, IfSome, string_bytes};
+ghost use Rattle.std.specs.Prelude.{◌≡◌, ◌≤◌, false, Ok, OnOk, IfOk, IfErr, IfSome, string_bytes};
 ghost use Rattle.std.specs.Io.KnownBytes.{IsAtEnd};
 ghost use Rattle.amo_plan.specs.Plan.{plan_of};
 ghost use Rattle.amo_plan.specs.PlanSeen.{plan_seen};
 ghost use Rattle.amo_report.specs.Check.{check_of};
 ghost use Rattle.amo_report.specs.Texts.{report_of};
+ghost use Rattle.amo_report.specs.Explorer.{explore_of};
 ghost use Rattle.amo_report.specs.Replays.{IsNoPlan, IsNoPlanMemory, Refuses, Writes};
 
 use super::checking::check_text;
 use super::copying::{ReadFault, read_all, write_all};
+use super::explorer::explore;
 use super::report::report_text;
 use super::running::run_plan;
 use super::streams::{Failed, Sink, Source};
@@ -101,6 +103,38 @@ pub fn check<R: Source, W: Sink>(
 {
     let plan = read_source(alloc, reader)?;
     let text = match check_text(alloc, &plan.heads) {
+        Ok(text) => text,
+        Err(AllocError) => return Err(ReplayFault::NoMemory),
+    };
+    match write_all(writer, text.as_bytes()) {
+        Ok(()) => Ok(()),
+        Err(Failed) => Err(ReplayFault::Write),
+    }
+}
+
+/// Reads a plan to the end of the reader, and writes what `explore` makes of it and nothing else. The numbers have the
+/// limits that they have there, and neither stream may have failed. What each fault leaves is said at `ReplayFault`.
+pub fn explore_plan<R: Source, W: Sink>(
+    alloc: Global,
+    reader: &mut R,
+    writer: &mut W,
+    from: u64,
+    count: u32,
+    length: u32,
+) -> Result<(), ReplayFault>
+    requires reader { R.failed reader.old ≡ false }
+    requires writer { W.failed writer.old ≡ false }
+    requires from { from ≤ 1000000000000 }
+    requires some { 1 ≤ count }
+    requires few { count ≤ 1000 }
+    requires short { length ≤ 10000 }
+    ensures end { OnOk result (IsAtEnd (R.remaining reader.new)) }
+    ensures text { OnOk result (Writes (λ p. explore_of p from count length) (R.remaining reader.old) (W.contents writer.old) (W.contents writer.new)) }
+    ensures refused { IfErr result (λ e. Refuses (λ p. explore_of p from count length) e (R.remaining reader.old) (R.failed reader.new)
+        (W.contents writer.old) (W.contents writer.new) (W.failed writer.new)) }
+{
+    let plan = read_source(alloc, reader)?;
+    let text = match explore(alloc, &plan, from, count, length) {
         Ok(text) => text,
         Err(AllocError) => return Err(ReplayFault::NoMemory),
     };

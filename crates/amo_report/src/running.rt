@@ -20,7 +20,7 @@ fn run_round(world: &mut World)
 }
 
 /// So many rounds.
-fn run_rounds(world: &mut World, count: u32)
+pub fn run_rounds(world: &mut World, count: u32)
     ensures { world.new ≡ record { givens = world.old.givens; world = world_after_moves world.old.givens world.old.world (rounds world.old.givens.workers count) } }
 {
     for _done in 0..count {

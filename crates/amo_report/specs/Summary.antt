@@ -1,0 +1,36 @@
+-- What a line says of a whole run, and what is the least over many runs.
+use Rattle.std.specs.Prelude.{ℕ, zero, suc, ◌+◌, min, List, [], ◌∷◌, ◌++◌, Option, Some, None, count_by, codes}
+use Rattle.std.specs.Fmt.{decimal}
+use Rattle.amo_kk.specs.declared.event.Event.{Event}
+use Rattle.amo_world.specs.declared.answer.Verdict.{Verdict}
+use Rattle.amo_world.specs.declared.answer.Verdict.TheVariants.{Lawful, FirstBad}
+use Rattle.amo_report.specs.Happened.{is_claim, is_done}
+
+-- ` claimed C done D`
+unfoldable pub counts_part : List Event → List ℕ
+counts_part history = codes " claimed " ++ decimal (count_by is_claim history) ++ codes " done " ++ decimal (count_by is_done history)
+
+-- ` lawful` or ` bad I`
+unfoldable pub verdict_part : Verdict → List ℕ
+verdict_part Lawful = codes " lawful"
+verdict_part (FirstBad i) = codes " bad " ++ decimal i
+
+-- so many numbers from the first on
+abbrev pub numbers_from : ℕ → ℕ → List ℕ
+numbers_from first zero = []
+numbers_from first (suc count) = numbers_from first count ++ (first + count) ∷ []
+
+-- the lesser of a number and another, where there is one
+abbrev pub lesser : ℕ → Option ℕ → ℕ
+lesser n None = n
+lesser n (Some other) = min n other
+
+-- the least number of a list
+abbrev pub least_of : List ℕ → Option ℕ
+least_of [] = None
+least_of (n ∷ ns) = Some (lesser n (least_of ns))
+
+-- `least D`; of no runs nothing
+unfoldable pub least_line : Option ℕ → List ℕ
+least_line None = []
+least_line (Some dones) = codes "least " ++ decimal dones ++ codes "\n"

@@ -1,0 +1,119 @@
+//! The explorer: what numbered schedules lead to.
+ghost use Rattle.std.specs.Prelude.{◌≡◌, ◌≤◌, ◌++◌, ℕ, List, OnOk, IfOk, string_bytes};
+ghost use Rattle.amo_kk.specs.World.{opening_world, world_after_moves};
+ghost use Rattle.amo_kk.specs.declared.event.Move.{Move};
+ghost use Rattle.amo_kk.specs.declared.givens.Givens.{Givens};
+ghost use Rattle.amo_world.specs.Answer.{verdict};
+ghost use Rattle.amo_world.specs.declared.answer.Verdict.TheVariants.{Lawful};
+ghost use Rattle.amo_plan.specs.PlanSeen.{plan_seen};
+ghost use Rattle.amo_report.specs.Explorer.{schedule, explored_world, explored_verdict, explored_dones, schedule_line, explored_line, explore_of};
+
+use super::running::run_rounds;
+use super::summary::{
+    count_ends, count_performances, lesser, push_counts, push_least, push_verdict,
+};
+use amo_kk::Event;
+use amo_kk::laws::{first_bad_is_the_first, history_is_a_run};
+use amo_plan::Plan;
+use amo_world::{Verdict, World, judge};
+use std::alloc::{AllocError, Global};
+
+/// The turns of a numbered schedule of this length.
+fn run_schedule(world: &mut World, number: u64, length: u32)
+    ensures { world.new ≡ record { givens = world.old.givens; world = world_after_moves world.old.givens world.old.world (schedule world.old.givens.workers number length) } }
+{
+    let workers = world.givens().workers;
+    let mut digits = number;
+    for _turn in 0..length {
+        let digit = (digits % workers as u64) as u32;
+        let _turned = world.turn(digit + 1);
+        digits /= workers as u64;
+    }
+}
+
+/// The world after a numbered schedule and the rounds of the plan. The only error is want of memory.
+fn run_explored(alloc: Global, plan: &Plan, number: u64, length: u32) -> Result<World, AllocError>
+    ensures { IfOk result (λ w. w ≡ record { givens = (plan_seen plan.now).givens; world = explored_world (plan_seen plan.now) length number }) }
+{
+    let mut world = World::new(alloc, plan.heads.givens)?;
+    run_schedule(&mut world, number, length);
+    run_rounds(&mut world, plan.heads.rounds);
+    Ok(world)
+}
+
+/// Appends the line of a schedule with this history and verdict.
+#[tactic(auto, unfolding(crate::specs::Explorer::schedule_line))]
+fn push_schedule(
+    out: &mut String,
+    number: u64,
+    history: &[Event],
+    verdict: Verdict,
+) -> Result<(), AllocError>
+    ensures { OnOk result (string_bytes out.new ≡ string_bytes out.old ++ schedule_line number history.now verdict) }
+{
+    let ends = count_ends(history);
+    write!(out, "schedule {number}")?;
+    push_counts(out, history)?;
+    write!(out, " ended {ends}")?;
+    push_verdict(out, verdict)?;
+    writeln!(out)
+}
+
+/// Appends the line of a numbered schedule, which is run in a world of its own, and tells how many performances it
+/// has.
+fn push_explored(
+    alloc: Global,
+    out: &mut String,
+    plan: &Plan,
+    number: u64,
+    length: u32,
+) -> Result<usize, AllocError>
+    ensures line { OnOk result (string_bytes out.new ≡ string_bytes out.old ++ explored_line (plan_seen plan.now) length number) }
+    ensures dones { IfOk result (λ dones. dones ≡ explored_dones (plan_seen plan.now) length number) }
+{
+    let world = run_explored(alloc, plan, number, length)?;
+    let history = world.history();
+    let verdict = judge(alloc, plan.heads.givens, history)?;
+    push_schedule(out, number, history, verdict)?;
+    Ok(count_performances(history))
+}
+
+/// Whatever moves are made in the opening world, the judge finds the history lawful. Nothing here runs.
+fn histories_are_lawful()
+    ensures { (g : Givens) (moves : List Move) → verdict g (world_after_moves g (opening_world g) moves).history ≡ Lawful }
+{
+    history_is_a_run();
+    first_bad_is_the_first();
+}
+
+/// The text of the explorer: for each of `count` schedules of `length` turns, from number `from` on, a fresh world is
+/// run through the schedule and the plan's rounds, and its line says how much was claimed and performed, how many
+/// workers ended, and what the judge says, which is always `lawful`. Turn i, from 0, of schedule s is one of worker
+/// s / workers ^ i % workers + 1. The last line has the least number of performances. The plan's own schedule isn't
+/// used. `from` is at most 1,000,000,000,000, `count` 1 to 1000, `length` at most 10,000. The only error is want of
+/// memory.
+#[tactic(auto, using(crate::proofs::Least::pieces_more, crate::proofs::Least::least_more))]
+pub fn explore(
+    alloc: Global,
+    plan: &Plan,
+    from: u64,
+    count: u32,
+    length: u32,
+) -> Result<String, AllocError>
+    requires from { from ≤ 1000000000000 }
+    requires some { 1 ≤ count }
+    requires few { count ≤ 1000 }
+    requires short { length ≤ 10000 }
+    ensures text { IfOk result (λ s. string_bytes s ≡ explore_of (plan_seen plan.now) from count length) }
+    ensures lawful { (s : ℕ) → explored_verdict (plan_seen plan.now) length s ≡ Lawful }
+{
+    histories_are_lawful();
+    let mut out = String::new(alloc);
+    let mut least = None;
+    for before in 0..count {
+        let dones = push_explored(alloc, &mut out, plan, from + before as u64, length)?;
+        least = Some(lesser(dones, least));
+    }
+    push_least(&mut out, least)?;
+    Ok(out)
+}

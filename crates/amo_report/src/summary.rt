@@ -1,0 +1,81 @@
+//! What a line says of a whole run, and what is the least over many runs.
+ghost use Rattle.std.specs.Prelude.{◌≡◌, ◌++◌, Some, OnOk, string_bytes, count_by};
+ghost use Rattle.amo_kk.specs.Run.{IsRun};
+ghost use Rattle.amo_report.specs.Happened.{is_claim, is_done, is_end};
+ghost use Rattle.amo_report.specs.Summary.{counts_part, verdict_part, lesser, least_line};
+
+use amo_kk::Event;
+use amo_world::Verdict;
+use std::alloc::AllocError;
+
+/// How many claims the history has.
+fn count_claims(history: &[Event]) -> usize
+    ensures { result ≡ count_by is_claim history.now }
+{
+    history
+        .iter()
+        .filter(|event| matches!(event, Event::Claimed(_, _)))
+        .count()
+}
+
+/// How many performances the history has.
+pub fn count_performances(history: &[Event]) -> usize
+    ensures { result ≡ count_by is_done history.now }
+{
+    history
+        .iter()
+        .filter(|event| matches!(event, Event::Done(_, _)))
+        .count()
+}
+
+/// How many ends the history has.
+pub fn count_ends(history: &[Event]) -> usize
+    ensures { result ≡ count_by is_end history.now }
+{
+    history
+        .iter()
+        .filter(|event| matches!(event, Event::Ended(_)))
+        .count()
+}
+
+/// Appends how much was claimed and performed.
+#[tactic(auto, unfolding(crate::specs::Summary::counts_part))]
+pub fn push_counts(out: &mut String, history: &[Event]) -> Result<(), AllocError>
+    ensures { OnOk result (string_bytes out.new ≡ string_bytes out.old ++ counts_part history.now) }
+{
+    let claims = count_claims(history);
+    let dones = count_performances(history);
+    write!(out, " claimed {claims} done {dones}")
+}
+
+/// Appends what the judge says, after a space.
+#[tactic(auto, unfolding(crate::specs::Summary::verdict_part))]
+pub fn push_verdict(out: &mut String, verdict: Verdict) -> Result<(), AllocError>
+    ensures { OnOk result (string_bytes out.new ≡ string_bytes out.old ++ verdict_part verdict) }
+{
+    match verdict {
+        Verdict::Lawful => write!(out, " lawful"),
+        Verdict::FirstBad(place) => write!(out, " bad {place}"),
+    }
+}
+
+/// The lesser of a number and another, where there is one.
+pub fn lesser(number: usize, other: Option<usize>) -> usize
+    ensures { result ≡ lesser number other }
+{
+    match other {
+        None => number,
+        Some(other) => number.min(other),
+    }
+}
+
+/// Appends the line of the least number of performances, where there is one.
+#[tactic(auto, unfolding(crate::specs::Summary::least_line))]
+pub fn push_least(out: &mut String, least: Option<usize>) -> Result<(), AllocError>
+    ensures { OnOk result (string_bytes out.new ≡ string_bytes out.old ++ least_line least) }
+{
+    match least {
+        None => Ok(()),
+        Some(dones) => writeln!(out, "least {dones}"),
+    }
+}
