@@ -130,6 +130,7 @@ pub fn explore_plan<R: Source, W: Sink>(
     requires short { length ≤ 10000 }
     ensures end { OnOk result (IsAtEnd (R.remaining reader.new)) }
     ensures text { OnOk result (Writes (λ p. explore_of p from count length) (R.remaining reader.old) (W.contents writer.old) (W.contents writer.new)) }
+    ensures memory { IfErr result IsNoPlanMemory }
     ensures refused { IfErr result (λ e. Refuses (λ p. explore_of p from count length) e (R.remaining reader.old) (R.failed reader.new)
         (W.contents writer.old) (W.contents writer.new) (W.failed writer.new)) }
 {

@@ -14,7 +14,7 @@ pub fn judge(alloc: Global, givens: Givens, events: &[Event]) -> Result<Verdict,
     ensures { IfOk result (λ v. v ≡ verdict givens events.now) }
 {
     let mut state = State::new(alloc, givens)?;
-    let mut place = 0;
+    let mut place: u32 = 0;
     for event in events {
         place += 1;
         if !state.allows(*event) {

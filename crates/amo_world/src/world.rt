@@ -111,7 +111,7 @@ impl World {
     }
 
     /// Turns of worker p, which isn't gone, and of nobody else, until one claims a job or ends p. There are at most
-    /// 6 * workers + jobs of them.
+    /// 6 * workers + jobs of them, in at most three attempts.
     pub fn run_alone(&mut self, p: u32) -> Alone
         requires { (process self.old.world p).gone ≡ false }
         ensures givens { self.new.givens ≡ self.old.givens }
