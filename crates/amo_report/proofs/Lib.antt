@@ -4,3 +4,5 @@ pub mod Whole
 pub mod Rounds
 pub mod Least
 pub mod Explored
+pub mod ReachedWorlds
+pub mod Stopped

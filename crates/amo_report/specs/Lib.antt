@@ -16,3 +16,6 @@ pub mod Texts
 pub mod Replays
 pub mod Summary
 pub mod Explorer
+pub mod Reached
+pub mod Stops
+pub mod StopsTold

@@ -6,6 +6,8 @@ ghost use Rattle.amo_plan.specs.PlanSeen.{plan_seen};
 ghost use Rattle.amo_report.specs.Check.{check_of};
 ghost use Rattle.amo_report.specs.Texts.{report_of};
 ghost use Rattle.amo_report.specs.Explorer.{explore_of};
+ghost use Rattle.amo_report.specs.Stops.{stops_in};
+ghost use Rattle.amo_report.specs.StopsTold.{IsNoText, WritesStops, RefusesStops};
 ghost use Rattle.amo_report.specs.Replays.{IsNoPlan, IsNoPlanMemory, Refuses, Writes};
 
 use super::checking::check_text;
@@ -13,6 +15,7 @@ use super::copying::{ReadFault, read_all, write_all};
 use super::explorer::explore;
 use super::report::report_text;
 use super::running::run_plan;
+use super::stops::stops_text;
 use super::streams::{Failed, Sink, Source};
 use amo_plan::{Plan, PlanFault, read_plan};
 use std::alloc::{AllocError, Global};
@@ -139,6 +142,51 @@ pub fn explore_plan<R: Source, W: Sink>(
         Ok(text) => text,
         Err(AllocError) => return Err(ReplayFault::NoMemory),
     };
+    match write_all(writer, text.as_bytes()) {
+        Ok(()) => Ok(()),
+        Err(Failed) => Err(ReplayFault::Write),
+    }
+}
+
+/// What `stops_text` makes of a plan. Where the plan has no worker p this is `Plan(NoSuchWorker(0))`, else where it has
+/// more than 1000 moves `Plan(TooLong)`.
+#[tactic(auto, unfolding(crate::specs::Stops::stops_in))]
+fn plan_stops(alloc: Global, plan: &Plan, p: u32) -> Result<String, ReplayFault>
+    requires { 1 ≤ p }
+    ensures text { IfOk result (λ s. stops_in (plan_seen plan.now) p ≡ Ok (string_bytes s)) }
+    ensures refused { IfErr result (λ e. IsNoText e (stops_in (plan_seen plan.now) p)) }
+{
+    if p > plan.heads.givens.workers {
+        return Err(ReplayFault::Plan(PlanFault::NoSuchWorker(0)));
+    }
+    if plan.heads.moves.as_slice().len() > 1000 {
+        return Err(ReplayFault::Plan(PlanFault::TooLong));
+    }
+    match stops_text(alloc, plan, p) {
+        Ok(text) => Ok(text),
+        Err(AllocError) => Err(ReplayFault::NoMemory),
+    }
+}
+
+/// Reads a plan to the end of the reader, and writes what `stops_text` makes of it and of p, from 1 on, and nothing
+/// else. Where the plan has no worker p this is `Plan(NoSuchWorker(0))`, else where it has more than 1000 moves
+/// `Plan(TooLong)`. Neither stream may have failed. What each fault leaves is said at `ReplayFault`.
+pub fn stops_plan<R: Source, W: Sink>(
+    alloc: Global,
+    reader: &mut R,
+    writer: &mut W,
+    p: u32,
+) -> Result<(), ReplayFault>
+    requires reader { R.failed reader.old ≡ false }
+    requires writer { W.failed writer.old ≡ false }
+    requires worker { 1 ≤ p }
+    ensures end { OnOk result (IsAtEnd (R.remaining reader.new)) }
+    ensures text { OnOk result (WritesStops p (R.remaining reader.old) (W.contents writer.old) (W.contents writer.new)) }
+    ensures refused { IfErr result (λ e. RefusesStops p e (R.remaining reader.old) (R.failed reader.new)
+        (W.contents writer.old) (W.contents writer.new) (W.failed writer.new)) }
+{
+    let plan = read_source(alloc, reader)?;
+    let text = plan_stops(alloc, &plan, p)?;
     match write_all(writer, text.as_bytes()) {
         Ok(()) => Ok(()),
         Err(Failed) => Err(ReplayFault::Write),

@@ -131,7 +131,7 @@ module _ (g : Givens) (w : World) (p : ℕ) (law : IsLawful g w) (here : (proces
       ∙ alone_is (process w p).local.phase (record_after g p (loaded_value w (want (process w p).local)) (process w p).local).phase
 
   -- and after a turn that does neither, the worker isn't gone
-  here_next : claims_or_ends g w p ≡ false → (process (world_after_turn g w p) p).gone ≡ false
+  pub here_next : claims_or_ends g w p ≡ false → (process (world_after_turn g w p) p).gone ≡ false
   here_next h = (own_turn g w p g.limits law here (second (is_claiming (process w p).local.phase) (is_over (record_after g p (loaded_value w (want (process w p).local)) (process w p).local).phase) h)).here
     where
       second : (a b : Bool) → (a || b) ≡ false → b ≡ false
