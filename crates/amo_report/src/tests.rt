@@ -8,6 +8,7 @@ use std::process::Abort;
 use std::test::Fail;
 
 mod explored;
+mod stops;
 mod streams;
 mod texts;
 
