@@ -6,3 +6,4 @@ pub mod Least
 pub mod Explored
 pub mod ReachedWorlds
 pub mod Stopped
+pub mod RunOut

@@ -1,19 +1,16 @@
 //! The explorer: what numbered schedules lead to.
-ghost use Rattle.std.specs.Prelude.{◌≡◌, ◌≤◌, ◌++◌, ℕ, List, OnOk, IfOk, string_bytes};
-ghost use Rattle.amo_kk.specs.World.{opening_world, world_after_moves};
-ghost use Rattle.amo_kk.specs.declared.event.Move.{Move};
-ghost use Rattle.amo_kk.specs.declared.givens.Givens.{Givens};
-ghost use Rattle.amo_world.specs.Answer.{verdict};
+ghost use Rattle.std.specs.Prelude.{◌≡◌, ◌≤◌, ◌++◌, ℕ, OnOk, IfOk, string_bytes};
+ghost use Rattle.amo_kk.specs.World.{world_after_moves};
 ghost use Rattle.amo_world.specs.declared.answer.Verdict.TheVariants.{Lawful};
 ghost use Rattle.amo_plan.specs.PlanSeen.{plan_seen};
 ghost use Rattle.amo_report.specs.Explorer.{schedule, explored_world, explored_verdict, explored_dones, schedule_line, explored_line, explore_of};
 
+use super::laws::histories_are_lawful;
 use super::running::run_rounds;
 use super::summary::{
     count_ends, count_performances, lesser, push_counts, push_least, push_verdict,
 };
 use amo_kk::Event;
-use amo_kk::laws::{first_bad_is_the_first, history_is_a_run};
 use amo_plan::Plan;
 use amo_world::{Verdict, World, judge};
 use std::alloc::{AllocError, Global};
@@ -76,14 +73,6 @@ fn push_explored(
     let verdict = judge(alloc, plan.heads.givens, history)?;
     push_schedule(out, number, history, verdict)?;
     Ok(count_performances(history))
-}
-
-/// Whatever moves are made in the opening world, the judge finds the history lawful. Nothing here runs.
-fn histories_are_lawful()
-    ensures { (g : Givens) (moves : List Move) → verdict g (world_after_moves g (opening_world g) moves).history ≡ Lawful }
-{
-    history_is_a_run();
-    first_bad_is_the_first();
 }
 
 /// The text of the explorer: for each of `count` schedules of `length` turns, from number `from` on, a fresh world is

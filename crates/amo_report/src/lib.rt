@@ -9,6 +9,7 @@ mod escaped;
 mod events;
 mod explorer;
 mod faults;
+pub mod laws;
 mod numbers;
 mod replaying;
 mod report;

@@ -4,11 +4,11 @@ ghost use Rattle.amo_kk.specs.Givens.{IsWorker};
 ghost use Rattle.amo_kk.specs.World.{process};
 ghost use Rattle.amo_kk.specs.Alone.{world_after_turns};
 ghost use Rattle.amo_world.specs.declared.answer.Verdict.TheVariants.{Lawful};
-ghost use Rattle.amo_plan.specs.Plan.{PlanSeen};
 ghost use Rattle.amo_plan.specs.PlanSeen.{plan_seen};
 ghost use Rattle.amo_report.specs.Reached.{IsReached};
 ghost use Rattle.amo_report.specs.Stops.{turns_to_settle, enough_turns, run_out, all_run_out, stopped_world, stopped, stopped_verdict, stopped_dones, stop_line, stopped_line, stops_of};
 
+use super::laws::stops_run_out;
 use super::summary::{count_performances, lesser, push_counts, push_least, push_verdict};
 use amo_kk::Event;
 use amo_plan::Plan;
@@ -100,13 +100,6 @@ fn push_stopped(alloc: Global, out: &mut String, plan: &Plan, p: u32, count: usi
     Ok(count_performances(history))
 }
 
-/// Of a plan with at most 1000 moves: no worker takes more than 6 * workers + jobs turns in one go, and the judge finds
-/// each history lawful. Nothing here runs.
-fn stops_are_lawful()
-    ensures most { (plan : PlanSeen) (p count : ℕ) → length plan.moves ≤ 1000 → (stopped plan p count).most ≤ 6 * plan.givens.workers + plan.givens.jobs }
-    ensures lawful { (plan : PlanSeen) (p count : ℕ) → length plan.moves ≤ 1000 → stopped_verdict plan p count ≡ Lawful }
-{}
-
 /// The text of stops: for each number of moves from 0 to that of the plan's schedule, a fresh world takes so many,
 /// worker p stops, and each worker that isn't gone, in the order of their numbers, runs alone until it ends. The line
 /// says how much was claimed and performed, the most turns that a worker took in one go to claim a job or end, which
@@ -120,9 +113,10 @@ pub fn stops_text(alloc: Global, plan: &Plan, p: u32) -> Result<String, AllocErr
     requires few { length plan.now.heads.moves ≤ 1000 }
     ensures text { IfOk result (λ s. string_bytes s ≡ stops_of (plan_seen plan.now) p) }
     ensures most { (count : ℕ) → (stopped (plan_seen plan.now) p count).most ≤ 6 * plan.now.heads.givens.workers + plan.now.heads.givens.jobs }
+    ensures gone { (count q : ℕ) → (process (stopped (plan_seen plan.now) p count).world q).gone ≡ true }
     ensures lawful { (count : ℕ) → stopped_verdict (plan_seen plan.now) p count ≡ Lawful }
 {
-    stops_are_lawful();
+    stops_run_out();
     let mut out = String::new(alloc);
     let mut least = None;
     for count in 0..plan.heads.moves.as_slice().len() + 1 {

@@ -1,7 +1,7 @@
 use Rattle.amo_kk.specs.Object.{first_object}
 use Rattle.amo_kk.specs.World.{opening_world, world_after_moves}
 use Rattle.amo_report.proofs.Explored.{lawful_history}
-use Rattle.amo_report.proofs.explorer.histories_are_lawful.Goals as goal
+use Rattle.amo_report.proofs.laws.histories_are_lawful.Goals as goal
 
 pub returns : goal.returns
 returns c = λ g moves.

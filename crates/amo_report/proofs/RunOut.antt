@@ -1,0 +1,209 @@
+-- A worker that goes on alone is gone in the end: each time it ends, or has claimed one job more, and there are only so
+-- many.
+use Rattle.std.proofs.Common.{◌≡◌, ◌≢◌, ◌⊎◌, inl, inr, ⊎_elim, ℕ, zero, suc, ◌+◌, ◌-◌, ◌*◌, ◌≤◌, ◌<◌, ◌^◌, min, max, length, length-append, Bool, true, false, ◌||◌, List, [], ◌∷◌, ◌++◌, refl, sym, ap, ◌∙◌, subst, arith}
+use Rattle.std.specs.Prelude.{if◌then◌else◌, ◌==◌}
+use Rattle.std.proofs.lemmas.Bool.{true≢false, cases_eq, cases_lt, cases_Bool, or_cases}
+use Rattle.amo_sets.specs.Lists.{numbered, put}
+use Rattle.amo_sets.specs.Sets.{has, with_number}
+use Rattle.amo_sets.proofs.Numbers.{numbered-put_other, length_distinct, count_le_all}
+use Rattle.amo_sets.proofs.Tables.{numbered_past}
+use Rattle.amo_kk.specs.Givens.{IsWorker, next_other}
+use Rattle.amo_kk.specs.Record.{is_over, wants_nothing}
+use Rattle.amo_kk.specs.Choice.{record_after_choice, record_after_check}
+use Rattle.amo_kk.specs.Event.{want, with_announced, record_at_row, record_at_announcement, record_after_phase, record_after, shown_events}
+use Rattle.amo_kk.specs.World.{nobody, process, loaded_value, process_after, world_after_event, world_after_turn}
+use Rattle.amo_kk.specs.Alone.{is_claiming, claims_or_ends, world_after_turns, IsFirstToSettle}
+use Rattle.amo_kk.specs.Lawful.{IsLawful}
+use Rattle.amo_kk.specs.declared.givens.Givens.{Givens}
+use Rattle.amo_kk.specs.declared.phase.Phase.{Phase}
+use Rattle.amo_kk.specs.declared.phase.Phase.TheVariants.{Announcing, Trying, Reading, Claiming, Holding, Over, Left}
+use Rattle.amo_kk.specs.declared.model.Process.{Process}
+use Rattle.amo_kk.specs.declared.model.Record.{Record}
+use Rattle.amo_kk.specs.declared.model.World.{World}
+use Rattle.amo_kk.proofs.Choice.{choice_cases, check_cases, to_row_cases, to_announcement_cases}
+use Rattle.amo_kk.proofs.Worlds.{here_is_worker, put_here, turn_lawful}
+use Rattle.amo_kk.proofs.Runs.{stored_local, stored_gone}
+use Rattle.amo_kk.proofs.Alone.{settles_soon}
+use Rattle.amo_world.proofs.Resting.{here_next}
+use Rattle.amo_plan.specs.Plan.{PlanSeen}
+use Rattle.amo_report.specs.Stops.{turns_to_settle, enough_turns, LoneRun, settled, settled_often, run_out, all_run_out, stopped_world, stopped}
+use Rattle.amo_report.proofs.ReachedWorlds.{reached_lawful}
+use Rattle.amo_report.proofs.Stopped.{turns_are, settled_here, settled_gone, IsUnderLimit, often_under, run_out_under, all_under, stopped_reached}
+
+-- how many jobs p has claimed
+abbrev claims : World → ℕ → ℕ
+claims w p = length (process w p).local.claimed
+
+-- an event takes back no claim
+keeps_claims : (g : Givens) (p v : ℕ) (r : Record) (phase : Phase) → length r.claimed ≤ length (record_after_phase g p v r phase).claimed
+keeps_claims g p v r phase = go phase
+  where
+    P : Record → Type 0
+    P x = length r.claimed ≤ length x.claimed
+
+    choose : (x : Record) → P x → P (record_after_choice g p x)
+    choose x h = choice_cases g p x (λ y. length r.claimed ≤ length y.claimed) (λ _. h) (λ _. h)
+
+    look : (j : ℕ) (x : Record) → P x → P (record_after_check g p j x)
+    look j x h = check_cases g p j x (λ y. length r.claimed ≤ length y.claimed) (λ _ _. h) (choose x h)
+
+    row : (j q : ℕ) (x : Record) → P x → P (record_at_row g p j q x)
+    row j q x h = to_row_cases g p j q x (λ y. length r.claimed ≤ length y.claimed) (λ _. h) (λ _. look j x h)
+
+    ann : (j q : ℕ) (x : Record) → P x → P (record_at_announcement g p j q x)
+    ann j q x h = to_announcement_cases g p j q x (λ y. length r.claimed ≤ length y.claimed) (λ _. h) (λ _. row j (next_other p 0) x h)
+
+    go : (phase : Phase) → P (record_after_phase g p v r phase)
+    go (Announcing j) = ann j (next_other p 0) r (omega arith)
+    go (Trying j q) = ann j (next_other p q) (record r { tried = with_announced v r.tried }) (omega arith)
+    go (Reading j q) = read (v == 0)
+      where
+        read : (b : Bool) → P (if b then record_at_row g p j (next_other p q) r else record r { known = with_number v r.known; fronts = put r.fronts q (numbered 0 r.fronts q + 1) })
+        read true = row j (next_other p q) r (omega arith)
+        read false = omega arith
+    go (Claiming j) = let e = length-append r.claimed (j ∷ []) in omega arith
+    go (Holding j) = choose (record r { dones = r.dones ++ j ∷ []; known = with_number j r.known }) (omega arith)
+    go Over = omega arith
+    go Left = omega arith
+
+-- a claim is one more
+claims_more : (g : Givens) (p v : ℕ) (r : Record) (phase : Phase) → is_claiming phase ≡ true → suc (length r.claimed) ≤ length (record_after_phase g p v r phase).claimed
+claims_more g p v r (Announcing j) h = absurd (true≢false (sym h))
+claims_more g p v r (Trying j q) h = absurd (true≢false (sym h))
+claims_more g p v r (Reading j q) h = absurd (true≢false (sym h))
+claims_more g p v r (Claiming j) h = let e = length-append r.claimed (j ∷ []) in omega arith
+claims_more g p v r (Holding j) h = absurd (true≢false (sym h))
+claims_more g p v r Over h = absurd (true≢false (sym h))
+claims_more g p v r Left h = absurd (true≢false (sym h))
+
+over_wants : (phase : Phase) → is_over phase ≡ true → wants_nothing phase ≡ true
+over_wants (Announcing j) h = h
+over_wants (Trying j q) h = h
+over_wants (Reading j q) h = h
+over_wants (Claiming j) h = h
+over_wants (Holding j) h = h
+over_wants Over h = h
+over_wants Left h = absurd (true≢false (sym h))
+
+-- a turn of p, which isn't gone
+module _ (g : Givens) (w : World) (p : ℕ) (law : IsLawful g w) (here : (process w p).gone ≡ false) where
+  abbrev r : Record
+  r = (process w p).local
+
+  abbrev x : Record
+  x = record_after g p (loaded_value w (want (process w p).local)) (process w p).local
+
+  turned : process (world_after_turn g w p) p ≡ process_after (want r) (process w p) x
+  turned =
+      ap (λ b. process (if b then w else world_after_event g w p (process w p)) p) here
+      ∙ put_here g w p (process_after (want r) (process w p) x) law.size (here_is_worker g w p law.size here)
+
+  claimed_now : claims (world_after_turn g w p) p ≡ length x.claimed
+  claimed_now = ap (λ (a : Process). length a.local.claimed) turned ∙ ap (λ (y : Record). length y.claimed) (stored_local (want r) (process w p) x)
+
+  turn_keeps : claims w p ≤ claims (world_after_turn g w p) p
+  turn_keeps = let now = claimed_now in let kept = keeps_claims g p (loaded_value w (want r)) r r.phase in omega arith
+
+  turn_ends : claims_or_ends g w p ≡ true → ((process (world_after_turn g w p) p).gone ≡ true) ⊎ (suc (claims w p) ≤ claims (world_after_turn g w p) p)
+  turn_ends h = ⊎_elim
+      (λ c. inr (let now = claimed_now in let more = claims_more g p (loaded_value w (want r)) r r.phase c in omega arith))
+      (λ e. inl (ap (λ (a : Process). a.gone) turned ∙ stored_gone (want r) (process w p) x ∙ over_wants x.phase e))
+      (or_cases (is_claiming r.phase) (is_over x.phase) h)
+
+-- a worker that has come to rest is gone, or has claimed one job more
+rests : (g : Givens) (i : ℕ) (w : World) (p : ℕ) → IsLawful g w → (process w p).gone ≡ false → IsFirstToSettle g w p i
+    → ((process (world_after_turns g w p (suc i)) p).gone ≡ true) ⊎ (suc (claims w p) ≤ claims (world_after_turns g w p (suc i)) p)
+rests g zero w p law here first = turn_ends g w p law here first.this_one
+rests g (suc i) w p law here first =
+    let now : claims_or_ends g w p ≡ false = first.none_before zero (omega arith) in
+    let kept = turn_keeps g w p law here in
+    ⊎_elim (λ gone. inl gone) (λ more. inr (omega arith))
+    (rests g i (world_after_turn g w p) p (turn_lawful g w p g.limits law) (here_next g w p law here now)
+    (record { none_before = λ k l. first.none_before (suc k) (omega arith); this_one = first.this_one }))
+
+-- and so one time after the other
+out_or_claims : (g : Givens) (p moves times : ℕ) (start : LoneRun) → IsUnderLimit g moves start
+    → ((process (settled_often g p times start).world p).gone ≡ true) ⊎ (times ≤ claims (settled_often g p times start).world p)
+out_or_claims g p moves zero start under = inr (omega arith)
+out_or_claims g p moves (suc times) start under = go (process before.world p).gone refl (out_or_claims g p moves times start under)
+  where
+    before : LoneRun
+    before = settled_often g p times start
+
+    law : IsLawful g before.world
+    law = reached_lawful g _ before.world (often_under g p times moves start under).reached
+
+    go : (b : Bool) → (process before.world p).gone ≡ b → ((process before.world p).gone ≡ true) ⊎ (times ≤ claims before.world p)
+        → ((process (settled g p before).world p).gone ≡ true) ⊎ (suc times ≤ claims (settled g p before).world p)
+    go true e h = inl (ap (λ (y : LoneRun). (process y.world p).gone) (settled_gone g p before e) ∙ e)
+    go false e h =
+        let soon = settles_soon g before.world p g.limits law e in
+        let after : (settled g p before).world ≡ world_after_turns g before.world p (suc soon.0) = ap (λ (y : LoneRun). y.world) (settled_here g p before e) ∙ ap (λ n. world_after_turns g before.world p n) (turns_are g soon.0 (enough_turns g) before.world p soon.1 soon.2) in
+        subst (λ y. ((process y p).gone ≡ true) ⊎ (suc times ≤ claims y p)) (sym after)
+        (⊎_elim (λ gone. inl gone) (λ more. inr (⊎_elim (λ t. absurd (true≢false (sym t ∙ e))) (λ many. omega arith) h)) (rests g soon.0 before.world p law e soon.2))
+
+-- no worker claims more jobs than there are
+claims_few : (g : Givens) (w : World) (p : ℕ) → IsLawful g w → IsWorker g p → claims w p ≤ g.jobs
+claims_few g w p law o =
+    let mine = (law.lawful.sound p o).local in
+    let all = length_distinct (process w p).local.claimed g.jobs mine.distinct (λ j h. ((mine.jobs j h).low, (mine.jobs j h).high)) in
+    let most = count_le_all (has (process w p).local.claimed) g.jobs in
+    omega arith
+
+-- so p is gone
+pub is_out : (g : Givens) (p moves : ℕ) (start : LoneRun) → IsWorker g p → IsUnderLimit g moves start → (process (run_out g p start).world p).gone ≡ true
+is_out g p moves start o under = ⊎_elim (λ gone. gone)
+    (λ many. absurd (let few = claims_few g (run_out g p start).world p (reached_lawful g _ _ (run_out_under g p moves start under).reached) o in omega arith))
+    (out_or_claims g p moves (g.jobs + 1) start under)
+
+-- whoever is gone stays gone, whoever goes on
+turn_stays : (g : Givens) (w : World) (p q : ℕ) → (process w q).gone ≡ true → (process (world_after_turn g w p) q).gone ≡ true
+turn_stays g w p q gone = go (process w p).gone refl
+  where
+    a : Process
+    a = process_after (want (process w p).local) (process w p) (record_after g p (loaded_value w (want (process w p).local)) (process w p).local)
+
+    go : (b : Bool) → (process w p).gone ≡ b → (process (if b then w else world_after_event g w p (process w p)) q).gone ≡ true
+    go true e = gone
+    go false e = ap (λ (y : Process). y.gone) (numbered-put_other nobody a w.processes p q (λ (same : q ≡ p). true≢false (sym gone ∙ ap (λ k. (process w k).gone) same ∙ e))) ∙ gone
+
+turns_stay : (g : Givens) (n : ℕ) (w : World) (p q : ℕ) → (process w q).gone ≡ true → (process (world_after_turns g w p n) q).gone ≡ true
+turns_stay g zero w p q gone = gone
+turns_stay g (suc n) w p q gone = turns_stay g n (world_after_turn g w p) p q (turn_stays g w p q gone)
+
+often_stays : (g : Givens) (p q times : ℕ) (start : LoneRun) → (process start.world q).gone ≡ true → (process (settled_often g p times start).world q).gone ≡ true
+often_stays g p q zero start gone = gone
+often_stays g p q (suc times) start gone = go (process before.world p).gone refl (often_stays g p q times start gone)
+  where
+    before : LoneRun
+    before = settled_often g p times start
+
+    go : (b : Bool) → (process before.world p).gone ≡ b → (process before.world q).gone ≡ true → (process (settled g p before).world q).gone ≡ true
+    go true e h = ap (λ (y : LoneRun). (process y.world q).gone) (settled_gone g p before e) ∙ h
+    go false e h = ap (λ (y : LoneRun). (process y.world q).gone) (settled_here g p before e) ∙ turns_stay g (turns_to_settle g p (enough_turns g) before.world) before.world p q h
+
+-- the first so many workers are gone
+all_out : (g : Givens) (n moves : ℕ) (start : LoneRun) → IsUnderLimit g moves start → n ≤ g.workers → (q : ℕ) → 1 ≤ q → q ≤ n → (process (all_run_out g n start).world q).gone ≡ true
+all_out g zero moves start under l q low high = absurd (omega arith)
+all_out g (suc n) moves start under l q low high = ⊎_elim
+    (λ (e : q ≡ suc n). subst (λ k. (process (all_run_out g (suc n) start).world k).gone ≡ true) (sym e)
+        (is_out g (suc n) _ (all_run_out g n start) (record { low = omega arith; high = omega arith }) (all_under g n moves start under)))
+    (λ (d : q ≢ suc n). often_stays g (suc n) q (g.jobs + 1) (all_run_out g n start) (all_out g n moves start under (omega arith) q low (omega arith)))
+    (cases_eq q (suc n))
+
+-- nobody is left in the end
+pub nobody_left : (plan : PlanSeen) (p k q : ℕ) → length plan.moves ≤ 1000 → (process (stopped plan p k).world q).gone ≡ true
+nobody_left plan p k zero few = refl
+nobody_left plan p k (suc q) few = ⊎_elim
+    (λ (l : q < plan.givens.workers). all_out plan.givens plan.givens.workers 1001 start under (omega arith) (suc q) (omega arith) (omega arith))
+    (λ (m : plan.givens.workers ≤ q). ap (λ (y : Process). y.gone) (numbered_past nobody (stopped plan p k).world.processes (suc q) (let s = law.size in omega arith)))
+    (cases_lt q plan.givens.workers)
+  where
+    start : LoneRun
+    start = record { world = stopped_world plan p k; most = 0 }
+
+    under : IsUnderLimit plan.givens 1001 start
+    under = record { reached = stopped_reached plan p k few; most = omega arith }
+
+    law : IsLawful plan.givens (stopped plan p k).world
+    law = reached_lawful plan.givens _ (stopped plan p k).world (all_under plan.givens plan.givens.workers 1001 start under).reached

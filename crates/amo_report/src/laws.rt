@@ -1,0 +1,38 @@
+//! The theorems over the definitions of the explorer and of stops. Nothing here runs: each function's contract is a
+//! law.
+ghost use Rattle.std.specs.Prelude.{◌≡◌, ◌≤◌, ◌+◌, ◌*◌, ℕ, suc, true, false, List, length};
+ghost use Rattle.amo_kk.specs.Alone.{IsFirstToSettle};
+ghost use Rattle.amo_kk.specs.Lawful.{IsLawful};
+ghost use Rattle.amo_kk.specs.World.{process, opening_world, world_after_moves};
+ghost use Rattle.amo_kk.specs.declared.event.Move.{Move};
+ghost use Rattle.amo_kk.specs.declared.givens.Givens.{Givens};
+ghost use Rattle.amo_kk.specs.declared.model.World.{World};
+ghost use Rattle.amo_world.specs.Answer.{verdict};
+ghost use Rattle.amo_world.specs.declared.answer.Verdict.TheVariants.{Lawful};
+ghost use Rattle.amo_plan.specs.Plan.{PlanSeen};
+ghost use Rattle.amo_report.specs.Stops.{turns_to_settle, enough_turns, stopped, stopped_verdict};
+
+use amo_kk::laws::{first_bad_is_the_first, history_is_a_run};
+
+/// Whatever moves are made in the opening world, the judge finds the history lawful.
+pub fn histories_are_lawful()
+    ensures { (g : Givens) (moves : List Move) → verdict g (world_after_moves g (opening_world g) moves).history ≡ Lawful }
+{
+    history_is_a_run();
+    first_bad_is_the_first();
+}
+
+/// The turns that are counted of a worker that goes on alone, and isn't gone, are those up to the first that claims a
+/// job or ends it.
+pub fn lone_turns_are_counted()
+    ensures { (g : Givens) (w : World) (p : ℕ) → IsLawful g w → (process w p).gone ≡ false
+        → (i : ℕ) × IsFirstToSettle g w p i × (turns_to_settle g p (enough_turns g) w ≡ suc i) }
+{}
+
+/// Wherever a schedule of at most 1000 moves is cut off: no worker takes more than 6 * workers + jobs turns in one go,
+/// all are gone in the end, and the judge finds the history lawful.
+pub fn stops_run_out()
+    ensures most { (plan : PlanSeen) (p count : ℕ) → length plan.moves ≤ 1000 → (stopped plan p count).most ≤ 6 * plan.givens.workers + plan.givens.jobs }
+    ensures gone { (plan : PlanSeen) (p count q : ℕ) → length plan.moves ≤ 1000 → (process (stopped plan p count).world q).gone ≡ true }
+    ensures lawful { (plan : PlanSeen) (p count : ℕ) → length plan.moves ≤ 1000 → stopped_verdict plan p count ≡ Lawful }
+{}
