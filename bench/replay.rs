@@ -31,15 +31,15 @@ fn main() -> io::Result<()> {
 
 /// How many jobs and workers there are, and the threshold below which a worker ends.
 #[derive(Clone, Copy, Debug)]
-struct Givens {
-    jobs: u32,
-    workers: u32,
-    beta: u32,
+pub struct Givens {
+    pub jobs: u32,
+    pub workers: u32,
+    pub beta: u32,
 }
 
 impl Givens {
     /// Wherever a worker has ended, at least so many jobs are performed.
-    fn bound(&self) -> u32 {
+    pub fn bound(&self) -> u32 {
         self.jobs.saturating_sub(self.beta + self.workers - 2)
     }
 
@@ -50,16 +50,18 @@ impl Givens {
     }
 }
 
-/// A set of jobs within `1..=n`: job `j` is bit `(j - 1) % 64` of word `(j - 1) / 64`.
+/// A set of jobs within `1..=n`: job `j` is bit `(j - 1) % 64` of word `(j - 1) / 64`. How many there are is kept.
 #[derive(Clone, Debug)]
-struct JobSet {
+pub struct JobSet {
     words: Vec<u64>,
+    len: u32,
 }
 
 impl JobSet {
-    fn empty(n: u32) -> JobSet {
+    pub fn empty(n: u32) -> JobSet {
         JobSet {
             words: vec![0; n.div_ceil(64) as usize],
+            len: 0,
         }
     }
 
@@ -69,6 +71,7 @@ impl JobSet {
         if n % 64 != 0 {
             *set.words.last_mut().expect("n is above 0") = (1 << (n % 64)) - 1;
         }
+        set.len = n;
         set
     }
 
@@ -76,24 +79,27 @@ impl JobSet {
         self.words[(job - 1) as usize / 64] >> ((job - 1) % 64) & 1 == 1
     }
 
-    fn add(&mut self, job: u32) {
+    pub fn add(&mut self, job: u32) {
+        self.len += u32::from(!self.has(job));
         self.words[(job - 1) as usize / 64] |= 1 << ((job - 1) % 64);
     }
 
     fn take_out(&mut self, job: u32) {
+        self.len -= u32::from(self.has(job));
         self.words[(job - 1) as usize / 64] &= !(1 << ((job - 1) % 64));
     }
 
     fn clear(&mut self) {
         self.words.fill(0);
+        self.len = 0;
     }
 
     fn len(&self) -> u32 {
-        self.words.iter().map(|word| word.count_ones()).sum()
+        self.len
     }
 
     /// The `rank`-th smallest member that is not in `other`, from 1. There has to be one.
-    fn rank_without(&self, other: &JobSet, rank: u32) -> u32 {
+    pub fn rank_without(&self, other: &JobSet, rank: u32) -> u32 {
         let mut before = 0;
         for (place, (word, taken)) in self.words.iter().zip(&other.words).enumerate() {
             let mut word = word & !taken;
@@ -116,7 +122,7 @@ impl JobSet {
 
 /// Where a worker stands: the job of its attempt, and the other worker whose word it is about to read.
 #[derive(Clone, Copy, Debug, PartialEq)]
-enum Phase {
+pub enum Phase {
     Announcing(u32),
     Trying(u32, u32),
     Reading(u32, u32),
@@ -128,7 +134,7 @@ enum Phase {
 
 /// The one load or store that a worker makes next.
 #[derive(Clone, Copy, Debug, PartialEq)]
-enum Want {
+pub enum Want {
     StoreNext(u32),
     LoadNext(u32),
     LoadDone(u32, u32),
@@ -138,7 +144,7 @@ enum Want {
 }
 
 /// What one worker has for itself.
-struct Local {
+pub struct Local {
     givens: Givens,
     number: u32,
     phase: Phase,
@@ -150,13 +156,13 @@ struct Local {
     open: u32,
     /// How many entries of each worker's row it has read, worker 1 first.
     fronts: Vec<u32>,
-    claims: Vec<u32>,
+    pub claims: Vec<u32>,
     dones: Vec<u32>,
-    steps: u64,
+    pub steps: u64,
 }
 
 impl Local {
-    fn new(givens: Givens, number: u32) -> Local {
+    pub fn new(givens: Givens, number: u32) -> Local {
         let mut local = Local {
             givens,
             number,
@@ -173,7 +179,7 @@ impl Local {
         local
     }
 
-    fn want(&self) -> Want {
+    pub fn want(&self) -> Want {
         match self.phase {
             Phase::Announcing(job) => Want::StoreNext(job),
             Phase::Trying(_, other) => Want::LoadNext(other),
@@ -185,7 +191,7 @@ impl Local {
     }
 
     /// The event is made; `value` is what a load gave, and 0 after a store.
-    fn after(&mut self, value: u32) {
+    pub fn after(&mut self, value: u32) {
         self.steps += 1;
         match self.phase {
             Phase::Announcing(job) => self.go_on_trying(job, 0),
@@ -279,7 +285,7 @@ enum Move {
 }
 
 #[derive(Clone, Copy, Debug, PartialEq)]
-enum Event {
+pub enum Event {
     Claimed(u32, u32),
     Done(u32, u32),
     Ended(u32),
@@ -289,21 +295,21 @@ enum Event {
 
 /// A worker with the shared words that it alone writes. How many jobs it has claimed is one of them, too; no worker
 /// reads that word, so it is left out here.
-struct Seat {
-    local: Local,
+pub struct Seat {
+    pub local: Local,
     next: u32,
     row: Vec<u32>,
-    gone: bool,
+    pub gone: bool,
 }
 
-struct World {
-    givens: Givens,
-    seats: Vec<Seat>,
-    history: Vec<Event>,
+pub struct World {
+    pub givens: Givens,
+    pub seats: Vec<Seat>,
+    pub history: Vec<Event>,
 }
 
 impl World {
-    fn new(givens: Givens) -> World {
+    pub fn new(givens: Givens) -> World {
         let seats: Vec<Seat> = (1..=givens.workers)
             .map(|number| {
                 let local = Local::new(givens, number);
@@ -317,7 +323,8 @@ impl World {
             })
             .collect();
         let ended = (1..).zip(&seats).filter(|(_, seat)| seat.gone);
-        let history = ended.map(|(number, _)| Event::Ended(number)).collect();
+        let mut history = Vec::with_capacity((2 * givens.jobs + givens.workers) as usize);
+        history.extend(ended.map(|(number, _)| Event::Ended(number)));
         World { givens, seats, history }
     }
 
@@ -331,7 +338,7 @@ impl World {
         }
     }
 
-    fn turn(&mut self, worker: u32) {
+    pub fn turn(&mut self, worker: u32) {
         let seat = &self.seats[worker as usize - 1];
         if seat.gone {
             return;
@@ -381,16 +388,16 @@ impl World {
 }
 
 /// The part of a plan that a report needs.
-struct Plan {
+pub struct Plan {
     givens: Givens,
-    names: Vec<String>,
+    pub names: Vec<String>,
     says: Vec<String>,
     moves: Vec<Move>,
     rounds: u32,
 }
 
 impl Plan {
-    fn read(text: &str) -> Plan {
+    pub fn read(text: &str) -> Plan {
         let mut plan = Plan {
             givens: Givens {
                 jobs: 0,
