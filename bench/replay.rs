@@ -1,7 +1,8 @@
 //! A replay in plain Rust: the plan on standard input, the report on standard output.
 //!
 //! `bench/run` measures the proved program against it and compares their reports byte for byte, so it also serves
-//! as a second opinion, written apart from the proved crates. It uses no crate:
+//! as a second opinion, written apart from the proved crates. `bench/core` measures its parts. The program uses no
+//! crate:
 //!
 //! ```text
 //! rustc -O --edition 2021 -o bench/out/replay bench/replay.rs
