@@ -188,6 +188,25 @@ impl JobSet {
     }
 }
 
+/// Where the byte of the word begins that has its i-th bit that is 1, the lowest first, and how many bits of that
+/// byte up to it are 1. Where there is no such byte, the number of bits, and how many bits are wanting.
+fn byte_of(word: u64, i: u32) -> (u32, u32)
+    requires { 1 ≤ i }
+    ensures within { result.0 ≤ 64 }
+    ensures some { 1 ≤ result.1 }
+    ensures before { count result.0 (is_one word) + result.1 ≡ i }
+{
+    let mut left = i;
+    for b in 0..8 {
+        let here = ((word >> (8 * b)) % 256).count_ones();
+        if left <= here {
+            return (8 * b, left);
+        }
+        left -= here;
+    }
+    (64, left)
+}
+
 /// The place, from 1, of the i-th bit of the word that is 1, the lowest first.
 fn place_of(word: u64, i: u32) -> u32
     requires low { 1 ≤ i }
@@ -195,8 +214,8 @@ fn place_of(word: u64, i: u32) -> u32
     ensures within { result ≤ 64 }
     ensures rank { has_rank (is_one word) i result ≡ true }
 {
-    let mut left = i;
-    for r in 0..64 {
+    let (start, mut left) = byte_of(word, i);
+    for r in start..64 {
         if (word >> r) & 1 == 1 {
             if left == 1 {
                 return r + 1;
