@@ -1,4 +1,5 @@
 pub mod Bytes
+pub mod Full
 pub mod Numbers
 pub mod Ranks
 pub mod Sets

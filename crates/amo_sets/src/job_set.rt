@@ -40,11 +40,16 @@ impl JobSet {
     pub fn full(alloc: Global, n: u32) -> Result<JobSet, AllocError>
         ensures { IfOk result (λ s. s ≡ replicate n true) }
     {
-        let mut set = JobSet::empty(alloc, n)?;
-        for before in 0..n {
-            set.add(before + 1);
+        let mut words = Vec::from_elem(alloc, u64::MAX, (n as usize + 63) / 64)?;
+        let rest = n % 64;
+        if rest != 0 {
+            words[n as usize / 64] = (1 << rest) - 1;
         }
-        Ok(set)
+        Ok(JobSet {
+            words,
+            range: n,
+            len: n,
+        })
     }
 
     /// No job of `1..=n`. The only error is want of memory.

@@ -1,18 +1,39 @@
-use Rattle.std.proofs.Common.{⊎_elim, ◌≡◌, ◌≢◌, ◌+◌, List, Bool, true, false, length, ap, ◌∙◌, arith}
-use Rattle.std.proofs.lemmas.Bool.{cases_eq}
-use Rattle.amo_sets.specs.Lists.{numbered, put}
-use Rattle.amo_sets.proofs.Numbers.{numbered-put_same, numbered-put_other, length-put}
-use Rattle.amo_sets.proofs.Tables.{filled_is}
+use Rattle.std.proofs.Common.{rules, arith, ◌≡◌, ◌+◌, ◌-◌, ◌*◌, ◌/◌, ◌%◌, ◌^◌, ◌<◌, ℕ, replicate, ap, sym, ◌∙◌, true}
+use Rattle.std.proofs.lemmas.Nat.{pow_below}
+use Rattle.std.specs.Vec.{vec_len}
+use Rattle.amo_sets.specs.Bits.{bit}
+use Rattle.amo_sets.proofs.Tables.{table_constant}
+use Rattle.amo_sets.proofs.Full.{IsFull, filled_full, trimmed_full, count_every}
 use Rattle.amo_sets.proofs.job_set.JobSet.full.Goals as goal
+use Rattle.amo_sets.proofs.job_set.JobSet.full.Goals.{then-rest-ne0, else-rest-ne0}
 
-pub loop-before-preserved : goal.loop-before-preserved
-loop-before-preserved c = record {
-  len = ap length c.add.ensures ∙ length-put true c.loop-before.set (c.loop-before.before + 1) ∙ c.loop-before.invariant.len;
-  done = λ j l h. ap (λ (s : List Bool). numbered false s j) c.add.ensures ∙ ⊎_elim
-      (λ (e : j ≡ c.loop-before.before + 1). ap (numbered false (put c.loop-before.set (c.loop-before.before + 1) true)) e ∙ numbered-put_same false true c.loop-before.set (c.loop-before.before + 1) (omega arith) (let n = c.loop-before.invariant.len in omega arith))
-      (λ (n : j ≢ c.loop-before.before + 1). numbered-put_other false true c.loop-before.set (c.loop-before.before + 1) j n ∙ c.loop-before.invariant.done j l (omega arith))
-      (cases_eq j (c.loop-before.before + 1));
-}
+as_filled : (c : goal.Joined-rest-ne0) → c.in_ok-words.words.items ≡ replicate ((c.args.n + 63) / 64) (2 ^ 64 - 1)
+as_filled c = search rules
+
+low_bits : (r : ℕ) → r < 64 → 1 * 2 ^ r % 2 ^ 64 - 1 ≡ 2 ^ r - 1
+low_bits r lt = let below : 2 ^ r < 2 ^ 64 = pow_below r 64 lt in omega arith
+
+is_full : (c : goal.Joined-rest-ne0) → IsFull c.args.n c.if-rest-ne0.words.items
+is_full c = elim c.if-rest-ne0.branch [
+  | then-rest-ne0 w ↦ (let f = trimmed_full c.args.n c.in_ok-words.words.items (1 * 2 ^ (c.args.n % 64) % 2 ^ 64 - 1) (as_filled c) w.if-rest-ne0.true (low_bits (c.args.n % 64) (omega arith)) in record { inside = λ j l h. (λ i. bit (w.words-is i).items j) ∙ f.inside j l h; outside = λ j h. (λ i. bit (w.words-is i).items j) ∙ f.outside j h })
+  | else-rest-ne0 w ↦ (let f = filled_full c.args.n c.in_ok-words.words.items (as_filled c) w.if-rest-ne0.false in record { inside = λ j l h. (λ i. bit (w.words-is i).items j) ∙ f.inside j l h; outside = λ j h. (λ i. bit (w.words-is i).items j) ∙ f.outside j h })
+]
+
+size : (c : goal.Joined-rest-ne0) → vec_len c.if-rest-ne0.words ≡ (c.args.n + 63) / 64
+size c = elim c.if-rest-ne0.branch [
+  | then-rest-ne0 w ↦ ap vec_len w.words-is ∙ (search rules)
+  | else-rest-ne0 w ↦ ap vec_len w.words-is ∙ (search rules)
+]
+
+pub invariant_of-result : goal.invariant_of-result
+invariant_of-result c =
+    let full = is_full c in
+    record {
+      size = size c;
+      small = c.ranges.n.fits;
+      spare = full.outside;
+      kept = sym (count_every c.args.n (bit c.if-rest-ne0.words.items) full.inside);
+    }
 
 pub returns : goal.returns
-returns c = filled_is false true c.args.n c.loop-before.set c.loop-before.invariant.len (λ j l h. c.loop-before.invariant.done j l (omega arith))
+returns c = table_constant true (bit c.if-rest-ne0.words.items) c.args.n (is_full c).inside
