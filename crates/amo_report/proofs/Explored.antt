@@ -15,8 +15,7 @@ use Rattle.amo_report.specs.Explorer.{worker_at, schedule}
 -- one turn more, by the lowest of the digits that are left
 pub schedule_more : (m workers s i digits : ℕ) → workers ≡ m → digits ≡ s / m ^ i → schedule m s (i + 1) ≡ schedule m s i ++ Turn (digits % workers + 1) ∷ []
 schedule_more m workers s i digits base left =
-    let last : schedule m s (i + 1) ≡ schedule m s i ++ Turn (worker_at m s i) ∷ [] = rw add-one refl in
-    last ∙ (λ k. schedule m s i ++ Turn (sym left k % sym base k + 1) ∷ [])
+    ap (schedule m s) (add-one i) ∙ (λ k. schedule m s i ++ Turn (sym left k % sym base k + 1) ∷ [])
 
 -- the digits that are left after one more
 pub digits_more : (m workers s i digits : ℕ) → workers ≡ m → digits ≡ s / m ^ i → digits / workers ≡ s / m ^ (i + 1)

@@ -182,6 +182,7 @@ pub fn stops_plan<R: Source, W: Sink>(
     requires worker { 1 ≤ p }
     ensures end { OnOk result (IsAtEnd (R.remaining reader.new)) }
     ensures text { OnOk result (WritesStops p (R.remaining reader.old) (W.contents writer.old) (W.contents writer.new)) }
+    ensures memory { IfErr result IsNoPlanMemory }
     ensures refused { IfErr result (λ e. RefusesStops p e (R.remaining reader.old) (R.failed reader.new)
         (W.contents writer.old) (W.contents writer.new) (W.failed writer.new)) }
 {
