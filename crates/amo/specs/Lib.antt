@@ -1,3 +1,4 @@
+pub mod Numbers
 pub mod Commands
 pub mod Faults
 pub mod Statuses

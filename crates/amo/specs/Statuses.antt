@@ -1,5 +1,5 @@
 -- What each exit status says of the words, the reader and the two writers.
-use Rattle.std.specs.Prelude.{◌≡◌, ◌≢◌, ◌≤◌, ◌⊎◌, ℕ, List, Bool, true, false, Option, Some, None, IfSome, IsSome, Err}
+use Rattle.std.specs.Prelude.{◌≡◌, ◌≢◌, ◌≤◌, ◌⊎◌, ℕ, List, [], Bool, true, false, Option, Some, None, IfSome, IsSome, Err}
 use Rattle.std.specs.Io.KnownBytes.{Keeps, Appends, IsAtEnd}
 use Rattle.amo_plan.specs.Plan.{PlanSeen, plan_of}
 use Rattle.amo_plan.specs.declared.fault.PlanFault.{PlanFault}
@@ -7,9 +7,10 @@ use Rattle.amo_plan.specs.declared.fault.PlanFault.TheVariants.{NoMemory as NoMe
 use Rattle.amo_report.specs.Streams.{AppendsFront}
 use Rattle.amo_report.specs.Replays.{Writes, WritesFront}
 use Rattle.amo_report.specs.Check.{check_of}
+use Rattle.amo_report.specs.Explorer.{explore_of}
 use Rattle.amo_report.specs.Texts.{report_of}
 use Rattle.amo.specs.declared.request.Request.{Request}
-use Rattle.amo.specs.declared.request.Request.TheVariants.{Replay, Check}
+use Rattle.amo.specs.declared.request.Request.TheVariants.{Replay, Check, Explore, Stops}
 use Rattle.amo.specs.declared.fault.Fault.{Fault}
 use Rattle.amo.specs.declared.fault.Fault.TheVariants.{Plan, NoCommand, NoMemory, Read, Write}
 use Rattle.amo.specs.Faults.{line_of, status_of}
@@ -38,6 +39,8 @@ pub record Says (s : Change) (line : List ℕ) : Type 0 where
 abbrev pub text_of : Request → PlanSeen → List ℕ
 text_of Replay = report_of
 text_of Check = check_of
+text_of (Explore from count turns) = λ plan. explore_of plan from count turns
+text_of (Stops worker) = λ plan. []
 
 -- The wanted text of the reader's plan was written to `out`, and nothing else, and the reader is at its end.
 pub record IsDone (wanted : Option Request) (reader out : Change) : Type 0 where

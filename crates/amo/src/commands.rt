@@ -1,12 +1,21 @@
 //! Reads the words of a command line.
-ghost use Rattle.std.specs.Prelude.{◌≡◌, IfOk, map};
-ghost use Rattle.clap.specs.Words.{app_of, rows_of, found_of};
-ghost use Rattle.amo.specs.Commands.{Answers, amo_app, request_of_row, request_of_line, asked};
+ghost use Rattle.std.specs.Prelude.{◌≡◌, ◌≤◌, false, IfOk, IfSome, map, option_copied};
+ghost use Rattle.clap.specs.Words.{app_of, rule_of, rows_of, found_of, first_of};
+ghost use Rattle.amo.specs.Commands.{Answers, IsWithinRanges, amo_app, required, number_at, explore_of_rows, stops_of_rows, request_of_row, request_of_line, asked};
 
+use super::numbers::number;
 use super::request::{Request, RequestFault};
 use clap::error::ErrorKind;
-use clap::{ArgMatches, Command};
+use clap::{Arg, ArgMatches, Command};
 use std::alloc::{AllocError, Global};
+
+/// A text that has to be given.
+fn required(alloc: Global, id: &str) -> Arg<'_>
+    ensures rule { rule_of result ≡ required id.entry.now }
+    ensures local { result.global ≡ false }
+{
+    Arg::new(alloc, id).required(true)
+}
 
 /// The program's command, with a subcommand for each request.
 fn amo_command<'a>(alloc: Global) -> Result<Command<'a>, AllocError>
@@ -14,27 +23,75 @@ fn amo_command<'a>(alloc: Global) -> Result<Command<'a>, AllocError>
 {
     let replay = Command::new(alloc, "replay");
     let check = Command::new(alloc, "check");
+    let explore = Command::new(alloc, "explore")
+        .arg(required(alloc, "FROM"))?
+        .arg(required(alloc, "COUNT"))?
+        .arg(required(alloc, "LENGTH"))?;
+    let stops = Command::new(alloc, "stops").arg(required(alloc, "WORKER"))?;
     Command::new(alloc, "amo")
         .subcommand_required(true)
         .subcommand(replay)?
-        .subcommand(check)
+        .subcommand(check)?
+        .subcommand(explore)?
+        .subcommand(stops)
+}
+
+/// The text at an id.
+fn text_at<'a>(id: &str, matches: &ArgMatches<'a>) -> Option<&'a str>
+    ensures { option_copied result ≡ first_of id.now (rows_of (found_of matches.now)) }
+{
+    matches.get_str(id)
+}
+
+/// The number at an id, where its text is one and is within a range.
+fn number_at(low: u64, high: u64, id: &str, matches: &ArgMatches<'_>) -> Option<u64>
+    requires { high ≤ 1000000000000 }
+    ensures value { result ≡ number_at low high id.now (rows_of (found_of matches.now)) }
+    ensures range { IfSome result (λ n. (low ≤ n) × (n ≤ high)) }
+{
+    number(low, high, text_at(id, matches)?.as_bytes())
+}
+
+/// What the texts of `explore` ask for.
+#[tactic(auto, unfolding(crate::specs::Commands::explore_of_rows))]
+fn explore_of_matches(matches: &ArgMatches<'_>) -> Option<Request>
+    ensures request { result ≡ explore_of_rows (rows_of (found_of matches.now)) }
+    ensures ranges { IfSome result IsWithinRanges }
+{
+    let from = number_at(0, 1_000_000_000_000, "FROM", matches)?;
+    let count = number_at(1, 1000, "COUNT", matches)? as u32;
+    let turns = number_at(0, 10_000, "LENGTH", matches)? as u32;
+    Some(Request::Explore { from, count, turns })
+}
+
+/// What the text of `stops` asks for.
+fn stops_of_matches(matches: &ArgMatches<'_>) -> Option<Request>
+    ensures request { result ≡ stops_of_rows (rows_of (found_of matches.now)) }
+    ensures ranges { IfSome result IsWithinRanges }
+{
+    let worker = number_at(1, 16, "WORKER", matches)? as u32;
+    Some(Request::Stops { worker })
 }
 
 /// What the subcommand of this name asks for.
 #[tactic(auto, unfolding(crate::specs::Commands::request_of_row))]
-fn request_of_row(name: &str, _matches: &ArgMatches<'_>) -> Option<Request>
-    ensures { result ≡ request_of_row name.now (rows_of (found_of _matches.now)) }
+fn request_of_row(name: &str, matches: &ArgMatches<'_>) -> Option<Request>
+    ensures request { result ≡ request_of_row name.now (rows_of (found_of matches.now)) }
+    ensures ranges { IfSome result IsWithinRanges }
 {
     match name {
         "replay" => Some(Request::Replay),
         "check" => Some(Request::Check),
+        "explore" => explore_of_matches(matches),
+        "stops" => stops_of_matches(matches),
         _ => None,
     }
 }
 
 /// What a whole line asks for, the program's name among its words.
 fn request_of_line(alloc: Global, line: &[&str]) -> Result<Request, RequestFault>
-    ensures { Answers (request_of_line (map (λ w. w.now) line.now)) result }
+    ensures request { Answers (request_of_line (map (λ w. w.now) line.now)) result }
+    ensures ranges { IfOk result IsWithinRanges }
 {
     let command = amo_command(alloc)?;
     match command.try_get_matches_from(line) {
@@ -53,7 +110,8 @@ fn request_of_line(alloc: Global, line: &[&str]) -> Result<Request, RequestFault
 /// What the words after the program's name ask for. `NoCommand` comes only where they are no command, and
 /// `NoMemory` only where memory was refused.
 pub fn asked(alloc: Global, words: &[&str]) -> Result<Request, RequestFault>
-    ensures { Answers (asked (map (λ w. w.now) words.now)) result }
+    ensures request { Answers (asked (map (λ w. w.now) words.now)) result }
+    ensures ranges { IfOk result IsWithinRanges }
 {
     let mut line = Vec::with_capacity(alloc, words.len() + 1)?;
     line.push("amo")?;

@@ -6,6 +6,7 @@ ghost use Rattle.std.specs.Prelude.{◌≤◌, IfOk};
 
 mod commands;
 mod fault;
+mod numbers;
 mod request;
 mod working;
 

@@ -11,6 +11,20 @@ pub enum Request {
     Replay,
     /// To say that the plan that is read is one, with its numbers.
     Check,
+    /// To write what numbered schedules of the plan that is read lead to.
+    Explore {
+        /// The number of the first schedule, 0 to 1,000,000,000,000.
+        from: u64,
+        /// How many schedules, 1 to 1000.
+        count: u32,
+        /// How many turns each of them has, 0 to 10,000.
+        turns: u32,
+    },
+    /// To write what stops of a worker lead to, one after each of the first moves of the plan that is read.
+    Stops {
+        /// The worker, 1 to 16. The plan may have fewer.
+        worker: u32,
+    },
 }
 
 /// Why words ask for nothing.

@@ -1,6 +1,7 @@
 //! Tests of the whole program, over sources and sinks of memory and of the tests' own.
 ghost use Rattle.std.specs.Prelude.{◌≡◌, false};
 
+mod explored;
 mod plans;
 mod streams;
 mod words;
@@ -58,4 +59,10 @@ fn run_words<S: Source>(
 /// Replays this plan, with ample room for its report.
 fn replay_plan(alloc: Global, plan: &str) -> Result<Ending, AllocError> {
     run_words(alloc, &["replay"], &mut Bytes::new(plan.as_bytes()), 1000)
+}
+
+/// Refused words: status 2, the line that says so, and nothing else.
+fn is_no_command(alloc: Global, words: &[&str]) -> Result<bool, AllocError> {
+    let ran = run_words(alloc, words, &mut Bytes::new(PLAN.as_bytes()), 1000)?;
+    Ok(ran.status == 2 && ran.out().is_empty() && ran.err() == "fault words\n")
 }

@@ -6,7 +6,7 @@ ghost use Rattle.amo.specs.Statuses.{Says, IsTold, IsDone, IsFault, Ends, change
 use super::commands::asked;
 use super::fault::Fault;
 use super::request::Request;
-use amo_report::{Sink, Source, check, fault_text, replay, write_all};
+use amo_report::{Sink, Source, check, explore_plan, fault_text, replay, write_all};
 use std::alloc::{AllocError, Global};
 
 /// Does what the words ask for. Nothing is read or written where they are no command.
@@ -29,6 +29,10 @@ fn serve<S: Source, W: Sink>(
     match asked(alloc, words)? {
         Request::Replay => Ok(replay(alloc, reader, out)?),
         Request::Check => Ok(check(alloc, reader, out)?),
+        Request::Explore { from, count, turns } => {
+            Ok(explore_plan(alloc, reader, out, from, count, turns)?)
+        }
+        Request::Stops { worker: _ } => Err(Fault::NoMemory),
     }
 }
 

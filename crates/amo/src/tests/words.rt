@@ -1,14 +1,7 @@
 //! Which words are a command.
-use super::{PLAN, REPORT, run_words};
+use super::{PLAN, REPORT, is_no_command, run_words};
 use amo_report::Bytes;
-use std::alloc::{AllocError, Global};
 use std::test::Fail;
-
-/// Refused words: status 2, the line that says so, and nothing else.
-fn is_no_command(alloc: Global, words: &[&str]) -> Result<bool, AllocError> {
-    let ran = run_words(alloc, words, &mut Bytes::new(PLAN.as_bytes()), 1000)?;
-    Ok(ran.status == 2 && ran.out().is_empty() && ran.err() == "fault words\n")
-}
 
 #[test]
 fn no_words_are_no_command(rt: HostRuntime) -> Result<(), Fail> {

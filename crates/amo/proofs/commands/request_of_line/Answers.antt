@@ -5,24 +5,24 @@ use Rattle.clap.specs.Words.{Text, rows_of, found_of, kind_of, is_simple_and_fre
 use Rattle.amo.proofs.Lines.{amo_is_free, asks_row, no_faults, found_is_ours, subcommand_found, asks_nothing}
 use Rattle.amo.proofs.commands.request_of_line.Goals as goal
 
-pub returns-in-Some-request_of_row : goal.returns-in-Some-request_of_row
-returns-in-Some-request_of_row c =
+pub returns-in-Some-request_of_row-clause-request : goal.returns-in-Some-request_of_row-clause-request
+returns-in-Some-request_of_row-clause-request c =
     let line : List Text = map (λ w. w.now) c.args.line.now in
     let m = c.in-Ok.matches in
     let taken = no_faults _ line c.in_ok-command.ensures c.in-Ok.ensures.kinds in
     let found = subcommand_found m c.in-Some.name.now (rows_of (found_of c.in-Some.inner.now)) c.in-Some.ensures.name c.in-Some.ensures.rows in
-    asks_row line _ _ taken (sym (found_is_ours _ line m c.in_ok-command.ensures c.in-Ok.ensures.matches) ∙ found) ∙ sym c.in-Some-request_of_row.ensures
+    asks_row line _ _ taken (sym (found_is_ours _ line m c.in_ok-command.ensures c.in-Ok.ensures.matches) ∙ found) ∙ sym c.in-Some-request_of_row.ensures.request
 
-pub returns-in-Some : goal.returns-in-Some
-returns-in-Some c _ =
+pub returns-in-Some-clause-request : goal.returns-in-Some-clause-request
+returns-in-Some-clause-request c _ =
     let line : List Text = map (λ w. w.now) c.args.line.now in
     let m = c.in-Ok.matches in
     let taken = no_faults _ line c.in_ok-command.ensures c.in-Ok.ensures.kinds in
     let found = subcommand_found m c.in-Some.name.now (rows_of (found_of c.in-Some.inner.now)) c.in-Some.ensures.name c.in-Some.ensures.rows in
-    asks_row line _ _ taken (sym (found_is_ours _ line m c.in_ok-command.ensures c.in-Ok.ensures.matches) ∙ found) ∙ sym c.in-None-request_of_row.ensures
+    asks_row line _ _ taken (sym (found_is_ours _ line m c.in_ok-command.ensures c.in-Ok.ensures.matches) ∙ found) ∙ sym c.in-None-request_of_row.ensures.request
 
-pub returns : goal.returns
-returns c _ =
+pub returns-clause-request : goal.returns-clause-request
+returns-clause-request c _ =
     let line : List Text = map (λ w. w.now) c.args.line.now in
     let is_ours = c.in_ok-command.ensures in
     let other : kind_of c.in-Err.error ≡ OutOfMemory → ⊥ = λ e. let same : c.kind.result ≡ OutOfMemory = c.kind.ensures ∙ e in false≢true (rw same at c.if-eq.ensures) in
