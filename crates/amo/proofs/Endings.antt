@@ -75,7 +75,7 @@ module _ (wanted : Option Request) (reader out err : Change) (status : ℕ) wher
 
   pub ends_by : (fault : Fault) → IsFault fault wanted reader out → IsTold fault err status → Ends wanted reader out err status
   ends_by (Plan f) cause (inl told) = ends_plan f cause told.0 told.1
-  ends_by (Plan f) cause (inr told) = ends_memory cause.3 told.0 told.1
+  ends_by (Plan f) cause (inr told) = ends_memory cause.kept told.0 told.1
   ends_by NoCommand cause told = ends_words cause told.0 told.1
   ends_by NoMemory cause told = ends_memory cause told.0 told.1
   ends_by Read cause told = ends_read cause told.0 told.1

@@ -1,4 +1,5 @@
 pub mod Numbers
 pub mod Commands
 pub mod Faults
+pub mod Wanted
 pub mod Statuses

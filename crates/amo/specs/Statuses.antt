@@ -1,19 +1,14 @@
 -- What each exit status says of the words, the reader and the two writers.
-use Rattle.std.specs.Prelude.{◌≡◌, ◌≢◌, ◌≤◌, ◌⊎◌, ℕ, List, [], Bool, true, false, Option, Some, None, IfSome, IsSome, Err}
+use Rattle.std.specs.Prelude.{◌≡◌, ◌≢◌, ◌≤◌, ◌⊎◌, ℕ, List, Bool, true, false, Option, Some, None, IfSome, IsSome, IsOkAnd, Err}
 use Rattle.std.specs.Io.KnownBytes.{Keeps, Appends, IsAtEnd}
-use Rattle.amo_plan.specs.Plan.{PlanSeen, plan_of}
 use Rattle.amo_plan.specs.declared.fault.PlanFault.{PlanFault}
 use Rattle.amo_plan.specs.declared.fault.PlanFault.TheVariants.{NoMemory as NoMemoryForPlan}
 use Rattle.amo_report.specs.Streams.{AppendsFront}
-use Rattle.amo_report.specs.Replays.{Writes, WritesFront}
-use Rattle.amo_report.specs.Check.{check_of}
-use Rattle.amo_report.specs.Explorer.{explore_of}
-use Rattle.amo_report.specs.Texts.{report_of}
 use Rattle.amo.specs.declared.request.Request.{Request}
-use Rattle.amo.specs.declared.request.Request.TheVariants.{Replay, Check, Explore, Stops}
 use Rattle.amo.specs.declared.fault.Fault.{Fault}
 use Rattle.amo.specs.declared.fault.Fault.TheVariants.{Plan, NoCommand, NoMemory, Read, Write}
 use Rattle.amo.specs.Faults.{line_of, status_of}
+use Rattle.amo.specs.Wanted.{text_in}
 
 -- What becomes of a stream: its bytes before and after, where they are known, and whether it has failed then. A
 -- reader's bytes are those that remain, a writer's those that it holds.
@@ -35,30 +30,31 @@ pub record Says (s : Change) (line : List ℕ) : Type 0 where
   pub beginning : AppendsFront s.before s.after line
   pub whole : s.failed ≡ false → Appends s.before s.after line
 
--- the text that a request wants of a plan
-abbrev pub text_of : Request → PlanSeen → List ℕ
-text_of Replay = report_of
-text_of Check = check_of
-text_of (Explore from count turns) = λ plan. explore_of plan from count turns
-text_of (Stops worker) = λ plan. []
-
--- The wanted text of the reader's plan was written to `out`, and nothing else, and the reader is at its end.
+-- The text that is wanted of the reader's bytes was written to `out`, and nothing else, and the reader is at its end.
 pub record IsDone (wanted : Option Request) (reader out : Change) : Type 0 where
   pub request : Request
   pub asked : wanted ≡ Some request
   pub read : IsAtEnd reader.after
-  pub written : Writes (text_of request) reader.before out.before out.after
+  pub written : IfSome reader.before (λ bytes. IsOkAnd (text_in request bytes) (λ text. Appends out.before out.after text))
 
--- Only a beginning of the wanted text of the reader's plan was written to `out`, since it has failed.
+-- Only a beginning of the text that is wanted of the reader's bytes was written to `out`, since it has failed.
 pub record IsCutShort (wanted : Option Request) (reader out : Change) : Type 0 where
   pub request : Request
   pub asked : wanted ≡ Some request
   pub failed : out.failed ≡ true
-  pub written : WritesFront (text_of request) reader.before out.before out.after
+  pub written : IfSome reader.before (λ bytes. IsOkAnd (text_in request bytes) (λ text. AppendsFront out.before out.after text))
+
+-- The reader's bytes have no such text, for this fault, which isn't want of memory, and nothing was written to `out`.
+pub record IsRefused (fault : PlanFault) (wanted : Option Request) (reader out : Change) : Type 0 where
+  pub request : Request
+  pub asked : wanted ≡ Some request
+  pub cause : IfSome reader.before (λ bytes. text_in request bytes ≡ Err fault)
+  pub other : fault ≢ NoMemoryForPlan
+  pub kept : IsKept out
 
 -- when each fault comes, and what it leaves
 abbrev pub IsFault : Fault → Option Request → Change → Change → Type 0
-IsFault (Plan f) wanted reader out = IsSome wanted × IfSome reader.before (λ bytes. plan_of bytes ≡ Err f) × (f ≢ NoMemoryForPlan) × IsKept out
+IsFault (Plan f) wanted reader out = IsRefused f wanted reader out
 IsFault NoCommand wanted reader out = (wanted ≡ None) × (reader.after ≡ reader.before) × (out.after ≡ out.before)
 IsFault NoMemory wanted reader out = IsKept out
 IsFault Read wanted reader out = IsSome wanted × (reader.failed ≡ true) × IsKept out
@@ -72,7 +68,7 @@ EndsBy fault wanted reader out err = IsFault fault wanted reader out × Says err
 pub record Ends (wanted : Option Request) (reader out err : Change) (status : ℕ) : Type 0 where
   -- 0: the command was done, and nothing was written to `err`
   pub done : status ≡ 0 → IsDone wanted reader out × IsKept err
-  -- 1: the plan was refused
+  -- 1: the plan was refused, or has no such text
   pub plan_refused : status ≡ 1 → (f : PlanFault) × EndsBy (Plan f) wanted reader out err
   -- 2: the words are no command
   pub no_command : status ≡ 2 → EndsBy NoCommand wanted reader out err
