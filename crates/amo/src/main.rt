@@ -1,5 +1,6 @@
-//! Replays plans: `amo replay` reads a plan from standard input and writes the report of its replay, and `amo check`
-//! writes its check text.
+//! Replays plans, which are read from standard input. `amo replay` writes the report of the plan's replay, `amo check`
+//! its check text, `amo explore FROM COUNT LENGTH` what numbered schedules of one length lead to, and `amo stops P`
+//! what becomes of the plan where worker P stops after each of its first moves.
 #![tactic(auto)]
 
 ghost use Rattle.std.specs.Prelude.{◌≤◌, IfOk};

@@ -3,6 +3,7 @@ ghost use Rattle.std.specs.Prelude.{◌≡◌, false};
 
 mod explored;
 mod plans;
+mod stops;
 mod streams;
 mod words;
 

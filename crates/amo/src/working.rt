@@ -6,7 +6,9 @@ ghost use Rattle.amo.specs.Statuses.{Says, IsTold, IsDone, IsFault, Ends, change
 use super::commands::asked;
 use super::fault::Fault;
 use super::request::Request;
-use amo_report::{Sink, Source, check, explore_plan, fault_text, replay, write_all};
+use amo_report::{
+    Sink, Source, check, explore_plan, fault_text, replay, stops_plan, write_all,
+};
 use std::alloc::{AllocError, Global};
 
 /// Does what the words ask for. Nothing is read or written where they are no command.
@@ -32,7 +34,7 @@ fn serve<S: Source, W: Sink>(
         Request::Explore { from, count, turns } => {
             Ok(explore_plan(alloc, reader, out, from, count, turns)?)
         }
-        Request::Stops { worker: _ } => Err(Fault::NoMemory),
+        Request::Stops { worker } => Ok(stops_plan(alloc, reader, out, worker)?),
     }
 }
 

@@ -1,0 +1,100 @@
+//! The command `stops`: its number, its text and what it refuses of a plan.
+use super::{Ending, is_no_command, run_words};
+use amo_report::Bytes;
+use std::alloc::{AllocError, Global};
+use std::test::Fail;
+
+/// A plan of two workers and two jobs, in which worker 1 takes four turns.
+const FOUR_TURNS: &str =
+    "version = 1\nworkers = 2\nbeta = 2\nschedule = \"1*4\"\n\n[[job]]\nname = \"a\"\nsay = \"one\"\n\n[[job]]\nname = \"b\"\nsay = \"two\"\n";
+
+/// What becomes of it where worker 1 stops.
+const FIVE_STOPS: &str =
+    "stop 0 claimed 1 done 1 most 4 lawful\nstop 1 claimed 1 done 1 most 4 lawful\nstop 2 claimed 1 done 1 most 4 lawful\nstop 3 claimed 1 done 1 most 4 lawful\nstop 4 claimed 2 done 1 most 4 lawful\nleast 1\n";
+
+/// A plan of one worker, one job and a thousand turns.
+const THOUSAND_TURNS: &str =
+    "version = 1\nworkers = 1\nbeta = 1\nschedule = \"1*1000\"\n\n[[job]]\nname = \"a\"\nsay = \"one\"\n";
+
+/// The same with one turn more.
+const ONE_TURN_MORE: &str =
+    "version = 1\nworkers = 1\nbeta = 1\nschedule = \"1*1000 1\"\n\n[[job]]\nname = \"a\"\nsay = \"one\"\n";
+
+/// Stops this worker in this plan, with room for the longest text.
+fn stop_worker(alloc: Global, plan: &str, worker: &str) -> Result<Ending, AllocError> {
+    let mut reader = Bytes::new(plan.as_bytes());
+    run_words(alloc, &["stops", worker], &mut reader, 100_000)
+}
+
+#[test]
+fn each_stop_has_its_line(rt: HostRuntime) -> Result<(), Fail> {
+    let ran = stop_worker(rt.alloc(), FOUR_TURNS, "1")?;
+    assert_eq!(rt; ran.status, 0);
+    assert_eq!(rt; ran.out(), FIVE_STOPS);
+    assert_eq!(rt; ran.err(), "");
+    Ok(())
+}
+
+/// The text, or want of memory with nothing written.
+#[test]
+fn refused_stops(rt: HostRuntime) {
+    let Ok(ran) = stop_worker(rt.alloc(), FOUR_TURNS, "1") else {
+        return;
+    };
+    if ran.status == 0 {
+        assert_eq!(rt; ran.out(), FIVE_STOPS);
+        assert_eq!(rt; ran.err(), "");
+    } else {
+        assert_eq!(rt; ran.status, 3);
+        assert_eq!(rt; ran.out(), "");
+        assert_eq!(rt; ran.err(), "fault memory\n");
+    }
+}
+
+#[test]
+fn a_thousand_moves_are_taken(rt: HostRuntime) -> Result<(), Fail> {
+    let ran = stop_worker(rt.alloc(), THOUSAND_TURNS, "1")?;
+    assert_eq!(rt; ran.status, 0);
+    assert!(rt; ran.out().starts_with("stop 0 claimed 0 done 0 most 0 lawful\n"));
+    assert!(rt; ran.out().ends_with("\nstop 1000 claimed 1 done 1 most 0 lawful\nleast 0\n"));
+    assert_eq!(rt; ran.err(), "");
+    Ok(())
+}
+
+#[test]
+fn a_plan_is_refused_by_its_first_fault(rt: HostRuntime) -> Result<(), Fail> {
+    for (plan, worker, line) in [
+        (FOUR_TURNS, "3", "fault 10 NoSuchWorker 0\n"),
+        (FOUR_TURNS, "16", "fault 10 NoSuchWorker 0\n"),
+        (ONE_TURN_MORE, "1", "fault 11 TooLong\n"),
+        (ONE_TURN_MORE, "2", "fault 10 NoSuchWorker 0\n"),
+        (
+            "version = 1\nworkers = 2\nbeta = 2\nschedule = \"1 3\"\n",
+            "3",
+            "fault 10 NoSuchWorker 2\n",
+        ),
+        ("version = 1\nworkers = 2\n", "3", "fault 3 MissingKey 0\n"),
+    ] {
+        let ran = stop_worker(rt.alloc(), plan, worker)?;
+        assert_eq!(rt; ran.status, 1, "at {worker} of {plan}");
+        assert_eq!(rt; ran.out(), "", "at {worker} of {plan}");
+        assert_eq!(rt; ran.err(), line, "at {worker} of {plan}");
+    }
+    Ok(())
+}
+
+#[test]
+fn another_number_is_no_command(rt: HostRuntime) -> Result<(), Fail> {
+    for worker in ["0", "17", "01", "", "one", "-1", "+1", "1 ", "4294967297"] {
+        assert!(rt; is_no_command(rt.alloc(), &["stops", worker])?, "at {worker}");
+    }
+    Ok(())
+}
+
+#[test]
+fn one_number_is_wanted(rt: HostRuntime) -> Result<(), Fail> {
+    assert!(rt; is_no_command(rt.alloc(), &["stops"])?);
+    assert!(rt; is_no_command(rt.alloc(), &["stops", "1", "2"])?);
+    assert!(rt; is_no_command(rt.alloc(), &["stops", "1", "--help"])?);
+    Ok(())
+}
