@@ -6,9 +6,7 @@ ghost use Rattle.amo.specs.Statuses.{Says, IsTold, IsDone, IsFault, Ends, change
 use super::commands::asked;
 use super::fault::Fault;
 use super::request::Request;
-use amo_report::{
-    Sink, Source, check, explore_plan, fault_text, replay, stops_plan, write_all,
-};
+use amo_report::{Sink, Source, check, explore_plan, fault_text, replay, stops_plan, write_all};
 use std::alloc::{AllocError, Global};
 
 /// Does what the words ask for. Nothing is read or written where they are no command.

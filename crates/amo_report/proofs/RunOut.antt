@@ -187,7 +187,7 @@ all_out : (g : Givens) (n moves : ℕ) (start : LoneRun) → IsUnderLimit g move
 all_out g zero moves start under l q low high = absurd (omega arith)
 all_out g (suc n) moves start under l q low high = ⊎_elim
     (λ (e : q ≡ suc n). subst (λ k. (process (all_run_out g (suc n) start).world k).gone ≡ true) (sym e)
-        (is_out g (suc n) _ (all_run_out g n start) (record { low = omega arith; high = omega arith }) (all_under g n moves start under)))
+    (is_out g (suc n) _ (all_run_out g n start) (record { low = omega arith; high = omega arith }) (all_under g n moves start under)))
     (λ (d : q ≢ suc n). often_stays g (suc n) q (g.jobs + 1) (all_run_out g n start) (all_out g n moves start under (omega arith) q low (omega arith)))
     (cases_eq q (suc n))
 

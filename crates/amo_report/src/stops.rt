@@ -74,7 +74,13 @@ fn stop_after(alloc: Global, plan: &Plan, p: u32, count: usize) -> Result<World,
 
 /// Appends the line of a stop with this history and verdict.
 #[tactic(auto, unfolding(crate::specs::Stops::stop_line))]
-fn push_stop(out: &mut String, count: usize, history: &[Event], most: u64, verdict: Verdict) -> Result<(), AllocError>
+fn push_stop(
+    out: &mut String,
+    count: usize,
+    history: &[Event],
+    most: u64,
+    verdict: Verdict,
+) -> Result<(), AllocError>
     ensures { OnOk result (string_bytes out.new ≡ string_bytes out.old ++ stop_line count history.now most verdict) }
 {
     write!(out, "stop {count}")?;
@@ -85,7 +91,13 @@ fn push_stop(out: &mut String, count: usize, history: &[Event], most: u64, verdi
 }
 
 /// Appends the line of the stop after so many moves, in a world of its own, and tells how many performances it has.
-fn push_stopped(alloc: Global, out: &mut String, plan: &Plan, p: u32, count: usize) -> Result<usize, AllocError>
+fn push_stopped(
+    alloc: Global,
+    out: &mut String,
+    plan: &Plan,
+    p: u32,
+    count: usize,
+) -> Result<usize, AllocError>
     requires worker { IsWorker plan.now.heads.givens p }
     requires count { count ≤ length plan.now.heads.moves }
     requires few { length plan.now.heads.moves ≤ 1000 }

@@ -5,7 +5,8 @@ use std::alloc::{AllocError, Global};
 use std::test::Fail;
 
 /// A plan of one worker and one job, which an empty schedule leaves as it is.
-const ONE_JOB: &str = "version = 1\nworkers = 1\nbeta = 1\n\n[[job]]\nname = \"a\"\nsay = \"one\"\n";
+const ONE_JOB: &str =
+    "version = 1\nworkers = 1\nbeta = 1\n\n[[job]]\nname = \"a\"\nsay = \"one\"\n";
 
 /// A plan of two workers, two jobs and five rounds.
 const TWO_WORKERS: &str =
@@ -42,7 +43,10 @@ fn refused_exploring(rt: HostRuntime) {
         return;
     };
     if ran.status == 0 {
-        assert_eq!(rt; ran.out(), "schedule 0 claimed 0 done 0 ended 0 lawful\nleast 0\n");
+        assert_eq!(rt;
+            ran.out(),
+            "schedule 0 claimed 0 done 0 ended 0 lawful\nleast 0\n"
+        );
         assert_eq!(rt; ran.err(), "");
     } else {
         assert_eq!(rt; ran.status, 3);
@@ -55,7 +59,10 @@ fn refused_exploring(rt: HostRuntime) {
 fn the_least_numbers_are_taken(rt: HostRuntime) -> Result<(), Fail> {
     let ran = explore_plan(rt.alloc(), ONE_JOB, ["0", "1", "0"])?;
     assert_eq!(rt; ran.status, 0);
-    assert_eq!(rt; ran.out(), "schedule 0 claimed 0 done 0 ended 0 lawful\nleast 0\n");
+    assert_eq!(rt;
+        ran.out(),
+        "schedule 0 claimed 0 done 0 ended 0 lawful\nleast 0\n"
+    );
     Ok(())
 }
 
@@ -63,11 +70,19 @@ fn the_least_numbers_are_taken(rt: HostRuntime) -> Result<(), Fail> {
 fn the_greatest_numbers_are_taken(rt: HostRuntime) -> Result<(), Fail> {
     let ran = explore_plan(rt.alloc(), ONE_JOB, ["1000000000000", "1000", "0"])?;
     assert_eq!(rt; ran.status, 0);
-    assert!(rt; ran.out().starts_with("schedule 1000000000000 claimed 0 done 0 ended 0 lawful\n"));
-    assert!(rt; ran.out().ends_with("\nschedule 1000000000999 claimed 0 done 0 ended 0 lawful\nleast 0\n"));
+    assert!(rt;
+        ran.out()
+            .starts_with("schedule 1000000000000 claimed 0 done 0 ended 0 lawful\n")
+    );
+    assert!(rt;
+        ran.out().ends_with("\nschedule 1000000000999 claimed 0 done 0 ended 0 lawful\nleast 0\n")
+    );
     let ran = explore_plan(rt.alloc(), ONE_JOB, ["1", "1", "10000"])?;
     assert_eq!(rt; ran.status, 0);
-    assert_eq!(rt; ran.out(), "schedule 1 claimed 1 done 1 ended 1 lawful\nleast 1\n");
+    assert_eq!(rt;
+        ran.out(),
+        "schedule 1 claimed 1 done 1 ended 1 lawful\nleast 1\n"
+    );
     Ok(())
 }
 
@@ -121,6 +136,9 @@ fn a_refused_plan_is_not_explored(rt: HostRuntime) -> Result<(), Fail> {
 fn the_plans_own_schedule_is_not_explored(rt: HostRuntime) -> Result<(), Fail> {
     let ran = explore_plan(rt.alloc(), PLAN, ["0", "1", "3"])?;
     assert_eq!(rt; ran.status, 0);
-    assert_eq!(rt; ran.out(), "schedule 0 claimed 1 done 1 ended 0 lawful\nleast 1\n");
+    assert_eq!(rt;
+        ran.out(),
+        "schedule 0 claimed 1 done 1 ended 0 lawful\nleast 1\n"
+    );
     Ok(())
 }

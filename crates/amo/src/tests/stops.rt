@@ -55,8 +55,14 @@ fn refused_stops(rt: HostRuntime) {
 fn a_thousand_moves_are_taken(rt: HostRuntime) -> Result<(), Fail> {
     let ran = stop_worker(rt.alloc(), THOUSAND_TURNS, "1")?;
     assert_eq!(rt; ran.status, 0);
-    assert!(rt; ran.out().starts_with("stop 0 claimed 0 done 0 most 0 lawful\n"));
-    assert!(rt; ran.out().ends_with("\nstop 1000 claimed 1 done 1 most 0 lawful\nleast 0\n"));
+    assert!(rt;
+        ran.out()
+            .starts_with("stop 0 claimed 0 done 0 most 0 lawful\n")
+    );
+    assert!(rt;
+        ran.out()
+            .ends_with("\nstop 1000 claimed 1 done 1 most 0 lawful\nleast 0\n")
+    );
     assert_eq!(rt; ran.err(), "");
     Ok(())
 }
@@ -86,7 +92,10 @@ fn a_plan_is_refused_by_its_first_fault(rt: HostRuntime) -> Result<(), Fail> {
 #[test]
 fn another_number_is_no_command(rt: HostRuntime) -> Result<(), Fail> {
     for worker in ["0", "17", "01", "", "one", "-1", "+1", "1 ", "4294967297"] {
-        assert!(rt; is_no_command(rt.alloc(), &["stops", worker])?, "at {worker}");
+        assert!(rt;
+            is_no_command(rt.alloc(), &["stops", worker])?,
+            "at {worker}"
+        );
     }
     Ok(())
 }

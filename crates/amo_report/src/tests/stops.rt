@@ -6,10 +6,12 @@ use std::alloc::{AllocError, Global};
 use std::test::Fail;
 
 /// Two jobs, two workers and four turns of the first; the rounds have no part in its stops.
-const FOUR_TURNS: &str = "version = 1\nworkers = 2\nbeta = 2\nrounds = 5\nschedule = \"1*4\"\njob = [{name = \"a\", say = \"x\"}, {name = \"b\", say = \"y\"}]\n";
+const FOUR_TURNS: &str =
+    "version = 1\nworkers = 2\nbeta = 2\nrounds = 5\nschedule = \"1*4\"\njob = [{name = \"a\", say = \"x\"}, {name = \"b\", say = \"y\"}]\n";
 
 /// What becomes of it where worker 1 stops.
-const FIVE_STOPS: &str = "stop 0 claimed 1 done 1 most 4 lawful\nstop 1 claimed 1 done 1 most 4 lawful\nstop 2 claimed 1 done 1 most 4 lawful\nstop 3 claimed 1 done 1 most 4 lawful\nstop 4 claimed 2 done 1 most 4 lawful\nleast 1\n";
+const FIVE_STOPS: &str =
+    "stop 0 claimed 1 done 1 most 4 lawful\nstop 1 claimed 1 done 1 most 4 lawful\nstop 2 claimed 1 done 1 most 4 lawful\nstop 3 claimed 1 done 1 most 4 lawful\nstop 4 claimed 2 done 1 most 4 lawful\nleast 1\n";
 
 /// What is written of the stops of p, in a plan of these two parts, from their bytes.
 fn stops_of(alloc: Global, heads: &str, jobs: &str, p: u32) -> Result<Room, Fail> {
@@ -72,8 +74,16 @@ fn stops_have_these_texts(rt: HostRuntime) -> Result<(), Fail> {
 #[test]
 fn plans_without_these_stops_write_nothing(rt: HostRuntime) -> Result<(), Fail> {
     for (text, p, fault) in [
-        ("version = 1\nworkers = 2\nbeta = 2\nschedule = \"1*1001\"\n", 3, PlanFault::NoSuchWorker(0)),
-        ("version = 1\nworkers = 2\nbeta = 2\nschedule = \"1*1001\"\n", 2, PlanFault::TooLong),
+        (
+            "version = 1\nworkers = 2\nbeta = 2\nschedule = \"1*1001\"\n",
+            3,
+            PlanFault::NoSuchWorker(0),
+        ),
+        (
+            "version = 1\nworkers = 2\nbeta = 2\nschedule = \"1*1001\"\n",
+            2,
+            PlanFault::TooLong,
+        ),
         ("version = 1\nworkers = 2\n", 3, PlanFault::MissingKey(0)),
     ] {
         let mut out = Room::new(rt.alloc(), 100)?;
@@ -81,8 +91,15 @@ fn plans_without_these_stops_write_nothing(rt: HostRuntime) -> Result<(), Fail> 
         assert!(rt; answer == Err(ReplayFault::Plan(fault)));
         assert_eq!(rt; text_of(&out), "");
     }
-    let most = stops_of(rt.alloc(), "version = 1\nworkers = 2\nbeta = 2\nschedule = \"1*39 2\"\n", "", 2)?;
-    let last = text_of(&most).split_once("stop 40").map_or("no stop", |halves| halves.1);
+    let most = stops_of(
+        rt.alloc(),
+        "version = 1\nworkers = 2\nbeta = 2\nschedule = \"1*39 2\"\n",
+        "",
+        2,
+    )?;
+    let last = text_of(&most)
+        .split_once("stop 40")
+        .map_or("no stop", |halves| halves.1);
     assert_eq!(rt; last, " claimed 0 done 0 most 0 lawful\nleast 0\n");
     Ok(())
 }
@@ -106,7 +123,12 @@ fn refused_stops(rt: HostRuntime) {
         Ok(text) => assert_eq!(rt; text.as_str(), FIVE_STOPS),
         Err(AllocError) => {}
     }
-    match stops_plan(rt.alloc(), &mut Bytes::new(FOUR_TURNS.as_bytes()), &mut out, 1) {
+    match stops_plan(
+        rt.alloc(),
+        &mut Bytes::new(FOUR_TURNS.as_bytes()),
+        &mut out,
+        1,
+    ) {
         Ok(()) => assert_eq!(rt; text_of(&out), FIVE_STOPS),
         Err(fault) => {
             assert!(rt; fault == ReplayFault::NoMemory);
