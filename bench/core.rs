@@ -9,7 +9,7 @@
 #[path = "replay.rs"]
 mod replay;
 
-use replay::{Event, Givens, JobSet, Local, Plan, Want, World};
+use replay::{Event, Givens, JobSet, Local, Plan, Want, World, first_bad};
 use std::hint::black_box;
 use std::io;
 use std::time::{Duration, Instant};
@@ -273,79 +273,6 @@ fn checked(world: &World) -> u64 {
         Event::Left(p) => mixed(mixed(check, 5), *p),
     });
     check.wrapping_mul(31).wrapping_add(steps(world))
-}
-
-/// The place, from 1, of the first event that is no step of one sequential set of unclaimed jobs.
-fn first_bad(givens: Givens, history: &[Event]) -> Option<usize> {
-    let mut state = State::new(givens);
-    for (place, event) in (1..).zip(history) {
-        if !state.allows(event) {
-            return Some(place);
-        }
-        state.follow(event);
-    }
-    None
-}
-
-/// Which jobs are unclaimed, the job in each worker's hand or 0, the performed pairs, and which workers are gone.
-struct State {
-    givens: Givens,
-    unclaimed: Vec<bool>,
-    in_hand: Vec<u32>,
-    performed: Vec<(u32, u32)>,
-    gone: Vec<bool>,
-}
-
-impl State {
-    fn new(givens: Givens) -> State {
-        State {
-            givens,
-            unclaimed: vec![true; givens.jobs as usize],
-            in_hand: vec![0; givens.workers as usize],
-            performed: Vec::with_capacity(givens.jobs as usize),
-            gone: vec![false; givens.workers as usize],
-        }
-    }
-
-    fn is_here(&self, p: u32) -> bool {
-        (1..=self.givens.workers).contains(&p) && !self.gone[p as usize - 1]
-    }
-
-    fn is_job(&self, j: u32) -> bool {
-        (1..=self.givens.jobs).contains(&j)
-    }
-
-    fn has_in_hand(&self, p: u32, job: u32) -> bool {
-        self.in_hand[p as usize - 1] == job
-    }
-
-    fn allows(&self, event: &Event) -> bool {
-        match *event {
-            Event::Claimed(p, j) => {
-                self.is_here(p) && self.is_job(j) && self.has_in_hand(p, 0) && self.unclaimed[j as usize - 1]
-            }
-            Event::Done(p, j) => self.is_here(p) && self.is_job(j) && self.has_in_hand(p, j),
-            Event::Ended(p) => {
-                self.is_here(p) && self.has_in_hand(p, 0) && self.givens.bound() as usize <= self.performed.len()
-            }
-            Event::Halted(p) => self.is_here(p),
-            Event::Left(p) => self.is_here(p) && self.has_in_hand(p, 0),
-        }
-    }
-
-    fn follow(&mut self, event: &Event) {
-        match *event {
-            Event::Claimed(p, j) => {
-                self.unclaimed[j as usize - 1] = false;
-                self.in_hand[p as usize - 1] = j;
-            }
-            Event::Done(p, j) => {
-                self.performed.push((p, j));
-                self.in_hand[p as usize - 1] = 0;
-            }
-            Event::Ended(p) | Event::Halted(p) | Event::Left(p) => self.gone[p as usize - 1] = true,
-        }
-    }
 }
 
 /// Prints what the system says of this process's memory, makes 64 worlds, and prints it again.

@@ -1,4 +1,5 @@
-//! A replay in plain Rust: the plan on standard input, the report on standard output.
+//! A replay in plain Rust: the plan on standard input, the report on standard output; with the words
+//! `explore FROM COUNT LENGTH` the text of the explorer.
 //!
 //! `bench/run` measures the proved program against it and compares their reports byte for byte, so it also serves
 //! as a second opinion, written apart from the proved crates. `bench/core` measures its parts. The program uses no
@@ -20,14 +21,22 @@ fn main() -> io::Result<()> {
     let mut text = String::new();
     io::stdin().read_to_string(&mut text)?;
     let plan = Plan::read(&text);
+    let words: Vec<String> = std::env::args().skip(1).collect();
+    let words: Vec<&str> = words.iter().map(String::as_str).collect();
+    let number = |word: &str| word.parse().expect("a number");
+    let out = match words[..] {
+        ["explore", from, count, length] => explore(&plan, number(from), number(count), number(length) as u32),
+        _ => replayed(&plan),
+    };
+    io::stdout().write_all(out.as_bytes())
+}
+
+/// The report of the plan's schedule and rounds.
+fn replayed(plan: &Plan) -> String {
     let mut world = World::new(plan.givens);
     world.run(&plan.moves);
-    for _ in 0..plan.rounds {
-        for worker in 1..=plan.givens.workers {
-            world.turn(worker);
-        }
-    }
-    io::stdout().write_all(report(&plan, &world).as_bytes())
+    world.run_rounds(plan.rounds);
+    report(plan, &world)
 }
 
 /// How many jobs and workers there are, and the threshold below which a worker ends.
@@ -339,6 +348,15 @@ impl World {
         }
     }
 
+    /// So many times a turn of each worker, in the order of their numbers.
+    fn run_rounds(&mut self, rounds: u32) {
+        for _ in 0..rounds {
+            for worker in 1..=self.givens.workers {
+                self.turn(worker);
+            }
+        }
+    }
+
     pub fn turn(&mut self, worker: u32) {
         let seat = &self.seats[worker as usize - 1];
         if seat.gone {
@@ -444,6 +462,114 @@ fn moves_of(word: &str) -> Vec<Move> {
 
 fn number(digits: &str) -> u32 {
     digits.parse().expect("a number")
+}
+
+/// The place, from 1, of the first event that is no step of one sequential set of unclaimed jobs.
+pub fn first_bad(givens: Givens, history: &[Event]) -> Option<usize> {
+    let mut state = State::new(givens);
+    for (place, event) in (1..).zip(history) {
+        if !state.allows(event) {
+            return Some(place);
+        }
+        state.follow(event);
+    }
+    None
+}
+
+/// Which jobs are unclaimed, the job in each worker's hand or 0, the performed pairs, and which workers are gone.
+struct State {
+    givens: Givens,
+    unclaimed: Vec<bool>,
+    in_hand: Vec<u32>,
+    performed: Vec<(u32, u32)>,
+    gone: Vec<bool>,
+}
+
+impl State {
+    fn new(givens: Givens) -> State {
+        State {
+            givens,
+            unclaimed: vec![true; givens.jobs as usize],
+            in_hand: vec![0; givens.workers as usize],
+            performed: Vec::with_capacity(givens.jobs as usize),
+            gone: vec![false; givens.workers as usize],
+        }
+    }
+
+    fn is_here(&self, p: u32) -> bool {
+        (1..=self.givens.workers).contains(&p) && !self.gone[p as usize - 1]
+    }
+
+    fn is_job(&self, j: u32) -> bool {
+        (1..=self.givens.jobs).contains(&j)
+    }
+
+    fn has_in_hand(&self, p: u32, job: u32) -> bool {
+        self.in_hand[p as usize - 1] == job
+    }
+
+    fn allows(&self, event: &Event) -> bool {
+        match *event {
+            Event::Claimed(p, j) => {
+                self.is_here(p) && self.is_job(j) && self.has_in_hand(p, 0) && self.unclaimed[j as usize - 1]
+            }
+            Event::Done(p, j) => self.is_here(p) && self.is_job(j) && self.has_in_hand(p, j),
+            Event::Ended(p) => {
+                self.is_here(p) && self.has_in_hand(p, 0) && self.givens.bound() as usize <= self.performed.len()
+            }
+            Event::Halted(p) => self.is_here(p),
+            Event::Left(p) => self.is_here(p) && self.has_in_hand(p, 0),
+        }
+    }
+
+    fn follow(&mut self, event: &Event) {
+        match *event {
+            Event::Claimed(p, j) => {
+                self.unclaimed[j as usize - 1] = false;
+                self.in_hand[p as usize - 1] = j;
+            }
+            Event::Done(p, j) => {
+                self.performed.push((p, j));
+                self.in_hand[p as usize - 1] = 0;
+            }
+            Event::Ended(p) | Event::Halted(p) | Event::Left(p) => self.gone[p as usize - 1] = true,
+        }
+    }
+}
+
+/// Turn i, from 0, of schedule s is one of worker s / workers^i % workers + 1; the plan's rounds follow.
+fn explored(plan: &Plan, schedule: u64, length: u32) -> World {
+    let workers = u64::from(plan.givens.workers);
+    let mut world = World::new(plan.givens);
+    let mut digits = schedule;
+    for _ in 0..length {
+        world.turn((digits % workers) as u32 + 1);
+        digits /= workers;
+    }
+    world.run_rounds(plan.rounds);
+    world
+}
+
+/// A line for each of so many schedules, and the least number of performances.
+fn explore(plan: &Plan, from: u64, count: u64, length: u32) -> String {
+    let mut out = String::new();
+    let mut least = usize::MAX;
+    for schedule in from..from + count {
+        let world = explored(plan, schedule, length);
+        let many = |test: fn(&Event) -> bool| world.history.iter().filter(|event| test(event)).count();
+        let claimed = many(|event| matches!(event, Event::Claimed(..)));
+        let done = many(|event| matches!(event, Event::Done(..)));
+        let ended = many(|event| matches!(event, Event::Ended(_)));
+        let verdict = match first_bad(plan.givens, &world.history) {
+            None => String::from("lawful"),
+            Some(place) => format!("bad {place}"),
+        };
+        writeln!(out, "schedule {schedule} claimed {claimed} done {done} ended {ended} {verdict}")
+            .expect("a String takes all that is written");
+        least = least.min(done);
+    }
+    writeln!(out, "least {least}").expect("a String takes all that is written");
+    out
 }
 
 fn report(plan: &Plan, world: &World) -> String {
