@@ -3,6 +3,7 @@ ghost use Rattle.std.specs.Prelude.{◌≡◌, false};
 
 mod explored;
 mod plans;
+mod schedules;
 mod stops;
 mod streams;
 mod words;
