@@ -1,5 +1,5 @@
 -- The digits of a schedule's number, and what the judge says of explored histories.
-use Rattle.std.proofs.Common.{◌≡◌, ℕ, ◌+◌, ◌/◌, ◌%◌, ◌^◌, List, [], ◌∷◌, ◌++◌, refl, sym, ap, ◌∙◌, add-one}
+use Rattle.std.proofs.Common.{◌≡◌, ℕ, ◌+◌, ◌/◌, ◌%◌, ◌^◌, List, [], ◌∷◌, ◌++◌, sym, ap, ◌∙◌, add-one}
 use Rattle.std.specs.Prelude.{if◌then◌else◌, ◌==◌}
 use Rattle.std.proofs.Math.Nat.{div-div-eq-div-mul, pow-suc}
 use Rattle.amo_kk.specs.Object.{first_object}
@@ -10,7 +10,7 @@ use Rattle.amo_kk.specs.declared.event.Move.TheVariants.{Turn}
 use Rattle.amo_world.specs.Answer.{verdict}
 use Rattle.amo_world.specs.declared.answer.Verdict.{Verdict}
 use Rattle.amo_world.specs.declared.answer.Verdict.TheVariants.{Lawful, FirstBad}
-use Rattle.amo_report.specs.Explorer.{worker_at, schedule}
+use Rattle.amo_report.specs.Explorer.{schedule}
 
 -- one turn more, by the lowest of the digits that are left
 pub schedule_more : (m workers s i digits : ℕ) → workers ≡ m → digits ≡ s / m ^ i → schedule m s (i + 1) ≡ schedule m s i ++ Turn (digits % workers + 1) ∷ []

@@ -1,6 +1,6 @@
 -- What holds of a world that is reached by so many moves: it is lawful, its history is judged lawful, and no worker
 -- has had more events than there were moves.
-use Rattle.std.proofs.Common.{◌≡◌, ◌≢◌, ⊎_elim, ℕ, zero, suc, ◌+◌, ◌-◌, ◌≤◌, ◌<◌, ◌^◌, min, Bool, true, false, List, [], ◌∷◌, ◌++◌, length, length-append, lit≤, refl, sym, ap, ◌∙◌, subst, arith, add-one}
+use Rattle.std.proofs.Common.{◌≡◌, ◌≢◌, ⊎_elim, ℕ, zero, suc, ◌+◌, ◌≤◌, ◌<◌, Bool, true, false, List, [], ◌∷◌, ◌++◌, length, length-append, lit≤, refl, sym, ap, ◌∙◌, subst, arith}
 use Rattle.std.specs.Prelude.{if◌then◌else◌, replicate, nat_lt}
 use Rattle.std.proofs.lemmas.Bool.{cases_eq, cases_lt}
 use Rattle.std.proofs.lemmas.List.{length-replicate}
@@ -13,7 +13,7 @@ use Rattle.amo_kk.specs.Object.{first_object}
 use Rattle.amo_kk.specs.Record.{can_leave, is_open, empty_record}
 use Rattle.amo_kk.specs.Choice.{chosen_job}
 use Rattle.amo_kk.specs.Event.{want, record_after, record_after_leave, shown_events}
-use Rattle.amo_kk.specs.World.{nobody, process, loaded_value, process_after, world_with, world_after_event, world_after_turn, world_after_halt, world_after_leave, world_after_move, world_after_moves, first_process, opening_world}
+use Rattle.amo_kk.specs.World.{nobody, process, loaded_value, process_after, world_with, world_after_event, world_after_halt, world_after_move, world_after_moves, first_process, opening_world}
 use Rattle.amo_kk.specs.declared.phase.Phase.TheVariants.{Over, Announcing}
 use Rattle.amo_kk.specs.declared.model.Record.{Record}
 use Rattle.amo_kk.specs.Alone.{world_after_turns}

@@ -1,8 +1,8 @@
 -- A worker that goes on alone is gone in the end: each time it ends, or has claimed one job more, and there are only so
 -- many.
-use Rattle.std.proofs.Common.{◌≡◌, ◌≢◌, ◌⊎◌, inl, inr, ⊎_elim, ℕ, zero, suc, ◌+◌, ◌-◌, ◌*◌, ◌≤◌, ◌<◌, ◌^◌, min, max, length, length-append, Bool, true, false, ◌||◌, List, [], ◌∷◌, ◌++◌, refl, sym, ap, ◌∙◌, subst, arith}
+use Rattle.std.proofs.Common.{◌≡◌, ◌≢◌, ◌⊎◌, inl, inr, ⊎_elim, ℕ, zero, suc, ◌+◌, ◌≤◌, ◌<◌, length, length-append, Bool, true, false, [], ◌∷◌, ◌++◌, refl, sym, ap, ◌∙◌, subst, arith}
 use Rattle.std.specs.Prelude.{if◌then◌else◌, ◌==◌}
-use Rattle.std.proofs.lemmas.Bool.{true≢false, cases_eq, cases_lt, cases_Bool, or_cases}
+use Rattle.std.proofs.lemmas.Bool.{true≢false, cases_eq, cases_lt, or_cases}
 use Rattle.amo_sets.specs.Lists.{numbered, put}
 use Rattle.amo_sets.specs.Sets.{has, with_number}
 use Rattle.amo_sets.proofs.Numbers.{numbered-put_other, length_distinct, count_le_all}
@@ -10,7 +10,7 @@ use Rattle.amo_sets.proofs.Tables.{numbered_past}
 use Rattle.amo_kk.specs.Givens.{IsWorker, next_other}
 use Rattle.amo_kk.specs.Record.{is_over, wants_nothing}
 use Rattle.amo_kk.specs.Choice.{record_after_choice, record_after_check}
-use Rattle.amo_kk.specs.Event.{want, with_announced, record_at_row, record_at_announcement, record_after_phase, record_after, shown_events}
+use Rattle.amo_kk.specs.Event.{want, with_announced, record_at_row, record_at_announcement, record_after_phase, record_after}
 use Rattle.amo_kk.specs.World.{nobody, process, loaded_value, process_after, world_after_event, world_after_turn}
 use Rattle.amo_kk.specs.Alone.{is_claiming, claims_or_ends, world_after_turns, IsFirstToSettle}
 use Rattle.amo_kk.specs.Lawful.{IsLawful}

@@ -1,7 +1,6 @@
 -- Workers that go on alone: how many turns they take, and what holds of the worlds that they leave.
-use Rattle.std.proofs.Common.{◌≡◌, ⊎_elim, ℕ, zero, suc, ◌+◌, ◌-◌, ◌*◌, ◌≤◌, ◌<◌, ◌^◌, min, max, length, take, length-take, Bool, true, false, refl, sym, ap, ◌∙◌, subst, arith, add-one}
+use Rattle.std.proofs.Common.{◌≡◌, ℕ, zero, suc, ◌+◌, ◌-◌, ◌*◌, ◌≤◌, ◌<◌, ◌^◌, min, max, length, take, length-take, Bool, true, false, refl, sym, ap, ◌∙◌, subst, arith, add-one}
 use Rattle.std.specs.Prelude.{if◌then◌else◌}
-use Rattle.std.proofs.lemmas.Bool.{true≢false}
 use Rattle.amo_kk.specs.Event.{want, record_after}
 use Rattle.amo_kk.specs.World.{process, loaded_value, process_after, world_after_event, world_after_turn}
 use Rattle.amo_kk.specs.Alone.{claims_or_ends, world_after_turns, IsFirstToSettle}

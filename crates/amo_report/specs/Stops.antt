@@ -1,11 +1,10 @@
 -- The text of stops: what becomes of a schedule that is cut off after each of its moves, a line for each.
-use Rattle.std.specs.Prelude.{◌≡◌, ℕ, zero, suc, ◌+◌, ◌*◌, ◌≤◌, max, List, [], ◌∷◌, ◌++◌, length, map, take, count_by, codes, nat_le, Result, Ok, if◌then◌else◌}
+use Rattle.std.specs.Prelude.{ℕ, zero, suc, ◌+◌, ◌*◌, max, List, ◌++◌, length, map, take, count_by, codes, nat_le, Result, Ok, if◌then◌else◌}
 use Rattle.std.specs.Fmt.{decimal}
 use Rattle.std.specs.List.{flat_map}
 use Rattle.amo_kk.specs.World.{process, opening_world, world_after_turn, world_after_halt, world_after_moves}
 use Rattle.amo_kk.specs.Alone.{claims_or_ends, world_after_turns}
 use Rattle.amo_kk.specs.declared.event.Event.{Event}
-use Rattle.amo_kk.specs.declared.event.Move.{Move}
 use Rattle.amo_kk.specs.declared.givens.Givens.{Givens}
 use Rattle.amo_kk.specs.declared.model.World.{World}
 use Rattle.amo_world.specs.Answer.{verdict}

@@ -1,4 +1,4 @@
-use Rattle.std.proofs.Common.{◌≡◌, ◌+◌, ◌*◌, ◌≤◌, subst, sym, ap, ◌∙◌, arith}
+use Rattle.std.proofs.Common.{◌+◌, ◌*◌, ◌≤◌, subst, sym, ap, arith}
 use Rattle.amo_kk.specs.declared.givens.Givens.{Givens}
 use Rattle.amo_world.specs.Views.{WorldView}
 use Rattle.amo_report.specs.Stops.{LoneRun, enough_turns, all_run_out}

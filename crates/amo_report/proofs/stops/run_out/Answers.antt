@@ -1,4 +1,4 @@
-use Rattle.std.proofs.Common.{◌≡◌, ◌+◌, ◌*◌, ◌≤◌, sym, ◌∙◌, arith}
+use Rattle.std.proofs.Common.{◌+◌, ◌*◌, ◌≤◌, sym, ◌∙◌, arith}
 use Rattle.amo_report.specs.Stops.{LoneRun, settled_often}
 use Rattle.amo_report.proofs.ReachedWorlds.{reached_later}
 use Rattle.amo_report.proofs.Stopped.{often_under, seen_reached, goes_on, stays}
