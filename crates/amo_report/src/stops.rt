@@ -36,6 +36,7 @@ fn run_out(world: &mut World, p: u32, mut most: u64) -> u64
     ensures world { world.new ≡ record { givens = world.old.givens; world = (run_out world.old.givens p (record { world = world.old.world; most = most })).world } }
     ensures most { result ≡ (run_out world.old.givens p (record { world = world.old.world; most = most })).most }
 {
+    // It claims each job at most once and ends, so it is gone after so many times.
     for _time in 0..world.givens().jobs + 1 {
         if !world.is_gone(p) {
             most = most.max(settle(world, p));
