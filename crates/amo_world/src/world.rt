@@ -71,6 +71,18 @@ impl World {
         if self.is_gone(p) {
             return Turned::Idle;
         }
+        self.act(p)
+    }
+
+    /// The next event of worker p, which isn't gone, and what it was.
+    // Apart from `turn`, so that a turn of a worker that is gone costs no more than the look at it.
+    #[inline(never)]
+    fn act(&mut self, p: u32) -> Turned
+        requires worker { IsWorker self.old.givens p }
+        requires here { (process self.old.world p).gone ≡ false }
+        ensures answer { result ≡ turn_answer self.old.givens self.old.world p }
+        ensures world { self.new ≡ record { givens = self.old.givens; world = world_after_turn self.old.givens self.old.world p } }
+    {
         let value = self.heard(p);
         let shown = self.seats[p as usize - 1].act(value);
         add_shown(&mut self.history, p, shown);
