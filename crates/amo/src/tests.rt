@@ -63,6 +63,21 @@ fn replay_plan(alloc: Global, plan: &str) -> Result<Ending, AllocError> {
     run_words(alloc, &["replay"], &mut Bytes::new(plan.as_bytes()), 1000)
 }
 
+/// Done: status 0, this text, and nothing else.
+fn is_done(ran: &Ending, text: &str) -> bool {
+    ran.status == 0 && ran.out() == text && ran.err().is_empty()
+}
+
+/// Done with this text, or want of memory with its line and nothing else.
+fn is_done_or_wants_memory(ran: &Ending, text: &str) -> bool {
+    is_done(ran, text) || ran.status == 3 && ran.out().is_empty() && ran.err() == "fault memory\n"
+}
+
+/// A refused plan: status 1, this line, and nothing else.
+fn is_refused(ran: &Ending, line: &str) -> bool {
+    ran.status == 1 && ran.out().is_empty() && ran.err() == line
+}
+
 /// Refused words: status 2, the line that says so, and nothing else.
 fn is_no_command(alloc: Global, words: &[&str]) -> Result<bool, AllocError> {
     let ran = run_words(alloc, words, &mut Bytes::new(PLAN.as_bytes()), 1000)?;

@@ -1,5 +1,5 @@
 //! The command `explore`: its numbers and its text.
-use super::{Ending, PLAN, is_no_command, run_words};
+use super::{Ending, PLAN, is_done_or_wants_memory, is_no_command, is_refused, run_words};
 use amo_report::Bytes;
 use std::alloc::{AllocError, Global};
 use std::test::Fail;
@@ -42,17 +42,12 @@ fn refused_exploring(rt: HostRuntime) {
     let Ok(ran) = explore_plan(rt.alloc(), ONE_JOB, ["0", "1", "0"]) else {
         return;
     };
-    if ran.status == 0 {
-        assert_eq!(rt;
-            ran.out(),
+    assert!(rt;
+        is_done_or_wants_memory(
+            &ran,
             "schedule 0 claimed 0 done 0 ended 0 lawful\nleast 0\n"
-        );
-        assert_eq!(rt; ran.err(), "");
-    } else {
-        assert_eq!(rt; ran.status, 3);
-        assert_eq!(rt; ran.out(), "");
-        assert_eq!(rt; ran.err(), "fault memory\n");
-    }
+        )
+    );
 }
 
 #[test]
@@ -126,9 +121,7 @@ fn three_numbers_are_wanted(rt: HostRuntime) -> Result<(), Fail> {
 #[test]
 fn a_refused_plan_is_not_explored(rt: HostRuntime) -> Result<(), Fail> {
     let ran = explore_plan(rt.alloc(), "version = 1\nworkers = 1\n", ["0", "1", "1"])?;
-    assert_eq!(rt; ran.status, 1);
-    assert_eq!(rt; ran.out(), "");
-    assert_eq!(rt; ran.err(), "fault 3 MissingKey 0\n");
+    assert!(rt; is_refused(&ran, "fault 3 MissingKey 0\n"));
     Ok(())
 }
 

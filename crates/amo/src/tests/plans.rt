@@ -1,6 +1,7 @@
 //! Plans and their reports, and plans that are refused.
-use super::{Ending, PLAN, REPORT, replay_plan, run_words};
+use super::{PLAN, REPORT, is_done_or_wants_memory, is_refused, replay_plan, run_words};
 use amo_report::Bytes;
+use std::alloc::{AllocError, Global};
 use std::test::Fail;
 
 /// The report of a plan of one worker without jobs.
@@ -22,14 +23,26 @@ fn refused_replay(rt: HostRuntime) {
     let Ok(ran) = replay_plan(rt.alloc(), PLAN) else {
         return;
     };
-    if ran.status == 0 {
-        assert_eq!(rt; ran.out(), REPORT);
-        assert_eq!(rt; ran.err(), "");
-    } else {
-        assert_eq!(rt; ran.status, 3);
-        assert_eq!(rt; ran.out(), "");
-        assert_eq!(rt; ran.err(), "fault memory\n");
+    assert!(rt; is_done_or_wants_memory(&ran, REPORT));
+}
+
+/// `PLAN`, each of its lines ended by CR LF.
+fn plan_of_cr_lf(alloc: Global) -> Result<String, AllocError> {
+    let mut plan = String::new(alloc);
+    for line in PLAN.lines() {
+        plan.push_str(line)?;
+        plan.push_str("\r\n")?;
     }
+    Ok(plan)
+}
+
+#[test]
+fn lines_may_end_with_cr_lf(rt: HostRuntime) -> Result<(), Fail> {
+    let plan = plan_of_cr_lf(rt.alloc())?;
+    let ran = replay_plan(rt.alloc(), plan.as_str())?;
+    assert_eq!(rt; ran.status, 0);
+    assert_eq!(rt; ran.out(), REPORT);
+    Ok(())
 }
 
 #[test]
@@ -49,11 +62,6 @@ fn a_check_writes_the_check_text_alone(rt: HostRuntime) -> Result<(), Fail> {
     assert_eq!(rt; ran.out(), "ok jobs 3 workers 1 beta 1 moves 9 rounds 0\n");
     assert_eq!(rt; ran.err(), "");
     Ok(())
-}
-
-/// A refused plan: status 1, its line, and nothing on `out`.
-fn is_refused(ran: &Ending, line: &str) -> bool {
-    ran.status == 1 && ran.out().is_empty() && ran.err() == line
 }
 
 #[test]
