@@ -1,6 +1,6 @@
 //! From the bytes of a plan to the bytes of its text.
-ghost use Rattle.std.specs.Prelude.{◌≡◌, ◌≤◌, false, Ok, OnOk, IfOk, IfErr, IfSome, string_bytes};
-ghost use Rattle.std.specs.Io.KnownBytes.{IsAtEnd};
+ghost use Rattle.std.specs.Prelude.{◌≡◌, ◌≤◌, true, false, Ok, OnOk, OnErr, IfOk, IfErr, IfSome, string_bytes};
+ghost use Rattle.std.specs.Io.KnownBytes.{Appends, IsAtEnd};
 ghost use Rattle.amo_plan.specs.Plan.{plan_of};
 ghost use Rattle.amo_plan.specs.PlanSeen.{plan_seen};
 ghost use Rattle.amo_report.specs.Check.{check_of};
@@ -8,7 +8,9 @@ ghost use Rattle.amo_report.specs.Texts.{report_of};
 ghost use Rattle.amo_report.specs.Explorer.{explore_of};
 ghost use Rattle.amo_report.specs.Stops.{stops_in};
 ghost use Rattle.amo_report.specs.StopsTold.{IsNoText, WritesStops, RefusesStops};
-ghost use Rattle.amo_report.specs.Replays.{IsNoPlan, IsNoPlanMemory, Refuses, Writes};
+ghost use Rattle.amo_report.specs.Replays.{IsNoPlan, Refuses, Writes};
+ghost use Rattle.amo_report.specs.Streams.{AppendsFront};
+ghost use Rattle.amo_report.specs.declared.replaying.ReplayFault.TheVariants.{Write, NoMemory};
 
 use super::checking::check_text;
 use super::copying::{ReadFault, read_all, write_all};
@@ -33,6 +35,14 @@ pub enum ReplayFault {
     NoMemory,
 }
 
+impl From<AllocError> for ReplayFault {
+    ghost from_gives = { λ _ e. e ≡ NoMemory };
+
+    fn from(_e: AllocError) -> ReplayFault {
+        ReplayFault::NoMemory
+    }
+}
+
 /// Reads a plan from all bytes of a source that has not failed. `Plan(f)` comes just where the bytes give the fault
 /// f, memory aside; `Read` only where the source has failed; `Write` never.
 #[tactic(auto, using(crate::proofs::Whole::whole, crate::proofs::Whole::at_end))]
@@ -40,7 +50,6 @@ pub fn read_source<R: Source>(alloc: Global, reader: &mut R) -> Result<Plan, Rep
     requires { R.failed reader.old ≡ false }
     ensures plan { IfOk result (λ p. IfSome (R.remaining reader.old) (λ bytes. plan_of bytes ≡ Ok (plan_seen p))) }
     ensures end { OnOk result (IsAtEnd (R.remaining reader.new)) }
-    ensures memory { IfErr result IsNoPlanMemory }
     ensures refused { IfErr result (λ e. IsNoPlan e (R.remaining reader.old) (R.failed reader.new)) }
 {
     let bytes = match read_all(alloc, reader) {
@@ -52,6 +61,20 @@ pub fn read_source<R: Source>(alloc: Global, reader: &mut R) -> Result<Plan, Rep
         Ok(plan) => Ok(plan),
         Err(fault) if fault.is_memory() => Err(ReplayFault::NoMemory),
         Err(fault) => Err(ReplayFault::Plan(fault)),
+    }
+}
+
+/// Writes a text and flushes the sink. `Write`, the only fault, comes only where the sink has failed; then a beginning of
+/// the text was written.
+fn write_text<W: Sink>(writer: &mut W, text: &String) -> Result<(), ReplayFault>
+    ensures ok { OnOk result (Appends (W.contents writer.old) (W.contents writer.new) (string_bytes text.now)) }
+    ensures fault { IfErr result (λ e. e ≡ Write) }
+    ensures front { OnErr result (AppendsFront (W.contents writer.old) (W.contents writer.new) (string_bytes text.now)) }
+    ensures failed { OnErr result (W.failed writer.new ≡ true) }
+{
+    match write_all(writer, text.as_bytes()) {
+        Ok(()) => Ok(()),
+        Err(Failed) => Err(ReplayFault::Write),
     }
 }
 
@@ -74,19 +97,12 @@ pub fn replay<R: Source, W: Sink>(
     requires writer { W.failed writer.old ≡ false }
     ensures end { OnOk result (IsAtEnd (R.remaining reader.new)) }
     ensures text { OnOk result (Writes report_of (R.remaining reader.old) (W.contents writer.old) (W.contents writer.new)) }
-    ensures memory { IfErr result IsNoPlanMemory }
     ensures refused { IfErr result (λ e. Refuses report_of e (R.remaining reader.old) (R.failed reader.new)
         (W.contents writer.old) (W.contents writer.new) (W.failed writer.new)) }
 {
     let plan = read_source(alloc, reader)?;
-    let text = match plan_report(alloc, &plan) {
-        Ok(text) => text,
-        Err(AllocError) => return Err(ReplayFault::NoMemory),
-    };
-    match write_all(writer, text.as_bytes()) {
-        Ok(()) => Ok(()),
-        Err(Failed) => Err(ReplayFault::Write),
-    }
+    let text = plan_report(alloc, &plan)?;
+    write_text(writer, &text)
 }
 
 /// Reads a plan to the end of the reader, and writes its check text and nothing else. Neither may have failed. What
@@ -100,19 +116,12 @@ pub fn check<R: Source, W: Sink>(
     requires writer { W.failed writer.old ≡ false }
     ensures end { OnOk result (IsAtEnd (R.remaining reader.new)) }
     ensures text { OnOk result (Writes check_of (R.remaining reader.old) (W.contents writer.old) (W.contents writer.new)) }
-    ensures memory { IfErr result IsNoPlanMemory }
     ensures refused { IfErr result (λ e. Refuses check_of e (R.remaining reader.old) (R.failed reader.new)
         (W.contents writer.old) (W.contents writer.new) (W.failed writer.new)) }
 {
     let plan = read_source(alloc, reader)?;
-    let text = match check_text(alloc, &plan.heads) {
-        Ok(text) => text,
-        Err(AllocError) => return Err(ReplayFault::NoMemory),
-    };
-    match write_all(writer, text.as_bytes()) {
-        Ok(()) => Ok(()),
-        Err(Failed) => Err(ReplayFault::Write),
-    }
+    let text = check_text(alloc, &plan.heads)?;
+    write_text(writer, &text)
 }
 
 /// Reads a plan to the end of the reader, and writes what `explore` makes of it and nothing else. The numbers have the
@@ -133,19 +142,12 @@ pub fn explore_plan<R: Source, W: Sink>(
     requires short { length ≤ 10000 }
     ensures end { OnOk result (IsAtEnd (R.remaining reader.new)) }
     ensures text { OnOk result (Writes (λ p. explore_of p from count length) (R.remaining reader.old) (W.contents writer.old) (W.contents writer.new)) }
-    ensures memory { IfErr result IsNoPlanMemory }
     ensures refused { IfErr result (λ e. Refuses (λ p. explore_of p from count length) e (R.remaining reader.old) (R.failed reader.new)
         (W.contents writer.old) (W.contents writer.new) (W.failed writer.new)) }
 {
     let plan = read_source(alloc, reader)?;
-    let text = match explore(alloc, &plan, from, count, length) {
-        Ok(text) => text,
-        Err(AllocError) => return Err(ReplayFault::NoMemory),
-    };
-    match write_all(writer, text.as_bytes()) {
-        Ok(()) => Ok(()),
-        Err(Failed) => Err(ReplayFault::Write),
-    }
+    let text = explore(alloc, &plan, from, count, length)?;
+    write_text(writer, &text)
 }
 
 /// What `stops_text` makes of a plan. Where the plan has no worker p this is `Plan(NoSuchWorker(0))`, else where it has
@@ -162,10 +164,7 @@ fn plan_stops(alloc: Global, plan: &Plan, p: u32) -> Result<String, ReplayFault>
     if plan.heads.moves.as_slice().len() > 1000 {
         return Err(ReplayFault::Plan(PlanFault::TooLong));
     }
-    match stops_text(alloc, plan, p) {
-        Ok(text) => Ok(text),
-        Err(AllocError) => Err(ReplayFault::NoMemory),
-    }
+    Ok(stops_text(alloc, plan, p)?)
 }
 
 /// Reads a plan to the end of the reader, and writes what `stops_text` makes of it and of p, from 1 on, and nothing
@@ -182,14 +181,10 @@ pub fn stops_plan<R: Source, W: Sink>(
     requires worker { 1 ≤ p }
     ensures end { OnOk result (IsAtEnd (R.remaining reader.new)) }
     ensures text { OnOk result (WritesStops p (R.remaining reader.old) (W.contents writer.old) (W.contents writer.new)) }
-    ensures memory { IfErr result IsNoPlanMemory }
     ensures refused { IfErr result (λ e. RefusesStops p e (R.remaining reader.old) (R.failed reader.new)
         (W.contents writer.old) (W.contents writer.new) (W.failed writer.new)) }
 {
     let plan = read_source(alloc, reader)?;
     let text = plan_stops(alloc, &plan, p)?;
-    match write_all(writer, text.as_bytes()) {
-        Ok(()) => Ok(()),
-        Err(Failed) => Err(ReplayFault::Write),
-    }
+    write_text(writer, &text)
 }

@@ -4,21 +4,9 @@ ghost use Rattle.amo_kk.specs.Run.{done_jobs};
 ghost use Rattle.amo_report.specs.Results.{jobs_in_block};
 ghost use Rattle.amo_report.specs.Tallies.{performed_jobs, blocks_line, performed_blocks, performed_line};
 
+use super::summary::count_performances;
 use amo_kk::Event;
 use std::alloc::AllocError;
-
-/// How many performances the history has.
-fn count_dones(history: &[Event]) -> usize
-    ensures { result ≡ length (done_jobs history.now) }
-{
-    let mut count = 0;
-    for event in history {
-        if let Event::Done(_, _) = event {
-            count += 1;
-        }
-    }
-    count
-}
 
 /// How many jobs the block with this number has, of so many jobs.
 fn jobs_in_block(block: u32, jobs: usize, number: u32) -> u64
@@ -48,7 +36,7 @@ fn count_jobs(block: u32, jobs: usize, history: &[Event]) -> u64
 fn push_performed_jobs(out: &mut String, history: &[Event]) -> Result<(), AllocError>
     ensures { OnOk result (string_bytes out.new ≡ string_bytes out.old ++ performed_jobs history.now) }
 {
-    let dones = count_dones(history);
+    let dones = count_performances(history);
     writeln!(out, "performed {dones}")
 }
 
@@ -70,7 +58,7 @@ fn push_performed_blocks(
     requires { length history.now < 2 ^ 32 }
     ensures { OnOk result (string_bytes out.new ≡ string_bytes out.old ++ performed_blocks block jobs history.now) }
 {
-    let dones = count_dones(history);
+    let dones = count_performances(history);
     let done_jobs = count_jobs(block, jobs, history);
     push_blocks(out, dones, done_jobs)
 }
