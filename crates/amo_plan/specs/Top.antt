@@ -95,6 +95,7 @@ pub record MoreSeen : Type 0 where
   pub rounds : ℕ
   pub budgets : Option (List ℕ)
 
+-- these, each of its kind
 unfoldable pub more_values : ℕ → Members → Result MoreSeen PlanFault
 more_values workers doc = do
   schedule ← or_fault (text_of (get_member (codes "schedule") doc)) (WrongKind 0)

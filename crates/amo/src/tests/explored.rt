@@ -1,5 +1,5 @@
 //! The command `explore`: its numbers and its text.
-use super::{Ending, PLAN, is_done_or_wants_memory, is_no_command, is_refused, run_words};
+use super::{Ending, PLAN, is_done, is_done_or_wants_memory, is_no_command, is_refused, run_words};
 use amo_report::Bytes;
 use std::alloc::{AllocError, Global};
 use std::test::Fail;
@@ -27,12 +27,12 @@ fn explore_plan(alloc: Global, plan: &str, numbers: [&str; 3]) -> Result<Ending,
 #[test]
 fn each_schedule_has_its_line(rt: HostRuntime) -> Result<(), Fail> {
     let ran = explore_plan(rt.alloc(), TWO_WORKERS, ["0", "2", "5"])?;
-    assert_eq!(rt; ran.status, 0);
-    assert_eq!(rt;
-        ran.out(),
-        "schedule 0 claimed 2 done 1 ended 1 lawful\nschedule 1 claimed 2 done 2 ended 2 lawful\nleast 1\n"
+    assert!(rt;
+        is_done(
+            &ran,
+            "schedule 0 claimed 2 done 1 ended 1 lawful\nschedule 1 claimed 2 done 2 ended 2 lawful\nleast 1\n"
+        )
     );
-    assert_eq!(rt; ran.err(), "");
     Ok(())
 }
 
@@ -53,10 +53,11 @@ fn refused_exploring(rt: HostRuntime) {
 #[test]
 fn the_least_numbers_are_taken(rt: HostRuntime) -> Result<(), Fail> {
     let ran = explore_plan(rt.alloc(), ONE_JOB, ["0", "1", "0"])?;
-    assert_eq!(rt; ran.status, 0);
-    assert_eq!(rt;
-        ran.out(),
-        "schedule 0 claimed 0 done 0 ended 0 lawful\nleast 0\n"
+    assert!(rt;
+        is_done(
+            &ran,
+            "schedule 0 claimed 0 done 0 ended 0 lawful\nleast 0\n"
+        )
     );
     Ok(())
 }
@@ -73,10 +74,11 @@ fn the_greatest_numbers_are_taken(rt: HostRuntime) -> Result<(), Fail> {
         ran.out().ends_with("\nschedule 1000000000999 claimed 0 done 0 ended 0 lawful\nleast 0\n")
     );
     let ran = explore_plan(rt.alloc(), ONE_JOB, ["1", "1", "10000"])?;
-    assert_eq!(rt; ran.status, 0);
-    assert_eq!(rt;
-        ran.out(),
-        "schedule 1 claimed 1 done 1 ended 1 lawful\nleast 1\n"
+    assert!(rt;
+        is_done(
+            &ran,
+            "schedule 1 claimed 1 done 1 ended 1 lawful\nleast 1\n"
+        )
     );
     Ok(())
 }
@@ -128,10 +130,11 @@ fn a_refused_plan_is_not_explored(rt: HostRuntime) -> Result<(), Fail> {
 #[test]
 fn the_plans_own_schedule_is_not_explored(rt: HostRuntime) -> Result<(), Fail> {
     let ran = explore_plan(rt.alloc(), PLAN, ["0", "1", "3"])?;
-    assert_eq!(rt; ran.status, 0);
-    assert_eq!(rt;
-        ran.out(),
-        "schedule 0 claimed 1 done 1 ended 0 lawful\nleast 1\n"
+    assert!(rt;
+        is_done(
+            &ran,
+            "schedule 0 claimed 1 done 1 ended 0 lawful\nleast 1\n"
+        )
     );
     Ok(())
 }

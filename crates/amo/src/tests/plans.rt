@@ -1,5 +1,5 @@
 //! Plans and their reports, and plans that are refused.
-use super::{PLAN, REPORT, is_done_or_wants_memory, is_refused, replay_plan, run_words};
+use super::{PLAN, REPORT, is_done, is_done_or_wants_memory, is_refused, replay_plan, run_words};
 use amo_report::Bytes;
 use std::alloc::{AllocError, Global};
 use std::test::Fail;
@@ -11,9 +11,7 @@ const NO_JOBS: &str =
 #[test]
 fn a_replay_writes_the_report_alone(rt: HostRuntime) -> Result<(), Fail> {
     let ran = replay_plan(rt.alloc(), PLAN)?;
-    assert_eq!(rt; ran.status, 0);
-    assert_eq!(rt; ran.out(), REPORT);
-    assert_eq!(rt; ran.err(), "");
+    assert!(rt; is_done(&ran, REPORT));
     Ok(())
 }
 
@@ -40,8 +38,7 @@ fn plan_of_cr_lf(alloc: Global) -> Result<String, AllocError> {
 fn lines_may_end_with_cr_lf(rt: HostRuntime) -> Result<(), Fail> {
     let plan = plan_of_cr_lf(rt.alloc())?;
     let ran = replay_plan(rt.alloc(), plan.as_str())?;
-    assert_eq!(rt; ran.status, 0);
-    assert_eq!(rt; ran.out(), REPORT);
+    assert!(rt; is_done(&ran, REPORT));
     Ok(())
 }
 
@@ -49,8 +46,7 @@ fn lines_may_end_with_cr_lf(rt: HostRuntime) -> Result<(), Fail> {
 fn a_plan_without_jobs_ends_at_once(rt: HostRuntime) -> Result<(), Fail> {
     let plan = "version = 1\nworkers = 1\nbeta = 1\nschedule = \"1*9\"\n";
     let ran = replay_plan(rt.alloc(), plan)?;
-    assert_eq!(rt; ran.status, 0);
-    assert_eq!(rt; ran.out(), NO_JOBS);
+    assert!(rt; is_done(&ran, NO_JOBS));
     Ok(())
 }
 
@@ -58,9 +54,7 @@ fn a_plan_without_jobs_ends_at_once(rt: HostRuntime) -> Result<(), Fail> {
 fn a_check_writes_the_check_text_alone(rt: HostRuntime) -> Result<(), Fail> {
     let mut reader = Bytes::new(PLAN.as_bytes());
     let ran = run_words(rt.alloc(), &["check"], &mut reader, 1000)?;
-    assert_eq!(rt; ran.status, 0);
-    assert_eq!(rt; ran.out(), "ok jobs 3 workers 1 beta 1 moves 9 rounds 0\n");
-    assert_eq!(rt; ran.err(), "");
+    assert!(rt; is_done(&ran, "ok jobs 3 workers 1 beta 1 moves 9 rounds 0\n"));
     Ok(())
 }
 
@@ -136,8 +130,7 @@ fn a_cut_plan_lacks_what_was_cut_off(rt: HostRuntime) -> Result<(), Fail> {
         "version = 1\nworkers = 1\nbeta = 1\nschedule = \"1*9\"\n",
     ] {
         let ran = replay_plan(rt.alloc(), plan)?;
-        assert_eq!(rt; ran.status, 0, "at {plan}");
-        assert_eq!(rt; ran.out(), NO_JOBS, "at {plan}");
+        assert!(rt; is_done(&ran, NO_JOBS), "at {plan}");
     }
     for (plan, line) in [
         ("", "fault 3 MissingKey 0\n"),

@@ -1,5 +1,5 @@
 //! Worked schedules through the whole program: the report of each, worked out by hand.
-use super::{is_refused, replay_plan};
+use super::{is_done, is_refused, replay_plan};
 use std::alloc::{AllocError, Global};
 use std::test::Fail;
 
@@ -106,9 +106,7 @@ fn each_worked_schedule_has_its_report(rt: HostRuntime) -> Result<(), Fail> {
     for (head, jobs, report) in cases {
         let plan = plan_of(rt.alloc(), head, jobs)?;
         let ran = replay_plan(rt.alloc(), plan.as_str())?;
-        assert_eq!(rt; ran.status, 0, "at {head}");
-        assert_eq!(rt; ran.out(), report, "at {head}");
-        assert_eq!(rt; ran.err(), "", "at {head}");
+        assert!(rt; is_done(&ran, report), "at {head}");
     }
     Ok(())
 }
@@ -186,10 +184,11 @@ fn the_largest_sum_is_printed(rt: HostRuntime) -> Result<(), Fail> {
     let plan =
         "version = 1\nworkers = 1\nbeta = 1\nschedule = \"1*6\"\n[[job]]\nname = \"a\"\nadd = [9223372036854775807, 9223372036854775807, 1]\n[[job]]\nname = \"b\"\nadd = []\n";
     let ran = replay_plan(rt.alloc(), plan)?;
-    assert_eq!(rt; ran.status, 0);
-    assert_eq!(rt;
-        ran.out(),
-        "jobs 2 workers 1 beta 1 bound 2\n1 claimed 1 1\n2 done 1 1\n3 claimed 1 2\n4 done 1 2\n5 ended 1\nworker 1 ended turns 6 claimed 2 done 2\nresult 1 a 18446744073709551615\nresult 2 b 0\nperformed 2\nunclaimed\n"
+    assert!(rt;
+        is_done(
+            &ran,
+            "jobs 2 workers 1 beta 1 bound 2\n1 claimed 1 1\n2 done 1 1\n3 claimed 1 2\n4 done 1 2\n5 ended 1\nworker 1 ended turns 6 claimed 2 done 2\nresult 1 a 18446744073709551615\nresult 2 b 0\nperformed 2\nunclaimed\n"
+        )
     );
     Ok(())
 }

@@ -1,5 +1,5 @@
 //! The command `stops`: its number, its text and what it refuses of a plan.
-use super::{Ending, is_done_or_wants_memory, is_no_command, is_refused, run_words};
+use super::{Ending, is_done, is_done_or_wants_memory, is_no_command, is_refused, run_words};
 use amo_report::Bytes;
 use std::alloc::{AllocError, Global};
 use std::test::Fail;
@@ -29,9 +29,7 @@ fn stop_worker(alloc: Global, plan: &str, worker: &str) -> Result<Ending, AllocE
 #[test]
 fn each_stop_has_its_line(rt: HostRuntime) -> Result<(), Fail> {
     let ran = stop_worker(rt.alloc(), FOUR_TURNS, "1")?;
-    assert_eq!(rt; ran.status, 0);
-    assert_eq!(rt; ran.out(), FIVE_STOPS);
-    assert_eq!(rt; ran.err(), "");
+    assert!(rt; is_done(&ran, FIVE_STOPS));
     Ok(())
 }
 

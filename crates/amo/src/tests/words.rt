@@ -1,5 +1,5 @@
 //! Which words are a command.
-use super::{PLAN, REPORT, is_no_command, run_words};
+use super::{PLAN, REPORT, is_done, is_no_command, run_words};
 use amo_report::Bytes;
 use std::test::Fail;
 
@@ -50,8 +50,7 @@ fn a_word_too_many_is_no_command(rt: HostRuntime) -> Result<(), Fail> {
 fn an_end_of_options_may_follow(rt: HostRuntime) -> Result<(), Fail> {
     let mut reader = Bytes::new(PLAN.as_bytes());
     let ran = run_words(rt.alloc(), &["replay", "--"], &mut reader, 1000)?;
-    assert_eq!(rt; ran.status, 0);
-    assert_eq!(rt; ran.out(), REPORT);
+    assert!(rt; is_done(&ran, REPORT));
     Ok(())
 }
 
