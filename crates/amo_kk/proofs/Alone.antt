@@ -1,7 +1,7 @@
 -- Alone, a worker claims or ends soon.
 use Rattle.std.proofs.Common.{◌≡◌, ◌≢◌, ◌⊎◌, inl, inr, ⊎_elim, ℕ, zero, suc, ◌+◌, ◌-◌, ◌*◌, ◌<◌, ◌≤◌, ◌^◌, min, Bool, true, false, not, ◌&&◌, ◌||◌, List, [], ◌∷◌, ◌++◌, length, get_or, refl, sym, ap, ◌∙◌, subst, arith}
 use Rattle.std.specs.Prelude.{if◌then◌else◌, ◌==◌}
-use Rattle.std.proofs.lemmas.Bool.{cases_eq, cases_lt, true≢false, or_cases, eq-eqb, ne_eqb}
+use Rattle.std.proofs.lemmas.Bool.{cases_eq, cases_lt, true≢false, false_from_ne_true, or_cases, or_left, or_right, eq-eqb, ne_eqb}
 use Rattle.std.proofs.lemmas.List.{get_or_past}
 use Rattle.amo_sets.specs.Lists.{numbered, put}
 use Rattle.amo_sets.specs.Sets.{has, AreDistinct, with_number}
@@ -20,10 +20,10 @@ use Rattle.amo_kk.specs.declared.model.Record.{Record}
 use Rattle.amo_kk.specs.declared.model.Process.{Process}
 use Rattle.amo_kk.specs.declared.model.World.{World}
 use Rattle.amo_sets.proofs.Numbers.{numbered-put_same, numbered-put_other, has-append, has-get_or, count_apart, length_distinct, count_le_all}
-use Rattle.amo_kk.proofs.Choice.{chosen_is, choice_cases, check_cases, to_row_cases, to_announcement_cases, next_other_next}
+use Rattle.amo_kk.proofs.Choice.{open_parts, chosen_is, choice_cases, check_cases, to_row_cases, to_announcement_cases, next_other_next}
 use Rattle.amo_kk.proofs.Kept.{numbered_next, noted_cases, noted_same, noted_kept, others_room, others_next, first_other, none_before, done_job}
 use Rattle.amo_kk.proofs.Worlds.{here_is_worker}
-use Rattle.amo_kk.proofs.OwnTurns.{is_false, next_record, own_turn, stored, stored_within, stored_in, stored_in_want, to_begin, turns_that-suc, left_from}
+use Rattle.amo_kk.proofs.OwnTurns.{next_record, own_turn, stored, stored_within, stored_in, stored_in_want, to_begin, turns_that-suc, left_from}
 
 -- one of the next k turns of p claims a job or ends p, and up to it at most n announcements are stored
 abbrev SettlesWithin : Givens → ℕ → ℕ → ℕ → World → Type 0
@@ -74,10 +74,7 @@ total_less (suc n) q f h a b l rest = ⊎_elim
 
 front_distinct : (xs ys : List ℕ) → AreDistinct (xs ++ ys) → AreDistinct xs
 front_distinct [] ys d = tt
-front_distinct (x ∷ xs) ys d = (is_false (has xs x) (λ t. true≢false (sym (has-append xs ys x ∙ left (has xs x) (has ys x) t) ∙ d.0)), front_distinct xs ys d.1)
-  where
-    left : (x y : Bool) → x ≡ true → (x || y) ≡ true
-    left x y h = grind arith
+front_distinct (x ∷ xs) ys d = (false_from_ne_true (has xs x) (λ t. true≢false (sym (has-append xs ys x ∙ or_left (has xs x) (has ys x) t) ∙ d.0)), front_distinct xs ys d.1)
 
 module _ (g : Givens) (ok : AreGivens g) (p : ℕ) (o : IsWorker g p) (at : ℕ → Process) where
   -- the others are as at has them
@@ -97,11 +94,8 @@ module _ (g : Givens) (ok : AreGivens g) (p : ℕ) (o : IsWorker g p) (at : ℕ 
       paid : stored w p ≡ stored_in phase
       paid = ap (λ x. if stores_announcement (want_in r x) then 1 else 0) is ∙ stored_in_want r phase
 
-      right : (a b : Bool) → b ≡ true → (a || b) ≡ true
-      right a b h = grind arith
-
       go : (b : Bool) → is_over (next_record g w p).phase ≡ b → (claims_or_ends g w p ≡ true) ⊎ SettlesWithin g p k (n - stored w p) (world_after_turn g w p)
-      go true e = inl (right (is_claiming r.phase) (is_over (next_record g w p).phase) e)
+      go true e = inl (or_right (is_claiming r.phase) (is_over (next_record g w p).phase) e)
       go false e =
           let t = own_turn g w p ok law here e in
           inr (subst (λ x. SettlesWithin g p k (n - x) (world_after_turn g w p)) (sym paid) (ready e (world_after_turn g w p) t.law (λ q n. t.others q n ∙ same q n) t.here t.local))
@@ -110,11 +104,22 @@ module _ (g : Givens) (ok : AreGivens g) (p : ℕ) (o : IsWorker g p) (at : ℕ 
   by_phase : (k n v : ℕ) (r : Record) (phase : Phase) → r.phase ≡ phase → Ready k n (record (record_after_phase g p v r phase) { steps = min (r.steps + 1) (2 ^ 64 - 1) }) → Ready k n (record_after g p v r)
   by_phase k n v r phase is h = subst (λ x. Ready k n (record (record_after_phase g p v r x) { steps = min (r.steps + 1) (2 ^ 64 - 1) })) (sym is) h
 
+  -- the record after an entry of the row of q0, where b tells whether the entry is a zero
+  abbrev after_entry : Bool → ℕ → ℕ → ℕ → Record → Record
+  after_entry b v i q0 r = if b then record_at_row g p i (next_other p q0) r else record r { known = with_number v r.known; fronts = put r.fronts q0 (numbered 0 r.fronts q0 + 1) }
+
+  -- a turn that reads an entry
+  reads : (k n i q0 : ℕ) (w : World) → (process w p).local.phase ≡ Reading i q0 → IsLawful g w → Same w → (process w p).gone ≡ false
+      → (let r = (process w p).local in let v = loaded_value w (want r) in
+      (b : Bool) → (v == 0) ≡ b → Ready k (n - 0) (record (after_entry b v i q0 r) { steps = min (r.steps + 1) (2 ^ 64 - 1) }) → SettlesWithin g p (suc k) n w)
+  reads k n i q0 w is law same here b e ready =
+      let r = (process w p).local in
+      let v = loaded_value w (want r) in
+      step k n w (Reading i q0) is (omega arith) law same here (by_phase k (n - 0) v r (Reading i q0) is
+      (subst (λ c. Ready k (n - 0) (record (after_entry c v i q0 r) { steps = min (r.steps + 1) (2 ^ 64 - 1) })) (sym e) ready))
+
   claims_now : (k n : ℕ) (w : World) (j : ℕ) → (process w p).local.phase ≡ Claiming j → SettlesWithin g p (suc k) n w
-  claims_now k n w j is = (subst (λ x. (if stores_announcement (want_in (process w p).local x) then 1 else 0) ≤ n) (sym is) (omega arith), inl (left (is_claiming (process w p).local.phase) _ (ap is_claiming is)))
-    where
-      left : (a b : Bool) → a ≡ true → (a || b) ≡ true
-      left a b h = grind arith
+  claims_now k n w j is = (subst (λ x. (if stores_announcement (want_in (process w p).local x) then 1 else 0) ≤ n) (sym is) (omega arith), inl (or_left (is_claiming (process w p).local.phase) _ (ap is_claiming is)))
 
   -- turns from this phase to the check's end, entries of rows apart
   abbrev cost : Phase → ℕ
@@ -202,7 +207,7 @@ module _ (g : Givens) (ok : AreGivens g) (p : ℕ) (o : IsWorker g p) (at : ℕ 
           let b : left_from g p q0 + (g.workers - 1) < suc k = subst (λ x. cost x < suc k) is l.bound in
           let room = others_room p q0 g.workers o.low o.high stands.1.worker.low stands.1.worker.high stands.1.differs in
           let more = others_next p q0 o.low stands.1.worker.low stands.1.differs in
-          let none : has (with_announced v r.tried) j ≡ false = is_false (has (with_announced v r.tried) j) (λ t. ⊎_elim (λ x. l.apart q0 stands.1 (sym (hears_next w same i q0 stands.1 is) ∙ x.1)) (λ x. true≢false (sym x ∙ l.untried)) (noted_cases v j r.tried t)) in
+          let none : has (with_announced v r.tried) j ≡ false = false_from_ne_true (has (with_announced v r.tried) j) (λ t. ⊎_elim (λ x. l.apart q0 stands.1 (sym (hears_next w same i q0 stands.1 is) ∙ x.1)) (λ x. true≢false (sym x ∙ l.untried)) (noted_cases v j r.tried t)) in
           step k n w (Trying i q0) is (omega arith) law same here (by_phase k (n - 0) v r (Trying i q0) is (to_announcement_cases g p i (next_other p q0) (record r { tried = with_announced v r.tried }) (λ x. Ready k (n - 0) (record x { steps = s }))
           (λ in_range. to _ _ (record { on = on; read = l.read; unknown = l.unknown; untried = none; apart = l.apart; bound = omega arith; stores = omega arith }))
           (λ above. to_row_cases g p i (next_other p 0) (record r { tried = with_announced v r.tried }) (λ x. Ready k (n - 0) (record x { steps = s }))
@@ -215,11 +220,9 @@ module _ (g : Givens) (ok : AreGivens g) (p : ℕ) (o : IsWorker g p) (at : ℕ 
           let room = others_room p q0 g.workers o.low o.high stands.1.worker.low stands.1.worker.high stands.1.differs in
           let more = others_next p q0 o.low stands.1.worker.low stands.1.differs in
           let nothing : v ≡ 0 = hears_done w law same i q0 stands.1 is ∙ get_or_past (at q0).local.dones (numbered 0 r.fronts q0) 0 (l.read q0 stands.1) in
-          step k n w (Reading i q0) is (omega arith) law same here (by_phase k (n - 0) v r (Reading i q0) is (subst (λ c. Ready k (n - 0) (record (if c then record_at_row g p i (next_other p q0) r else record r { known = with_number v r.known; fronts = put r.fronts q0 (numbered 0 r.fronts q0 + 1) }) { steps = s }))
-          (sym (eq-eqb v 0 nothing))
-          (to_row_cases g p i (next_other p q0) r (λ x. Ready k (n - 0) (record x { steps = s }))
+          reads k n i q0 w is law same here true (eq-eqb v 0 nothing) (to_row_cases g p i (next_other p q0) r (λ x. Ready k (n - 0) (record x { steps = s }))
           (λ in_range. to _ _ (record { on = on; read = l.read; unknown = l.unknown; untried = l.untried; apart = l.apart; bound = omega arith; stores = omega arith }))
-          (λ above. claim _ i r.tried on l.untried (omega arith)))))
+          (λ above. claim _ i r.tried on l.untried (omega arith)))
       go (Claiming i) is = claims_now k n w i is
       go (Holding i) is = absurd (subst (λ x. IsOn x j) is l.on)
       go Over is = absurd (subst (λ x. IsOn x j) is l.on)
@@ -256,7 +259,7 @@ module _ (g : Givens) (ok : AreGivens g) (p : ℕ) (o : IsWorker g p) (at : ℕ 
   chosen_passes k n steps r few many room enough noted_all read_all =
       let c = chosen_is g p r o ok.beta_low few many in
       let e = chosen_job g p r in
-      let open_now = both (has r.known e) (has r.tried e) c.passes in
+      let open_now = open_parts (has r.known e) (has r.tried e) c.passes in
       record {
         on = refl;
         read = read_all;
@@ -266,9 +269,6 @@ module _ (g : Givens) (ok : AreGivens g) (p : ℕ) (o : IsWorker g p) (at : ℕ 
         bound = room;
         stores = enough;
       }
-    where
-      both : (a b : Bool) → (not a && not b) ≡ true → (a ≡ false) × (b ≡ false)
-      both a b h = grind arith
 
   -- the check after such an attempt
   rechecks : (k n steps i : ℕ) → ((n : ℕ) (w : World) → IsLawful g w → Same w → (process w p).gone ≡ false → Began (process w p).local k n → SettlesWithin g p k n w)
@@ -390,9 +390,6 @@ module _ (g : Givens) (ok : AreGivens g) (p : ℕ) (o : IsWorker g p) (at : ℕ 
           hears : v ≡ get_or (at q0).local.dones (numbered 0 r.fronts q0) 0
           hears = hears_done w law same i q0 stands.1 is
 
-          so_then : (c : Bool) → (v == 0) ≡ c → Ready k (n - 0) (record (if c then record_at_row g p i (next_other p q0) r else record r { known = with_number v r.known; fronts = put r.fronts q0 (numbered 0 r.fronts q0 + 1) }) { steps = s }) → SettlesWithin g p (suc k) n w
-          so_then c e ready = step k n w (Reading i q0) is (omega arith) law same here (by_phase k (n - 0) v r (Reading i q0) is (subst (λ c. Ready k (n - 0) (record (if c then record_at_row g p i (next_other p q0) r else record r { known = with_number v r.known; fronts = put r.fronts q0 (numbered 0 r.fronts q0 + 1) }) { steps = s })) (sym e) ready))
-
           zero_there : v ≡ 0 → SettlesWithin g p (suc k) n w
           zero_there z =
               let b' = b in
@@ -404,7 +401,7 @@ module _ (g : Givens) (ok : AreGivens g) (p : ℕ) (o : IsWorker g p) (at : ℕ 
               (λ (m : q < q0). sees.1 q other m)
               (λ (m : q0 ≤ q). let n = next_other_next p q0 q other.differs h in let e : q0 ≡ q = omega arith in subst (λ x. length (at x).local.dones ≤ numbered 0 r.fronts x) e whole_row)
               (cases_lt q q0) in
-              so_then true (eq-eqb v 0 z) (to_row_cases g p i (next_other p q0) r (λ x. Ready k (n - 0) (record x { steps = s }))
+              reads k n i q0 w is law same here true (eq-eqb v 0 z) (to_row_cases g p i (next_other p q0) r (λ x. Ready k (n - 0) (record x { steps = s }))
               (λ in_range. to _ _ (record { sees = (sees.0, rows); bound = omega arith; stores = omega arith }))
               (λ above. rechecks k _ s i next r few (omega arith) (omega arith) (omega arith) sees.0 (λ q other. rows q other (let h = other.worker.high in omega arith))))
 
@@ -415,7 +412,7 @@ module _ (g : Givens) (ok : AreGivens g) (p : ℕ) (o : IsWorker g p) (at : ℕ 
               let less = unread_less w law r q0 v (with_number v r.known) stands.1 size below in
               let bound_now = l.bound in
               let c' = c in
-              so_then false (ne_eqb v 0 nonzero) (to _ _ (record {
+              reads k n i q0 w is law same here false (ne_eqb v 0 nonzero) (to _ _ (record {
                 sees = subst (λ x. Sees (record r { known = with_number v r.known; fronts = put r.fronts q0 (numbered 0 r.fronts q0 + 1); steps = s }) x) (sym is)
                     (sees.0, λ q other h. subst (λ x. length (at q).local.dones ≤ x) (sym (numbered-put_other 0 (numbered 0 r.fronts q0 + 1) r.fronts q0 q (λ e. omega arith))) (sees.1 q other h));
                 bound = omega arith;
@@ -492,16 +489,13 @@ module _ (g : Givens) (ok : AreGivens g) (p : ℕ) (o : IsWorker g p) (at : ℕ 
           hears : v ≡ get_or (at q0).local.dones (numbered 0 r.fronts q0) 0
           hears = hears_done w law same i q0 stands.1 is
 
-          so_then : (c : Bool) → (v == 0) ≡ c → Ready k (n - 0) (record (if c then record_at_row g p i (next_other p q0) r else record r { known = with_number v r.known; fronts = put r.fronts q0 (numbered 0 r.fronts q0 + 1) }) { steps = s }) → SettlesWithin g p (suc k) n w
-          so_then c e ready = step k n w (Reading i q0) is (omega arith) law same here (by_phase k (n - 0) v r (Reading i q0) is (subst (λ c. Ready k (n - 0) (record (if c then record_at_row g p i (next_other p q0) r else record r { known = with_number v r.known; fronts = put r.fronts q0 (numbered 0 r.fronts q0 + 1) }) { steps = s })) (sym e) ready))
-
           zero_there : v ≡ 0 → SettlesWithin g p (suc k) n w
           zero_there z =
               let b' = b in
               let c' = c in
               let room' = room in
               let more' = more in
-              so_then true (eq-eqb v 0 z) (to_row_cases g p i (next_other p q0) r (λ x. Ready k (n - 0) (record x { steps = s }))
+              reads k n i q0 w is law same here true (eq-eqb v 0 z) (to_row_cases g p i (next_other p q0) r (λ x. Ready k (n - 0) (record x { steps = s }))
               (λ in_range. to _ _ (omega arith) (omega arith))
               (λ above. checks _ i (omega arith) (omega arith)))
 
@@ -512,7 +506,7 @@ module _ (g : Givens) (ok : AreGivens g) (p : ℕ) (o : IsWorker g p) (at : ℕ 
               let less = unread_less w law r q0 v (with_number v r.known) stands.1 size below in
               let bound_now = l in
               let c' = c in
-              so_then false (ne_eqb v 0 nonzero) (to _ _ (omega arith) (omega arith))
+              reads k n i q0 w is law same here false (ne_eqb v 0 nonzero) (to _ _ (omega arith) (omega arith))
       go (Claiming i) is = claims_now k n w i is
       go (Holding i) is = began (suc k) n w law same here (record { sees = subst (λ x. Sees r x) (sym is) tt; bound = omega arith; stores = subst (λ x. to_begin x + 1 ≤ n) (sym is) (let c : 1 + 2 ≤ n = subst (λ x. to_begin x + 2 ≤ n) is stores in omega arith) })
       go Over is = absurd (true≢false (sym ((law.lawful.sound p o).gone (ap wants_nothing is)) ∙ here))
@@ -530,10 +524,7 @@ someone at (suc k) j = someone at k j || has (at (suc k)).local.dones j
 
 module _ (g : Givens) (w : World) (law : IsLawful g w) where
   claimed_too : (q j : ℕ) → IsWorker g q → has (process w q).local.dones j ≡ true → has (process w q).local.claimed j ≡ true
-  claimed_too q j o h = ap (λ l. has l j) (law.lawful.sound q o).local.claims ∙ has-append (process w q).local.dones (jobs_in_hand (process w q).local.phase) j ∙ left _ _ h
-    where
-      left : (x y : Bool) → x ≡ true → (x || y) ≡ true
-      left x y h = grind arith
+  claimed_too q j o h = ap (λ l. has l j) (law.lawful.sound q o).local.claims ∙ has-append (process w q).local.dones (jobs_in_hand (process w q).local.phase) j ∙ or_left _ _ h
 
   who : (k j : ℕ) → someone (process w) k j ≡ true → (q : ℕ) × (1 ≤ q) × (q ≤ k) × (has (process w q).local.dones j ≡ true)
   who zero j h = absurd (true≢false (sym h))
@@ -553,7 +544,7 @@ module _ (g : Givens) (w : World) (law : IsLawful g w) where
       let both = count_apart (someone (process w) k) (has (process w (suc k)).local.dones) g.jobs
       (λ j t. let r = who k j t in
       let other : IsWorker g r.0 = record { low = r.1; high = let l = r.2 in omega arith } in
-      is_false _ (λ m. true≢false (sym (claimed_too (suc k) j o m) ∙ (law.lawful.apart r.0 (suc k) other (record { worker = o; differs = λ e. let l = r.2 in omega arith })).claims j (claimed_too r.0 j other r.3)))) in
+      false_from_ne_true _ (λ m. true≢false (sym (claimed_too (suc k) j o m) ∙ (law.lawful.apart r.0 (suc k) other (record { worker = o; differs = λ e. let l = r.2 in omega arith })).claims j (claimed_too r.0 j other r.3)))) in
       omega arith
 
 -- From every lawful world, a worker that isn't gone claims a job or ends within 6 m + n turns of its own, and

@@ -1,8 +1,8 @@
 -- Alone, a worker makes at most three attempts until it claims or ends, and reads little in each.
-use Rattle.std.proofs.Common.{◌≡◌, ◌≢◌, ⊎_elim, ℕ, zero, suc, ◌+◌, ◌-◌, ◌*◌, ◌<◌, ◌≤◌, Bool, true, false, not, ◌&&◌, ◌||◌, List, [], ◌∷◌, ◌++◌, length, refl, sym, ap, ◌∙◌, subst, arith}
+use Rattle.std.proofs.Common.{◌≡◌, ◌≢◌, ⊎_elim, ℕ, zero, suc, ◌+◌, ◌-◌, ◌*◌, ◌<◌, ◌≤◌, Bool, true, false, not, ◌&&◌, List, [], ◌∷◌, ◌++◌, length, refl, sym, ap, ◌∙◌, subst, arith}
 use Rattle.std.specs.Prelude.{if◌then◌else◌, ◌==◌, nat_le}
 use Rattle.std.proofs.lemmas.Bool.Decides.{nat_tests}
-use Rattle.std.proofs.lemmas.Bool.{cases_eq, cases_lt, true≢false, ne_eqb}
+use Rattle.std.proofs.lemmas.Bool.{cases_eq, cases_lt, true≢false, or_parts, ne_eqb}
 use Rattle.amo_sets.specs.Lists.{numbered, put}
 use Rattle.amo_sets.specs.Sets.{with_number}
 use Rattle.amo_kk.specs.Givens.{AreGivens, IsJob, IsWorker, IsOther, next_other, others_before}
@@ -26,9 +26,6 @@ use Rattle.amo_kk.proofs.Alone.{stores_few}
 
 sum_times : (a b c : ℕ) → (a + b) * c ≡ a * c + b * c
 sum_times a b c = grind arith
-
-neither : (a b : Bool) → (a || b) ≡ false → b ≡ false
-neither a b h = grind arith
 
 -- an entry that is read is the next one after the front, which then stands at it; a zero is no entry
 an_entry : (b : Bool) (front e : ℕ) → (if b && ((front + 1 == e) && true) then 1 else 0) + (if nat_le e (front + 1) then 0 else 1) ≤ (if nat_le e front then 0 else 1) + 0 * 0
@@ -61,7 +58,7 @@ module _ (g : Givens) (ok : AreGivens g) (p : ℕ) where
       → turns_that (λ k. test (want_at g w p k) (value_at g w p k)) i ≤ left (process w p).local + stored_within g w p i * each
   paid test each left pays zero w law here goes_on = let first = pays w law here in omega arith
   paid test each left pays (suc i) w law here goes_on =
-      let t = own_turn g w p ok law here (neither (is_claiming (process w p).local.phase) _ (goes_on 0 (omega arith))) in
+      let t = own_turn g w p ok law here (or_parts (is_claiming (process w p).local.phase) _ (goes_on 0 (omega arith))).1 in
       let rest = paid test each left pays i (world_after_turn g w p) t.law t.here (λ k l. goes_on (suc k) (omega arith)) in
       let there = subst (λ r. turns_that (λ k. test (want_at g (world_after_turn g w p) p k) (value_at g (world_after_turn g w p) p k)) i ≤ left r + stored_within g (world_after_turn g w p) p i * each) t.local rest in
       let first = pays w law here in

@@ -65,17 +65,18 @@ choice_cases g p r P over goes_on = go (nat_lt (count g.jobs (is_open r)) g.beta
     go true e = over (ltb-true _ _ e)
     go false e = goes_on (ltb-false _ _ e)
 
+-- an open job is neither known nor tried
+pub open_parts : (a b : Bool) → (not a && not b) ≡ true → (a ≡ false) × (b ≡ false)
+open_parts a b e = grind arith
+
 pub check_cases : (g : Givens) (p j : ℕ) (r : Record) (P : Record → Type 0)
     → (has r.known j ≡ false → has r.tried j ≡ false → P (record r { phase = Claiming j }))
     → P (record_after_choice g p r)
     → P (record_after_check g p j r)
 check_cases g p j r P passes fails = go (is_open r j) refl
   where
-    both : (a b : Bool) → (not a && not b) ≡ true → (a ≡ false) × (b ≡ false)
-    both a b e = grind arith
-
     go : (b : Bool) → is_open r j ≡ b → P (if b then record r { phase = Claiming j } else record_after_choice g p r)
-    go true e = let h = both _ _ e in passes h.0 h.1
+    go true e = let h = open_parts _ _ e in passes h.0 h.1
     go false e = fails
 
 pub to_row_cases : (g : Givens) (p j q : ℕ) (r : Record) (P : Record → Type 0)

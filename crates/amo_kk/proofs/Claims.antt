@@ -1,7 +1,7 @@
 -- What follows for each run of the object: no job is claimed twice, each performance has its claim, and an end comes late enough.
 use Rattle.std.proofs.Common.{◌≡◌, ◌≢◌, ⊎_elim, ℕ, zero, suc, ◌+◌, ◌≤◌, Bool, true, false, not, ◌&&◌, ◌||◌, List, [], ◌∷◌, ◌++◌, length, refl, sym, ap, ◌∙◌, subst, arith, append-nil, append_assoc}
 use Rattle.std.specs.Prelude.{if◌then◌else◌, nat_le, ◌==◌}
-use Rattle.std.proofs.lemmas.Bool.{cases_eq, true≢false, and_parts, leb-true, eqb-true}
+use Rattle.std.proofs.lemmas.Bool.{cases_eq, true≢false, false_from_ne_true, and_parts, or_right, leb-true, eqb-true}
 use Rattle.std.proofs.lemmas.Bool.Decides.{nat_tests}
 use Rattle.std.proofs.lemmas.List.{length_push}
 use Rattle.amo_sets.specs.Lists.{numbered, put, table}
@@ -14,6 +14,7 @@ use Rattle.amo_kk.specs.declared.model.Object.{Object}
 use Rattle.amo_kk.specs.declared.event.Event.{Event}
 use Rattle.amo_kk.specs.declared.event.Event.TheVariants.{Claimed, Done, Ended, Halted, Left}
 use Rattle.amo_sets.proofs.Numbers.{numbered-put_same, numbered-put_other, length-put, length-table, has_push_none, has_push_kept, has_push_cases, distinct_push}
+use Rattle.amo_kk.proofs.Kept.{not_both}
 use Rattle.amo_kk.proofs.Worlds.{numbered-table_same}
 use Rattle.amo_kk.proofs.Steps.{has-without_other, has-without_same}
 
@@ -51,10 +52,7 @@ claim-new [] p j = here p j
   where
     here : (p j : ℕ) → (((p == p) && (j == j)) || false) ≡ true
     here p j = grind (arith, nat_tests)
-claim-new (Claimed q i ∷ es) p j = right _ _ (claim-new es p j)
-  where
-    right : (a b : Bool) → b ≡ true → (a || b) ≡ true
-    right a b h = grind arith
+claim-new (Claimed q i ∷ es) p j = or_right _ _ (claim-new es p j)
 claim-new (Done q i ∷ es) p j = claim-new es p j
 claim-new (Ended q ∷ es) p j = claim-new es p j
 claim-new (Halted q ∷ es) p j = claim-new es p j
@@ -82,13 +80,6 @@ record IsKept (g : Givens) (past : List Event) (s : Object) : Type 0 where
   once : (p q j : ℕ) → 1 ≤ j → numbered 0 s.in_hand p ≡ j → numbered 0 s.in_hand q ≡ j → p ≡ q
   claimed : (j : ℕ) → has (done_jobs past) j ≡ true → has (claimed_jobs past) j ≡ true
   performed : length s.performed ≡ length (done_jobs past)
-
-not_both : {X : Type 0} (b : Bool) → b ≡ true → b ≡ false → X
-not_both b t f = absurd (true≢false (sym t ∙ f))
-
-is_false : (b : Bool) → (b ≡ true → ⊥) → b ≡ false
-is_false true h = absurd (h refl)
-is_false false h = refl
 
 -- what a step needs
 pub record Needs (g : Givens) (s : Object) (p j : ℕ) : Type 0 where
@@ -157,7 +148,7 @@ kept_claim g past s p j k h =
     fresh = k.apart j (claim_parts g s p j h).1
 
     not_done : has (done_jobs past) j ≡ false
-    not_done = is_false _ (λ x. not_both _ (k.claimed j x) fresh)
+    not_done = false_from_ne_true _ (λ x. not_both _ (k.claimed j x) fresh)
 
     low_p : 1 ≤ p
     low_p = (claim_parts g s p j h).0.low

@@ -1,5 +1,5 @@
 -- What the choice finds, and the first choices of the workers.
-use Rattle.std.proofs.Common.{◌≡◌, ap, sym, ◌∙◌, ℕ, ◌+◌, ◌-◌, ◌*◌, ◌/◌, ◌<◌, ◌≤◌, Bool, true, false, not, ◌&&◌, [], length, refl, arith}
+use Rattle.std.proofs.Common.{◌≡◌, ap, sym, ◌∙◌, ℕ, ◌+◌, ◌-◌, ◌*◌, ◌/◌, ◌<◌, ◌≤◌, Bool, true, false, [], length, refl, arith}
 use Rattle.std.specs.Prelude.{nat_le, if◌then◌else◌}
 use Rattle.std.proofs.lemmas.Bool.{and_from, eq-eqb, leb-true, le-ltb, lt-ltb}
 use Rattle.std.proofs.lemmas.Nat.{le-div}
@@ -13,7 +13,7 @@ use Rattle.amo_kk.specs.Choice.{chosen_rank, chosen_job, first_record}
 use Rattle.amo_kk.specs.declared.givens.Givens.{Givens}
 use Rattle.amo_kk.specs.declared.model.Record.{Record}
 use Rattle.amo_kk.specs.declared.phase.Phase.TheVariants.{Announcing, Over}
-use Rattle.amo_kk.proofs.Choice.{chosen_is, rank_within}
+use Rattle.amo_kk.proofs.Choice.{open_parts, chosen_is, rank_within}
 
 -- the chosen job is a job of the wanted rank, and open
 pub choice_finds : (g : Givens) (p : ℕ) (r : Record) → IsWorker g p → length r.tried < g.workers → g.beta ≤ count g.jobs (is_open r)
@@ -21,11 +21,8 @@ pub choice_finds : (g : Givens) (p : ℕ) (r : Record) → IsWorker g p → leng
     × (has r.known (chosen_job g p r) ≡ false) × (has r.tried (chosen_job g p r) ≡ false)
 choice_finds g p r worker few many =
     let found = chosen_is g p r worker g.limits.beta_low few many in
-    let clear = both (has r.known (chosen_job g p r)) (has r.tried (chosen_job g p r)) found.passes in
+    let clear = open_parts (has r.known (chosen_job g p r)) (has r.tried (chosen_job g p r)) found.passes in
     (record { low = found.low; high = found.high }, and_from _ _ found.passes (eq-eqb _ _ found.rank), clear.0, clear.1)
-  where
-    both : (a b : Bool) → (not a && not b) ≡ true → (a ≡ false) × (b ≡ false)
-    both a b e = grind arith
 
 -- where all pass, the i-th is i
 number_of_rank_all : (n i : ℕ) → 1 ≤ i → i ≤ n → number_of_rank n (λ _. true) i ≡ i

@@ -2,7 +2,7 @@
 use Rattle.std.proofs.Common.{◌≡◌, ◌≢◌, ◌⊎◌, inl, inr, ⊎_elim, ℕ, suc, ◌+◌, ◌-◌, ◌<◌, ◌≤◌, Bool, true, false, ◌||◌, List, [], ◌∷◌, ◌++◌, length, get_or, set, refl, sym, ap, ◌∙◌, subst, arith, add-one, length-append, min, ◌^◌}
 use Rattle.std.specs.Prelude.{◌==◌, if◌then◌else◌}
 use Rattle.std.proofs.lemmas.Bool.Decides.{nat_tests}
-use Rattle.std.proofs.lemmas.Bool.{cases_Bool, cases_eq, cases_lt, true≢false, eqb-true, eqb-false}
+use Rattle.std.proofs.lemmas.Bool.{cases_Bool, cases_eq, cases_lt, true≢false, or_from, or_left, eqb-true, eqb-false}
 use Rattle.std.proofs.lemmas.List.{get_or_past, get_or-set_same, get_or-set_other, get_or_push, get_or_append_left, length_push, append-nil}
 use Rattle.amo_sets.specs.Lists.{numbered, put}
 use Rattle.amo_sets.specs.Sets.{has, with_number}
@@ -90,10 +90,7 @@ unannounced g q p i b sound other = ⊎_elim inl (λ not_done. inr (record { fre
     hand Left a = refl
 
     none : has b.local.dones i ≡ false → (has b.local.dones i || has (jobs_in_hand b.local.phase) i) ≡ false
-    none not_done = both _ _ not_done (hand b.local.phase sound.announces)
-      where
-        both : (x y : Bool) → x ≡ false → y ≡ false → (x || y) ≡ false
-        both x y h k = grind arith
+    none not_done = or_from _ _ not_done (hand b.local.phase sound.announces)
 
 -- what an announcement adds to tried
 
@@ -158,8 +155,9 @@ row_push row dones j room same k = ap (λ l. get_or l k 0) (put_next row (length
     behind : k ≢ length dones → length dones ≤ k → get_or (set row (length dones) j) k 0 ≡ get_or (dones ++ j ∷ []) k 0
     behind n l = get_or-set_other row (length dones) k j 0 n ∙ same k ∙ get_or_past dones k 0 l ∙ sym (get_or_past (dones ++ j ∷ []) k 0 (let e = length_push dones j in omega arith))
 
-apart_tests : (b : Bool) → b ≡ true → b ≡ false → ⊥
-apart_tests b t f = true≢false (sym t ∙ f)
+-- a test is not both true and false
+pub not_both : {X : Type 0} (b : Bool) → b ≡ true → b ≡ false → X
+not_both b t f = absurd (true≢false (sym t ∙ f))
 
 -- v is what a load gives
 abbrev pub Hears : (ℕ → Process) → Want → ℕ → Type 0
@@ -352,10 +350,7 @@ module _ (g : Givens) (at : ℕ → Process) (before : AreLawful g at) (p : ℕ)
 
   -- a job that q has done is one
   pub done_job : (q i : ℕ) → IsWorker g q → has (at q).local.dones i ≡ true → IsJob g i
-  done_job q i o h = let s = before.sound q o in s.local.jobs i (ap (λ l. has l i) s.local.claims ∙ has-append (at q).local.dones (jobs_in_hand (at q).local.phase) i ∙ left _ _ h)
-    where
-      left : (x y : Bool) → x ≡ true → (x || y) ≡ true
-      left x y h = grind arith
+  done_job q i o h = let s = before.sound q o in s.local.jobs i (ap (λ l. has l i) s.local.claims ∙ has-append (at q).local.dones (jobs_in_hand (at q).local.phase) i ∙ or_left _ _ h)
 
   -- in each row there is room
   row_room_of : (q : ℕ) → IsWorker g q → length (at q).local.dones ≤ g.jobs
@@ -443,12 +438,12 @@ module _ (g : Givens) (at : ℕ → Process) (before : AreLawful g at) (p : ℕ)
       let clear : (q : ℕ) → IsClear r q j = λ q. (subst (λ phase. IsPast phase q j) (sym is) refl, stands.2) in
       let through : (q : ℕ) → IsThrough r.phase q = λ q. subst (λ phase. IsThrough phase q) (sym is) tt in
       let free : (q : ℕ) → IsOther g p q → has (at q).local.claimed j ≡ false
-      = λ q o. ⊎_elim (λ d. absurd (apart_tests _ (d.known (through q)) stands.1)) (λ f. f.free) ((before.apart p q w o).clear j (clear q)) in
+      = λ q o. ⊎_elim (λ d. not_both _ (d.known (through q)) stands.1) (λ f. f.free) ((before.apart p q w o).clear j (clear q)) in
       record {
         sound = record {
           local = record {
             claims = ap (λ l. l ++ j ∷ []) same_list;
-            distinct = distinct_push r.claimed j s.local.distinct (⊎_elim (λ t. absurd (apart_tests _ (s.local.own j (ap (λ l. has l j) (sym same_list) ∙ t)) stands.1)) (λ f. f) (cases_Bool (has r.claimed j)));
+            distinct = distinct_push r.claimed j s.local.distinct (⊎_elim (λ t. not_both _ (s.local.own j (ap (λ l. has l j) (sym same_list) ∙ t)) stands.1) (λ f. f) (cases_Bool (has r.claimed j)));
             jobs = λ i h. ⊎_elim (λ t. s.local.jobs i t) (λ (e : j ≡ i). subst (λ x. IsJob g x) e stands.0) (has_push_cases r.claimed j i h);
             own = s.local.own;
             tried_few = s.local.tried_few;
@@ -473,7 +468,7 @@ module _ (g : Givens) (at : ℕ → Process) (before : AreLawful g at) (p : ℕ)
             };
         theirs = λ q o. let was = before.apart q p o.worker (me q o) in
             record {
-              claims = λ i h. has_push_none r.claimed j i (λ (e : j ≡ i). apart_tests _ (subst (λ x. has (at q).local.claimed x ≡ true) (sym e) h) (free q o)) (was.claims i h);
+              claims = λ i h. has_push_none r.claimed j i (λ (e : j ≡ i). not_both _ (subst (λ x. has (at q).local.claimed x ≡ true) (sym e) h) (free q o)) (was.claims i h);
               front = was.front;
               read = was.read;
               clear = λ i c. ⊎_elim (λ d. inl (record { done = d.done; known = d.known }))
@@ -603,8 +598,8 @@ module _ (g : Givens) (at : ℕ → Process) (before : AreLawful g at) (p : ℕ)
           reads false e = subst (λ x. IsKept g at p (becomes steps (at p).next (record (at p).local { known = with_number x (at p).local.known; fronts = put (at p).local.fronts q (numbered 0 (at p).local.fronts q + 1) }))) (sym entry) (reads_more j q steps is (λ z. eqb-false v 0 e (entry ∙ z)))
       go (Claiming j) is h = claims j steps is
       go (Holding j) is h = does j steps low is
-      go Over is h = absurd (apart_tests _ ((before.sound p w).gone (ap wants_nothing is)) here)
-      go Left is h = absurd (apart_tests _ ((before.sound p w).gone (ap wants_nothing is)) here)
+      go Over is h = not_both _ ((before.sound p w).gone (ap wants_nothing is)) here
+      go Left is h = not_both _ ((before.sound p w).gone (ap wants_nothing is)) here
 
 -- What an event keeps, when its worker is put in place of the old one.
 pub lawful_put : (g : Givens) (at : ℕ → Process) (p : ℕ) (a : Process) (now : ℕ → Process) → AreLawful g at → IsWorker g p → IsKept g at p a

@@ -1,14 +1,14 @@
 -- Free jobs as bits: which jobs are known, how many are open, and the choice as it is computed from bits.
 use Rattle.std.proofs.Common.{◌≡◌, ◌≢◌, ⊎_elim, ℕ, zero, suc, ◌+◌, ◌≤◌, ◌<◌, List, Bool, true, false, [], not, ◌&&◌, ◌||◌, replicate, length, refl, sym, ap, ◌∙◌, subst, arith}
 use Rattle.std.specs.Prelude.{if◌then◌else◌, ◌==◌}
-use Rattle.std.proofs.lemmas.Bool.{lt-ltb, le-ltb, le-leb, and_from, cases_eq, eq-eqb, ne_eqb}
+use Rattle.std.proofs.lemmas.Bool.{lt-ltb, le-ltb, le-leb, and_from, and_right, cases_eq, eq-eqb, ne_eqb}
 use Rattle.std.proofs.lemmas.List.{get_or-replicate, length-replicate}
 use Rattle.amo_sets.specs.Lists.{numbered, put}
 use Rattle.amo_sets.specs.Sets.{has, members, set_of_bits, with_number}
 use Rattle.amo_sets.specs.Rank.{count, number_of_rank}
 use Rattle.amo_sets.specs.Bits.{is_without}
 use Rattle.amo_sets.proofs.Numbers.{count_true, numbered-put_same, numbered-put_other, length-put}
-use Rattle.amo_sets.proofs.Sets.{members_agree, has-members, with_member, has-set_of_bits}
+use Rattle.amo_sets.proofs.Sets.{members_agree, members_none, has-members, with_member, has-set_of_bits}
 use Rattle.amo_sets.proofs.Tally.{count_same, count_gain, count_pos}
 use Rattle.amo_kk.specs.Record.{is_free, is_open}
 use Rattle.amo_kk.specs.Choice.{chosen_rank, chosen_job, record_after_choice}
@@ -40,10 +40,6 @@ numbers_without-put bits j low high =
 all_replicate : (n j : ℕ) → 1 ≤ j → j ≤ n → numbered false (replicate n true) j ≡ true
 all_replicate n zero low high = absurd (omega arith)
 all_replicate n (suc k) low high = get_or-replicate n k true false (omega arith)
-
-members_none : (n : ℕ) → members n (λ _. false) ≡ []
-members_none zero = refl
-members_none (suc n) = members_none n
 
 pub numbers_without-replicate : (n : ℕ) → numbers_without (replicate n true) ≡ []
 numbers_without-replicate n =
@@ -77,25 +73,17 @@ noted_open free tried j same low high was =
     count_gain (length free) (is_without free (put tried j true)) (is_without free tried) j low high gone was
     (λ k ne. ap (λ b. numbered false free k && not b) (sym (untouched tried j k true ne)))
   where
-    off : (b : Bool) → (b && false) ≡ false
-    off true = refl
-    off false = refl
-
     gone : is_without free (put tried j true) j ≡ false
-    gone = ap (λ b. numbered false free j && not b) (numbered-put_same false true tried j low (omega arith)) ∙ off (numbered false free j)
+    gone = ap (λ b. numbered false free j && not b) (numbered-put_same false true tried j low (omega arith)) ∙ and_right (numbered false free j) false refl
 
 pub noted_other : (free tried : List Bool) (j : ℕ) → length tried ≡ length free → 1 ≤ j → j ≤ length free → is_without free tried j ≡ false
     → count (length free) (is_without free tried) ≡ count (length free) (is_without free (put tried j true))
 noted_other free tried j same low high was = count_same (length free) (is_without free tried) (is_without free (put tried j true)) each
   where
-    off : (b : Bool) → (b && false) ≡ false
-    off true = refl
-    off false = refl
-
     each : (k : ℕ) → 1 ≤ k → k ≤ length free → is_without free tried k ≡ is_without free (put tried j true) k
     each k l h = ⊎_elim
         (λ (e : k ≡ j). subst (λ x. is_without free tried x ≡ is_without free (put tried j true) x) (sym e)
-        (was ∙ sym (ap (λ b. numbered false free j && not b) (numbered-put_same false true tried j low (omega arith)) ∙ off (numbered false free j))))
+        (was ∙ sym (ap (λ b. numbered false free j && not b) (numbered-put_same false true tried j low (omega arith)) ∙ and_right (numbered false free j) false refl)))
         (λ (ne : k ≢ j). ap (λ b. numbered false free k && not b) (sym (untouched tried j k true ne)))
         (cases_eq k j)
 

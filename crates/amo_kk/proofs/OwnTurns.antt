@@ -1,7 +1,7 @@
 -- The turns of one worker: what a turn in which it goes on leaves, and how many of them store an announcement.
-use Rattle.std.proofs.Common.{◌≡◌, ◌≢◌, ℕ, zero, suc, ◌+◌, ◌-◌, Bool, true, false, refl, sym, ap, ◌∙◌, arith}
+use Rattle.std.proofs.Common.{◌≡◌, ◌≢◌, ℕ, zero, suc, ◌+◌, ◌-◌, Bool, false, refl, sym, ap, ◌∙◌, arith}
 use Rattle.std.specs.Prelude.{if◌then◌else◌}
-use Rattle.std.proofs.lemmas.Bool.{true≢false}
+use Rattle.std.proofs.lemmas.Bool.{true≢false, false_from_ne_true}
 use Rattle.amo_kk.specs.Givens.{AreGivens, IsWorker, others_before}
 use Rattle.amo_kk.specs.Record.{is_over, wants_nothing}
 use Rattle.amo_kk.specs.Event.{want_in, want, record_after}
@@ -19,10 +19,6 @@ use Rattle.amo_kk.proofs.Choice.{after_rests}
 use Rattle.amo_kk.proofs.Worlds.{turn_lawful, here_is_worker, put_here}
 use Rattle.amo_kk.proofs.Runs.{stored_local, stored_gone}
 
-pub is_false : (b : Bool) → (b ≡ true → ⊥) → b ≡ false
-is_false true h = absurd (h refl)
-is_false false h = refl
-
 -- the record of p after its turn
 abbrev pub next_record : Givens → World → ℕ → Record
 next_record g w p = let r = (process w p).local in record_after g p (loaded_value w (want r)) r
@@ -36,7 +32,7 @@ pub record IsTurned (g : Givens) (w : World) (p : ℕ) (v : World) : Type 0 wher
 
 -- whoever isn't gone wants a load or a store
 pub wants_some : (g : Givens) (w : World) (p : ℕ) → IsLawful g w → IsWorker g p → (process w p).gone ≡ false → wants_nothing (process w p).local.phase ≡ false
-wants_some g w p law o here = is_false _ (λ h. true≢false (sym ((law.lawful.sound p o).gone h) ∙ here))
+wants_some g w p law o here = false_from_ne_true _ (λ h. true≢false (sym ((law.lawful.sound p o).gone h) ∙ here))
 
 pub own_turn : (g : Givens) (w : World) (p : ℕ) → AreGivens g → IsLawful g w → (process w p).gone ≡ false → is_over (next_record g w p).phase ≡ false → IsTurned g w p (world_after_turn g w p)
 own_turn g w p ok law here goes_on =

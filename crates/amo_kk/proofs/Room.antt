@@ -1,7 +1,7 @@
 -- A run has at most two events for each job and one for each worker.
-use Rattle.std.proofs.Common.{◌≡◌, ◌≢◌, ⊎_elim, ℕ, zero, suc, ◌+◌, ◌*◌, ◌≤◌, Bool, true, false, not, ◌&&◌, List, [], ◌∷◌, length, refl, sym, ap, ◌∙◌, arith}
+use Rattle.std.proofs.Common.{◌≡◌, ℕ, zero, suc, ◌+◌, ◌*◌, ◌≤◌, true, false, not, ◌&&◌, List, [], ◌∷◌, length, refl, sym, ap, ◌∙◌, arith}
 use Rattle.std.specs.Prelude.{if◌then◌else◌, nat_le, ◌==◌}
-use Rattle.std.proofs.lemmas.Bool.{cases_eq, and_parts, ne_eqb, leb-true}
+use Rattle.std.proofs.lemmas.Bool.{and_parts, ne_eqb, leb-true}
 use Rattle.std.proofs.lemmas.Bool.Decides.{nat_tests}
 use Rattle.amo_sets.specs.Lists.{numbered, put, table}
 use Rattle.amo_sets.specs.Sets.{has, without_number}
@@ -13,33 +13,10 @@ use Rattle.amo_kk.specs.declared.model.Object.{Object}
 use Rattle.amo_kk.specs.declared.event.Event.{Event}
 use Rattle.amo_kk.specs.declared.event.Event.TheVariants.{Claimed, Done, Ended, Halted, Left}
 use Rattle.amo_sets.proofs.Numbers.{numbered-put_same, numbered-put_other, length-put, length-table, count_le_all}
+use Rattle.amo_sets.proofs.Tally.{count_gain}
 use Rattle.amo_kk.proofs.Worlds.{numbered-table_same}
 use Rattle.amo_kk.proofs.Steps.{has-without_other, has-without_same}
 use Rattle.amo_kk.proofs.Claims.{here_parts, claim_parts, done_parts}
-
-count_same : (n : ℕ) (t u : ℕ → Bool) → ((j : ℕ) → 1 ≤ j → j ≤ n → t j ≡ u j) → count n t ≡ count n u
-count_same zero t u h = refl
-count_same (suc n) t u h = λ i. count_same n t u (λ j a b. h j a (omega arith)) i + (if h (suc n) (omega arith) (omega arith) i then 1 else 0)
-
--- one number fewer passes
-count_less : (n k : ℕ) (t u : ℕ → Bool) → 1 ≤ k → k ≤ n → t k ≡ false → u k ≡ true → ((j : ℕ) → j ≢ k → t j ≡ u j) → count n t + 1 ≡ count n u
-count_less zero k t u a b c d h = absurd (omega arith)
-count_less (suc n) k t u a b c d h = ⊎_elim here (λ m. there m (count_less n k t u a (omega arith) c d h)) (cases_eq k (suc n))
-  where
-    off : (x : ℕ) (b : Bool) → b ≡ false → x + (if b then 1 else 0) + 1 ≡ x + 1
-    off x b e = grind arith
-
-    on : (x y : ℕ) (b : Bool) → b ≡ true → x ≡ y → x + 1 ≡ y + (if b then 1 else 0)
-    on x y b e f = grind arith
-
-    here : k ≡ suc n → count (suc n) t + 1 ≡ count (suc n) u
-    here e = off (count n t) (t (suc n)) (sym (ap t e) ∙ c) ∙ on (count n t) (count n u) (u (suc n)) (sym (ap u e) ∙ d) (count_same n t u (λ j x y. h j (λ z. omega arith)))
-
-    both : (x y : ℕ) (b c : Bool) → b ≡ c → x + 1 ≡ y → x + (if b then 1 else 0) + 1 ≡ y + (if c then 1 else 0)
-    both x y b c e f = grind arith
-
-    there : k ≢ suc n → count n t + 1 ≡ count n u → count (suc n) t + 1 ≡ count (suc n) u
-    there m f = both (count n t) (count n u) (t (suc n)) (u (suc n)) (h (suc n) (λ z. m (sym z))) f
 
 -- how many events may still come
 abbrev events_left : Givens → Object → ℕ
@@ -58,15 +35,15 @@ sizes_after g s (Left p) z = record { hands = z.hands; gone = length-put true s.
 
 -- whoever is here is fewer among those that are, once it is gone
 goes : (g : Givens) (s : Object) (p : ℕ) → HasSizes g s → is_here g s p ≡ true
-    → count g.workers (λ q. not (numbered true (put s.gone p true) q)) + 1 ≡ count g.workers (λ q. not (numbered true s.gone q))
+    → count g.workers (λ q. not (numbered true s.gone q)) ≡ count g.workers (λ q. not (numbered true (put s.gone p true) q)) + 1
 goes g s p z h =
     let range = here_parts g s p h in
     let size = z.gone in
     let high = range.1 in
-    count_less g.workers p (λ q. not (numbered true (put s.gone p true) q)) (λ q. not (numbered true s.gone q)) range.0 range.1
+    count_gain g.workers (λ q. not (numbered true (put s.gone p true) q)) (λ q. not (numbered true s.gone q)) p range.0 range.1
     (ap not (numbered-put_same true true s.gone p range.0 (omega arith)))
     (and_parts (is_within g.workers p) (not (numbered true s.gone p)) h).1
-    (λ q n. ap not (numbered-put_other true true s.gone p q n))
+    (λ q n. ap not (sym (numbered-put_other true true s.gone p q n)))
 
 fewer : (g : Givens) (s : Object) (e : Event) → HasSizes g s → is_step g s e ≡ true → events_left g (object_after s e) + 1 ≤ events_left g s
 fewer g s (Claimed p j) z h =
@@ -79,9 +56,9 @@ fewer g s (Claimed p j) z h =
     let b = and_parts (is_within g.jobs j) (has_in_hand s p 0 && has s.unclaimed j) a.1 in
     let c = and_parts (has_in_hand s p 0) (has s.unclaimed j) b.1 in
     let within = within_high g.jobs j b.0 in
-    let jobs = count_less g.jobs j (has (without_number j s.unclaimed)) (has s.unclaimed) job within (has-without_same j s.unclaimed) parts.1 (λ i n. has-without_other j s.unclaimed i (λ e. n (sym e))) in
-    let hands = count_less g.workers p (λ q. not (has_in_hand s q 0)) (λ q. not (numbered 0 (put s.in_hand p j) q == 0)) low high (ap not c.0)
-    (ap (λ x. not (x == 0)) (numbered-put_same 0 j s.in_hand p low (omega arith)) ∙ ap not (ne_eqb j 0 (λ e. omega arith))) (λ q n. ap (λ x. not (x == 0)) (sym (numbered-put_other 0 j s.in_hand p q n))) in
+    let jobs = count_gain g.jobs (has (without_number j s.unclaimed)) (has s.unclaimed) j job within (has-without_same j s.unclaimed) parts.1 (λ i n. sym (has-without_other j s.unclaimed i (λ e. n (sym e)))) in
+    let hands = count_gain g.workers (λ q. not (has_in_hand s q 0)) (λ q. not (numbered 0 (put s.in_hand p j) q == 0)) p low high (ap not c.0)
+    (ap (λ x. not (x == 0)) (numbered-put_same 0 j s.in_hand p low (omega arith)) ∙ ap not (ne_eqb j 0 (λ e. omega arith))) (λ q n. ap (λ x. not (x == 0)) (numbered-put_other 0 j s.in_hand p q n)) in
     omega arith
   where
     within_high : (n k : ℕ) → is_within n k ≡ true → k ≤ n
@@ -92,8 +69,8 @@ fewer g s (Done p j) z h =
     let low = parts.0.low in
     let high = parts.0.high in
     let job = parts.0.job in
-    let hands = count_less g.workers p (λ q. not (numbered 0 (put s.in_hand p 0) q == 0)) (λ q. not (has_in_hand s q 0)) low high
-    (ap (λ x. not (x == 0)) (numbered-put_same 0 0 s.in_hand p low (omega arith))) (ap (λ x. not (x == 0)) parts.1 ∙ ap not (ne_eqb j 0 (λ e. omega arith))) (λ q n. ap (λ x. not (x == 0)) (numbered-put_other 0 0 s.in_hand p q n)) in
+    let hands = count_gain g.workers (λ q. not (numbered 0 (put s.in_hand p 0) q == 0)) (λ q. not (has_in_hand s q 0)) p low high
+    (ap (λ x. not (x == 0)) (numbered-put_same 0 0 s.in_hand p low (omega arith))) (ap (λ x. not (x == 0)) parts.1 ∙ ap not (ne_eqb j 0 (λ e. omega arith))) (λ q n. ap (λ x. not (x == 0)) (sym (numbered-put_other 0 0 s.in_hand p q n))) in
     omega arith
 fewer g s (Ended p) z h = let one = goes g s p z (and_parts (is_here g s p) _ h).0 in omega arith
 fewer g s (Halted p) z h = let one = goes g s p z h in omega arith

@@ -1,8 +1,8 @@
 -- The history of a world is a run of the object, whose state agrees with the world.
-use Rattle.std.proofs.Common.{◌≡◌, ◌≢◌, ⊎_elim, ℕ, zero, suc, ◌+◌, ◌-◌, ◌<◌, ◌≤◌, Bool, true, false, ◌||◌, List, [], ◌∷◌, ◌++◌, length, refl, sym, ap, ◌∙◌, subst, arith, append-nil}
+use Rattle.std.proofs.Common.{◌≡◌, ◌≢◌, ⊎_elim, ℕ, zero, suc, ◌+◌, ◌-◌, ◌<◌, ◌≤◌, Bool, true, false, List, [], ◌∷◌, ◌++◌, length, refl, sym, ap, ◌∙◌, subst, arith, append-nil}
 use Rattle.std.proofs.lemmas.List.{get_or_past}
 use Rattle.std.specs.Prelude.{if◌then◌else◌, nat_le, nat_lt, ◌==◌, ◌^◌, min}
-use Rattle.std.proofs.lemmas.Bool.{cases_eq, cases_lt, true≢false, and_from, le-leb, lt-leb, ltb-true, ltb-false, eq-eqb, ne_eqb}
+use Rattle.std.proofs.lemmas.Bool.{cases_eq, cases_lt, true≢false, false_from_ne_true, and_from, or_from, le-leb, lt-leb, ltb-true, ltb-false, eq-eqb, ne_eqb}
 use Rattle.amo_sets.specs.Lists.{numbered, put, table}
 use Rattle.amo_sets.specs.Sets.{has, AreDistinct, with_number}
 use Rattle.amo_sets.specs.Rank.{count}
@@ -30,12 +30,9 @@ use Rattle.amo_kk.specs.declared.event.Event.TheVariants.{Ended, Halted, Left as
 use Rattle.amo_kk.proofs.Choice.{after_rests, choice_cases, check_cases, to_row_cases, to_announcement_cases}
 use Rattle.amo_kk.proofs.Kept.{IsKept}
 use Rattle.amo_sets.proofs.Numbers.{has_push, has-get_or, get_or-has, count_true, count_le_all, numbered-put_other, length-table}
-use Rattle.amo_kk.proofs.Worlds.{here_is_worker, put_here, turn_lawful, move_lawful, leaves_empty, opening_lawful, numbered-table, numbered-table_same, turned_kept, get_or-table}
+use Rattle.amo_sets.proofs.Tables.{get_or-table, numbered-table}
+use Rattle.amo_kk.proofs.Worlds.{here_is_worker, put_here, turn_lawful, move_lawful, leaves_empty, opening_lawful, numbered-table_same, turned_kept}
 use Rattle.amo_kk.proofs.Steps.{enough, is_here_now, agrees_claim, agrees_done, agrees_gone, agrees_same}
-
-is_false : (b : Bool) → (b ≡ true → ⊥) → b ≡ false
-is_false true h = absurd (h refl)
-is_false false h = refl
 
 -- what an event did to the lists and the hand
 record Did (r x : Record) (claims dones : List ℕ) (held : ℕ) : Type 0 where
@@ -123,10 +120,7 @@ goes_on g at now s es fs h k = record { run = IsRun-append g s es fs h.run k.run
 
 distinct_last : (xs : List ℕ) (j : ℕ) → AreDistinct (xs ++ j ∷ []) → has xs j ≡ false
 distinct_last [] j d = refl
-distinct_last (x ∷ xs) j d = both (x == j) (has xs j) (ne_eqb x j (λ e. true≢false (sym (subst (λ y. has (xs ++ j ∷ []) y ≡ true) (sym e) (has_push xs j)) ∙ d.0))) (distinct_last xs j d.1)
-  where
-    both : (a b : Bool) → a ≡ false → b ≡ false → (a || b) ≡ false
-    both a b h k = grind arith
+distinct_last (x ∷ xs) j d = or_from (x == j) (has xs j) (ne_eqb x j (λ e. true≢false (sym (subst (λ y. has (xs ++ j ∷ []) y ≡ true) (sym e) (has_push xs j)) ∙ d.0))) (distinct_last xs j d.1)
 
 module _ (g : Givens) (ok : AreGivens g) (at : ℕ → Process) (law : AreLawful g at) (s : Object) (agrees : Agrees g at s) (p : ℕ) (o : IsWorker g p) (here : (at p).gone ≡ false) where
   -- what the event itself shows, where p isn't gone yet
@@ -270,7 +264,7 @@ turn_runs g w p ok law run = go (process w p).gone refl
         did = counted r (record_after_phase g p (loaded_value w (want r)) r r.phase) (min (r.steps + 1) (2 ^ 64 - 1)) r.phase (has_done g p (loaded_value w (want r)) r r.phase refl)
 
         rests : wants_nothing x.phase ≡ is_over x.phase
-        rests = after_rests g p (loaded_value w (want r)) r (is_false _ (λ h. true≢false (sym ((law.lawful.sound p o).gone h) ∙ e)))
+        rests = after_rests g p (loaded_value w (want r)) r (false_from_ne_true _ (λ h. true≢false (sym ((law.lawful.sound p o).gone h) ∙ e)))
 
         local_is : a.local ≡ x
         local_is = stored_local (want r) (process w p) x

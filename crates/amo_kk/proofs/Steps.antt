@@ -1,7 +1,7 @@
 -- The steps of the sequential object that agree with what workers do.
 use Rattle.std.proofs.Common.{◌≡◌, ◌≢◌, ⊎_elim, ℕ, ◌+◌, ◌<◌, ◌≤◌, Bool, true, false, not, ◌||◌, List, [], ◌∷◌, ◌++◌, length, refl, sym, ap, ◌∙◌, subst, arith, map}
 use Rattle.std.specs.Prelude.{if◌then◌else◌, ◌==◌, nat_eq}
-use Rattle.std.proofs.lemmas.Bool.{cases_eq, cases_Bool, true≢false, and_from, le-leb, eq-eqb, ne_eqb}
+use Rattle.std.proofs.lemmas.Bool.{cases_eq, cases_Bool, true≢false, and_from, or_right, le-leb, eq-eqb, ne_eqb}
 use Rattle.std.proofs.lemmas.Bool.Decides.{nat_tests}
 use Rattle.std.proofs.lemmas.List.{length-map}
 use Rattle.amo_sets.specs.Lists.{numbered, put}
@@ -60,12 +60,9 @@ has_all (x ∷ xs) q j h = go (nat_eq x.0 q) (has_all xs q j) h
     both : (a b c : Bool) → (b ≡ true → c ≡ true) → (a || b) ≡ true → (a || c) ≡ true
     both a b c f h = grind arith
 
-    right : (a c : Bool) → c ≡ true → (a || c) ≡ true
-    right a c h = grind arith
-
     go : (b : Bool) → (has (jobs_of xs q) j ≡ true → has (all_jobs xs) j ≡ true) → has (if b then x.1 ∷ jobs_of xs q else jobs_of xs q) j ≡ true → ((x.1 == j) || has (all_jobs xs) j) ≡ true
     go true rest h = both (x.1 == j) (has (jobs_of xs q) j) (has (all_jobs xs) j) rest h
-    go false rest h = right (x.1 == j) (has (all_jobs xs) j) (rest h)
+    go false rest h = or_right (x.1 == j) (has (all_jobs xs) j) (rest h)
 
 -- Enough jobs were performed where few are open.
 pub enough : (g : Givens) (r : Record) (performed : List (ℕ × ℕ)) → 1 ≤ g.workers → count g.jobs (is_open r) < g.beta → length r.tried < g.workers

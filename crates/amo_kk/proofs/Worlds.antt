@@ -1,8 +1,8 @@
 -- The opening world is lawful, and each turn and each stop keeps that.
-use Rattle.std.proofs.Common.{◌≡◌, ⊎_elim, ℕ, zero, suc, ◌+◌, ◌<◌, ◌≤◌, Bool, true, false, List, [], ◌∷◌, ◌++◌, length, get_or, replicate, refl, sym, ap, ◌∙◌, subst, arith}
+use Rattle.std.proofs.Common.{◌≡◌, ⊎_elim, ℕ, zero, suc, ◌+◌, ◌<◌, ◌≤◌, Bool, true, false, List, [], ◌∷◌, length, get_or, replicate, refl, sym, ap, ◌∙◌, subst, arith}
 use Rattle.std.specs.Prelude.{if◌then◌else◌}
 use Rattle.std.proofs.lemmas.Bool.{cases_lt, true≢false}
-use Rattle.std.proofs.lemmas.List.{get_or_past, get_or_push, get_or_append_left, get_or-replicate, length-replicate}
+use Rattle.std.proofs.lemmas.List.{get_or_past, get_or-replicate, length-replicate}
 use Rattle.amo_sets.specs.Lists.{numbered, put, table}
 use Rattle.amo_sets.specs.Sets.{has}
 use Rattle.amo_kk.specs.Givens.{AreGivens, IsWorker}
@@ -23,19 +23,9 @@ use Rattle.amo_kk.specs.declared.event.Event.TheVariants.{Halted, Left as LeftEv
 use Rattle.amo_kk.specs.declared.event.Move.{Move}
 use Rattle.amo_kk.specs.declared.event.Move.TheVariants.{Turn, Halt, Leave}
 use Rattle.amo_sets.proofs.Numbers.{numbered-put_same, numbered-put_other, length-put, length-table}
+use Rattle.amo_sets.proofs.Tables.{get_or-table, numbered-table}
 use Rattle.amo_kk.proofs.Choice.{chosen_is_job, choice_cases}
 use Rattle.amo_kk.proofs.Kept.{IsKept, Hears, turns, stops, leaves, lawful_put}
-
-pub get_or-table : {X : Type 0} (d : X) (f : ℕ → X) (n k : ℕ) → k < n → get_or (table n f) k d ≡ f (suc k)
-get_or-table d f zero k h = absurd (omega arith)
-get_or-table d f (suc n) k h = ⊎_elim
-    (λ (l : k < n). get_or_append_left (table n f) (f (suc n) ∷ []) d k (let e = length-table f n in omega arith) ∙ get_or-table d f n k l)
-    (λ (l : n ≤ k). let e : k ≡ n = omega arith in subst (λ x. get_or (table n f ++ f (suc n) ∷ []) x d ≡ f (suc x)) (sym e) (get_or_push (table n f) (f (suc n)) d n (length-table f n)))
-    (cases_lt k n)
-
-pub numbered-table : {X : Type 0} (d : X) (f : ℕ → X) (n p : ℕ) → 1 ≤ p → p ≤ n → numbered d (table n f) p ≡ f p
-numbered-table d f n zero l h = absurd (omega arith)
-numbered-table d f n (suc k) l h = get_or-table d f n k h
 
 pub numbered-table_same : {X : Type 0} (d : X) (n p : ℕ) → numbered d (table n (λ _. d)) p ≡ d
 numbered-table_same d n zero = refl

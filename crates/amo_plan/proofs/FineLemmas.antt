@@ -1,6 +1,7 @@
 -- What the tests of the jobs leave.
 use Rattle.std.proofs.Common.{◌≡◌, ℕ, ◌+◌, Bool, true, false, ◌∙◌, List, [], ◌∷◌, map, Ok, refl}
-use Rattle.std.specs.Prelude.{not, ◌||◌}
+use Rattle.std.specs.Prelude.{not}
+use Rattle.std.proofs.lemmas.Bool.{not-true, or_parts}
 use Rattle.std.specs.List.{list_all, AllByRecursion, IsDistinct}
 use Rattle.std.specs.Str.{bytes_eq}
 use Rattle.amo_plan.specs.declared.fault.PlanFault.TheVariants.{BadName, TwoNames, SumTooLarge}
@@ -12,14 +13,6 @@ use Rattle.amo_plan.specs.Tree.{Key, is_known}
 use Rattle.amo_plan.specs.Jobs.{is_name, fine_job, fine_jobs}
 use Rattle.amo_plan.proofs.NamesLemmas.{bytes_eq-same}
 use Rattle.amo_plan.proofs.StepsLemmas.{bind_ok, unless_ok}
-
-not_true : (b : Bool) → not b ≡ true → b ≡ false
-not_true true e = absurd cc
-not_true false e = refl
-
-neither : (a b : Bool) → (a || b) ≡ false → (a ≡ false) × (b ≡ false)
-neither true b e = absurd cc
-neither false b e = (refl, e)
 
 -- a job that passes has a task that fits
 job_fits : (is_taken : Bool) (j : ℕ) (job : Job) (x : Unit {0}) → fine_job is_taken j job ≡ Ok x → fits job.task ≡ true
@@ -35,7 +28,7 @@ unfolding fine_job
 job_named is_taken j job x e =
     let (proper, more) = unless_ok (is_name job.name) (BadName j) (unless (not is_taken) (TwoNames j) (unless (fits job.task) (SumTooLarge j) (Ok tt))) x e in
     let (free, last) = unless_ok (not is_taken) (TwoNames j) (unless (fits job.task) (SumTooLarge j) (Ok tt)) x more in
-    (proper, not_true is_taken free)
+    (proper, not-true is_taken free)
 
 -- jobs that pass have tasks that fit
 pub jobs_fit : (earlier : List Key) (j : ℕ) (jobs : List Job) (x : Unit {0}) → fine_jobs earlier j jobs ≡ Ok x → all_fit (map (λ job. job.task) jobs) ≡ true
@@ -49,7 +42,7 @@ apart : (name : Key) (earlier : List Key) (names : List Key) → AllByRecursion 
 apart name earlier [] all = (tt, tt)
 apart name earlier (n ∷ names) all =
     let (here, more) = apart name earlier names all.1 in
-    let (other, free) = neither (bytes_eq n name) (is_known earlier n) all.0 in
+    let (other, free) = or_parts (bytes_eq n name) (is_known earlier n) all.0 in
     ((bytes_eq-same name n ∙ other, here), (free, more))
 
 -- what the names of jobs are

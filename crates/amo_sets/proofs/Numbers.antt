@@ -2,7 +2,7 @@
 use Rattle.std.proofs.Common.{⊎_elim, ◌≡◌, ◌≢◌, ◌⊎◌, inl, inr, ℕ, zero, suc, ◌+◌, ◌<◌, ◌≤◌, Bool, true, false, not, ◌&&◌, ◌||◌, List, [], ◌∷◌, ◌++◌, length, get_or, refl, sym, ap, ◌∙◌, subst, arith}
 use Rattle.std.specs.Prelude.{◌==◌, if◌then◌else◌}
 use Rattle.std.proofs.lemmas.Bool.Decides.{nat_tests}
-use Rattle.std.proofs.lemmas.Bool.{and_parts, and_from, true≢false, eq-eqb, eqb-true}
+use Rattle.std.proofs.lemmas.Bool.{and_parts, and_from, or_parts, or_left, or_right, true≢false, eq-eqb, eqb-true}
 use Rattle.std.proofs.lemmas.List.{get_or-set_same, get_or-set_other, length-set, length-append}
 use Rattle.amo_sets.specs.Lists.{numbered, put, table}
 use Rattle.amo_sets.specs.Sets.{has, AreDistinct, with_number}
@@ -115,9 +115,6 @@ pub count_apart : (t u : ℕ → Bool) (n : ℕ) → ((k : ℕ) → t k ≡ true
 count_apart t u zero h = omega arith
 count_apart t u (suc n) h = let l = count_apart t u n h in let m = h (suc n) in grind (arith, nat_tests)
 
-or_right : (a b : Bool) → b ≡ true → (a || b) ≡ true
-or_right a b h = grind arith
-
 pub length_distinct : (xs : List ℕ) (n : ℕ) → AreDistinct xs → ((j : ℕ) → has xs j ≡ true → (1 ≤ j) × (j ≤ n)) → length xs ≤ count n (has xs)
 length_distinct [] n d h = omega arith
 length_distinct (x ∷ xs) n d h =
@@ -157,11 +154,12 @@ ranked_is zero test i l h = absurd (omega arith)
 ranked_is (suc n) test i l h = ranked_step n test i l h (ranked_is n test i l)
 
 -- the same set with one more number
+
+pub is_itself : (j : ℕ) (b : Bool) → ((j == j) || b) ≡ true
+is_itself j b = or_left (j == j) b (eq-eqb j j refl)
+
 pub has_with_same : (j : ℕ) (xs : List ℕ) → has (with_number j xs) j ≡ true
-has_with_same j xs = has-with_number j xs j ∙ here j (has xs j)
-  where
-    here : (j : ℕ) (b : Bool) → ((j == j) || b) ≡ true
-    here j b = grind (arith, nat_tests)
+has_with_same j xs = has-with_number j xs j ∙ is_itself j (has xs j)
 
 pub has_with_kept : (i : ℕ) (xs : List ℕ) (j : ℕ) → has xs j ≡ true → has (with_number i xs) j ≡ true
 has_with_kept i xs j h = has-with_number i xs j ∙ or_right (i == j) (has xs j) h
@@ -180,13 +178,10 @@ pub has_with_none : (i : ℕ) (xs : List ℕ) (j : ℕ) → has (with_number i x
 has_with_none i xs j h = let e : ((i == j) || has xs j) ≡ false = sym (has-with_number i xs j) ∙ h in none i j (has xs j) e
   where
     none : (i j : ℕ) (b : Bool) → ((i == j) || b) ≡ false → (i ≢ j) × (b ≡ false)
-    none i j b e = ((λ x. ne i j b e x), orr (i == j) b e)
+    none i j b e = ((λ x. ne i j b e x), (or_parts (i == j) b e).1)
       where
         ne : (i j : ℕ) (b : Bool) → ((i == j) || b) ≡ false → i ≢ j
         ne i j b e = grind (arith, nat_tests)
-
-        orr : (a b : Bool) → (a || b) ≡ false → b ≡ false
-        orr a b e = grind arith
 
 pub has_push : (xs : List ℕ) (i : ℕ) → has (xs ++ i ∷ []) i ≡ true
 has_push xs i = has-append xs (i ∷ []) i ∙ last i (has xs i)
@@ -195,10 +190,7 @@ has_push xs i = has-append xs (i ∷ []) i ∙ last i (has xs i)
     last i b = grind (arith, nat_tests)
 
 pub has_push_kept : (xs : List ℕ) (i j : ℕ) → has xs j ≡ true → has (xs ++ i ∷ []) j ≡ true
-has_push_kept xs i j h = has-append xs (i ∷ []) j ∙ kept (has xs j) ((i == j) || false) h
-  where
-    kept : (a b : Bool) → a ≡ true → (a || b) ≡ true
-    kept a b h = grind arith
+has_push_kept xs i j h = has-append xs (i ∷ []) j ∙ or_left (has xs j) ((i == j) || false) h
 
 pub has_push_cases : (xs : List ℕ) (i j : ℕ) → has (xs ++ i ∷ []) j ≡ true → (has xs j ≡ true) ⊎ (i ≡ j)
 has_push_cases xs i j h = cases i j (has xs j) (sym (has-append xs (i ∷ []) j) ∙ h)
@@ -214,13 +206,10 @@ has_push_none xs i j n h = has-append xs (i ∷ []) j ∙ none i j (has xs j) n 
 
 pub distinct_push : (xs : List ℕ) (i : ℕ) → AreDistinct xs → has xs i ≡ false → AreDistinct (xs ++ i ∷ [])
 distinct_push [] i d h = (refl, tt)
-distinct_push (x ∷ xs) i d h = (has_push_none xs i x (λ e. ne x i (has xs i) h e) d.0, distinct_push xs i d.1 (rest (x == i) (has xs i) h))
+distinct_push (x ∷ xs) i d h = (has_push_none xs i x (λ e. ne x i (has xs i) h e) d.0, distinct_push xs i d.1 (or_parts (x == i) (has xs i) h).1)
   where
     ne : (x i : ℕ) (b : Bool) → ((x == i) || b) ≡ false → i ≢ x
     ne x i b e = grind (arith, nat_tests)
-
-    rest : (a b : Bool) → (a || b) ≡ false → b ≡ false
-    rest a b e = grind arith
 
 pub count_more : (test : ℕ → Bool) (k n : ℕ) → k ≤ n → count k test ≤ count n test
 count_more test k zero h = let e : k ≡ 0 = omega arith in subst (λ x. count x test ≤ 0) (sym e) (omega arith)

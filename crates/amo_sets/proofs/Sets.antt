@@ -1,13 +1,13 @@
 -- A set as bits give it: its members, its size, and one more member.
 use Rattle.std.proofs.Common.{◌≡◌, ⊎_elim, ℕ, zero, suc, ◌+◌, ◌<◌, ◌≤◌, Bool, true, false, not, ◌&&◌, ◌||◌, List, [], ◌∷◌, ◌++◌, length, get_or, replicate, refl, sym, ap, ◌∙◌, subst, arith, length-append}
 use Rattle.std.specs.Prelude.{if◌then◌else◌, nat_lt, nat_le, ◌==◌}
-use Rattle.std.proofs.lemmas.Bool.{cases_eq, cases_lt, eq-eqb, ne_eqb, lt-ltb, le-ltb, le-leb, and_from}
+use Rattle.std.proofs.lemmas.Bool.{cases_eq, cases_lt, eq-eqb, ne_eqb, lt-ltb, le-ltb, le-leb, and_from, and_right, or_right}
 use Rattle.std.proofs.lemmas.List.{get_or_past, get_or-replicate, length-replicate}
 use Rattle.std.proofs.lemmas.Bool.Decides.{nat_tests}
 use Rattle.amo_sets.specs.Sets.{has, with_number, members, set_of_bits}
 use Rattle.amo_sets.specs.Rank.{count, number_of_rank}
 use Rattle.amo_sets.specs.Lists.{numbered, put}
-use Rattle.amo_sets.proofs.Numbers.{has-append, numbered-put_same, numbered-put_other, length-put}
+use Rattle.amo_sets.proofs.Numbers.{has-append, is_itself, numbered-put_same, numbered-put_other, length-put}
 
 -- tests that agree on 1..n give one list
 pub members_agree : (n : ℕ) (t u : ℕ → Bool) → ((k : ℕ) → 1 ≤ k → k ≤ n → t k ≡ u k) → members n t ≡ members n u
@@ -48,30 +48,18 @@ has-members (suc n) t j = step (t (suc n)) refl (has-members n t j)
 with_last : (j : ℕ) (xs : List ℕ) → ((k : ℕ) → has xs k ≡ true → k < j) → with_number j xs ≡ xs ++ j ∷ []
 with_last j [] h = refl
 with_last j (x ∷ xs) h =
-    let l = h x (here x (has xs x)) in
+    let l = h x (is_itself x (has xs x)) in
     ap (λ b. if b then x ∷ xs else (if nat_lt j x then j ∷ x ∷ xs else x ∷ with_number j xs)) (ne_eqb j x (λ e. omega arith))
     ∙ ap (λ b. if b then j ∷ x ∷ xs else x ∷ with_number j xs) (le-ltb j x (omega arith))
-    ∙ ap (λ l. x ∷ l) (with_last j xs (λ k m. h k (right (x == k) (has xs k) m)))
-  where
-    here : (x : ℕ) (b : Bool) → ((x == x) || b) ≡ true
-    here x b = grind (arith, nat_tests)
-
-    right : (a b : Bool) → b ≡ true → (a || b) ≡ true
-    right a b h = grind arith
+    ∙ ap (λ l. x ∷ l) (with_last j xs (λ k m. h k (or_right (x == k) (has xs k) m)))
 
 with_there : (j : ℕ) (xs : List ℕ) → ((k : ℕ) → has xs k ≡ true → k < j) → with_number j (xs ++ j ∷ []) ≡ xs ++ j ∷ []
 with_there j [] h = ap (λ b. if b then j ∷ [] else (if nat_lt j j then j ∷ j ∷ [] else j ∷ j ∷ [])) (eq-eqb j j refl)
 with_there j (x ∷ xs) h =
-    let l = h x (here x (has xs x)) in
+    let l = h x (is_itself x (has xs x)) in
     ap (λ b. if b then x ∷ (xs ++ j ∷ []) else (if nat_lt j x then j ∷ x ∷ (xs ++ j ∷ []) else x ∷ with_number j (xs ++ j ∷ []))) (ne_eqb j x (λ e. omega arith))
     ∙ ap (λ b. if b then j ∷ x ∷ (xs ++ j ∷ []) else x ∷ with_number j (xs ++ j ∷ [])) (le-ltb j x (omega arith))
-    ∙ ap (λ l. x ∷ l) (with_there j xs (λ k m. h k (right (x == k) (has xs k) m)))
-  where
-    here : (x : ℕ) (b : Bool) → ((x == x) || b) ≡ true
-    here x b = grind (arith, nat_tests)
-
-    right : (a b : Bool) → b ≡ true → (a || b) ≡ true
-    right a b h = grind arith
+    ∙ ap (λ l. x ∷ l) (with_there j xs (λ k m. h k (or_right (x == k) (has xs k) m)))
 
 with_before : (j y : ℕ) (xs : List ℕ) → j < y → with_number j (xs ++ y ∷ []) ≡ with_number j xs ++ y ∷ []
 with_before j y [] h =
@@ -120,12 +108,8 @@ pub has-set_of_bits : (bits : List Bool) (j : ℕ) → has (set_of_bits bits) j 
 has-set_of_bits bits zero = has-members (length bits) (numbered false bits) zero
 has-set_of_bits bits (suc k) = has-members (length bits) (numbered false bits) (suc k) ∙ ⊎_elim
     (λ (l : k < length bits). ap (λ b. b && get_or bits k false) (and_from _ _ (le-leb 1 (suc k) (omega arith)) (le-leb (suc k) (length bits) (omega arith))))
-    (λ (l : length bits ≤ k). ap (λ b. (nat_le 1 (suc k) && nat_le (suc k) (length bits)) && b) (get_or_past bits k false l) ∙ off (nat_le 1 (suc k) && nat_le (suc k) (length bits)) ∙ sym (get_or_past bits k false l))
+    (λ (l : length bits ≤ k). ap (λ b. (nat_le 1 (suc k) && nat_le (suc k) (length bits)) && b) (get_or_past bits k false l) ∙ and_right (nat_le 1 (suc k) && nat_le (suc k) (length bits)) false refl ∙ sym (get_or_past bits k false l))
     (cases_lt k (length bits))
-  where
-    off : (b : Bool) → (b && false) ≡ false
-    off true = refl
-    off false = refl
 
 -- setting the bit of j puts j into the set
 pub set_of_bits-put : (bits : List Bool) (j : ℕ) → 1 ≤ j → j ≤ length bits → set_of_bits (put bits j true) ≡ with_number j (set_of_bits bits)
@@ -141,7 +125,7 @@ set_of_bits-put bits j l h =
         (cases_eq j k)
 
 -- with no bit set, the set is empty
-members_none : (n : ℕ) → members n (λ _. false) ≡ []
+pub members_none : (n : ℕ) → members n (λ _. false) ≡ []
 members_none zero = refl
 members_none (suc n) = members_none n
 

@@ -1,7 +1,7 @@
 -- A worker that runs alone: how far it has come, and that it comes to rest in time.
 use Rattle.std.proofs.Common.{◌≡◌, ⊎_elim, ℕ, zero, suc, ◌+◌, ◌*◌, ◌<◌, ◌≤◌, Bool, true, false, ◌||◌, refl, sym, ap, ◌∙◌, subst, arith, add-one}
 use Rattle.std.specs.Prelude.{if◌then◌else◌}
-use Rattle.std.proofs.lemmas.Bool.{cases_lt, cases_eq, cases_Bool, true≢false}
+use Rattle.std.proofs.lemmas.Bool.{cases_lt, cases_eq, cases_Bool, true≢false, or_parts}
 use Rattle.amo_kk.specs.Givens.{IsWorker}
 use Rattle.amo_kk.specs.Record.{is_over, wants_nothing}
 use Rattle.amo_kk.specs.Event.{want, record_after}
@@ -62,22 +62,14 @@ alone_of (DoneEnded j) = EndedAlone
 alone_of Ended = EndedAlone
 alone_of Idle = EndedAlone
 
+quiet_rests : (b : Bool) → rests (turned (if b then EndedShown else Quiet)) ≡ b
+quiet_rests true = refl
+quiet_rests false = refl
+
 rests_is : (phase after : Phase) → wants_nothing phase ≡ false → rests (turned (shown phase after)) ≡ (is_claiming phase || is_over after)
-rests_is (Announcing j) after wants = quiet (is_over after)
-  where
-    quiet : (b : Bool) → rests (turned (if b then EndedShown else Quiet)) ≡ b
-    quiet true = refl
-    quiet false = refl
-rests_is (Trying j q) after wants = quiet (is_over after)
-  where
-    quiet : (b : Bool) → rests (turned (if b then EndedShown else Quiet)) ≡ b
-    quiet true = refl
-    quiet false = refl
-rests_is (Reading j q) after wants = quiet (is_over after)
-  where
-    quiet : (b : Bool) → rests (turned (if b then EndedShown else Quiet)) ≡ b
-    quiet true = refl
-    quiet false = refl
+rests_is (Announcing j) after wants = quiet_rests (is_over after)
+rests_is (Trying j q) after wants = quiet_rests (is_over after)
+rests_is (Reading j q) after wants = quiet_rests (is_over after)
 rests_is (Claiming j) after wants = refl
 rests_is (Holding j) after wants = done (is_over after)
   where
@@ -87,22 +79,14 @@ rests_is (Holding j) after wants = done (is_over after)
 rests_is Over after wants = absurd (true≢false wants)
 rests_is Left after wants = absurd (true≢false wants)
 
+quiet_alone : (b : Bool) → alone_of (turned (if b then EndedShown else Quiet)) ≡ EndedAlone
+quiet_alone true = refl
+quiet_alone false = refl
+
 alone_is : (phase after : Phase) → alone_of (turned (shown phase after)) ≡ alone_answer phase
-alone_is (Announcing j) after = quiet (is_over after)
-  where
-    quiet : (b : Bool) → alone_of (turned (if b then EndedShown else Quiet)) ≡ EndedAlone
-    quiet true = refl
-    quiet false = refl
-alone_is (Trying j q) after = quiet (is_over after)
-  where
-    quiet : (b : Bool) → alone_of (turned (if b then EndedShown else Quiet)) ≡ EndedAlone
-    quiet true = refl
-    quiet false = refl
-alone_is (Reading j q) after = quiet (is_over after)
-  where
-    quiet : (b : Bool) → alone_of (turned (if b then EndedShown else Quiet)) ≡ EndedAlone
-    quiet true = refl
-    quiet false = refl
+alone_is (Announcing j) after = quiet_alone (is_over after)
+alone_is (Trying j q) after = quiet_alone (is_over after)
+alone_is (Reading j q) after = quiet_alone (is_over after)
 alone_is (Claiming j) after = refl
 alone_is (Holding j) after = done (is_over after)
   where
@@ -132,11 +116,7 @@ module _ (g : Givens) (w : World) (p : ℕ) (law : IsLawful g w) (here : (proces
 
   -- and after a turn that does neither, the worker isn't gone
   pub here_next : claims_or_ends g w p ≡ false → (process (world_after_turn g w p) p).gone ≡ false
-  here_next h = (own_turn g w p g.limits law here (second (is_claiming (process w p).local.phase) (is_over (record_after g p (loaded_value w (want (process w p).local)) (process w p).local).phase) h)).here
-    where
-      second : (a b : Bool) → (a || b) ≡ false → b ≡ false
-      second true b e = absurd (true≢false e)
-      second false b e = e
+  here_next h = (own_turn g w p g.limits law here (or_parts (is_claiming (process w p).local.phase) (is_over (record_after g p (loaded_value w (want (process w p).local)) (process w p).local).phase) h).1).here
 
 pub starts : (g : Givens) (w : World) (p : ℕ) → IsLawful g w → (process w p).gone ≡ false → IsUnderWay g w p 0 w
 starts g w p law here = record { leads = refl; none = λ i l. absurd (omega arith); lawful = law; here = here }

@@ -1,7 +1,7 @@
 -- What the state of the object has unclaimed and performed, told from the events that lead to it.
 use Rattle.std.proofs.Common.{◌≡◌, ⊎_elim, ℕ, zero, suc, ◌+◌, ◌<◌, ◌≤◌, ◌^◌, Bool, true, false, not, ◌&&◌, ◌||◌, List, [], ◌∷◌, ◌++◌, length, refl, sym, ap, ◌∙◌, subst, arith}
 use Rattle.std.specs.Prelude.{if◌then◌else◌, ◌==◌}
-use Rattle.std.proofs.lemmas.Bool.{cases_eq, true≢false}
+use Rattle.std.proofs.lemmas.Bool.{cases_eq, true≢false, false_from_ne_true}
 use Rattle.std.proofs.lemmas.Bool.Decides.{nat_tests}
 use Rattle.std.proofs.lemmas.List.{length_push}
 use Rattle.amo_sets.specs.Lists.{table}
@@ -93,11 +93,7 @@ numbers_low (suc n) j h = ⊎_elim (λ t. let low = numbers_low n j t in omega a
 
 distinct_numbers : (n : ℕ) → AreDistinct (table n (λ i. i))
 distinct_numbers zero = tt
-distinct_numbers (suc n) = distinct_push (table n (λ i. i)) (suc n) (distinct_numbers n) (strange (has (table n (λ i. i)) (suc n)) (λ t. let low = numbers_low n (suc n) t in omega arith))
-  where
-    strange : (b : Bool) → (b ≡ true → ⊥) → b ≡ false
-    strange true h = absurd (h refl)
-    strange false h = refl
+distinct_numbers (suc n) = distinct_push (table n (λ i. i)) (suc n) (distinct_numbers n) (false_from_ne_true (has (table n (λ i. i)) (suc n)) (λ t. let low = numbers_low n (suc n) t in omega arith))
 
 -- the state after all these events
 
