@@ -61,3 +61,29 @@ fn expect_world(rt: &impl Abort, world: &World, history: &[Event], unclaimed: &[
         assert_eq!(rt; world.is_unclaimed(j), unclaimed.contains(&j), "job {j}");
     }
 }
+
+/// A schedule, and the world that it leads to from the opening world of so many jobs, workers and that threshold.
+#[derive(Drop)]
+struct Row<'a> {
+    givens: (u64, u64, u64),
+    schedule: &'a [(Move, u32)],
+    history: &'a [Event],
+    unclaimed: &'a [u32],
+    performed: u32,
+    /// Workers, and how many events each has had.
+    turns: &'a [(u32, u64)],
+}
+
+impl Row<'_> {
+    /// The schedule leads there.
+    fn holds(&self, alloc: Global, rt: &impl Abort) -> Result<(), Fail> {
+        let mut world = opening(alloc, self.givens)?;
+        make(rt, &mut world, self.schedule);
+        expect_world(rt, &world, self.history, self.unclaimed);
+        assert_eq!(rt; world.performed_len(), self.performed);
+        for (p, turns) in self.turns {
+            assert_eq!(rt; turns_of(rt, &world, *p), *turns, "worker {p}");
+        }
+        Ok(())
+    }
+}

@@ -5,29 +5,26 @@ use Move::{Halt, Leave, Turn};
 
 #[test]
 fn the_job_of_a_worker_that_left_is_free_to_others(rt: HostRuntime) -> Result<(), Fail> {
-    let mut world = opening(rt.alloc(), (5, 2, 2))?;
-    make(
-        &rt,
-        &mut world,
-        &[(Turn(2), 1), (Leave(2), 1), (Turn(1), 20)],
-    );
-    let history = [
-        Left(2),
-        Claimed(1, 1),
-        Done(1, 1),
-        Claimed(1, 2),
-        Done(1, 2),
-        Claimed(1, 3),
-        Done(1, 3),
-        Claimed(1, 4),
-        Done(1, 4),
-        Ended(1),
-    ];
-    expect_world(&rt, &world, &history, &[5]);
-    assert_eq!(rt; world.performed_len(), 4);
-    assert_eq!(rt; turns_of(&rt, &world, 1), 20);
-    assert_eq!(rt; turns_of(&rt, &world, 2), 2);
-    Ok(())
+    let row = Row {
+        givens: (5, 2, 2),
+        schedule: &[(Turn(2), 1), (Leave(2), 1), (Turn(1), 20)],
+        history: &[
+            Left(2),
+            Claimed(1, 1),
+            Done(1, 1),
+            Claimed(1, 2),
+            Done(1, 2),
+            Claimed(1, 3),
+            Done(1, 3),
+            Claimed(1, 4),
+            Done(1, 4),
+            Ended(1),
+        ],
+        unclaimed: &[5],
+        performed: 4,
+        turns: &[(1, 20), (2, 2)],
+    };
+    row.holds(rt.alloc(), &rt)
 }
 
 #[test]
