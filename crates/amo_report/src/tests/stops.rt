@@ -1,9 +1,5 @@
 //! Texts of stops.
-use super::super::*;
-use super::{FIVE_JOBS, THREE_JOBS, text_of};
-use amo_plan::{PlanFault, read_plan};
-use std::alloc::{AllocError, Global};
-use std::test::Fail;
+use super::*;
 
 /// Two jobs, two workers and four turns of the first; the rounds have no part in its stops.
 const FOUR_TURNS: &str =
@@ -13,25 +9,21 @@ const FOUR_TURNS: &str =
 const FIVE_STOPS: &str =
     "stop 0 claimed 1 done 1 most 4 lawful\nstop 1 claimed 1 done 1 most 4 lawful\nstop 2 claimed 1 done 1 most 4 lawful\nstop 3 claimed 1 done 1 most 4 lawful\nstop 4 claimed 2 done 1 most 4 lawful\nleast 1\n";
 
-/// What is written of the stops of p, in a plan of these two parts, from their bytes.
-fn stops_of(alloc: Global, heads: &str, jobs: &str, p: u32) -> Result<Room, Fail> {
-    let text = format!(in alloc; "{heads}{jobs}")?;
-    let mut out = Room::new(alloc, 2000)?;
-    stops_plan(alloc, &mut Bytes::new(text.as_bytes()), &mut out, p.max(1))?;
-    Ok(out)
-}
-
-#[test]
-fn a_text_of_stops_is_made_of_a_plan(rt: HostRuntime) -> Result<(), Fail> {
-    let plan = read_plan(rt.alloc(), FOUR_TURNS.as_bytes())?;
+/// The text of the stops of worker 1 in the plan of four turns.
+fn four_turns_stopped(rt: &impl Abort, alloc: Global, plan: &Plan) -> Result<String, AllocError> {
     assert_eq!(rt; plan.heads.givens.workers, 2);
     assert_eq!(rt; plan.heads.moves.as_slice().len(), 4);
-    assert_eq!(rt; stops_text(rt.alloc(), &plan, 1)?.as_str(), FIVE_STOPS);
-    Ok(())
+    stops_text(alloc, plan, 1)
 }
 
 #[test]
-fn stops_have_these_texts(rt: HostRuntime) -> Result<(), Fail> {
+fn a_text_of_stops_is_made_of_a_plan(rt: HostRuntime) {
+    let plan = plan_of(&rt, rt.alloc(), FOUR_TURNS, "");
+    assert_text(&rt, four_turns_stopped(&rt, rt.alloc(), &plan), FIVE_STOPS);
+}
+
+#[test]
+fn stops_have_these_texts(rt: HostRuntime) {
     for (heads, jobs, p, text) in [
         (FOUR_TURNS, "", 1, FIVE_STOPS),
         (
@@ -65,14 +57,12 @@ fn stops_have_these_texts(rt: HostRuntime) -> Result<(), Fail> {
             "stop 0 claimed 4 done 4 most 9 lawful\nstop 1 claimed 4 done 4 most 9 lawful\nstop 2 claimed 3 done 3 most 8 lawful\nstop 3 claimed 3 done 3 most 7 lawful\nstop 4 claimed 3 done 3 most 7 lawful\nstop 5 claimed 3 done 3 most 7 lawful\nstop 6 claimed 3 done 3 most 7 lawful\nleast 3\n",
         ),
     ] {
-        let out = stops_of(rt.alloc(), heads, jobs, p)?;
-        assert_eq!(rt; text_of(&out), text, "for {heads}");
+        assert_writes(&rt, rt.alloc(), Made::Stops(p), heads, jobs, text);
     }
-    Ok(())
 }
 
 #[test]
-fn plans_without_these_stops_write_nothing(rt: HostRuntime) -> Result<(), Fail> {
+fn plans_without_these_stops_write_nothing(rt: HostRuntime) {
     for (text, p, fault) in [
         (
             "version = 1\nworkers = 2\nbeta = 2\nschedule = \"1*1001\"\n",
@@ -86,53 +76,24 @@ fn plans_without_these_stops_write_nothing(rt: HostRuntime) -> Result<(), Fail> 
         ),
         ("version = 1\nworkers = 2\n", 3, PlanFault::MissingKey(0)),
     ] {
-        let mut out = Room::new(rt.alloc(), 100)?;
-        let answer = stops_plan(rt.alloc(), &mut Bytes::new(text.as_bytes()), &mut out, p);
-        assert!(rt; answer == Err(ReplayFault::Plan(fault)));
-        assert_eq!(rt; text_of(&out), "");
+        assert_refused(&rt, rt.alloc(), Made::Stops(p), text, fault);
     }
-    let most = stops_of(
+    assert_made_end(
+        &rt,
         rt.alloc(),
+        Made::Stops(2),
         "version = 1\nworkers = 2\nbeta = 2\nschedule = \"1*39 2\"\n",
-        "",
-        2,
-    )?;
-    let last = text_of(&most)
-        .split_once("stop 40")
-        .map_or("no stop", |halves| halves.1);
-    assert_eq!(rt; last, " claimed 0 done 0 most 0 lawful\nleast 0\n");
-    Ok(())
+        "stop 40",
+        " claimed 0 done 0 most 0 lawful\nleast 0\n",
+    );
 }
 
 /// The text, or want of memory, also from the plan's bytes; then nothing is written.
 #[test]
 fn refused_stops(rt: HostRuntime) {
-    let Ok(mut out) = Room::new(rt.alloc(), 300) else {
-        return;
-    };
-    let plan = match read_source(rt.alloc(), &mut Bytes::new(FOUR_TURNS.as_bytes())) {
-        Ok(plan) => plan,
-        Err(fault) => {
-            assert!(rt; fault == ReplayFault::NoMemory);
-            return;
-        }
-    };
-    assert_eq!(rt; plan.heads.givens.workers, 2);
-    assert_eq!(rt; plan.heads.moves.as_slice().len(), 4);
-    match stops_text(rt.alloc(), &plan, 1) {
-        Ok(text) => assert_eq!(rt; text.as_str(), FIVE_STOPS),
-        Err(AllocError) => {}
+    if let Some(plan) = plan_or_no_memory(&rt, rt.alloc(), FOUR_TURNS) {
+        let made = four_turns_stopped(&rt, rt.alloc(), &plan);
+        assert_text_or_no_memory(&rt, made, FIVE_STOPS);
     }
-    match stops_plan(
-        rt.alloc(),
-        &mut Bytes::new(FOUR_TURNS.as_bytes()),
-        &mut out,
-        1,
-    ) {
-        Ok(()) => assert_eq!(rt; text_of(&out), FIVE_STOPS),
-        Err(fault) => {
-            assert!(rt; fault == ReplayFault::NoMemory);
-            assert_eq!(rt; text_of(&out), "");
-        }
-    }
+    assert_made_or_no_memory(&rt, rt.alloc(), Made::Stops(1), FOUR_TURNS, FIVE_STOPS);
 }

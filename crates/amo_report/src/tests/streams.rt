@@ -1,9 +1,9 @@
 //! Sources and sinks that fail, give or take one byte at a time, or never end.
-use super::super::*;
-use super::{ONE_WORKER, ONE_WORKER_REPORT, text_of};
+ghost use Rattle.std.specs.Prelude.{◌≡◌, false};
+
+use super::*;
 use std::io;
 use std::io::{Cursor, Read, Write};
-use std::test::Fail;
 
 /// A source of one byte at a time, which fails once so many bytes were given.
 #[derive(Drop)]
@@ -112,126 +112,136 @@ impl Read for Broken {
     }
 }
 
+/// Asserts what replay answers, and what it writes, of a source that has not failed.
+fn assert_replayed<R: Source>(
+    rt: &impl Abort,
+    alloc: Global,
+    reader: &mut R,
+    wanted: Result<(), ReplayFault>,
+    text: &str,
+)
+    requires { R.failed reader.old ≡ false }
+{
+    let mut out = Room::new(alloc, 1000).expect(rt, "no memory");
+    let answer = replay(alloc, reader, &mut out);
+    assert_told(rt, answer, &out, wanted, text);
+}
+
+/// Asserts that replay into so much room fails, and leaves what there is room for.
+fn assert_full(rt: &impl Abort, alloc: Global, room: usize, text: &str) {
+    let mut out = Room::new(alloc, room).expect(rt, "no memory");
+    let answer = replay(alloc, &mut Bytes::new(ONE_WORKER.as_bytes()), &mut out);
+    assert_told(rt, answer, &out, Err(ReplayFault::Write), text);
+}
+
+/// Asserts what replay answers, and what it writes, over a stubborn writer with so much room.
+fn assert_stubborn<R: Source>(
+    rt: &impl Abort,
+    alloc: Global,
+    reader: &mut R,
+    room: usize,
+    flushes: bool,
+    wanted: Result<(), ReplayFault>,
+    text: &str,
+)
+    requires { R.failed reader.old ≡ false }
+{
+    let taken = Room::new(alloc, room).expect(rt, "no memory");
+    let mut writer = Streamed::new(Stubborn { taken, flushes });
+    let answer = replay(alloc, reader, &mut writer);
+    let Stubborn { taken, flushes: _ } = writer.into_inner();
+    assert_told(rt, answer, &taken, wanted, text);
+}
+
 #[test]
-fn a_failing_read_writes_nothing(rt: HostRuntime) -> Result<(), Fail> {
+fn a_failing_read_writes_nothing(rt: HostRuntime) {
     for left in 0..=ONE_WORKER.len() {
-        let mut out = Room::new(rt.alloc(), 1000)?;
         let mut reader = Dripping {
             rest: ONE_WORKER.as_bytes(),
             left,
             failed: false,
         };
-        let answer = replay(rt.alloc(), &mut reader, &mut out);
-        assert!(rt; matches!(answer, Err(ReplayFault::Read)), "at {left}");
-        assert_eq!(rt; text_of(&out), "", "at {left}");
+        assert_replayed(&rt, rt.alloc(), &mut reader, Err(ReplayFault::Read), "");
     }
-    Ok(())
 }
 
 #[test]
-fn a_broken_reader_of_std_writes_nothing(rt: HostRuntime) -> Result<(), Fail> {
-    let mut out = Room::new(rt.alloc(), 1000)?;
-    let answer = replay(rt.alloc(), &mut Streamed::new(Broken), &mut out);
-    assert!(rt; matches!(answer, Err(ReplayFault::Read)));
-    assert_eq!(rt; text_of(&out), "");
-    Ok(())
+fn a_broken_reader_of_std_writes_nothing(rt: HostRuntime) {
+    let mut reader = Streamed::new(Broken);
+    assert_replayed(&rt, rt.alloc(), &mut reader, Err(ReplayFault::Read), "");
 }
 
 #[test]
-fn a_full_room_has_a_beginning(rt: HostRuntime) -> Result<(), Fail> {
+fn a_full_room_has_a_beginning(rt: HostRuntime) {
     for room in 0..ONE_WORKER_REPORT.len() {
-        let mut out = Room::new(rt.alloc(), room)?;
-        let answer = replay(rt.alloc(), &mut Bytes::new(ONE_WORKER.as_bytes()), &mut out);
-        assert!(rt; matches!(answer, Err(ReplayFault::Write)), "at {room}");
-        assert_eq!(rt; out.as_slice(), &ONE_WORKER_REPORT.as_bytes()[..room]);
+        let beginning = text_in(&ONE_WORKER_REPORT.as_bytes()[..room]);
+        assert_full(&rt, rt.alloc(), room, beginning);
     }
-    Ok(())
 }
 
 #[test]
-fn ten_bytes_of_room_hold_the_first_ten(rt: HostRuntime) -> Result<(), Fail> {
-    let mut out = Room::new(rt.alloc(), 10)?;
-    let answer = replay(rt.alloc(), &mut Bytes::new(ONE_WORKER.as_bytes()), &mut out);
-    assert!(rt; matches!(answer, Err(ReplayFault::Write)));
-    assert_eq!(rt; text_of(&out), "jobs 3 wor");
-    Ok(())
+fn ten_bytes_of_room_hold_the_first_ten(rt: HostRuntime) {
+    assert_full(&rt, rt.alloc(), 10, "jobs 3 wor");
 }
 
 #[test]
-fn a_writer_that_takes_nothing_fails(rt: HostRuntime) -> Result<(), Fail> {
+fn a_writer_that_takes_nothing_fails(rt: HostRuntime) {
     for room in [0, 7] {
-        let taken = Room::new(rt.alloc(), room)?;
-        let mut writer = Streamed::new(Stubborn {
-            taken,
-            flushes: true,
-        });
-        let answer = replay(
-            rt.alloc(),
-            &mut Bytes::new(ONE_WORKER.as_bytes()),
-            &mut writer,
-        );
-        assert!(rt; matches!(answer, Err(ReplayFault::Write)));
-        let Stubborn { taken, flushes: _ } = writer.into_inner();
-        assert_eq!(rt; taken.as_slice(), &ONE_WORKER_REPORT.as_bytes()[..room]);
+        let reader = &mut Bytes::new(ONE_WORKER.as_bytes());
+        let beginning = text_in(&ONE_WORKER_REPORT.as_bytes()[..room]);
+        let wanted = Err(ReplayFault::Write);
+        assert_stubborn(&rt, rt.alloc(), reader, room, true, wanted, beginning);
     }
-    Ok(())
 }
 
 #[test]
-fn a_failing_flush_is_a_failing_write(rt: HostRuntime) -> Result<(), Fail> {
-    let taken = Room::new(rt.alloc(), 1000)?;
-    let mut writer = Streamed::new(Stubborn {
-        taken,
-        flushes: false,
-    });
-    let answer = replay(
+fn a_failing_flush_is_a_failing_write(rt: HostRuntime) {
+    let reader = &mut Bytes::new(ONE_WORKER.as_bytes());
+    let wanted = Err(ReplayFault::Write);
+    assert_stubborn(
+        &rt,
         rt.alloc(),
-        &mut Bytes::new(ONE_WORKER.as_bytes()),
-        &mut writer,
+        reader,
+        1000,
+        false,
+        wanted,
+        ONE_WORKER_REPORT,
     );
-    assert!(rt; matches!(answer, Err(ReplayFault::Write)));
-    let Stubborn { taken, flushes: _ } = writer.into_inner();
-    assert_eq!(rt; text_of(&taken), ONE_WORKER_REPORT);
-    Ok(())
 }
 
 #[test]
-fn streams_of_std_give_the_same_report(rt: HostRuntime) -> Result<(), Fail> {
-    let mut reader = Streamed::new(Cursor::new(ONE_WORKER.as_bytes()));
-    let taken = Room::new(rt.alloc(), 1000)?;
-    let mut writer = Streamed::new(Stubborn {
-        taken,
-        flushes: true,
-    });
-    assert!(rt; matches!(replay(rt.alloc(), &mut reader, &mut writer), Ok(())));
-    let Stubborn { taken, flushes: _ } = writer.into_inner();
-    assert_eq!(rt; text_of(&taken), ONE_WORKER_REPORT);
-    Ok(())
+fn streams_of_std_give_the_same_report(rt: HostRuntime) {
+    let reader = &mut Streamed::new(Cursor::new(ONE_WORKER.as_bytes()));
+    assert_stubborn(
+        &rt,
+        rt.alloc(),
+        reader,
+        1000,
+        true,
+        Ok(()),
+        ONE_WORKER_REPORT,
+    );
 }
 
 #[test]
-fn one_byte_at_a_time_is_the_same_report(rt: HostRuntime) -> Result<(), Fail> {
+fn one_byte_at_a_time_is_the_same_report(rt: HostRuntime) {
     let mut reader = Dripping {
         rest: ONE_WORKER.as_bytes(),
         left: 10_000,
         failed: false,
     };
-    let inner = Room::new(rt.alloc(), 1000)?;
+    let inner = Room::new(rt.alloc(), 1000).expect(&rt, "no memory");
     let mut writer = Sipping { inner };
-    assert!(rt; matches!(replay(rt.alloc(), &mut reader, &mut writer), Ok(())));
-    assert_eq!(rt; text_of(&writer.inner), ONE_WORKER_REPORT);
-    Ok(())
+    let answer = replay(rt.alloc(), &mut reader, &mut writer);
+    assert_told(&rt, answer, &writer.inner, Ok(()), ONE_WORKER_REPORT);
 }
 
 #[test]
-fn a_source_without_end_is_too_long(rt: HostRuntime) -> Result<(), Fail> {
+fn a_source_without_end_is_too_long(rt: HostRuntime) {
     let mut reader = Endless { given: 0 };
-    let mut out = Room::new(rt.alloc(), 1000)?;
-    let answer = replay(rt.alloc(), &mut reader, &mut out);
-    assert!(rt; matches!(answer, Err(ReplayFault::Plan(amo_plan::PlanFault::TooLong))));
-    assert_eq!(rt; text_of(&out), "");
+    let wanted = Err(ReplayFault::Plan(PlanFault::TooLong));
+    assert_replayed(&rt, rt.alloc(), &mut reader, wanted, "");
     assert_eq!(rt; reader.given, 1_048_577);
-    Ok(())
 }
 
 /// All bytes, or want of memory.

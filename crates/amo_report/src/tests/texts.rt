@@ -1,14 +1,10 @@
 //! Check texts, fault texts, and reports of worlds that were run by hand.
-use super::super::*;
-use super::{FIVE_JOBS, ONE_WORKER, ONE_WORKER_REPORT, report_after, text_of};
-use amo_kk::{GivensFault, Move};
-use amo_plan::{Plan, PlanFault, read_plan};
+use super::*;
+use amo_kk::Move;
 use amo_world::World;
-use std::alloc::{AllocError, Global};
-use std::test::Fail;
 
 #[test]
-fn faults_have_these_lines(rt: HostRuntime) -> Result<(), Fail> {
+fn faults_have_these_lines(rt: HostRuntime) {
     for (fault, line) in [
         (PlanFault::NotToml, "fault 1 NotToml\n"),
         (PlanFault::UnknownKey(0), "fault 2 UnknownKey 0\n"),
@@ -42,19 +38,12 @@ fn faults_have_these_lines(rt: HostRuntime) -> Result<(), Fail> {
         (PlanFault::TooLong, "fault 11 TooLong\n"),
         (PlanFault::NoMemory, "fault 12 NoMemory\n"),
     ] {
-        assert_eq!(rt; fault_text(rt.alloc(), &fault)?.as_str(), line);
+        assert_text(&rt, fault_text(rt.alloc(), &fault), line);
     }
-    Ok(())
-}
-
-/// The check text of a plan.
-fn check_of(alloc: Global, text: &str) -> Result<String, Fail> {
-    let plan = read_plan(alloc, text.as_bytes())?;
-    Ok(check_text(alloc, &plan.heads)?)
 }
 
 #[test]
-fn checks_have_these_texts(rt: HostRuntime) -> Result<(), Fail> {
+fn checks_have_these_texts(rt: HostRuntime) {
     for (plan, line) in [
         (ONE_WORKER, "ok jobs 3 workers 1 beta 1 moves 9 rounds 0\n"),
         (
@@ -66,75 +55,63 @@ fn checks_have_these_texts(rt: HostRuntime) -> Result<(), Fail> {
             "ok jobs 3 block 2 blocks 2 workers 1 beta 1 moves 5 rounds 0\n",
         ),
     ] {
-        assert_eq!(rt; check_of(rt.alloc(), plan)?.as_str(), line);
-        let mut out = Room::new(rt.alloc(), 100)?;
-        check(rt.alloc(), &mut Bytes::new(plan.as_bytes()), &mut out)?;
-        assert_eq!(rt; text_of(&out), line);
+        let read = plan_of(&rt, rt.alloc(), plan, "");
+        assert_text(&rt, check_text(rt.alloc(), &read.heads), line);
+        assert_made(&rt, rt.alloc(), Made::Check, plan, Ok(()), line);
     }
-    Ok(())
 }
 
-/// Five jobs and two workers.
-fn two_workers(alloc: Global) -> Result<Plan, Fail> {
-    let text = format!(in alloc; "version = 1\nworkers = 2\nbeta = 2\n{FIVE_JOBS}")?;
-    Ok(read_plan(alloc, text.as_bytes())?)
+/// The report of a plan after these moves in its opening world.
+fn report_after(
+    rt: &impl Abort,
+    alloc: Global,
+    plan: &Plan,
+    moves: &[Move],
+) -> Result<String, AllocError> {
+    let mut world = World::new(alloc, plan.heads.givens)?;
+    assert!(rt; world.in_range(moves));
+    world.run(moves);
+    report_text(alloc, plan, &world)
 }
 
 #[test]
-fn a_worker_that_left_frees_its_job(rt: HostRuntime) -> Result<(), Fail> {
-    let plan = two_workers(rt.alloc())?;
+fn a_worker_that_left_frees_its_job(rt: HostRuntime) {
+    let heads = "version = 1\nworkers = 2\nbeta = 2\n";
+    let plan = plan_of(&rt, rt.alloc(), heads, FIVE_JOBS);
     let mut moves = [Move::Turn(1); 22];
     moves[0] = Move::Turn(2);
     moves[1] = Move::Leave(2);
-    assert_eq!(rt;
-        report_after(&rt, rt.alloc(), &plan, &moves)?.as_str(),
-        "jobs 5 workers 2 beta 2 bound 3\n1 left 2\n2 claimed 1 1\n3 done 1 1\n4 claimed 1 2\n5 done 1 2\n6 claimed 1 3\n7 done 1 3\n8 claimed 1 4\n9 done 1 4\n10 ended 1\nworker 1 ended turns 20 claimed 4 done 4\nworker 2 left turns 2 claimed 0 done 0\nresult 1 a 1\nresult 2 b 2\nresult 3 c 3\nresult 4 d 4\nperformed 4\nunclaimed 5\n"
+    assert_text(
+        &rt,
+        report_after(&rt, rt.alloc(), &plan, &moves),
+        "jobs 5 workers 2 beta 2 bound 3\n1 left 2\n2 claimed 1 1\n3 done 1 1\n4 claimed 1 2\n5 done 1 2\n6 claimed 1 3\n7 done 1 3\n8 claimed 1 4\n9 done 1 4\n10 ended 1\nworker 1 ended turns 20 claimed 4 done 4\nworker 2 left turns 2 claimed 0 done 0\nresult 1 a 1\nresult 2 b 2\nresult 3 c 3\nresult 4 d 4\nperformed 4\nunclaimed 5\n",
     );
-    Ok(())
-}
-
-/// The plan of one worker, read from a source.
-fn one_worker(alloc: Global) -> Result<Plan, ReplayFault> {
-    read_source(alloc, &mut Bytes::new(ONE_WORKER.as_bytes()))
 }
 
 #[test]
-fn the_opening_world_is_reported(rt: HostRuntime) -> Result<(), Fail> {
-    let plan = one_worker(rt.alloc())?;
-    assert_eq!(rt;
-        report_after(&rt, rt.alloc(), &plan, &[])?.as_str(),
-        "jobs 3 workers 1 beta 1 bound 3\nworker 1 running turns 0 claimed 0 done 0\nperformed 0\nunclaimed 1 2 3\n"
+fn the_opening_world_is_reported(rt: HostRuntime) {
+    let plan = read_source(rt.alloc(), &mut Bytes::new(ONE_WORKER.as_bytes())).expect(
+        &rt, "no plan",
     );
-    Ok(())
+    assert_text(
+        &rt,
+        report_after(&rt, rt.alloc(), &plan, &[]),
+        "jobs 3 workers 1 beta 1 bound 3\nworker 1 running turns 0 claimed 0 done 0\nperformed 0\nunclaimed 1 2 3\n",
+    );
 }
 
 /// Each text, or want of memory.
 #[test]
 fn refused_texts(rt: HostRuntime) {
-    match fault_text(rt.alloc(), &PlanFault::WrongKind(1)) {
-        Ok(text) => assert_eq!(rt; text.as_str(), "fault 4 WrongKind 1\n"),
-        Err(AllocError) => {}
-    }
-    let plan = match one_worker(rt.alloc()) {
-        Ok(plan) => plan,
-        Err(fault) => {
-            assert!(rt; matches!(fault, ReplayFault::NoMemory));
-            return;
-        }
-    };
-    match check_text(rt.alloc(), &plan.heads) {
-        Ok(text) => assert_eq!(rt;
-            text.as_str(),
-            "ok jobs 3 workers 1 beta 1 moves 9 rounds 0\n"
-        ),
-        Err(AllocError) => {}
-    }
-    if let Ok(mut world) = World::new(rt.alloc(), plan.heads.givens) {
-        assert!(rt; world.in_range(plan.heads.moves.as_slice()));
-        world.run(plan.heads.moves.as_slice());
-        match report_text(rt.alloc(), &plan, &world) {
-            Ok(text) => assert_eq!(rt; text.as_str(), ONE_WORKER_REPORT),
-            Err(AllocError) => {}
-        }
+    let line = fault_text(rt.alloc(), &PlanFault::WrongKind(1));
+    assert_text_or_no_memory(&rt, line, "fault 4 WrongKind 1\n");
+    if let Some(plan) = plan_or_no_memory(&rt, rt.alloc(), ONE_WORKER) {
+        assert_text_or_no_memory(
+            &rt,
+            check_text(rt.alloc(), &plan.heads),
+            "ok jobs 3 workers 1 beta 1 moves 9 rounds 0\n",
+        );
+        let report = report_after(&rt, rt.alloc(), &plan, plan.heads.moves.as_slice());
+        assert_text_or_no_memory(&rt, report, ONE_WORKER_REPORT);
     }
 }
