@@ -31,14 +31,18 @@ const FIVE_JOBS: &str =
 /// What a call makes of a plan's bytes.
 #[derive(Clone, Copy)]
 enum Made {
+    /// The report.
     Report,
+    /// The check text.
     Check,
+    /// The schedules of five turns with the numbers 0 and 1.
     Explored,
+    /// The stops of this worker, from 1 on.
     Stops(u32),
 }
 
 impl Made {
-    /// Makes it: of schedules the numbers 0 and 1 with five turns, of stops those of a worker.
+    /// Makes it of a plan, and writes it.
     fn write(self, alloc: Global, plan: &str, out: &mut Room) -> Result<(), ReplayFault>
         requires { out.old.failed ≡ false }
     {
@@ -70,7 +74,7 @@ fn assert_told(
     wanted: Result<(), ReplayFault>,
     text: &str,
 ) {
-    assert!(rt; answer == wanted, "for {text}");
+    assert_eq!(rt; answer, wanted, "for {text}");
     assert_eq!(rt; text_of(out), text);
 }
 

@@ -90,9 +90,8 @@ fn a_worker_that_left_frees_its_job(rt: HostRuntime) {
 
 #[test]
 fn the_opening_world_is_reported(rt: HostRuntime) {
-    let plan = read_source(rt.alloc(), &mut Bytes::new(ONE_WORKER.as_bytes())).expect(
-        &rt, "no plan",
-    );
+    let reader = &mut Bytes::new(ONE_WORKER.as_bytes());
+    let plan = read_source(rt.alloc(), reader).expect(&rt, "no plan");
     assert_text(
         &rt,
         report_after(&rt, rt.alloc(), &plan, &[]),
