@@ -1,6 +1,7 @@
 //! What no clause says: which texts the definition takes and refuses, by examples.
 use super::*;
-use std::alloc::Global;
+use amo_kk::Move;
+use std::alloc::{AllocError, Global};
 use std::process::Abort;
 
 mod blocks;
@@ -36,7 +37,7 @@ say = \"three\"
 pub fn assert_refused(rt: &impl Abort, alloc: Global, text: &[u8], fault: PlanFault, name: &str) {
     match read_plan(alloc, text) {
         Ok(_) => assert!(rt; false, "accepted: {name}"),
-        Err(found) => assert_eq!(rt; found, fault, "at {name}"),
+        Err(found) => assert!(rt; found == fault, "at {name}: {found}"),
     }
 }
 
@@ -45,6 +46,113 @@ pub fn assert_accepted(rt: &impl Abort, alloc: Global, text: &[u8], name: &str) 
     if let Err(found) = read_plan(alloc, text) {
         assert!(rt; false, "refused: {name} with {found}");
     }
+}
+
+/// Texts that differ in one place alone.
+#[derive(Drop)]
+pub struct Frame<'a> {
+    /// The lines that come first.
+    pub heads: &'a str,
+    /// What stands before the place.
+    pub front: &'a str,
+    /// What stands after it.
+    pub back: &'a str,
+}
+
+impl Frame<'_> {
+    /// The text with this in the place.
+    pub fn text(&self, alloc: Global, inner: &str) -> Result<String, AllocError> {
+        format!(in alloc; "{}{}{inner}{}", self.heads, self.front, self.back)
+    }
+
+    /// Each of these is refused in the place, with its fault.
+    pub fn refuses(
+        &self,
+        rt: &impl Abort,
+        alloc: Global,
+        cases: &[(&str, PlanFault)],
+    ) -> Result<(), AllocError> {
+        for (inner, fault) in cases {
+            let text = self.text(alloc, inner)?;
+            assert_refused(rt, alloc, text.as_bytes(), *fault, inner);
+        }
+        Ok(())
+    }
+
+    /// Each of these is accepted in the place.
+    pub fn accepts(
+        &self,
+        rt: &impl Abort,
+        alloc: Global,
+        cases: &[&str],
+    ) -> Result<(), AllocError> {
+        for inner in cases {
+            let text = self.text(alloc, inner)?;
+            assert_accepted(rt, alloc, text.as_bytes(), inner);
+        }
+        Ok(())
+    }
+}
+
+/// Each of these texts is refused with its fault.
+pub fn assert_each_refused(rt: &impl Abort, alloc: Global, cases: &[(&str, PlanFault)]) {
+    for (text, fault) in cases {
+        assert_refused(rt, alloc, text.as_bytes(), *fault, text);
+    }
+}
+
+/// Plans of these heads and a schedule.
+pub fn schedules(heads: &str) -> Frame {
+    Frame {
+        heads,
+        front: "schedule = \"",
+        back: "\"\n",
+    }
+}
+
+/// This number in its decimal digits, in the frame.
+fn numbered(alloc: Global, frame: &Frame, number: u32) -> Result<String, AllocError> {
+    let digits = number.to_string(alloc)?;
+    frame.text(alloc, digits.as_str())
+}
+
+/// Heads, and so many jobs, whose names are the numbers from 0 on in this frame.
+pub fn with_jobs(alloc: Global, heads: &str, job: &Frame, jobs: u32) -> Result<String, AllocError> {
+    let mut text = String::from_str(alloc, heads)?;
+    for number in 0..jobs {
+        text.push_str(numbered(alloc, job, number)?.as_str())?;
+    }
+    Ok(text)
+}
+
+/// A row of these numbers.
+pub fn row(alloc: Global, numbers: &[u64]) -> Result<Row<u64>, AllocError> {
+    Ok(Row::new(numbers.to_vec(alloc)?))
+}
+
+/// This is the text, if there is one.
+pub fn assert_text(rt: &impl Abort, text: Option<&str>, wanted: Option<&str>) {
+    assert_eq!(rt; text, wanted);
+}
+
+/// This is the length.
+pub fn assert_length(rt: &impl Abort, length: usize, wanted: usize) {
+    assert_eq!(rt; length, wanted);
+}
+
+/// These are the moves.
+pub fn assert_moves(rt: &impl Abort, moves: &[Move], wanted: &[Move]) {
+    assert_eq!(rt; moves, wanted);
+}
+
+/// These are the counts.
+pub fn assert_counts(rt: &impl Abort, counts: &[u32], wanted: &[u32]) {
+    assert_eq!(rt; counts, wanted);
+}
+
+/// These are the numbers.
+pub fn assert_numbers(rt: &impl Abort, numbers: &[u64], wanted: &[u64]) {
+    assert_eq!(rt; numbers, wanted);
 }
 
 /// What a job says, if it says a text.

@@ -3,92 +3,92 @@ use super::*;
 use amo_kk::GivensFault;
 use std::test::Fail;
 
+/// Texts with one fault, and the fault.
+const FAULTY: [(&str, PlanFault); 22] = [
+    ("", PlanFault::MissingKey(0)),
+    ("say = \"hel", PlanFault::NotToml),
+    (
+        "version = 1\nworkers = 1\nbeta = 1\n[[job]]\nname = \"a\"\nsay = \"hel",
+        PlanFault::NotToml,
+    ),
+    (
+        "version = 1\nworkers = 1\nworkers = 1\nbeta = 1\n",
+        PlanFault::NotToml,
+    ),
+    (
+        "version = 1\nworkers = 9223372036854775808\nbeta = 1\n",
+        PlanFault::NotToml,
+    ),
+    (
+        "version = 1\nworkers = 1\nbeta = 1\ncolor = 1\n",
+        PlanFault::UnknownKey(0),
+    ),
+    (
+        "version = 1\nworkers = 1\nbeta = 1\nblock = 1\n",
+        PlanFault::UnknownKey(0),
+    ),
+    (
+        "version = 2.0\nworkers = 1\nbeta = 1\nblock = 1\n",
+        PlanFault::UnknownKey(0),
+    ),
+    ("version = 1\nworkers = 1\n", PlanFault::MissingKey(0)),
+    (
+        "version = 1\nworkers = 2.0\nbeta = 2\n",
+        PlanFault::WrongKind(0),
+    ),
+    (
+        "version = 1\nworkers = -1\nbeta = 2\n",
+        PlanFault::WrongKind(0),
+    ),
+    (
+        "version = 1\nworkers = 1\nbeta = \"2\"\n",
+        PlanFault::WrongKind(0),
+    ),
+    (
+        "version = 0\nworkers = 1\nbeta = 1\n",
+        PlanFault::WrongKind(0),
+    ),
+    (
+        "version = 3\nworkers = 1\nbeta = 1\n",
+        PlanFault::WrongKind(0),
+    ),
+    (
+        "version = 1979-05-27\nworkers = 1\nbeta = 1\n",
+        PlanFault::WrongKind(0),
+    ),
+    (
+        "version = 1\nworkers = 1\nbeta = 1\njob = 1\n",
+        PlanFault::WrongKind(0),
+    ),
+    (
+        "version = 1\nworkers = 1\nbeta = 1\njob = [1]\n",
+        PlanFault::WrongKind(0),
+    ),
+    (
+        "version = 1\nworkers = 1\nbeta = 1\nschedule = 1\n",
+        PlanFault::WrongKind(0),
+    ),
+    (
+        "version = 1\nworkers = 1\nbeta = 1\nrounds = -1\n",
+        PlanFault::WrongKind(0),
+    ),
+    (
+        "version = 1\nworkers = 1\nbeta = 1\nbudgets = [1, 2]\n",
+        PlanFault::WrongKind(0),
+    ),
+    (
+        "version = 1\nworkers = 17\nbeta = 17\nbudgets = [1]\n",
+        PlanFault::WrongKind(0),
+    ),
+    (
+        "version = 1\nworkers = 1\nbeta = 1\nbudgets = [-1]\n",
+        PlanFault::WrongKind(0),
+    ),
+];
+
 #[test]
 fn a_fault_is_told_at_its_place(rt: HostRuntime) -> Result<(), Fail> {
-    let cases = [
-        ("", PlanFault::MissingKey(0)),
-        ("say = \"hel", PlanFault::NotToml),
-        (
-            "version = 1\nworkers = 1\nbeta = 1\n[[job]]\nname = \"a\"\nsay = \"hel",
-            PlanFault::NotToml,
-        ),
-        (
-            "version = 1\nworkers = 1\nworkers = 1\nbeta = 1\n",
-            PlanFault::NotToml,
-        ),
-        (
-            "version = 1\nworkers = 9223372036854775808\nbeta = 1\n",
-            PlanFault::NotToml,
-        ),
-        (
-            "version = 1\nworkers = 1\nbeta = 1\ncolor = 1\n",
-            PlanFault::UnknownKey(0),
-        ),
-        (
-            "version = 1\nworkers = 1\nbeta = 1\nblock = 1\n",
-            PlanFault::UnknownKey(0),
-        ),
-        (
-            "version = 2.0\nworkers = 1\nbeta = 1\nblock = 1\n",
-            PlanFault::UnknownKey(0),
-        ),
-        ("version = 1\nworkers = 1\n", PlanFault::MissingKey(0)),
-        (
-            "version = 1\nworkers = 2.0\nbeta = 2\n",
-            PlanFault::WrongKind(0),
-        ),
-        (
-            "version = 1\nworkers = -1\nbeta = 2\n",
-            PlanFault::WrongKind(0),
-        ),
-        (
-            "version = 1\nworkers = 1\nbeta = \"2\"\n",
-            PlanFault::WrongKind(0),
-        ),
-        (
-            "version = 0\nworkers = 1\nbeta = 1\n",
-            PlanFault::WrongKind(0),
-        ),
-        (
-            "version = 3\nworkers = 1\nbeta = 1\n",
-            PlanFault::WrongKind(0),
-        ),
-        (
-            "version = 1979-05-27\nworkers = 1\nbeta = 1\n",
-            PlanFault::WrongKind(0),
-        ),
-        (
-            "version = 1\nworkers = 1\nbeta = 1\njob = 1\n",
-            PlanFault::WrongKind(0),
-        ),
-        (
-            "version = 1\nworkers = 1\nbeta = 1\njob = [1]\n",
-            PlanFault::WrongKind(0),
-        ),
-        (
-            "version = 1\nworkers = 1\nbeta = 1\nschedule = 1\n",
-            PlanFault::WrongKind(0),
-        ),
-        (
-            "version = 1\nworkers = 1\nbeta = 1\nrounds = -1\n",
-            PlanFault::WrongKind(0),
-        ),
-        (
-            "version = 1\nworkers = 1\nbeta = 1\nbudgets = [1, 2]\n",
-            PlanFault::WrongKind(0),
-        ),
-        (
-            "version = 1\nworkers = 17\nbeta = 17\nbudgets = [1]\n",
-            PlanFault::WrongKind(0),
-        ),
-        (
-            "version = 1\nworkers = 1\nbeta = 1\nbudgets = [-1]\n",
-            PlanFault::WrongKind(0),
-        ),
-    ];
-    for (text, fault) in cases {
-        assert_refused(&rt, rt.alloc(), text.as_bytes(), fault, text);
-    }
+    assert_each_refused(&rt, rt.alloc(), &FAULTY);
     let unreadable = b"version = 1\nworkers = 1\nbeta = 1\nschedule = \"\xff\"\n";
     assert_refused(&rt, rt.alloc(), unreadable, PlanFault::NotToml, "0xff");
     Ok(())
@@ -96,7 +96,11 @@ fn a_fault_is_told_at_its_place(rt: HostRuntime) -> Result<(), Fail> {
 
 #[test]
 fn a_fault_of_a_job_has_its_number(rt: HostRuntime) -> Result<(), Fail> {
-    let fine = "{name = \"z\", say = \"\"}";
+    let frame = Frame {
+        heads: HEADS,
+        front: "job = [{name = \"z\", say = \"\"}, ",
+        back: "]\n",
+    };
     let cases = [
         ("{}", PlanFault::MissingKey(2)),
         ("{say = \"\"}", PlanFault::MissingKey(2)),
@@ -123,10 +127,7 @@ fn a_fault_of_a_job_has_its_number(rt: HostRuntime) -> Result<(), Fail> {
             PlanFault::SumTooLarge(2),
         ),
     ];
-    for (job, fault) in cases {
-        let text = format!(in rt.alloc(); "{HEADS}job = [{fine}, {job}]\n")?;
-        assert_refused(&rt, rt.alloc(), text.as_bytes(), fault, job);
-    }
+    frame.refuses(&rt, rt.alloc(), &cases)?;
     Ok(())
 }
 
@@ -169,41 +170,38 @@ fn the_earlier_of_two_tests_wins(rt: HostRuntime) -> Result<(), Fail> {
             PlanFault::NoSuchWorker(3),
         ),
     ];
-    for (text, fault) in cases {
-        assert_refused(&rt, rt.alloc(), text.as_bytes(), fault, text);
-    }
+    assert_each_refused(&rt, rt.alloc(), &cases);
     Ok(())
 }
 
+/// Schedules for two workers with one fault, and the fault.
+const FAULTY_WORDS: [(&str, PlanFault); 18] = [
+    ("1 0", PlanFault::BadScheduleWord(2)),
+    ("3", PlanFault::NoSuchWorker(1)),
+    ("1 x", PlanFault::BadScheduleWord(2)),
+    ("1*0", PlanFault::BadScheduleWord(1)),
+    ("01", PlanFault::BadScheduleWord(1)),
+    ("2*1000000", PlanFault::BadScheduleWord(1)),
+    ("x1*2", PlanFault::BadScheduleWord(1)),
+    ("1*2*3", PlanFault::BadScheduleWord(1)),
+    ("1 * 2", PlanFault::BadScheduleWord(2)),
+    ("1*", PlanFault::BadScheduleWord(1)),
+    ("x3", PlanFault::NoSuchWorker(1)),
+    ("X1", PlanFault::BadScheduleWord(1)),
+    ("l1", PlanFault::BadScheduleWord(1)),
+    ("-1", PlanFault::BadScheduleWord(1)),
+    ("1\\f2", PlanFault::BadScheduleWord(1)),
+    ("1\\u000b2", PlanFault::BadScheduleWord(1)),
+    ("1\\u00a02", PlanFault::BadScheduleWord(1)),
+    ("1*100000 x1", PlanFault::TooLong),
+];
+
+/// Schedules for two workers.
+const WORDS: [&str; 4] = ["", "1*100000", " 1\\t2\\r\\n x1 ", "1 2 2*7"];
+
 #[test]
 fn a_word_that_is_none_is_refused(rt: HostRuntime) -> Result<(), Fail> {
-    let cases = [
-        ("1 0", PlanFault::BadScheduleWord(2)),
-        ("3", PlanFault::NoSuchWorker(1)),
-        ("1 x", PlanFault::BadScheduleWord(2)),
-        ("1*0", PlanFault::BadScheduleWord(1)),
-        ("01", PlanFault::BadScheduleWord(1)),
-        ("2*1000000", PlanFault::BadScheduleWord(1)),
-        ("x1*2", PlanFault::BadScheduleWord(1)),
-        ("1*2*3", PlanFault::BadScheduleWord(1)),
-        ("1 * 2", PlanFault::BadScheduleWord(2)),
-        ("1*", PlanFault::BadScheduleWord(1)),
-        ("x3", PlanFault::NoSuchWorker(1)),
-        ("X1", PlanFault::BadScheduleWord(1)),
-        ("l1", PlanFault::BadScheduleWord(1)),
-        ("-1", PlanFault::BadScheduleWord(1)),
-        ("1\\f2", PlanFault::BadScheduleWord(1)),
-        ("1\\u000b2", PlanFault::BadScheduleWord(1)),
-        ("1\\u00a02", PlanFault::BadScheduleWord(1)),
-        ("1*100000 x1", PlanFault::TooLong),
-    ];
-    for (words, fault) in cases {
-        let text = format!(in rt.alloc(); "{HEADS}schedule = \"{words}\"\n")?;
-        assert_refused(&rt, rt.alloc(), text.as_bytes(), fault, words);
-    }
-    for words in ["", "1*100000", " 1\\t2\\r\\n x1 ", "1 2 2*7"] {
-        let text = format!(in rt.alloc(); "{HEADS}schedule = \"{words}\"\n")?;
-        assert_accepted(&rt, rt.alloc(), text.as_bytes(), words);
-    }
+    schedules(HEADS).refuses(&rt, rt.alloc(), &FAULTY_WORDS)?;
+    schedules(HEADS).accepts(&rt, rt.alloc(), &WORDS)?;
     Ok(())
 }

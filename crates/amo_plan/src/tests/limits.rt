@@ -3,64 +3,90 @@ use super::*;
 use amo_kk::GivensFault;
 use std::test::Fail;
 
-/// A plan of so many jobs with names of their own.
-fn plan_of_jobs(
-    alloc: Global,
-    jobs: u32,
-    workers: u32,
-    beta: u32,
-) -> Result<String, std::alloc::AllocError> {
-    let mut text = format!(in alloc; "version = 1\nworkers = {workers}\nbeta = {beta}\n")?;
-    for job in 0..jobs {
-        let entry = format!(in alloc; "[[job]]\nname = \"{job}\"\nsay = \"\"\n")?;
-        text.push_str(entry.as_str())?;
-    }
-    Ok(text)
+/// The heads of a plan, and so many jobs with names of their own.
+fn plan_of_jobs(alloc: Global, jobs: u32, heads: &str) -> Result<String, AllocError> {
+    let job = Frame {
+        heads: "[[job]]\n",
+        front: "name = \"",
+        back: "\"\nsay = \"\"\n",
+    };
+    with_jobs(alloc, heads, &job, jobs)
 }
+
+/// Numbers of jobs, and heads, that are no givens, and the fault.
+const NO_GIVENS: [(u32, &str, GivensFault); 6] = [
+    (
+        4097,
+        "version = 1\nworkers = 16\nbeta = 16\n",
+        GivensFault::TooManyJobs,
+    ),
+    (
+        4097,
+        "version = 1\nworkers = 0\nbeta = 0\n",
+        GivensFault::TooManyJobs,
+    ),
+    (
+        1,
+        "version = 1\nworkers = 0\nbeta = 0\n",
+        GivensFault::NoWorkers,
+    ),
+    (
+        5,
+        "version = 1\nworkers = 17\nbeta = 17\n",
+        GivensFault::TooManyWorkers,
+    ),
+    (
+        5,
+        "version = 1\nworkers = 2\nbeta = 1\n",
+        GivensFault::BetaLow,
+    ),
+    (
+        5,
+        "version = 1\nworkers = 2\nbeta = 65536\n",
+        GivensFault::BetaHigh,
+    ),
+];
+
+/// Numbers of jobs, and heads, that are givens.
+const GIVENS: [(u32, &str); 4] = [
+    (4096, "version = 1\nworkers = 16\nbeta = 16\n"),
+    (5, "version = 1\nworkers = 2\nbeta = 2\n"),
+    (5, "version = 1\nworkers = 2\nbeta = 65535\n"),
+    (0, "version = 1\nworkers = 1\nbeta = 1\n"),
+];
 
 #[test]
 fn givens_keep_their_limits(rt: HostRuntime) -> Result<(), Fail> {
-    let refused = [
-        (4097, 16, 16, GivensFault::TooManyJobs),
-        (4097, 0, 0, GivensFault::TooManyJobs),
-        (1, 0, 0, GivensFault::NoWorkers),
-        (5, 17, 17, GivensFault::TooManyWorkers),
-        (5, 2, 1, GivensFault::BetaLow),
-        (5, 2, 65536, GivensFault::BetaHigh),
-    ];
-    for (jobs, workers, beta, fault) in refused {
-        let text = plan_of_jobs(rt.alloc(), jobs, workers, beta)?;
-        let name = format!(in rt.alloc(); "{jobs} {workers} {beta}")?;
-        assert_refused(
-            &rt,
-            rt.alloc(),
-            text.as_bytes(),
-            PlanFault::BadGivens(fault),
-            name.as_str(),
-        );
+    for (jobs, heads, fault) in NO_GIVENS {
+        let text = plan_of_jobs(rt.alloc(), jobs, heads)?;
+        let fault = PlanFault::BadGivens(fault);
+        assert_refused(&rt, rt.alloc(), text.as_bytes(), fault, heads);
     }
-    for (jobs, workers, beta) in [(4096, 16, 16), (5, 2, 2), (5, 2, 65535), (0, 1, 1)] {
-        let text = plan_of_jobs(rt.alloc(), jobs, workers, beta)?;
-        let name = format!(in rt.alloc(); "{jobs} {workers} {beta}")?;
-        assert_accepted(&rt, rt.alloc(), text.as_bytes(), name.as_str());
+    for (jobs, heads) in GIVENS {
+        let text = plan_of_jobs(rt.alloc(), jobs, heads)?;
+        assert_accepted(&rt, rt.alloc(), text.as_bytes(), heads);
     }
     Ok(())
 }
 
 #[test]
 fn rounds_and_budgets_keep_their_limits(rt: HostRuntime) -> Result<(), Fail> {
-    for more in [
-        "rounds = 10001\n",
-        "budgets = [10000001, 0]\n",
-        "budgets = [0, 10000001]\n",
-    ] {
-        let text = format!(in rt.alloc(); "{HEADS}{more}")?;
-        assert_refused(&rt, rt.alloc(), text.as_bytes(), PlanFault::TooLong, more);
-    }
-    for more in ["rounds = 10000\n", "budgets = [10000000, 0]\n"] {
-        let text = format!(in rt.alloc(); "{HEADS}{more}")?;
-        assert_accepted(&rt, rt.alloc(), text.as_bytes(), more);
-    }
+    let frame = Frame {
+        heads: HEADS,
+        front: "",
+        back: "",
+    };
+    let refused = [
+        ("rounds = 10001\n", PlanFault::TooLong),
+        ("budgets = [10000001, 0]\n", PlanFault::TooLong),
+        ("budgets = [0, 10000001]\n", PlanFault::TooLong),
+    ];
+    frame.refuses(&rt, rt.alloc(), &refused)?;
+    frame.accepts(
+        &rt,
+        rt.alloc(),
+        &["rounds = 10000\n", "budgets = [10000000, 0]\n"],
+    )?;
     Ok(())
 }
 
@@ -79,15 +105,13 @@ fn a_long_text_is_refused_whatever_it_holds(rt: HostRuntime) -> Result<(), Fail>
 fn a_name_has_at_most_64_characters(rt: HostRuntime) -> Result<(), Fail> {
     let longest = "AZaz09_-.AZaz09_-.AZaz09_-.AZaz09_-.AZaz09_-.AZaz09_-.AZaz09_-.A";
     assert_eq!(rt; longest.len(), 64);
-    let text = format!(in rt.alloc(); "{HEADS}job = [{{name = \"{longest}\", say = \"\"}}]\n")?;
-    assert_accepted(&rt, rt.alloc(), text.as_bytes(), longest);
-    let text = format!(in rt.alloc(); "{HEADS}job = [{{name = \"{longest}A\", say = \"\"}}]\n")?;
-    assert_refused(
-        &rt,
-        rt.alloc(),
-        text.as_bytes(),
-        PlanFault::BadName(1),
-        "65",
-    );
+    let names = Frame {
+        heads: HEADS,
+        front: "job = [{name = \"",
+        back: "\", say = \"\"}]\n",
+    };
+    names.accepts(&rt, rt.alloc(), &[longest])?;
+    let longer = "AZaz09_-.AZaz09_-.AZaz09_-.AZaz09_-.AZaz09_-.AZaz09_-.AZaz09_-.AA";
+    names.refuses(&rt, rt.alloc(), &[(longer, PlanFault::BadName(1))])?;
     Ok(())
 }

@@ -1,24 +1,57 @@
 //! The results of tasks, and the small types.
 use super::*;
-use std::alloc::AllocError;
 use std::test::Fail;
 
-/// The results of the jobs of a plan.
-fn results(alloc: Global, jobs: &str) -> Result<Vec<String>, PlanFault> {
-    let text = format!(in alloc; "{HEADS}job = [{jobs}]\n")?;
-    let plan = read_plan(alloc, text.as_bytes())?;
-    let mut results = Vec::new(alloc);
-    for task in plan.tasks.as_slice() {
-        if task.fits() {
-            results.push(result_of(alloc, task)?)?;
-        }
+/// The plan of these jobs.
+fn plan_of(alloc: Global, jobs: &str) -> Result<Plan, PlanFault> {
+    let frame = Frame {
+        heads: HEADS,
+        front: "job = [",
+        back: "]\n",
+    };
+    read_plan(alloc, frame.text(alloc, jobs)?.as_bytes())
+}
+
+/// The result of a task, which is empty where the task doesn't fit.
+fn result(alloc: Global, task: &Task) -> Result<String, AllocError> {
+    if task.fits() {
+        result_of(alloc, task)
+    } else {
+        Ok(String::new(alloc))
     }
-    Ok(results)
+}
+
+/// The task fits, and this is its result.
+fn assert_result(
+    rt: &impl Abort,
+    alloc: Global,
+    task: &Task,
+    wanted: &str,
+) -> Result<(), AllocError> {
+    assert!(rt; task.fits());
+    let found = result(alloc, task)?;
+    assert_eq!(rt; found.as_str(), wanted);
+    Ok(())
+}
+
+/// The plan of this one job has this result.
+fn assert_result_of(
+    rt: &impl Abort,
+    alloc: Global,
+    job: &str,
+    wanted: &str,
+) -> Result<(), PlanFault> {
+    let plan = plan_of(alloc, job)?;
+    match plan.tasks.as_slice() {
+        [task] => assert_result(rt, alloc, task, wanted)?,
+        _ => assert!(rt; false, "at {job}"),
+    }
+    Ok(())
 }
 
 #[test]
 fn a_result_is_the_text_or_the_sum(rt: HostRuntime) -> Result<(), Fail> {
-    let cases = [
+    for (job, result) in [
         ("{name = \"a\", say = \"hi\"}", "hi"),
         ("{name = \"a\", say = \"\"}", ""),
         ("{name = \"a\", say = \"a\\t\\\\\"}", "a\t\\"),
@@ -28,71 +61,74 @@ fn a_result_is_the_text_or_the_sum(rt: HostRuntime) -> Result<(), Fail> {
             "{name = \"b\", add = [9223372036854775807, 9223372036854775807, 1]}",
             "18446744073709551615",
         ),
-    ];
-    for (job, result) in cases {
-        let found = results(rt.alloc(), job)?;
-        assert_eq!(rt; found.len(), 1, "at {job}");
-        assert_eq!(rt; found[0].as_str(), result, "at {job}");
+    ] {
+        assert_result_of(&rt, rt.alloc(), job, result)?;
     }
     Ok(())
 }
 
-/// The numbers that a row holds.
-fn row(alloc: Global, numbers: &[u64]) -> Result<Row<u64>, AllocError> {
-    Ok(Row::new(numbers.to_vec(alloc)?))
+/// The sum of these numbers fits.
+fn sum_fits(alloc: Global, numbers: &[u64]) -> Result<bool, AllocError> {
+    Ok(Task::Add(row(alloc, numbers)?).fits())
+}
+
+/// This text fits.
+fn text_fits(alloc: Global, text: &str) -> Result<bool, AllocError> {
+    Ok(Task::Say(Text::from_str(alloc, text)?).fits())
 }
 
 #[test]
 fn a_sum_of_more_than_64_bits_does_not_fit(rt: HostRuntime) -> Result<(), Fail> {
-    assert!(rt; Task::Add(row(rt.alloc(), &[u64::MAX - 1, 1])?).fits());
-    assert!(rt; !Task::Add(row(rt.alloc(), &[u64::MAX, 1])?).fits());
-    assert!(rt; Task::Say(Text::from_str(rt.alloc(), "any")?).fits());
+    assert!(rt; sum_fits(rt.alloc(), &[u64::MAX - 1, 1])?);
+    assert!(rt; !sum_fits(rt.alloc(), &[u64::MAX, 1])?);
+    assert!(rt; text_fits(rt.alloc(), "any")?);
     Ok(())
+}
+
+/// The row holds these numbers, and gives them up.
+fn assert_row(rt: &impl Abort, row: Row<u64>, numbers: &[u64]) {
+    assert_numbers(rt, row.as_slice(), numbers);
+    assert_numbers(rt, row.into_vec().as_slice(), numbers);
+}
+
+/// The text holds this, and gives it up.
+fn assert_held(rt: &impl Abort, text: Text, held: &str) {
+    assert_text(rt, Some(text.as_str()), Some(held));
+    assert_text(rt, Some(Text::new(text.into_string()).as_str()), Some(held));
 }
 
 #[test]
 fn a_row_and_a_text_give_up_what_they_hold(rt: HostRuntime) -> Result<(), Fail> {
-    let numbers = row(rt.alloc(), &[3, 4])?;
-    assert_eq!(rt; numbers.as_slice(), [3u64, 4].as_slice());
-    assert_eq!(rt; numbers.into_vec().as_slice(), [3u64, 4].as_slice());
-    let text = Text::from_str(rt.alloc(), "held")?;
-    assert_eq!(rt; text.as_str(), "held");
-    assert_eq!(rt; Text::new(text.into_string()).as_str(), "held");
+    assert_row(&rt, row(rt.alloc(), &[3, 4])?, &[3, 4]);
+    assert_held(&rt, Text::from_str(rt.alloc(), "held")?, "held");
     Ok(())
 }
 
 #[test]
 fn refused_text(rt: HostRuntime) -> Result<(), Fail> {
     if let Ok(text) = Text::from_str(rt.alloc(), "held") {
-        assert_eq!(rt; text.as_str(), "held");
+        assert_held(&rt, text, "held");
     }
     Ok(())
 }
 
 /// The result of a sum, or want of memory.
-fn sum_result(alloc: Global) -> Result<Option<String>, AllocError> {
-    let task = Task::Add(row(alloc, &[2, 40])?);
-    if !task.fits() {
-        return Ok(None);
-    }
-    Ok(Some(result_of(alloc, &task)?))
+fn sum_result(alloc: Global) -> Result<String, AllocError> {
+    result(alloc, &Task::Add(row(alloc, &[2, 40])?))
+}
+
+/// The result of a text, or want of memory.
+fn text_result(alloc: Global) -> Result<String, AllocError> {
+    result(alloc, &Task::Say(Text::from_str(alloc, "hi")?))
 }
 
 #[test]
 fn refused_result(rt: HostRuntime) -> Result<(), Fail> {
     if let Ok(found) = sum_result(rt.alloc()) {
-        assert_eq!(rt; found.map_or(0, |text| text.len()), 2);
+        assert_eq!(rt; found.len(), 2);
     }
-    match Text::from_str(rt.alloc(), "hi") {
-        Ok(text) => {
-            let task = Task::Say(text);
-            if task.fits() {
-                if let Ok(found) = result_of(rt.alloc(), &task) {
-                    assert_eq!(rt; found.as_str(), "hi");
-                }
-            }
-        }
-        Err(_) => {}
+    if let Ok(found) = text_result(rt.alloc()) {
+        assert_eq!(rt; found.as_str(), "hi");
     }
     Ok(())
 }
