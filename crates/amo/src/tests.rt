@@ -11,6 +11,8 @@ mod words;
 use super::working::work;
 use amo_report::{Bytes, Room, Source};
 use std::alloc::{AllocError, Global};
+use std::process::Abort;
+use std::test::Fail;
 
 /// A plan of one worker and three jobs, which performs them all.
 const PLAN: &str =
@@ -20,21 +22,61 @@ const PLAN: &str =
 const REPORT: &str =
     "jobs 3 workers 1 beta 1 bound 3\n1 claimed 1 1\n2 done 1 1\n3 claimed 1 2\n4 done 1 2\n5 claimed 1 3\n6 done 1 3\n7 ended 1\nworker 1 ended turns 9 claimed 3 done 3\nresult 1 a one\nresult 2 b two\nresult 3 c three\nperformed 3\nunclaimed\n";
 
+/// What comes of a call of `work`: its status, and what it writes to its two sinks.
+#[derive(Clone, Copy, Debug, PartialEq, Eq)]
+struct Outcome<'a> {
+    status: u8,
+    out: &'a str,
+    err: &'a str,
+}
+
+/// Refused words: the line that says so, and nothing else.
+const NO_COMMAND: Outcome<'static> = Outcome {
+    status: 2,
+    out: "",
+    err: "fault words\n",
+};
+
+/// Want of memory: its line, and nothing else.
+const NO_MEMORY: Outcome<'static> = Outcome {
+    status: 3,
+    out: "",
+    err: "fault memory\n",
+};
+
+/// Done: this text, and nothing else.
+fn done(out: &str) -> Outcome<'_> {
+    Outcome {
+        status: 0,
+        out,
+        err: "",
+    }
+}
+
+/// A refused plan: this line, and nothing else.
+fn refused(err: &str) -> Outcome<'_> {
+    Outcome {
+        status: 1,
+        out: "",
+        err,
+    }
+}
+
 /// What is left of a call of `work`.
 #[derive(Drop)]
-struct Ending {
+struct Ran {
     status: u8,
     out: Room,
     err: Room,
 }
 
-impl Ending {
-    fn out(&self) -> &str {
-        text_of(&self.out)
-    }
-
-    fn err(&self) -> &str {
-        text_of(&self.err)
+impl Ran {
+    fn outcome(&self) -> Outcome<'_> {
+        Outcome {
+            status: self.status,
+            out: text_of(&self.out),
+            err: text_of(&self.err),
+        }
     }
 }
 
@@ -49,37 +91,88 @@ fn run_words<S: Source>(
     words: &[&str],
     reader: &mut S,
     room: usize,
-) -> Result<Ending, AllocError>
+) -> Result<Ran, AllocError>
     requires { S.failed reader.old ≡ false }
 {
     let mut out = Room::new(alloc, room)?;
     let mut err = Room::new(alloc, 100)?;
     let status = work(&(), alloc, words, reader, &mut out, &mut err);
-    Ok(Ending { status, out, err })
+    Ok(Ran { status, out, err })
 }
 
-/// Replays this plan, with ample room for its report.
-fn replay_plan(alloc: Global, plan: &str) -> Result<Ending, AllocError> {
-    run_words(alloc, &["replay"], &mut Bytes::new(plan.as_bytes()), 1000)
+impl Outcome<'_> {
+    /// Asserts that this is what is wanted of these words and this plan.
+    fn assert_is(&self, rt: &impl Abort, wanted: Outcome<'_>, words: &[&str], plan: &str) {
+        assert_eq!(rt; *self, wanted, "at {words:?} of {plan}");
+    }
+
+    /// Asserts that this is what is wanted, or want of memory.
+    fn assert_is_or_no_memory(&self, rt: &impl Abort, wanted: Outcome<'_>) {
+        assert!(rt; *self == wanted || *self == NO_MEMORY, "{self:?}");
+    }
+
+    /// Asserts that this is done, with a text that has this beginning and this end.
+    fn assert_done_between(&self, rt: &impl Abort, first: &str, last: &str) {
+        assert_eq!(rt; (self.status, self.err), (0, ""));
+        assert!(rt; self.out.starts_with(first));
+        assert!(rt; self.out.ends_with(last));
+    }
 }
 
-/// Done: status 0, this text, and nothing else.
-fn is_done(ran: &Ending, text: &str) -> bool {
-    ran.status == 0 && ran.out() == text && ran.err().is_empty()
+/// Asserts what comes of the program on these words and this plan, with so much room for its output.
+fn assert_outcome(
+    rt: &impl Abort,
+    alloc: Global,
+    words: &[&str],
+    plan: &str,
+    room: usize,
+    wanted: Outcome<'_>,
+) -> Result<(), Fail> {
+    let ran = run_words(alloc, words, &mut Bytes::new(plan.as_bytes()), room)?;
+    ran.outcome().assert_is(rt, wanted, words, plan);
+    Ok(())
 }
 
-/// Done with this text, or want of memory with its line and nothing else.
-fn is_done_or_wants_memory(ran: &Ending, text: &str) -> bool {
-    is_done(ran, text) || ran.status == 3 && ran.out().is_empty() && ran.err() == "fault memory\n"
+/// The same, but memory may be wanted in place of it, by the test too.
+fn assert_outcome_or_no_memory(
+    rt: &impl Abort,
+    alloc: Global,
+    words: &[&str],
+    plan: &str,
+    room: usize,
+    wanted: Outcome<'_>,
+) {
+    if let Ok(ran) = run_words(alloc, words, &mut Bytes::new(plan.as_bytes()), room) {
+        ran.outcome().assert_is_or_no_memory(rt, wanted);
+    }
 }
 
-/// A refused plan: status 1, this line, and nothing else.
-fn is_refused(ran: &Ending, line: &str) -> bool {
-    ran.status == 1 && ran.out().is_empty() && ran.err() == line
+/// Asserts that the program is done on these words and this plan, with room for the longest text, and that its text
+/// has this beginning and this end.
+fn assert_long_text(
+    rt: &impl Abort,
+    alloc: Global,
+    words: &[&str],
+    plan: &str,
+    first: &str,
+    last: &str,
+) -> Result<(), Fail> {
+    let ran = run_words(alloc, words, &mut Bytes::new(plan.as_bytes()), 100_000)?;
+    ran.outcome().assert_done_between(rt, first, last);
+    Ok(())
 }
 
-/// Refused words: status 2, the line that says so, and nothing else.
-fn is_no_command(alloc: Global, words: &[&str]) -> Result<bool, AllocError> {
-    let ran = run_words(alloc, words, &mut Bytes::new(PLAN.as_bytes()), 1000)?;
-    Ok(ran.status == 2 && ran.out().is_empty() && ran.err() == "fault words\n")
+/// Asserts what comes of the replay of this plan, with ample room for its report.
+fn assert_replay(
+    rt: &impl Abort,
+    alloc: Global,
+    plan: &str,
+    wanted: Outcome<'_>,
+) -> Result<(), Fail> {
+    assert_outcome(rt, alloc, &["replay"], plan, 1000, wanted)
+}
+
+/// Asserts that these words are refused.
+fn assert_no_command(rt: &impl Abort, alloc: Global, words: &[&str]) -> Result<(), Fail> {
+    assert_outcome(rt, alloc, words, PLAN, 1000, NO_COMMAND)
 }

@@ -1,5 +1,8 @@
 //! Plans and their reports, and plans that are refused.
-use super::{PLAN, REPORT, is_done, is_done_or_wants_memory, is_refused, replay_plan, run_words};
+use super::{
+    Outcome, PLAN, REPORT, assert_outcome, assert_outcome_or_no_memory, assert_replay, done,
+    refused, run_words,
+};
 use amo_report::Bytes;
 use std::alloc::{AllocError, Global};
 use std::test::Fail;
@@ -10,18 +13,13 @@ const NO_JOBS: &str =
 
 #[test]
 fn a_replay_writes_the_report_alone(rt: HostRuntime) -> Result<(), Fail> {
-    let ran = replay_plan(rt.alloc(), PLAN)?;
-    assert!(rt; is_done(&ran, REPORT));
-    Ok(())
+    assert_replay(&rt, rt.alloc(), PLAN, done(REPORT))
 }
 
 /// The report, or want of memory with nothing written.
 #[test]
 fn refused_replay(rt: HostRuntime) {
-    let Ok(ran) = replay_plan(rt.alloc(), PLAN) else {
-        return;
-    };
-    assert!(rt; is_done_or_wants_memory(&ran, REPORT));
+    assert_outcome_or_no_memory(&rt, rt.alloc(), &["replay"], PLAN, 1000, done(REPORT));
 }
 
 /// `PLAN`, each of its lines ended by CR LF.
@@ -37,25 +35,19 @@ fn plan_of_cr_lf(alloc: Global) -> Result<String, AllocError> {
 #[test]
 fn lines_may_end_with_cr_lf(rt: HostRuntime) -> Result<(), Fail> {
     let plan = plan_of_cr_lf(rt.alloc())?;
-    let ran = replay_plan(rt.alloc(), plan.as_str())?;
-    assert!(rt; is_done(&ran, REPORT));
-    Ok(())
+    assert_replay(&rt, rt.alloc(), plan.as_str(), done(REPORT))
 }
 
 #[test]
 fn a_plan_without_jobs_ends_at_once(rt: HostRuntime) -> Result<(), Fail> {
     let plan = "version = 1\nworkers = 1\nbeta = 1\nschedule = \"1*9\"\n";
-    let ran = replay_plan(rt.alloc(), plan)?;
-    assert!(rt; is_done(&ran, NO_JOBS));
-    Ok(())
+    assert_replay(&rt, rt.alloc(), plan, done(NO_JOBS))
 }
 
 #[test]
 fn a_check_writes_the_check_text_alone(rt: HostRuntime) -> Result<(), Fail> {
-    let mut reader = Bytes::new(PLAN.as_bytes());
-    let ran = run_words(rt.alloc(), &["check"], &mut reader, 1000)?;
-    assert!(rt; is_done(&ran, "ok jobs 3 workers 1 beta 1 moves 9 rounds 0\n"));
-    Ok(())
+    let wanted = done("ok jobs 3 workers 1 beta 1 moves 9 rounds 0\n");
+    assert_outcome(&rt, rt.alloc(), &["check"], PLAN, 1000, wanted)
 }
 
 #[test]
@@ -79,8 +71,7 @@ fn a_refused_plan_gives_its_line(rt: HostRuntime) -> Result<(), Fail> {
             "fault 10 NoSuchWorker 1\n",
         ),
     ] {
-        let ran = replay_plan(rt.alloc(), plan)?;
-        assert!(rt; is_refused(&ran, line), "at {plan}");
+        assert_replay(&rt, rt.alloc(), plan, refused(line))?;
     }
     Ok(())
 }
@@ -88,37 +79,29 @@ fn a_refused_plan_gives_its_line(rt: HostRuntime) -> Result<(), Fail> {
 /// The line of a plan's fault, or want of memory; nothing is written to `out` either way.
 #[test]
 fn refused_line_of_a_fault(rt: HostRuntime) {
-    let Ok(ran) = replay_plan(rt.alloc(), "") else {
-        return;
-    };
-    assert_eq!(rt; ran.out(), "");
-    if ran.status == 1 {
-        assert_eq!(rt; ran.err(), "fault 3 MissingKey 0\n");
-    } else {
-        assert_eq!(rt; ran.status, 3);
-        assert_eq!(rt; ran.err(), "fault memory\n");
-    }
+    let wanted = refused("fault 3 MissingKey 0\n");
+    assert_outcome_or_no_memory(&rt, rt.alloc(), &["replay"], "", 1000, wanted);
+}
+
+/// Whether the replay of this plan writes a report alone or the line of a refused plan alone.
+fn is_replayed_or_refused(alloc: Global, plan: &[u8]) -> Result<bool, AllocError> {
+    let ran = run_words(alloc, &["replay"], &mut Bytes::new(plan), 1000)?;
+    let Outcome { status, out, err } = ran.outcome();
+    Ok(match status {
+        0 => err.is_empty() && out.starts_with("jobs "),
+        1 => out.is_empty() && err.starts_with("fault "),
+        _ => false,
+    })
 }
 
 #[test]
 fn each_beginning_of_a_plan_is_a_plan_or_is_refused(rt: HostRuntime) -> Result<(), Fail> {
     let bytes = PLAN.as_bytes();
     for end in 0..=bytes.len() {
-        let mut reader = Bytes::new(&bytes[..end]);
-        let ran = run_words(rt.alloc(), &["replay"], &mut reader, 1000)?;
-        match ran.status {
-            0 => assert!(rt;
-                ran.err().is_empty() && ran.out().starts_with("jobs "),
-                "at {end}"
-            ),
-            status => {
-                assert_eq!(rt; status, 1, "at {end}");
-                assert!(rt;
-                    ran.out().is_empty() && ran.err().starts_with("fault "),
-                    "at {end}"
-                );
-            }
-        }
+        assert!(rt;
+            is_replayed_or_refused(rt.alloc(), &bytes[..end])?,
+            "at {end}"
+        );
     }
     Ok(())
 }
@@ -129,8 +112,7 @@ fn a_cut_plan_lacks_what_was_cut_off(rt: HostRuntime) -> Result<(), Fail> {
         "version = 1\nworkers = 1\nbeta = 1\n",
         "version = 1\nworkers = 1\nbeta = 1\nschedule = \"1*9\"\n",
     ] {
-        let ran = replay_plan(rt.alloc(), plan)?;
-        assert!(rt; is_done(&ran, NO_JOBS), "at {plan}");
+        assert_replay(&rt, rt.alloc(), plan, done(NO_JOBS))?;
     }
     for (plan, line) in [
         ("", "fault 3 MissingKey 0\n"),
@@ -143,8 +125,7 @@ fn a_cut_plan_lacks_what_was_cut_off(rt: HostRuntime) -> Result<(), Fail> {
             "fault 3 MissingKey 1\n",
         ),
     ] {
-        let ran = replay_plan(rt.alloc(), plan)?;
-        assert!(rt; is_refused(&ran, line), "at {plan}");
+        assert_replay(&rt, rt.alloc(), plan, refused(line))?;
     }
     Ok(())
 }

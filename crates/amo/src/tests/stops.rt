@@ -1,7 +1,10 @@
 //! The command `stops`: its number, its text and what it refuses of a plan.
-use super::{Ending, is_done, is_done_or_wants_memory, is_no_command, is_refused, run_words};
-use amo_report::Bytes;
-use std::alloc::{AllocError, Global};
+use super::{
+    Outcome, assert_long_text, assert_no_command, assert_outcome, assert_outcome_or_no_memory,
+    done, refused,
+};
+use std::alloc::Global;
+use std::process::Abort;
 use std::test::Fail;
 
 /// A plan of two workers and two jobs, in which worker 1 takes four turns.
@@ -20,42 +23,40 @@ const THOUSAND_TURNS: &str =
 const ONE_TURN_MORE: &str =
     "version = 1\nworkers = 1\nbeta = 1\nschedule = \"1*1000 1\"\n\n[[job]]\nname = \"a\"\nsay = \"one\"\n";
 
-/// Stops this worker in this plan, with room for the longest text.
-fn stop_worker(alloc: Global, plan: &str, worker: &str) -> Result<Ending, AllocError> {
-    let mut reader = Bytes::new(plan.as_bytes());
-    run_words(alloc, &["stops", worker], &mut reader, 100_000)
+/// Asserts what comes of stopping this worker in this plan, with room for the longest text.
+fn assert_stopped(
+    rt: &impl Abort,
+    alloc: Global,
+    plan: &str,
+    worker: &str,
+    wanted: Outcome<'_>,
+) -> Result<(), Fail> {
+    assert_outcome(rt, alloc, &["stops", worker], plan, 100_000, wanted)
 }
 
 #[test]
 fn each_stop_has_its_line(rt: HostRuntime) -> Result<(), Fail> {
-    let ran = stop_worker(rt.alloc(), FOUR_TURNS, "1")?;
-    assert!(rt; is_done(&ran, FIVE_STOPS));
-    Ok(())
+    assert_stopped(&rt, rt.alloc(), FOUR_TURNS, "1", done(FIVE_STOPS))
 }
 
 /// The text, or want of memory with nothing written.
 #[test]
 fn refused_stops(rt: HostRuntime) {
-    let Ok(ran) = stop_worker(rt.alloc(), FOUR_TURNS, "1") else {
-        return;
-    };
-    assert!(rt; is_done_or_wants_memory(&ran, FIVE_STOPS));
+    let words = ["stops", "1"];
+    let wanted = done(FIVE_STOPS);
+    assert_outcome_or_no_memory(&rt, rt.alloc(), &words, FOUR_TURNS, 100_000, wanted);
 }
 
 #[test]
 fn a_thousand_moves_are_taken(rt: HostRuntime) -> Result<(), Fail> {
-    let ran = stop_worker(rt.alloc(), THOUSAND_TURNS, "1")?;
-    assert_eq!(rt; ran.status, 0);
-    assert!(rt;
-        ran.out()
-            .starts_with("stop 0 claimed 0 done 0 most 0 lawful\n")
-    );
-    assert!(rt;
-        ran.out()
-            .ends_with("\nstop 1000 claimed 1 done 1 most 0 lawful\nleast 0\n")
-    );
-    assert_eq!(rt; ran.err(), "");
-    Ok(())
+    assert_long_text(
+        &rt,
+        rt.alloc(),
+        &["stops", "1"],
+        THOUSAND_TURNS,
+        "stop 0 claimed 0 done 0 most 0 lawful\n",
+        "\nstop 1000 claimed 1 done 1 most 0 lawful\nleast 0\n",
+    )
 }
 
 #[test]
@@ -72,8 +73,7 @@ fn a_plan_is_refused_by_its_first_fault(rt: HostRuntime) -> Result<(), Fail> {
         ),
         ("version = 1\nworkers = 2\n", "3", "fault 3 MissingKey 0\n"),
     ] {
-        let ran = stop_worker(rt.alloc(), plan, worker)?;
-        assert!(rt; is_refused(&ran, line), "at {worker} of {plan}");
+        assert_stopped(&rt, rt.alloc(), plan, worker, refused(line))?;
     }
     Ok(())
 }
@@ -81,18 +81,16 @@ fn a_plan_is_refused_by_its_first_fault(rt: HostRuntime) -> Result<(), Fail> {
 #[test]
 fn another_number_is_no_command(rt: HostRuntime) -> Result<(), Fail> {
     for worker in ["0", "17", "01", "", "one", "-1", "+1", "1 ", "4294967297"] {
-        assert!(rt;
-            is_no_command(rt.alloc(), &["stops", worker])?,
-            "at {worker}"
-        );
+        assert_no_command(&rt, rt.alloc(), &["stops", worker])?;
     }
     Ok(())
 }
 
 #[test]
 fn one_number_is_wanted(rt: HostRuntime) -> Result<(), Fail> {
-    assert!(rt; is_no_command(rt.alloc(), &["stops"])?);
-    assert!(rt; is_no_command(rt.alloc(), &["stops", "1", "2"])?);
-    assert!(rt; is_no_command(rt.alloc(), &["stops", "1", "--help"])?);
+    let lines: [&[&str]; 3] = [&["stops"], &["stops", "1", "2"], &["stops", "1", "--help"]];
+    for words in lines {
+        assert_no_command(&rt, rt.alloc(), words)?;
+    }
     Ok(())
 }
