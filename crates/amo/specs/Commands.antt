@@ -76,7 +76,7 @@ request_of_line line = unless_any (fault_of amo_app line) (option_and_then (λ r
 abbrev pub asked : List Text → Option Request
 asked words = request_of_line (codes "amo" ∷ words)
 
--- the result is this request, or NoCommand where there is none, or want of memory
+-- the result is this request, or NoCommand where there is none, or out of memory
 abbrev pub Answers : Option Request → Result Request RequestFault → Type 0
 Answers wanted result = MatchResult result (λ request. wanted ≡ Some request) (λ fault. fault ≡ NoCommand → wanted ≡ None)
 

@@ -44,7 +44,7 @@ pub record IsCutShort (wanted : Option Request) (reader out : Change) : Type 0 w
   pub failed : out.failed ≡ true
   pub written : IfSome reader.before (λ bytes. IsOkAnd (text_in request bytes) (λ text. AppendsFront out.before out.after text))
 
--- The reader's bytes have no such text, for this fault, which isn't want of memory, and nothing was written to `out`.
+-- The reader's bytes have no such text, for this fault, which isn't out of memory, and nothing was written to `out`.
 pub record IsRefused (fault : PlanFault) (wanted : Option Request) (reader out : Change) : Type 0 where
   pub request : Request
   pub asked : wanted ≡ Some request
@@ -83,7 +83,7 @@ pub record Ends (wanted : Option Request) (reader out err : Change) (status : �
 abbrev pub Tells : Fault → Change → ℕ → Type 0
 Tells fault err status = Says err (line_of fault) × (status ≡ status_of fault)
 
--- the same of a fault that came: want of memory may take the place of a plan's fault, whose line takes memory
+-- the same of a fault that came: out of memory may take the place of a plan's fault, whose line takes memory
 abbrev pub IsTold : Fault → Change → ℕ → Type 0
 IsTold (Plan f) err status = Tells (Plan f) err status ⊎ Tells NoMemory err status
 IsTold NoCommand err status = Tells NoCommand err status

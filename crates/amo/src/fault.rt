@@ -9,7 +9,7 @@ use amo_report::ReplayFault;
 /// Why a command wasn't done, or not all of it.
 #[derive(Clone, Copy, Debug, PartialEq, Eq)]
 pub enum Fault {
-    /// The plan was refused, for this fault, which isn't want of memory.
+    /// The plan was refused, for this fault, which isn't out of memory.
     Plan(PlanFault),
     /// The words are no command.
     NoCommand,

@@ -37,7 +37,7 @@ const NO_COMMAND: Outcome<'static> = Outcome {
     err: "fault words\n",
 };
 
-/// Want of memory: its line, and nothing else.
+/// Out of memory: its line, and nothing else.
 const NO_MEMORY: Outcome<'static> = Outcome {
     status: 3,
     out: "",
@@ -106,7 +106,7 @@ impl Outcome<'_> {
         assert_eq!(rt; *self, wanted, "at {words:?} of {plan}");
     }
 
-    /// Asserts that this is what is wanted, or want of memory.
+    /// Asserts that this is what is wanted, or out of memory.
     fn assert_is_or_no_memory(&self, rt: &impl Abort, wanted: Outcome<'_>) {
         assert!(rt; *self == wanted || *self == NO_MEMORY, "{self:?}");
     }

@@ -9,9 +9,9 @@ use Rattle.amo_sets.specs.Rank.{count}
 use Rattle.amo_kk.specs.Givens.{AreGivens, IsJob, IsWorker, IsOther, next_other, others_before}
 use Rattle.amo_kk.specs.Record.{is_open, is_over, wants_nothing, jobs_in_hand}
 use Rattle.amo_kk.specs.Choice.{chosen_job, record_after_choice, record_after_check}
-use Rattle.amo_kk.specs.Event.{want_in, want, with_announced, record_at_row, record_after_phase, record_after}
+use Rattle.amo_kk.specs.Step.{want_in, want, with_announced, record_at_row, record_after_phase, record_after}
 use Rattle.amo_kk.specs.World.{process, loaded_value, world_after_turn}
-use Rattle.amo_kk.specs.Alone.{is_claiming, claims_or_ends, world_after_turns, IsFirstToSettle, stores_announcement, want_at}
+use Rattle.amo_kk.specs.Alone.{is_claiming, claims_or_ends, world_after_turns, IsFirstToClaimOrEnd, stores_announcement, want_at}
 use Rattle.amo_kk.specs.Lawful.{IsLawful}
 use Rattle.amo_kk.specs.declared.givens.Givens.{Givens}
 use Rattle.amo_kk.specs.declared.phase.Phase.{Phase}
@@ -26,18 +26,18 @@ use Rattle.amo_kk.proofs.Worlds.{here_is_worker}
 use Rattle.amo_kk.proofs.OwnTurns.{next_record, own_turn, stored, stored_within, stored_in, stored_in_want, to_begin, turns_that-suc, left_from}
 
 -- one of the next k turns of p claims a job or ends p, and up to it at most n announcements are stored
-abbrev SettlesWithin : Givens → ℕ → ℕ → ℕ → World → Type 0
-SettlesWithin g p zero n w = ⊥
-SettlesWithin g p (suc k) n w = (stored w p ≤ n) × ((claims_or_ends g w p ≡ true) ⊎ SettlesWithin g p k (n - stored w p) (world_after_turn g w p))
+abbrev ClaimsOrEndsWithin : Givens → ℕ → ℕ → ℕ → World → Type 0
+ClaimsOrEndsWithin g p zero n w = ⊥
+ClaimsOrEndsWithin g p (suc k) n w = (stored w p ≤ n) × ((claims_or_ends g w p ≡ true) ⊎ ClaimsOrEndsWithin g p k (n - stored w p) (world_after_turn g w p))
 
 -- and so one of them is the first
-first_of_them : (g : Givens) (p k n : ℕ) (w : World) → SettlesWithin g p k n w → (i : ℕ) × (i < k) × IsFirstToSettle g w p i × (stored_within g w p i ≤ n)
+first_of_them : (g : Givens) (p k n : ℕ) (w : World) → ClaimsOrEndsWithin g p k n w → (i : ℕ) × (i < k) × IsFirstToClaimOrEnd g w p i × (stored_within g w p i ≤ n)
 first_of_them g p zero n w h = absurd h
 first_of_them g p (suc k) n w h = go (claims_or_ends g w p) refl h.1 (first_of_them g p k (n - stored w p) (world_after_turn g w p))
   where
-    go : (b : Bool) → claims_or_ends g w p ≡ b → (claims_or_ends g w p ≡ true) ⊎ SettlesWithin g p k (n - stored w p) (world_after_turn g w p)
-        → (SettlesWithin g p k (n - stored w p) (world_after_turn g w p) → (i : ℕ) × (i < k) × IsFirstToSettle g (world_after_turn g w p) p i × (stored_within g (world_after_turn g w p) p i ≤ n - stored w p))
-        → (i : ℕ) × (i < suc k) × IsFirstToSettle g w p i × (stored_within g w p i ≤ n)
+    go : (b : Bool) → claims_or_ends g w p ≡ b → (claims_or_ends g w p ≡ true) ⊎ ClaimsOrEndsWithin g p k (n - stored w p) (world_after_turn g w p)
+        → (ClaimsOrEndsWithin g p k (n - stored w p) (world_after_turn g w p) → (i : ℕ) × (i < k) × IsFirstToClaimOrEnd g (world_after_turn g w p) p i × (stored_within g (world_after_turn g w p) p i ≤ n - stored w p))
+        → (i : ℕ) × (i < suc k) × IsFirstToClaimOrEnd g w p i × (stored_within g w p i ≤ n)
     go true e s next = (0, omega arith, record { none_before = λ i l. absurd (omega arith); this_one = e }, h.0)
     go false e (inl t) next = absurd (true≢false (sym t ∙ e))
     go false e (inr s) next = (suc (next s).0, suc_less (next s).0 k (next s).1, record { none_before = none; this_one = (next s).2.this_one }, all (next s).0 (next s).3)
@@ -81,11 +81,11 @@ module _ (g : Givens) (ok : AreGivens g) (p : ℕ) (o : IsWorker g p) (at : ℕ 
   abbrev Same : World → Type 0
   Same w = (q : ℕ) → q ≢ p → process w q ≡ at q
 
-  -- in each such world in which p has the record x, p settles within k turns and n stores, where x is not over
+  -- in each such world in which p has the record x, p claims or ends within k turns and n stores, where x is not over
   abbrev Ready : ℕ → ℕ → Record → Type 0
-  Ready k n x = is_over x.phase ≡ false → (w : World) → IsLawful g w → Same w → (process w p).gone ≡ false → (process w p).local ≡ x → SettlesWithin g p k n w
+  Ready k n x = is_over x.phase ≡ false → (w : World) → IsLawful g w → Same w → (process w p).gone ≡ false → (process w p).local ≡ x → ClaimsOrEndsWithin g p k n w
 
-  step : (k n : ℕ) (w : World) (phase : Phase) → (process w p).local.phase ≡ phase → stored_in phase ≤ n → IsLawful g w → Same w → (process w p).gone ≡ false → Ready k (n - stored_in phase) (next_record g w p) → SettlesWithin g p (suc k) n w
+  step : (k n : ℕ) (w : World) (phase : Phase) → (process w p).local.phase ≡ phase → stored_in phase ≤ n → IsLawful g w → Same w → (process w p).gone ≡ false → Ready k (n - stored_in phase) (next_record g w p) → ClaimsOrEndsWithin g p (suc k) n w
   step k n w phase is enough law same here ready = (subst (λ x. x ≤ n) (sym paid) enough, go (is_over (next_record g w p).phase) refl)
     where
       r : Record
@@ -94,11 +94,11 @@ module _ (g : Givens) (ok : AreGivens g) (p : ℕ) (o : IsWorker g p) (at : ℕ 
       paid : stored w p ≡ stored_in phase
       paid = ap (λ x. if stores_announcement (want_in r x) then 1 else 0) is ∙ stored_in_want r phase
 
-      go : (b : Bool) → is_over (next_record g w p).phase ≡ b → (claims_or_ends g w p ≡ true) ⊎ SettlesWithin g p k (n - stored w p) (world_after_turn g w p)
+      go : (b : Bool) → is_over (next_record g w p).phase ≡ b → (claims_or_ends g w p ≡ true) ⊎ ClaimsOrEndsWithin g p k (n - stored w p) (world_after_turn g w p)
       go true e = inl (or_right (is_claiming r.phase) (is_over (next_record g w p).phase) e)
       go false e =
           let t = own_turn g w p ok law here e in
-          inr (subst (λ x. SettlesWithin g p k (n - x) (world_after_turn g w p)) (sym paid) (ready e (world_after_turn g w p) t.law (λ q n. t.others q n ∙ same q n) t.here t.local))
+          inr (subst (λ x. ClaimsOrEndsWithin g p k (n - x) (world_after_turn g w p)) (sym paid) (ready e (world_after_turn g w p) t.law (λ q n. t.others q n ∙ same q n) t.here t.local))
 
   -- a record after its phase is known
   by_phase : (k n v : ℕ) (r : Record) (phase : Phase) → r.phase ≡ phase → Ready k n (record (record_after_phase g p v r phase) { steps = min (r.steps + 1) (2 ^ 64 - 1) }) → Ready k n (record_after g p v r)
@@ -111,14 +111,14 @@ module _ (g : Givens) (ok : AreGivens g) (p : ℕ) (o : IsWorker g p) (at : ℕ 
   -- a turn that reads an entry
   reads : (k n i q0 : ℕ) (w : World) → (process w p).local.phase ≡ Reading i q0 → IsLawful g w → Same w → (process w p).gone ≡ false
       → (let r = (process w p).local in let v = loaded_value w (want r) in
-      (b : Bool) → (v == 0) ≡ b → Ready k (n - 0) (record (after_entry b v i q0 r) { steps = min (r.steps + 1) (2 ^ 64 - 1) }) → SettlesWithin g p (suc k) n w)
+      (b : Bool) → (v == 0) ≡ b → Ready k (n - 0) (record (after_entry b v i q0 r) { steps = min (r.steps + 1) (2 ^ 64 - 1) }) → ClaimsOrEndsWithin g p (suc k) n w)
   reads k n i q0 w is law same here b e ready =
       let r = (process w p).local in
       let v = loaded_value w (want r) in
       step k n w (Reading i q0) is (omega arith) law same here (by_phase k (n - 0) v r (Reading i q0) is
       (subst (λ c. Ready k (n - 0) (record (after_entry c v i q0 r) { steps = min (r.steps + 1) (2 ^ 64 - 1) })) (sym e) ready))
 
-  claims_now : (k n : ℕ) (w : World) (j : ℕ) → (process w p).local.phase ≡ Claiming j → SettlesWithin g p (suc k) n w
+  claims_now : (k n : ℕ) (w : World) (j : ℕ) → (process w p).local.phase ≡ Claiming j → ClaimsOrEndsWithin g p (suc k) n w
   claims_now k n w j is = (subst (λ x. (if stores_announcement (want_in (process w p).local x) then 1 else 0) ≤ n) (sym is) (omega arith), inl (or_left (is_claiming (process w p).local.phase) _ (ap is_claiming is)))
 
   -- turns from this phase to the check's end, entries of rows apart
@@ -171,8 +171,8 @@ module _ (g : Givens) (ok : AreGivens g) (p : ℕ) (o : IsWorker g p) (at : ℕ 
       ap (λ phase. loaded_value w (want_in (process w p).local phase)) is ∙ numbered_next 0 (process w q).row (numbered 0 (process w p).local.fronts q)
       ∙ (law.lawful.sound q other.worker).row (numbered 0 (process w p).local.fronts q) ∙ ap (λ (x : Process). get_or x.local.dones (numbered 0 (process w p).local.fronts q) 0) (same q other.differs)
 
-  passes_step : (k j : ℕ) → ((n : ℕ) (w : World) → IsLawful g w → Same w → (process w p).gone ≡ false → Passes (process w p).local j k n → SettlesWithin g p k n w)
-      → (n : ℕ) (w : World) → IsLawful g w → Same w → (process w p).gone ≡ false → Passes (process w p).local j (suc k) n → SettlesWithin g p (suc k) n w
+  passes_step : (k j : ℕ) → ((n : ℕ) (w : World) → IsLawful g w → Same w → (process w p).gone ≡ false → Passes (process w p).local j k n → ClaimsOrEndsWithin g p k n w)
+      → (n : ℕ) (w : World) → IsLawful g w → Same w → (process w p).gone ≡ false → Passes (process w p).local j (suc k) n → ClaimsOrEndsWithin g p (suc k) n w
   passes_step k j next n w law same here l = go (process w p).local.phase refl
     where
       r : Record
@@ -191,7 +191,7 @@ module _ (g : Givens) (ok : AreGivens g) (p : ℕ) (o : IsWorker g p) (at : ℕ 
       claim m i tried e none some = subst (λ x. Ready k m (record x { steps = s })) (sym (check_open i (record r { tried = tried }) (subst (λ x. has r.known x ≡ false) (sym e) l.unknown) (subst (λ x. has tried x ≡ false) (sym e) none)))
           (to _ _ (record { on = e; read = l.read; unknown = l.unknown; untried = none; apart = l.apart; bound = some; stores = omega arith }))
 
-      go : (phase : Phase) → r.phase ≡ phase → SettlesWithin g p (suc k) n w
+      go : (phase : Phase) → r.phase ≡ phase → ClaimsOrEndsWithin g p (suc k) n w
       go (Announcing i) is =
           let on : i ≡ j = subst (λ x. IsOn x j) is l.on in
           let b : 1 + 2 * (g.workers - 1) < suc k = subst (λ x. cost x < suc k) is l.bound in
@@ -228,7 +228,7 @@ module _ (g : Givens) (ok : AreGivens g) (p : ℕ) (o : IsWorker g p) (at : ℕ 
       go Over is = absurd (subst (λ x. IsOn x j) is l.on)
       go Left is = absurd (subst (λ x. IsOn x j) is l.on)
 
-  passes : (k j n : ℕ) (w : World) → IsLawful g w → Same w → (process w p).gone ≡ false → Passes (process w p).local j k n → SettlesWithin g p k n w
+  passes : (k j n : ℕ) (w : World) → IsLawful g w → Same w → (process w p).gone ≡ false → Passes (process w p).local j k n → ClaimsOrEndsWithin g p k n w
   passes zero j n w law same here l = absurd (let b = l.bound in omega arith)
   passes (suc k) j n w law same here l = passes_step k j (passes k j) n w law same here l
 
@@ -271,7 +271,7 @@ module _ (g : Givens) (ok : AreGivens g) (p : ℕ) (o : IsWorker g p) (at : ℕ 
       }
 
   -- the check after such an attempt
-  rechecks : (k n steps i : ℕ) → ((n : ℕ) (w : World) → IsLawful g w → Same w → (process w p).gone ≡ false → Began (process w p).local k n → SettlesWithin g p k n w)
+  rechecks : (k n steps i : ℕ) → ((n : ℕ) (w : World) → IsLawful g w → Same w → (process w p).gone ≡ false → Began (process w p).local k n → ClaimsOrEndsWithin g p k n w)
       → (r : Record) → length r.tried < g.workers → whole_attempt < k → 1 ≤ n → unread r + whole_attempt < k
       → ((q : ℕ) → IsOther g p q → IsNoted r q) → ((q : ℕ) → IsOther g p q → length (at q).local.dones ≤ numbered 0 r.fronts q)
       → Ready k n (record (record_after_check g p i r) { steps = steps })
@@ -325,8 +325,8 @@ module _ (g : Givens) (ok : AreGivens g) (p : ℕ) (o : IsWorker g p) (at : ℕ 
       (subst (λ y. (y ≡ 0) ⊎ (has (with_announced v r.tried) y ≡ true)) is (⊎_elim (λ (z : v ≡ 0). inl z) (λ n. inr (noted_same v r.tried (omega arith))) (cases_eq v 0))))
       (cases_lt q q0)
 
-  began_step : (k : ℕ) → ((n : ℕ) (w : World) → IsLawful g w → Same w → (process w p).gone ≡ false → Began (process w p).local k n → SettlesWithin g p k n w)
-      → (n : ℕ) (w : World) → IsLawful g w → Same w → (process w p).gone ≡ false → Began (process w p).local (suc k) n → SettlesWithin g p (suc k) n w
+  began_step : (k : ℕ) → ((n : ℕ) (w : World) → IsLawful g w → Same w → (process w p).gone ≡ false → Began (process w p).local k n → ClaimsOrEndsWithin g p k n w)
+      → (n : ℕ) (w : World) → IsLawful g w → Same w → (process w p).gone ≡ false → Began (process w p).local (suc k) n → ClaimsOrEndsWithin g p (suc k) n w
   began_step k next n w law same here l = go (process w p).local.phase refl
     where
       r : Record
@@ -344,7 +344,7 @@ module _ (g : Givens) (ok : AreGivens g) (p : ℕ) (o : IsWorker g p) (at : ℕ 
       to : (m : ℕ) (x : Record) → Began x k m → Ready k m x
       to m x h _ w' law' same' here' e = next m w' law' same' here' (subst (λ y. Began y k m) (sym e) h)
 
-      go : (phase : Phase) → r.phase ≡ phase → SettlesWithin g p (suc k) n w
+      go : (phase : Phase) → r.phase ≡ phase → ClaimsOrEndsWithin g p (suc k) n w
       go (Announcing i) is =
           let b : 1 + 2 * (g.workers - 1) + unread r + whole_attempt < suc k = subst (λ x. cost x + unread r + whole_attempt < suc k) is l.bound in
           let nobody_else : g.workers < next_other p 0 → (q : ℕ) → IsOther g p q → ⊥ = λ h q other. let f = (first_other g (process w) law.lawful p o q other).worker.high in omega arith in
@@ -390,7 +390,7 @@ module _ (g : Givens) (ok : AreGivens g) (p : ℕ) (o : IsWorker g p) (at : ℕ 
           hears : v ≡ get_or (at q0).local.dones (numbered 0 r.fronts q0) 0
           hears = hears_done w law same i q0 stands.1 is
 
-          zero_there : v ≡ 0 → SettlesWithin g p (suc k) n w
+          zero_there : v ≡ 0 → ClaimsOrEndsWithin g p (suc k) n w
           zero_there z =
               let b' = b in
               let c' = c in
@@ -405,7 +405,7 @@ module _ (g : Givens) (ok : AreGivens g) (p : ℕ) (o : IsWorker g p) (at : ℕ 
               (λ in_range. to _ _ (record { sees = (sees.0, rows); bound = omega arith; stores = omega arith }))
               (λ above. rechecks k _ s i next r few (omega arith) (omega arith) (omega arith) sees.0 (λ q other. rows q other (let h = other.worker.high in omega arith))))
 
-          some_there : (v ≡ 0 → ⊥) → SettlesWithin g p (suc k) n w
+          some_there : (v ≡ 0 → ⊥) → ClaimsOrEndsWithin g p (suc k) n w
           some_there nonzero =
               let size = (law.lawful.sound p o).local.fronts in
               let below : numbered 0 r.fronts q0 < length (at q0).local.dones = ⊎_elim (λ m. m) (λ (m : length (at q0).local.dones ≤ numbered 0 r.fronts q0). absurd (nonzero (hears ∙ get_or_past (at q0).local.dones (numbered 0 r.fronts q0) 0 m))) (cases_lt (numbered 0 r.fronts q0) (length (at q0).local.dones)) in
@@ -428,13 +428,13 @@ module _ (g : Givens) (ok : AreGivens g) (p : ℕ) (o : IsWorker g p) (at : ℕ 
       go Over is = absurd (true≢false (sym ((law.lawful.sound p o).gone (ap wants_nothing is)) ∙ here))
       go Left is = absurd (true≢false (sym ((law.lawful.sound p o).gone (ap wants_nothing is)) ∙ here))
 
-  began : (k n : ℕ) (w : World) → IsLawful g w → Same w → (process w p).gone ≡ false → Began (process w p).local k n → SettlesWithin g p k n w
+  began : (k n : ℕ) (w : World) → IsLawful g w → Same w → (process w p).gone ≡ false → Began (process w p).local k n → ClaimsOrEndsWithin g p k n w
   began zero n w law same here l = absurd (let b = l.bound in omega arith)
   began (suc k) n w law same here l = began_step k (began k) n w law same here l
 
   -- any attempt: if it fails, the next one began alone
-  goes_step : (k : ℕ) → ((n : ℕ) (w : World) → IsLawful g w → Same w → (process w p).gone ≡ false → cost (process w p).local.phase + unread (process w p).local + 2 * whole_attempt < k → to_begin (process w p).local.phase + 2 ≤ n → SettlesWithin g p k n w)
-      → (n : ℕ) (w : World) → IsLawful g w → Same w → (process w p).gone ≡ false → cost (process w p).local.phase + unread (process w p).local + 2 * whole_attempt < suc k → to_begin (process w p).local.phase + 2 ≤ n → SettlesWithin g p (suc k) n w
+  goes_step : (k : ℕ) → ((n : ℕ) (w : World) → IsLawful g w → Same w → (process w p).gone ≡ false → cost (process w p).local.phase + unread (process w p).local + 2 * whole_attempt < k → to_begin (process w p).local.phase + 2 ≤ n → ClaimsOrEndsWithin g p k n w)
+      → (n : ℕ) (w : World) → IsLawful g w → Same w → (process w p).gone ≡ false → cost (process w p).local.phase + unread (process w p).local + 2 * whole_attempt < suc k → to_begin (process w p).local.phase + 2 ≤ n → ClaimsOrEndsWithin g p (suc k) n w
   goes_step k next n w law same here l stores = go (process w p).local.phase refl
     where
       r : Record
@@ -456,7 +456,7 @@ module _ (g : Givens) (ok : AreGivens g) (p : ℕ) (o : IsWorker g p) (at : ℕ 
           (λ over alive. absurd (true≢false alive))
           (λ many _ w' law' same' here' e. began k m w' law' same' here' (subst (λ y. Began y k m) (sym e) (record { sees = tt; bound = omega arith; stores = omega arith }))))
 
-      go : (phase : Phase) → r.phase ≡ phase → SettlesWithin g p (suc k) n w
+      go : (phase : Phase) → r.phase ≡ phase → ClaimsOrEndsWithin g p (suc k) n w
       go (Announcing i) is = began (suc k) n w law same here (record { sees = subst (λ x. Sees r x) (sym is) tt; bound = omega arith; stores = subst (λ x. to_begin x + 1 ≤ n) (sym is) (let c : 1 + 2 ≤ n = subst (λ x. to_begin x + 2 ≤ n) is stores in omega arith) })
       go (Trying i q0) is =
           let stands : IsJob g i × IsOther g p q0 × (length r.tried ≤ others_before p q0) = rw is at (law.lawful.sound p o).local.stands in
@@ -489,7 +489,7 @@ module _ (g : Givens) (ok : AreGivens g) (p : ℕ) (o : IsWorker g p) (at : ℕ 
           hears : v ≡ get_or (at q0).local.dones (numbered 0 r.fronts q0) 0
           hears = hears_done w law same i q0 stands.1 is
 
-          zero_there : v ≡ 0 → SettlesWithin g p (suc k) n w
+          zero_there : v ≡ 0 → ClaimsOrEndsWithin g p (suc k) n w
           zero_there z =
               let b' = b in
               let c' = c in
@@ -499,7 +499,7 @@ module _ (g : Givens) (ok : AreGivens g) (p : ℕ) (o : IsWorker g p) (at : ℕ 
               (λ in_range. to _ _ (omega arith) (omega arith))
               (λ above. checks _ i (omega arith) (omega arith)))
 
-          some_there : (v ≡ 0 → ⊥) → SettlesWithin g p (suc k) n w
+          some_there : (v ≡ 0 → ⊥) → ClaimsOrEndsWithin g p (suc k) n w
           some_there nonzero =
               let size = (law.lawful.sound p o).local.fronts in
               let below : numbered 0 r.fronts q0 < length (at q0).local.dones = ⊎_elim (λ m. m) (λ (m : length (at q0).local.dones ≤ numbered 0 r.fronts q0). absurd (nonzero (hears ∙ get_or_past (at q0).local.dones (numbered 0 r.fronts q0) 0 m))) (cases_lt (numbered 0 r.fronts q0) (length (at q0).local.dones)) in
@@ -512,7 +512,7 @@ module _ (g : Givens) (ok : AreGivens g) (p : ℕ) (o : IsWorker g p) (at : ℕ 
       go Over is = absurd (true≢false (sym ((law.lawful.sound p o).gone (ap wants_nothing is)) ∙ here))
       go Left is = absurd (true≢false (sym ((law.lawful.sound p o).gone (ap wants_nothing is)) ∙ here))
 
-  goes : (k n : ℕ) (w : World) → IsLawful g w → Same w → (process w p).gone ≡ false → cost (process w p).local.phase + unread (process w p).local + 2 * whole_attempt < k → to_begin (process w p).local.phase + 2 ≤ n → SettlesWithin g p k n w
+  goes : (k n : ℕ) (w : World) → IsLawful g w → Same w → (process w p).gone ≡ false → cost (process w p).local.phase + unread (process w p).local + 2 * whole_attempt < k → to_begin (process w p).local.phase + 2 ≤ n → ClaimsOrEndsWithin g p k n w
   goes zero n w law same here l stores = absurd (omega arith)
   goes (suc k) n w law same here l stores = goes_step k (goes k) n w law same here l stores
 
@@ -549,7 +549,7 @@ module _ (g : Givens) (w : World) (law : IsLawful g w) where
 
 -- From every lawful world, a worker that isn't gone claims a job or ends within 6 m + n turns of its own, and
 -- begins at most three attempts, or two where it is in one.
-pub alone : (g : Givens) (w : World) (p : ℕ) → AreGivens g → IsLawful g w → (process w p).gone ≡ false → SettlesWithin g p (6 * g.workers + g.jobs) (to_begin (process w p).local.phase + 2) w
+pub alone : (g : Givens) (w : World) (p : ℕ) → AreGivens g → IsLawful g w → (process w p).gone ≡ false → ClaimsOrEndsWithin g p (6 * g.workers + g.jobs) (to_begin (process w p).local.phase + 2) w
 alone g w p ok law here = goes g ok p o (process w) (6 * g.workers + g.jobs) _ w law (λ q n. refl) here (small (process w p).local.phase refl) (omega arith)
   where
     o : IsWorker g p
@@ -579,8 +579,8 @@ alone g w p ok law here = goes g ok p o (process w) (6 * g.workers + g.jobs) _ w
         bound Left = let e = entries in let s = ok.some in omega arith
 
 pub stores_few : (g : Givens) (w : World) (p : ℕ) → AreGivens g → IsLawful g w → (process w p).gone ≡ false
-    → (i : ℕ) × (i < 6 * g.workers + g.jobs) × IsFirstToSettle g w p i × (stored_within g w p i ≤ to_begin (process w p).local.phase + 2)
+    → (i : ℕ) × (i < 6 * g.workers + g.jobs) × IsFirstToClaimOrEnd g w p i × (stored_within g w p i ≤ to_begin (process w p).local.phase + 2)
 stores_few g w p ok law here = first_of_them g p (6 * g.workers + g.jobs) _ w (alone g w p ok law here)
 
-pub settles_soon : (g : Givens) (w : World) (p : ℕ) → AreGivens g → IsLawful g w → (process w p).gone ≡ false → (i : ℕ) × (i < 6 * g.workers + g.jobs) × IsFirstToSettle g w p i
-settles_soon g w p ok law here = let f = stores_few g w p ok law here in (f.0, f.1, f.2)
+pub claims_or_ends_soon : (g : Givens) (w : World) (p : ℕ) → AreGivens g → IsLawful g w → (process w p).gone ≡ false → (i : ℕ) × (i < 6 * g.workers + g.jobs) × IsFirstToClaimOrEnd g w p i
+claims_or_ends_soon g w p ok law here = let f = stores_few g w p ok law here in (f.0, f.1, f.2)

@@ -7,9 +7,9 @@ use Rattle.amo_sets.specs.Lists.{numbered, put}
 use Rattle.amo_sets.specs.Sets.{with_number}
 use Rattle.amo_kk.specs.Givens.{AreGivens, IsJob, IsWorker, IsOther, next_other, others_before}
 use Rattle.amo_kk.specs.Choice.{record_after_choice, record_after_check}
-use Rattle.amo_kk.specs.Event.{want_in, want, with_announced, record_at_row, record_at_announcement, record_after_phase}
+use Rattle.amo_kk.specs.Step.{want_in, want, with_announced, record_at_row, record_at_announcement, record_after_phase}
 use Rattle.amo_kk.specs.World.{process, loaded_value, world_after_turn}
-use Rattle.amo_kk.specs.Alone.{is_claiming, claims_or_ends, world_after_turns, IsFirstToSettle, want_at, value_at, stores_announcement, reads_announcement, reads_zero, reads_entry, turns_that, attempts_going_on, FitsThreeAttempts}
+use Rattle.amo_kk.specs.Alone.{is_claiming, claims_or_ends, world_after_turns, IsFirstToClaimOrEnd, want_at, value_at, stores_announcement, reads_announcement, reads_zero, reads_entry, turns_that, attempts_going_on, FitsThreeAttempts}
 use Rattle.amo_kk.specs.Lawful.{IsLawful}
 use Rattle.amo_kk.specs.declared.givens.Givens.{Givens}
 use Rattle.amo_kk.specs.declared.phase.Phase.{Phase}
@@ -242,13 +242,13 @@ goes_on_or_begins Over = omega arith
 goes_on_or_begins Left = omega arith
 
 -- only one turn is the first
-one_first : (g : Givens) (w : World) (p i k : ℕ) → IsFirstToSettle g w p i → IsFirstToSettle g w p k → i ≡ k
+one_first : (g : Givens) (w : World) (p i k : ℕ) → IsFirstToClaimOrEnd g w p i → IsFirstToClaimOrEnd g w p k → i ≡ k
 one_first g w p i k a b = ⊎_elim
     (λ (l : i < k). absurd (true≢false (sym a.this_one ∙ b.none_before i l)))
     (λ (l : k ≤ i). ⊎_elim (λ (m : k < i). absurd (true≢false (sym b.this_one ∙ a.none_before k m))) (λ (m : i ≤ k). omega arith) (cases_lt k i))
     (cases_lt i k)
 
-pub fits_three : (g : Givens) (w : World) (p i : ℕ) → AreGivens g → IsLawful g w → (process w p).gone ≡ false → IsFirstToSettle g w p i → FitsThreeAttempts g w p i
+pub fits_three : (g : Givens) (w : World) (p i : ℕ) → AreGivens g → IsLawful g w → (process w p).gone ≡ false → IsFirstToClaimOrEnd g w p i → FitsThreeAttempts g w p i
 fits_three g w p i ok law here first =
     record {
       three =

@@ -10,7 +10,7 @@ use Rattle.amo_sets.specs.Rank.{count}
 use Rattle.amo_kk.specs.Givens.{IsJob, IsWorker, next_other}
 use Rattle.amo_kk.specs.Record.{is_free, is_open, is_over, wants_nothing}
 use Rattle.amo_kk.specs.Choice.{chosen_rank, chosen_job, record_after_choice, record_after_check}
-use Rattle.amo_kk.specs.Event.{with_announced, record_at_row, record_at_announcement, record_after_phase, record_after}
+use Rattle.amo_kk.specs.Step.{with_announced, record_at_row, record_at_announcement, record_after_phase, record_after}
 use Rattle.amo_kk.specs.declared.givens.Givens.{Givens}
 use Rattle.amo_kk.specs.declared.phase.Phase.{Phase}
 use Rattle.amo_kk.specs.declared.phase.Phase.TheVariants.{Announcing, Trying, Reading, Claiming, Holding, Over, Left}

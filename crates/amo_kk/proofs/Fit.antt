@@ -7,7 +7,7 @@ use Rattle.amo_sets.specs.Sets.{has, AreDistinct, with_number}
 use Rattle.amo_kk.specs.Givens.{AreGivens, IsJob, IsWorker, IsOther, next_other, others_before}
 use Rattle.amo_kk.specs.Record.{empty_record, jobs_in_hand}
 use Rattle.amo_kk.specs.Choice.{chosen_job, record_after_choice, record_after_check, first_record}
-use Rattle.amo_kk.specs.Event.{want_in, want, with_announced, record_at_row, record_after_phase, record_after, record_after_leave, MayLoad}
+use Rattle.amo_kk.specs.Step.{want_in, want, with_announced, record_at_row, record_after_phase, record_after, record_after_leave, MayLoad}
 use Rattle.amo_kk.specs.Lawful.{FitsPhase, IsSoundRecord}
 use Rattle.amo_kk.specs.declared.givens.Givens.{Givens}
 use Rattle.amo_kk.specs.declared.phase.Phase.{Phase}

@@ -6,7 +6,7 @@ use Rattle.std.specs.Prelude.{if◌then◌else◌}
 use Rattle.amo_sets.specs.Lists.{numbered, put}
 use Rattle.amo_sets.specs.Sets.{with_number}
 use Rattle.amo_kk.specs.Givens.{AreGivens, IsWorker, next_other}
-use Rattle.amo_kk.specs.Event.{want, record_at_row, record_after_phase, record_after, MayLoad}
+use Rattle.amo_kk.specs.Step.{want, record_at_row, record_after_phase, record_after, MayLoad}
 use Rattle.amo_kk.specs.Lawful.{IsSoundRecord}
 use Rattle.amo_kk.specs.declared.phase.Phase.TheVariants.{Claiming, Reading, Left}
 use Rattle.amo_kk.specs.declared.phase.Phase.{Phase}

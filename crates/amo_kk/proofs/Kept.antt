@@ -9,7 +9,7 @@ use Rattle.amo_sets.specs.Sets.{has, with_number}
 use Rattle.amo_kk.specs.Givens.{IsJob, IsWorker, IsOther, next_other, others_before}
 use Rattle.amo_kk.specs.Record.{wants_nothing, jobs_in_hand, IsPast, IsThrough, IsClear}
 use Rattle.amo_kk.specs.Choice.{chosen_job, record_after_choice, record_after_check}
-use Rattle.amo_kk.specs.Event.{want_in, with_announced, record_at_row, record_at_announcement, record_after_phase, record_after, record_after_leave}
+use Rattle.amo_kk.specs.Step.{want_in, with_announced, record_at_row, record_at_announcement, record_after_phase, record_after, record_after_leave}
 use Rattle.amo_kk.specs.World.{process_after}
 use Rattle.amo_kk.specs.Lawful.{Announces, FitsPhase, IsSoundProcess, IsDoneByOther, IsUnclaimedByOther, IsSoundTowards, IsDone, AreLawful}
 use Rattle.amo_kk.specs.declared.phase.Want.{Want}

@@ -4,8 +4,8 @@ use Rattle.std.specs.Prelude.{if◌then◌else◌}
 use Rattle.std.proofs.lemmas.Bool.{true≢false, false_from_ne_true}
 use Rattle.amo_kk.specs.Givens.{AreGivens, IsWorker, others_before}
 use Rattle.amo_kk.specs.Record.{is_over, wants_nothing}
-use Rattle.amo_kk.specs.Event.{want_in, want, record_after}
-use Rattle.amo_kk.specs.World.{nobody, process, loaded_value, process_after, world_after_event, world_after_turn}
+use Rattle.amo_kk.specs.Step.{want_in, want, record_after}
+use Rattle.amo_kk.specs.World.{nobody, process, loaded_value, process_after, world_after_step, world_after_turn}
 use Rattle.amo_kk.specs.Lawful.{IsLawful}
 use Rattle.amo_kk.specs.Alone.{want_at, stores_announcement, turns_that}
 use Rattle.amo_kk.specs.declared.givens.Givens.{Givens}
@@ -55,8 +55,8 @@ own_turn g w p ok law here goes_on =
     a : Process
     a = process_after (want r) (process w p) x
 
-    is_turned : world_after_turn g w p ≡ world_after_event g w p (process w p)
-    is_turned = ap (λ b. if b then w else world_after_event g w p (process w p)) here
+    is_turned : world_after_turn g w p ≡ world_after_step g w p (process w p)
+    is_turned = ap (λ b. if b then w else world_after_step g w p (process w p)) here
 
     now_p : process (world_after_turn g w p) p ≡ a
     now_p = ap (λ v. process v p) is_turned ∙ put_here g w p a law.size o

@@ -11,8 +11,8 @@ use Rattle.amo_kk.specs.Object.{first_object, object_after}
 use Rattle.amo_kk.specs.Run.{object_after_all, IsRun}
 use Rattle.amo_kk.specs.Record.{empty_record, is_open, is_over, wants_nothing, can_leave, job_in_hand, jobs_in_hand}
 use Rattle.amo_kk.specs.Choice.{record_after_choice, record_after_check, first_record}
-use Rattle.amo_kk.specs.Event.{want, with_announced, record_at_row, record_at_announcement, record_after_phase, record_after, record_after_leave, claimed_or_done, ended_if_over, shown_events}
-use Rattle.amo_kk.specs.World.{nobody, process, loaded_value, process_after, world_with, world_after_event, world_after_turn, world_after_halt, world_after_leave, world_after_move, world_after_moves, first_process, opening_world}
+use Rattle.amo_kk.specs.Step.{want, with_announced, record_at_row, record_at_announcement, record_after_phase, record_after, record_after_leave, claimed_or_done, ended_if_over, shown_events}
+use Rattle.amo_kk.specs.World.{nobody, process, loaded_value, process_after, world_with, world_after_step, world_after_turn, world_after_halt, world_after_leave, world_after_move, world_after_moves, first_process, opening_world}
 use Rattle.amo_kk.specs.Lawful.{FitsPhase, IsSoundProcess, AreLawful, IsLawful, jobs_of, Agrees, HasRun}
 use Rattle.amo_kk.specs.declared.givens.Givens.{Givens}
 use Rattle.amo_kk.specs.declared.phase.Phase.{Phase}
@@ -216,7 +216,7 @@ counted r x n Left d = record { claimed = d.claimed; done = d.done; held_now = d
 pub turn_runs : (g : Givens) (w : World) (p : ℕ) → AreGivens g → IsLawful g w → HasRun g w → HasRun g (world_after_turn g w p)
 turn_runs g w p ok law run = go (process w p).gone refl
   where
-    go : (b : Bool) → (process w p).gone ≡ b → HasRun g (if b then w else world_after_event g w p (process w p))
+    go : (b : Bool) → (process w p).gone ≡ b → HasRun g (if b then w else world_after_step g w p (process w p))
     go true e = run
     go false e = (all.run, all.agrees)
       where
@@ -233,7 +233,7 @@ turn_runs g w p ok law run = go (process w p).gone refl
         a = process_after (want r) (process w p) x
 
         v : World
-        v = world_after_event g w p (process w p)
+        v = world_after_step g w p (process w p)
 
         s : Object
         s = object_after_all (first_object g) w.history
@@ -245,7 +245,7 @@ turn_runs g w p ok law run = go (process w p).gone refl
         now_q q n = numbered-put_other nobody a w.processes p q n
 
         after_law : IsLawful g v
-        after_law = subst (λ b. IsLawful g (if b then w else world_after_event g w p (process w p))) e (turn_lawful g w p ok law)
+        after_law = subst (λ b. IsLawful g (if b then w else world_after_step g w p (process w p))) e (turn_lawful g w p ok law)
 
         -- before it is gone
         stay : Process

@@ -3,8 +3,8 @@ use Rattle.std.proofs.Common.{◌≡◌, ℕ, Bool, true, false, [], ◌∷◌, 
 use Rattle.std.specs.Prelude.{if◌then◌else◌}
 use Rattle.std.proofs.lemmas.Bool.{true≢false, false_from_ne_true}
 use Rattle.amo_kk.specs.Record.{is_over, wants_nothing, can_leave}
-use Rattle.amo_kk.specs.Event.{want, record_after_phase, record_after, record_after_leave, shown_events}
-use Rattle.amo_kk.specs.World.{process, loaded_value, process_after, world_with, world_after_event, world_after_turn, world_after_leave}
+use Rattle.amo_kk.specs.Step.{want, record_after_phase, record_after, record_after_leave, shown_events}
+use Rattle.amo_kk.specs.World.{process, loaded_value, process_after, world_with, world_after_step, world_after_turn, world_after_leave}
 use Rattle.amo_kk.specs.Answer.{shown, events_of, turn_shown, leaving, leave_answer}
 use Rattle.amo_kk.specs.Lawful.{IsLawful}
 use Rattle.amo_kk.specs.declared.givens.Givens.{Givens}
@@ -41,14 +41,14 @@ shows g p v r wants = go r.phase refl
 
 pub turn_history : (g : Givens) (w : World) (p : ℕ) → IsLawful g w → (process w p).gone ≡ false → (world_after_turn g w p).history ≡ w.history ++ events_of p (turn_shown g w p)
 turn_history g w p law here =
-    ap (λ b. (if b then w else world_after_event g w p (process w p)).history) here
+    ap (λ b. (if b then w else world_after_step g w p (process w p)).history) here
     ∙ ap (λ l. w.history ++ l) (sym (shows g p (loaded_value w (want (process w p).local)) (process w p).local wants))
   where
     wants : wants_nothing (process w p).local.phase ≡ false
     wants = false_from_ne_true _ (λ h. true≢false (sym ((law.lawful.sound p (here_is_worker g w p law.size here)).gone h) ∙ here))
 
 pub idle : (g : Givens) (w : World) (p : ℕ) → (process w p).gone ≡ true → world_after_turn g w p ≡ w
-idle g w p gone = ap (λ b. if b then w else world_after_event g w p (process w p)) gone
+idle g w p gone = ap (λ b. if b then w else world_after_step g w p (process w p)) gone
 
 -- the answers of leaving are told apart
 abbrev is_left : Leaving → Bool

@@ -5,8 +5,8 @@ use Rattle.std.proofs.lemmas.List.{get_or_append_left, get_or-append-add, set-ap
 use Rattle.amo_sets.specs.Lists.{numbered, put}
 use Rattle.amo_kk.specs.Givens.{IsJob, IsWorker, IsOther, others_before}
 use Rattle.amo_kk.specs.Record.{can_leave}
-use Rattle.amo_kk.specs.Event.{want_in, want, record_after, record_after_leave}
-use Rattle.amo_kk.specs.World.{nobody, process, loaded_value, process_after, world_with, world_after_event, world_after_turn, world_after_leave}
+use Rattle.amo_kk.specs.Step.{want_in, want, record_after, record_after_leave}
+use Rattle.amo_kk.specs.World.{nobody, process, loaded_value, process_after, world_with, world_after_step, world_after_turn, world_after_leave}
 use Rattle.amo_kk.specs.Words.{words_of, next_word, claim_word, done_word, loaded_word, words_after}
 use Rattle.amo_kk.specs.Lawful.{IsLawful}
 use Rattle.std.specs.Prelude.{if◌then◌else◌}
@@ -150,7 +150,7 @@ module _ (g : Givens) (w : World) (law : IsLawful g w) (p : ℕ) (o : IsWorker g
   even i h = (law.lawful.sound (suc i) (record { low = omega arith; high = let e = law.size in omega arith })).row_length
 
   -- a turn's store is one write into the list of words
-  pub turn_stores : words_of (world_after_event g w p (process w p)).processes ≡ words_after g p (want (process w p).local) (words_of w.processes)
+  pub turn_stores : words_of (world_after_step g w p (process w p)).processes ≡ words_after g p (want (process w p).local) (words_of w.processes)
   turn_stores = go (process w p).local.phase
     where
       x : Record
@@ -199,7 +199,7 @@ module _ (g : Givens) (w : World) (law : IsLawful g w) (p : ℕ) (o : IsWorker g
       go Left is = subst (λ x. loaded_value w (want_in r x) ≡ get_or (words_of w.processes) (loaded_word g (want_in r x)) 0) (sym is) refl
 
 pub turn_writes : (g : Givens) (w : World) (law : IsLawful g w) (p : ℕ) → (process w p).gone ≡ false → words_of (world_after_turn g w p).processes ≡ words_after g p (want (process w p).local) (words_of w.processes)
-turn_writes g w law p here = ap (λ b. words_of (if b then w else world_after_event g w p (process w p)).processes) here ∙ turn_stores g w law p (here_is_worker g w p law.size here)
+turn_writes g w law p here = ap (λ b. words_of (if b then w else world_after_step g w p (process w p)).processes) here ∙ turn_stores g w law p (here_is_worker g w p law.size here)
 
 pub leave_writes : (g : Givens) (w : World) (law : IsLawful g w) (p : ℕ) → (process w p).gone ≡ false → can_leave (process w p).local.phase ≡ true → words_of (world_after_leave w p).processes ≡ words_after g p (StoreNext 0) (words_of w.processes)
 leave_writes g w law p here may =

@@ -8,8 +8,8 @@ use Rattle.amo_sets.specs.Sets.{has}
 use Rattle.amo_kk.specs.Givens.{AreGivens, IsWorker}
 use Rattle.amo_kk.specs.Record.{empty_record, wants_nothing, can_leave, jobs_in_hand, IsPast}
 use Rattle.amo_kk.specs.Choice.{chosen_job, first_record}
-use Rattle.amo_kk.specs.Event.{want, record_after, record_after_leave}
-use Rattle.amo_kk.specs.World.{nobody, process, loaded_value, process_after, world_with, world_after_event, world_after_turn, world_after_halt, world_after_leave, world_after_move, world_after_moves, first_process, opening_world}
+use Rattle.amo_kk.specs.Step.{want, record_after, record_after_leave}
+use Rattle.amo_kk.specs.World.{nobody, process, loaded_value, process_after, world_with, world_after_step, world_after_turn, world_after_halt, world_after_leave, world_after_move, world_after_moves, first_process, opening_world}
 use Rattle.amo_kk.specs.Lawful.{Announces, FitsPhase, IsSoundProcess, IsSoundTowards, IsLawful}
 use Rattle.amo_kk.specs.declared.givens.Givens.{Givens}
 use Rattle.amo_kk.specs.declared.phase.Phase.{Phase}
@@ -71,11 +71,11 @@ turned_kept g w p ok law o here = turns g (process w) law.lawful p o (loaded_val
 pub turn_lawful : (g : Givens) (w : World) (p : ℕ) → AreGivens g → IsLawful g w → IsLawful g (world_after_turn g w p)
 turn_lawful g w p ok law = go (process w p).gone refl
   where
-    go : (b : Bool) → (process w p).gone ≡ b → IsLawful g (if b then w else world_after_event g w p (process w p))
+    go : (b : Bool) → (process w p).gone ≡ b → IsLawful g (if b then w else world_after_step g w p (process w p))
     go true e = law
     go false e =
         let o = here_is_worker g w p law.size e in
-        kept_lawful g w (world_after_event g w p (process w p)) p (let a = process w p in process_after (want a.local) a (record_after g p (loaded_value w (want a.local)) a.local)) law o (turned_kept g w p ok law o e) refl
+        kept_lawful g w (world_after_step g w p (process w p)) p (let a = process w p in process_after (want a.local) a (record_after g p (loaded_value w (want a.local)) a.local)) law o (turned_kept g w p ok law o e) refl
 
 pub halt_lawful : (g : Givens) (w : World) (p : ℕ) → IsLawful g w → IsLawful g (world_after_halt w p)
 halt_lawful g w p law = go (process w p).gone refl

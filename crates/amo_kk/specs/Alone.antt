@@ -1,7 +1,7 @@
 -- A worker whose turns follow one another, with no other move between them.
 use Rattle.std.specs.Prelude.{◌≡◌, ℕ, zero, suc, ◌+◌, ◌-◌, ◌*◌, ◌<◌, ◌≤◌, Bool, true, false, not, ◌&&◌, ◌||◌, replicate, ◌==◌, if◌then◌else◌}
 use Rattle.amo_kk.specs.Record.{is_over}
-use Rattle.amo_kk.specs.Event.{want, record_after}
+use Rattle.amo_kk.specs.Step.{want, record_after}
 use Rattle.amo_kk.specs.World.{process, loaded_value, world_after_moves}
 use Rattle.amo_kk.specs.declared.givens.Givens.{Givens}
 use Rattle.amo_kk.specs.declared.phase.Phase.{Phase}
@@ -32,7 +32,7 @@ abbrev pub world_after_turns : Givens → World → ℕ → ℕ → World
 world_after_turns g w p i = world_after_moves g w (replicate i (Turn p))
 
 -- The turn of p after i others of its own is the first that claims a job or ends p.
-pub record IsFirstToSettle (g : Givens) (w : World) (p i : ℕ) : Type 0 where
+pub record IsFirstToClaimOrEnd (g : Givens) (w : World) (p i : ℕ) : Type 0 where
   pub none_before : (k : ℕ) → k < i → claims_or_ends g (world_after_turns g w p k) p ≡ false
   pub this_one : claims_or_ends g (world_after_turns g w p i) p ≡ true
 

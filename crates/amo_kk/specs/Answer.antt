@@ -1,7 +1,7 @@
 -- What the calls answer, as functions of the record or the world before them.
 use Rattle.std.specs.Prelude.{ℕ, List, [], ◌∷◌, if◌then◌else◌}
 use Rattle.amo_kk.specs.Record.{is_over}
-use Rattle.amo_kk.specs.Event.{want, record_after}
+use Rattle.amo_kk.specs.Step.{want, record_after}
 use Rattle.amo_kk.specs.World.{process, loaded_value}
 use Rattle.amo_kk.specs.declared.givens.Givens.{Givens}
 use Rattle.amo_kk.specs.declared.phase.Phase.{Phase}

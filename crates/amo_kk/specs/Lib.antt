@@ -4,7 +4,7 @@ pub mod Object
 pub mod Run
 pub mod Record
 pub mod Choice
-pub mod Event
+pub mod Step
 pub mod World
 pub mod Words
 pub mod Answer

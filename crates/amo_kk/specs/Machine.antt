@@ -9,7 +9,7 @@ use Rattle.amo_kk.specs.declared.model.Record.{Record}
 pub record LocalView : Type 0 where
   pub givens : Givens
   pub number : ℕ
-  pub local : Record
+  pub state : Record
 
 -- The record is sound, its sets have the range of the jobs, and its lists have room for all of them.
 pub record IsHeld (g : Givens) (p : ℕ) (r : Record) (range claims_room dones_room : ℕ) : Type 0 where

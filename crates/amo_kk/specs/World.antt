@@ -4,7 +4,7 @@ use Rattle.amo_sets.specs.Lists.{numbered, put, table}
 use Rattle.amo_kk.specs.Object.{is_within}
 use Rattle.amo_kk.specs.Record.{wants_nothing, can_leave}
 use Rattle.amo_kk.specs.Choice.{first_record}
-use Rattle.amo_kk.specs.Event.{want, record_after, record_after_leave, shown_events}
+use Rattle.amo_kk.specs.Step.{want, record_after, record_after_leave, shown_events}
 use Rattle.amo_kk.specs.declared.givens.Givens.{Givens}
 use Rattle.amo_kk.specs.declared.phase.Phase.TheVariants.{Over}
 use Rattle.amo_kk.specs.declared.model.Record.{Record}
@@ -55,14 +55,14 @@ abbrev pub world_with : World → ℕ → Process → List Event → World
 world_with w p a events = record { processes = put w.processes p a; history = w.history ++ events }
 
 -- the world after the event of worker p, which is the process a
-abbrev pub world_after_event : Givens → World → ℕ → Process → World
-world_after_event g w p a =
+abbrev pub world_after_step : Givens → World → ℕ → Process → World
+world_after_step g w p a =
     let r = record_after g p (loaded_value w (want a.local)) a.local in
     world_with w p (process_after (want a.local) a r) (shown_events p a.local.phase r.phase)
 
 -- the world after a turn of p: the event of p, if p isn't gone
 abbrev pub world_after_turn : Givens → World → ℕ → World
-world_after_turn g w p = if (process w p).gone then w else world_after_event g w p (process w p)
+world_after_turn g w p = if (process w p).gone then w else world_after_step g w p (process w p)
 
 -- the world after a stop of p: p is gone, if it wasn't
 abbrev pub world_after_halt : World → ℕ → World

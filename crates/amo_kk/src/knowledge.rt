@@ -5,7 +5,7 @@ ghost use Rattle.amo_sets.specs.Bits.{is_without};
 ghost use Rattle.amo_sets.specs.Sets.{has, with_number};
 ghost use Rattle.amo_kk.specs.Givens.{IsJob, IsWorker};
 ghost use Rattle.amo_kk.specs.Choice.{chosen_rank, record_after_choice, record_after_check};
-ghost use Rattle.amo_kk.specs.Event.{with_announced, record_at_row, record_at_announcement};
+ghost use Rattle.amo_kk.specs.Step.{with_announced, record_at_row, record_at_announcement};
 ghost use Rattle.amo_kk.specs.declared.model.Record.{Record};
 
 use super::givens::Givens;
@@ -70,7 +70,7 @@ fn open_without(free: &JobSet, tried: &JobSet, open_count: u32, j: u32) -> u32
 }
 
 impl Knowledge {
-    /// Nothing is known of so many jobs, and none was seen announced. The only error is want of memory.
+    /// Nothing is known of so many jobs, and none was seen announced. The only error is out of memory.
     pub fn new(alloc: Global, jobs: u32) -> Result<Knowledge, AllocError>
         ensures { IfOk result (λ k. k ≡ record { range = jobs; known = []; tried = [] }) }
     {

@@ -9,11 +9,11 @@ ghost use Rattle.amo_kk.specs.Object.{first_object};
 ghost use Rattle.amo_kk.specs.Run.{IsRun, first_bad, IsFirstBad, claimed_jobs, done_jobs, has_claimed};
 ghost use Rattle.amo_kk.specs.Record.{can_leave, is_free, is_open, jobs_in_hand};
 ghost use Rattle.amo_kk.specs.Choice.{chosen_rank, chosen_job, first_record};
-ghost use Rattle.amo_kk.specs.Event.{want};
+ghost use Rattle.amo_kk.specs.Step.{want};
 ghost use Rattle.amo_kk.specs.World.{process, loaded_value, world_after_turn, world_after_leave, world_after_moves, opening_world};
 ghost use Rattle.amo_kk.specs.Words.{words_of, loaded_word, words_after};
 ghost use Rattle.amo_kk.specs.Answer.{events_of, turn_shown, leave_answer};
-ghost use Rattle.amo_kk.specs.Alone.{IsFirstToSettle, FitsThreeAttempts};
+ghost use Rattle.amo_kk.specs.Alone.{IsFirstToClaimOrEnd, FitsThreeAttempts};
 ghost use Rattle.amo_kk.specs.Lawful.{IsLawful, Agrees, object_of};
 ghost use Rattle.amo_kk.specs.declared.givens.Givens.{Givens};
 ghost use Rattle.amo_kk.specs.declared.event.Move.{Move};
@@ -60,9 +60,9 @@ pub fn first_bad_is_the_first()
 {}
 
 /// From every lawful world a worker that isn't gone, alone, claims a job or ends within `6 * workers + jobs` turns.
-pub fn alone_settles_soon()
+pub fn alone_claims_or_ends_soon()
     ensures { (g : Givens) (w : World) (p : ℕ) → IsLawful g w → (process w p).gone ≡ false
-        → (i : ℕ) × (i < 6 * g.workers + g.jobs) × IsFirstToSettle g w p i }
+        → (i : ℕ) × (i < 6 * g.workers + g.jobs) × IsFirstToClaimOrEnd g w p i }
 {}
 
 /// What these turns store and read, up to the one that claims or ends: at most three attempts go on or begin, each
@@ -70,7 +70,7 @@ pub fn alone_settles_soon()
 /// for each attempt so far; no entry of a row is read twice.
 pub fn alone_takes_three_attempts()
     ensures { (g : Givens) (w : World) (p i : ℕ) → IsLawful g w → (process w p).gone ≡ false
-        → IsFirstToSettle g w p i → FitsThreeAttempts g w p i }
+        → IsFirstToClaimOrEnd g w p i → FitsThreeAttempts g w p i }
 {}
 
 /// In one list of words: a turn loads the word that is wanted, and makes just its one store; leaving stores 0 to

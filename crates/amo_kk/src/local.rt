@@ -10,7 +10,7 @@ ghost use Rattle.amo_sets.specs.Sets.{has};
 ghost use Rattle.amo_kk.specs.Givens.{IsJob, IsWorker, IsOther};
 ghost use Rattle.amo_kk.specs.Choice.{first_record};
 ghost use Rattle.amo_kk.specs.Record.{is_over, can_leave, jobs_in_hand};
-ghost use Rattle.amo_kk.specs.Event.{want, is_load, is_store, record_after, record_after_leave, MayLoad};
+ghost use Rattle.amo_kk.specs.Step.{want, is_load, is_store, record_after, record_after_leave, MayLoad};
 ghost use Rattle.amo_kk.specs.Answer.{shown};
 ghost use Rattle.amo_kk.specs.Machine.{LocalView};
 
@@ -43,7 +43,7 @@ impl Model for Local {
     ghost view = { λ l. record {
       givens = l.givens;
       number = l.number;
-      local = record {
+      state = record {
         phase = l.phase;
         known = l.knowledge.known;
         tried = l.knowledge.tried;
@@ -71,7 +71,7 @@ impl Local {
     /// The machine of worker p before its first event. Its room is made here.
     pub fn new(alloc: Global, givens: Givens, p: u32) -> Result<Local, AllocError>
         requires worker { IsWorker givens p }
-        ensures { IfOk result (λ l. l ≡ record { givens = givens; number = p; local = first_record givens p }) }
+        ensures { IfOk result (λ l. l ≡ record { givens = givens; number = p; state = first_record givens p }) }
     {
         let mut knowledge = Knowledge::new(alloc, givens.jobs)?;
         let fronts = vec![in alloc; 0u32; givens.workers as usize]?;
@@ -107,7 +107,7 @@ impl Local {
 
     /// The one load or store that is wanted next.
     pub fn want(&self) -> Want
-        ensures { result ≡ want self.now.local }
+        ensures { result ≡ want self.now.state }
     {
         match self.phase {
             Phase::Announcing(j) => Want::StoreNext(j),
@@ -121,8 +121,8 @@ impl Local {
 
     /// The announcement of j was stored.
     fn announced(&mut self, j: u32)
-        requires phase { self.old.local.phase ≡ Phase.Announcing j }
-        ensures { self.new ≡ record self.old { local = record_after self.old.givens self.old.number 0 self.old.local } }
+        requires phase { self.old.state.phase ≡ Phase.Announcing j }
+        ensures { self.new ≡ record self.old { state = record_after self.old.givens self.old.number 0 self.old.state } }
     {
         let first = next_other(self.number, 0);
         self.phase = self
@@ -133,9 +133,9 @@ impl Local {
 
     /// The announcement of q was loaded, in an attempt on j.
     fn heard_next(&mut self, j: u32, q: u32, v: u32)
-        requires phase { self.old.local.phase ≡ Phase.Trying j q }
+        requires phase { self.old.state.phase ≡ Phase.Trying j q }
         requires value { v ≤ self.old.givens.jobs }
-        ensures { self.new ≡ record self.old { local = record_after self.old.givens self.old.number v self.old.local } }
+        ensures { self.new ≡ record self.old { state = record_after self.old.givens self.old.number v self.old.state } }
     {
         self.knowledge.note(v);
         let next = next_other(self.number, q);
@@ -147,8 +147,8 @@ impl Local {
 
     /// A zero was loaded from the row of q, in an attempt on j.
     fn heard_zero(&mut self, j: u32, q: u32)
-        requires phase { self.old.local.phase ≡ Phase.Reading j q }
-        ensures { self.new ≡ record self.old { local = record_after self.old.givens self.old.number 0 self.old.local } }
+        requires phase { self.old.state.phase ≡ Phase.Reading j q }
+        ensures { self.new ≡ record self.old { state = record_after self.old.givens self.old.number 0 self.old.state } }
     {
         let next = next_other(self.number, q);
         self.phase = self.knowledge.to_row(self.givens, self.number, j, next);
@@ -157,10 +157,10 @@ impl Local {
 
     /// An entry of the row of q was loaded, in an attempt on j.
     fn heard_entry(&mut self, j: u32, q: u32, v: u32)
-        requires phase { self.old.local.phase ≡ Phase.Reading j q }
+        requires phase { self.old.state.phase ≡ Phase.Reading j q }
         requires some { 1 ≤ v }
-        requires hears { MayLoad self.old.givens v (want self.old.local) }
-        ensures { self.new ≡ record self.old { local = record_after self.old.givens self.old.number v self.old.local } }
+        requires hears { MayLoad self.old.givens v (want self.old.state) }
+        ensures { self.new ≡ record self.old { state = record_after self.old.givens self.old.number v self.old.state } }
     {
         self.knowledge.learn(v);
         self.fronts[q as usize - 1] += 1;
@@ -169,8 +169,8 @@ impl Local {
 
     /// The claim of j was stored.
     fn claimed(&mut self, j: u32)
-        requires phase { self.old.local.phase ≡ Phase.Claiming j }
-        ensures { self.new ≡ record self.old { local = record_after self.old.givens self.old.number 0 self.old.local } }
+        requires phase { self.old.state.phase ≡ Phase.Claiming j }
+        ensures { self.new ≡ record self.old { state = record_after self.old.givens self.old.number 0 self.old.state } }
     {
         add_within(&mut self.claims, j);
         self.phase = Phase::Holding(j);
@@ -179,8 +179,8 @@ impl Local {
 
     /// The performance of j was stored.
     fn done(&mut self, j: u32)
-        requires phase { self.old.local.phase ≡ Phase.Holding j }
-        ensures { self.new ≡ record self.old { local = record_after self.old.givens self.old.number 0 self.old.local } }
+        requires phase { self.old.state.phase ≡ Phase.Holding j }
+        ensures { self.new ≡ record self.old { state = record_after self.old.givens self.old.number 0 self.old.state } }
     {
         add_within(&mut self.dones, j);
         self.knowledge.learn(j);
@@ -190,10 +190,10 @@ impl Local {
 
     /// The event of a load that gave v.
     pub fn told(&mut self, v: u64) -> Shown
-        requires load { is_load (want self.old.local) ≡ true }
-        requires hears { MayLoad self.old.givens v (want self.old.local) }
-        ensures shows { result ≡ shown self.old.local.phase self.new.local.phase }
-        ensures record { self.new ≡ record self.old { local = record_after self.old.givens self.old.number v self.old.local } }
+        requires load { is_load (want self.old.state) ≡ true }
+        requires hears { MayLoad self.old.givens v (want self.old.state) }
+        ensures shows { result ≡ shown self.old.state.phase self.new.state.phase }
+        ensures record { self.new ≡ record self.old { state = record_after self.old.givens self.old.number v self.old.state } }
     {
         let before = self.phase;
         match before {
@@ -216,9 +216,9 @@ impl Local {
 
     /// The event of a store.
     pub fn stored(&mut self) -> Shown
-        requires { is_store (want self.old.local) ≡ true }
-        ensures shows { result ≡ shown self.old.local.phase self.new.local.phase }
-        ensures record { self.new ≡ record self.old { local = record_after self.old.givens self.old.number 0 self.old.local } }
+        requires { is_store (want self.old.state) ≡ true }
+        ensures shows { result ≡ shown self.old.state.phase self.new.state.phase }
+        ensures record { self.new ≡ record self.old { state = record_after self.old.givens self.old.number 0 self.old.state } }
     {
         let before = self.phase;
         match before {
@@ -232,7 +232,7 @@ impl Local {
 
     /// Whether the worker may leave: it goes on, and has nothing in its hand.
     pub fn can_leave(&self) -> bool
-        ensures { result ≡ can_leave self.now.local.phase }
+        ensures { result ≡ can_leave self.now.state.phase }
     {
         match self.phase {
             Phase::Announcing(_)
@@ -245,9 +245,9 @@ impl Local {
 
     /// The worker leaves: 0 was stored to its announcement.
     pub fn leave(&mut self) -> Shown
-        requires { can_leave self.old.local.phase ≡ true }
+        requires { can_leave self.old.state.phase ≡ true }
         ensures shows { result ≡ Shown.Left }
-        ensures record { self.new ≡ record self.old { local = record_after_leave self.old.local } }
+        ensures record { self.new ≡ record self.old { state = record_after_leave self.old.state } }
     {
         self.phase = Phase::Left;
         self.steps = self.steps.saturating_add(1);
@@ -256,7 +256,7 @@ impl Local {
 
     /// Whether the worker has ended by its own choice.
     pub fn ended(&self) -> bool
-        ensures { result ≡ is_over self.now.local.phase }
+        ensures { result ≡ is_over self.now.state.phase }
     {
         match self.phase {
             Phase::Over => true,
@@ -271,7 +271,7 @@ impl Local {
 
     /// Whether the worker has left.
     pub fn has_left(&self) -> bool
-        ensures { result ≡ true ↔ self.now.local.phase ≡ Phase.Left }
+        ensures { result ≡ true ↔ self.now.state.phase ≡ Phase.Left }
     {
         match self.phase {
             Phase::Left => true,
@@ -287,7 +287,7 @@ impl Local {
     /// Whether the worker knows that j is done.
     pub fn knows(&self, j: u32) -> bool
         requires { IsJob self.now.givens j }
-        ensures { result ≡ has self.now.local.known j }
+        ensures { result ≡ has self.now.state.known j }
     {
         self.knowledge.knows(j)
     }
@@ -295,7 +295,7 @@ impl Local {
     /// Whether the worker has seen j announced in this attempt.
     pub fn tried(&self, j: u32) -> bool
         requires { IsJob self.now.givens j }
-        ensures { result ≡ has self.now.local.tried j }
+        ensures { result ≡ has self.now.state.tried j }
     {
         self.knowledge.tried(j)
     }
@@ -303,28 +303,28 @@ impl Local {
     /// How many entries of the row of q were read.
     pub fn read_of(&self, q: u32) -> u32
         requires { IsOther self.now.givens self.now.number q }
-        ensures { result ≡ numbered 0 self.now.local.fronts q }
+        ensures { result ≡ numbered 0 self.now.state.fronts q }
     {
         self.fronts[q as usize - 1]
     }
 
     /// The claimed jobs, in their order.
     pub fn claims(&self) -> &[u32]
-        ensures { result.now ≡ self.now.local.claimed }
+        ensures { result.now ≡ self.now.state.claimed }
     {
         &self.claims
     }
 
     /// The done jobs, in their order.
     pub fn dones(&self) -> &[u32]
-        ensures { result.now ≡ self.now.local.dones }
+        ensures { result.now ≡ self.now.state.dones }
     {
         &self.dones
     }
 
     /// The job in its hand.
     pub fn in_hand(&self) -> Option<u32>
-        ensures { option_to_list result ≡ jobs_in_hand self.now.local.phase }
+        ensures { option_to_list result ≡ jobs_in_hand self.now.state.phase }
     {
         match self.phase {
             Phase::Holding(j) => Some(j),
@@ -339,14 +339,14 @@ impl Local {
 
     /// How many events it has had.
     pub fn steps(&self) -> u64
-        ensures { result ≡ self.now.local.steps }
+        ensures { result ≡ self.now.state.steps }
     {
         self.steps
     }
 
     /// Where the worker stands.
     pub fn phase(&self) -> Phase
-        ensures { result ≡ self.now.local.phase }
+        ensures { result ≡ self.now.state.phase }
     {
         self.phase
     }

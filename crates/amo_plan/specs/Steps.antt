@@ -32,7 +32,7 @@ each f i (x ∷ xs) = f (capped i) x >>= λ y. each f (i + 1) xs >>= λ ys. Ok (
 abbrev pub is_between : ℕ → ℕ → ℕ → Bool
 is_between low high n = nat_le low n && nat_le n high
 
--- What a call answers is what the definition gives, but for want of memory: its value, seen by view, only where
+-- What a call answers is what the definition gives, but for being out of memory: its value, seen by view, only where
 -- the definition gives that value, and a fault only where the definition gives that fault.
 abbrev pub Gives : {X Y : Type 0} → (X → Y) → Result X PlanFault → Result Y PlanFault → Type 0
 Gives view result read = MatchResult result (λ x. read ≡ Ok (view x)) (λ e. e ≢ NoMemory → read ≡ Err e)

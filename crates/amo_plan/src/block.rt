@@ -30,7 +30,7 @@ impl Model for Block {
 }
 
 impl Block {
-    /// A block of these tasks, or want of memory for the answers.
+    /// A block of these tasks, or out of memory for the answers.
     fn new(alloc: Global, tasks: Vec<Task>) -> Result<Block, AllocError>
         ensures { IfOk result (λ b. b ≡ tasks.items) }
     {
@@ -65,7 +65,7 @@ fn take_tasks(
     Ok(taken)
 }
 
-/// The tasks in blocks of so many, the last of which may have fewer; no tasks give no blocks. After want of memory
+/// The tasks in blocks of so many, the last of which may have fewer; no tasks give no blocks. Once out of memory
 /// the tasks are gone.
 pub fn blocks_of(alloc: Global, tasks: Vec<Task>, block: u32) -> Result<Vec<Block>, AllocError>
     requires some { 1 ≤ block }

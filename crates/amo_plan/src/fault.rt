@@ -6,7 +6,7 @@ use amo_kk::GivensFault;
 use std::alloc::{AllocError, AllocFailed};
 use thiserror::Error;
 
-/// The first test that a text fails, or want of memory. Jobs and words are numbered from 1, and 0 is the top
+/// The first test that a text fails, or out of memory. Jobs and words are numbered from 1, and 0 is the top
 /// level; a number above 4294967295, which no text that is short enough reaches, is given as that.
 #[derive(Clone, Copy, Debug, PartialEq, Eq, Error)]
 pub enum PlanFault {
@@ -49,7 +49,7 @@ pub enum PlanFault {
 }
 
 impl PlanFault {
-    /// It is want of memory, and no fault of the text.
+    /// It is out of memory, and no fault of the text.
     pub fn is_memory(&self) -> bool
         ensures { IsTrue result ↔ (self.now ≡ NoMemory) }
     {

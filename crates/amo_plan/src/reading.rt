@@ -88,7 +88,7 @@ fn plan_in(alloc: Global, table: &Table) -> Result<Plan, PlanFault>
     plan_with(alloc, givens, &top, jobs)
 }
 
-/// The plan of a text, or why it is none, or want of memory.
+/// The plan of a text, or why it is none, or out of memory.
 ///
 /// `plan_of` gives for each text either a plan or the first test that the text fails. `Ok` comes only where it
 /// gives just that plan, and a fault other than `NoMemory` only where it gives that fault. After a fault nothing

@@ -6,7 +6,7 @@ ghost use Rattle.amo_plan.specs.Results.{fits, result_text};
 use super::task::Task;
 use std::alloc::{AllocError, Global};
 
-/// The sum in decimal digits, or want of memory.
+/// The sum in decimal digits, or out of memory.
 fn sum_text(alloc: Global, numbers: &[u64]) -> Result<String, AllocError>
     requires { sum numbers.now ≤ 18446744073709551615 }
     ensures { IfOk result (λ s. string_bytes s ≡ decimal (sum numbers.now)) }
@@ -15,7 +15,7 @@ fn sum_text(alloc: Global, numbers: &[u64]) -> Result<String, AllocError>
     total.to_string(alloc)
 }
 
-/// The text of a task's result: what it says, or its sum in decimal digits; or want of memory. The task has to
+/// The text of a task's result: what it says, or its sum in decimal digits; or out of memory. The task has to
 /// fit, as each of a plan does.
 pub fn result_of(alloc: Global, task: &Task) -> Result<String, AllocError>
     requires { IsTrue (fits task.now) }

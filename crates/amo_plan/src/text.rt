@@ -26,7 +26,7 @@ impl Text {
         Text { text }
     }
 
-    /// A copy of the text, or want of memory.
+    /// A copy of the text, or out of memory.
     pub fn from_str(alloc: Global, text: &str) -> Result<Text, AllocError>
         ensures { IfOk result (λ t. t ≡ text.now) }
     {

@@ -12,8 +12,8 @@ use Rattle.amo_kk.specs.Givens.{IsWorker}
 use Rattle.amo_kk.specs.Object.{first_object}
 use Rattle.amo_kk.specs.Record.{can_leave, is_open, empty_record}
 use Rattle.amo_kk.specs.Choice.{chosen_job}
-use Rattle.amo_kk.specs.Event.{want, record_after, record_after_leave, shown_events}
-use Rattle.amo_kk.specs.World.{nobody, process, loaded_value, process_after, world_with, world_after_event, world_after_halt, world_after_move, world_after_moves, first_process, opening_world}
+use Rattle.amo_kk.specs.Step.{want, record_after, record_after_leave, shown_events}
+use Rattle.amo_kk.specs.World.{nobody, process, loaded_value, process_after, world_with, world_after_step, world_after_halt, world_after_move, world_after_moves, first_process, opening_world}
 use Rattle.amo_kk.specs.declared.phase.Phase.TheVariants.{Over, Announcing}
 use Rattle.amo_kk.specs.declared.model.Record.{Record}
 use Rattle.amo_kk.specs.Alone.{world_after_turns}
@@ -53,7 +53,7 @@ move_steps g w (Turn p) q law = go (process w p).gone refl
     r : Record
     r = record_after g p (loaded_value w (want (process w p).local)) (process w p).local
 
-    go : (b : Bool) → (process w p).gone ≡ b → steps (if b then w else world_after_event g w p (process w p)) q ≤ steps w q + 1
+    go : (b : Bool) → (process w p).gone ≡ b → steps (if b then w else world_after_step g w p (process w p)) q ≤ steps w q + 1
     go true e = omega arith
     go false e = put_steps g w p q (process_after (want (process w p).local) (process w p) r) (shown_events p (process w p).local.phase r.phase) law (here_is_worker g w p law.size e) (let now = ap (λ (x : Record). x.steps) (stored_local (want (process w p).local) (process w p) r) in omega arith)
 move_steps g w (Halt p) q law = go (process w p).gone refl

@@ -10,9 +10,9 @@ use Rattle.amo_sets.proofs.Tables.{numbered_past}
 use Rattle.amo_kk.specs.Givens.{IsWorker, next_other}
 use Rattle.amo_kk.specs.Record.{is_over, wants_nothing}
 use Rattle.amo_kk.specs.Choice.{record_after_choice, record_after_check}
-use Rattle.amo_kk.specs.Event.{want, with_announced, record_at_row, record_at_announcement, record_after_phase, record_after}
-use Rattle.amo_kk.specs.World.{nobody, process, loaded_value, process_after, world_after_event, world_after_turn}
-use Rattle.amo_kk.specs.Alone.{is_claiming, claims_or_ends, world_after_turns, IsFirstToSettle}
+use Rattle.amo_kk.specs.Step.{want, with_announced, record_at_row, record_at_announcement, record_after_phase, record_after}
+use Rattle.amo_kk.specs.World.{nobody, process, loaded_value, process_after, world_after_step, world_after_turn}
+use Rattle.amo_kk.specs.Alone.{is_claiming, claims_or_ends, world_after_turns, IsFirstToClaimOrEnd}
 use Rattle.amo_kk.specs.Lawful.{IsLawful}
 use Rattle.amo_kk.specs.declared.givens.Givens.{Givens}
 use Rattle.amo_kk.specs.declared.phase.Phase.{Phase}
@@ -23,12 +23,12 @@ use Rattle.amo_kk.specs.declared.model.World.{World}
 use Rattle.amo_kk.proofs.Choice.{choice_cases, check_cases, to_row_cases, to_announcement_cases}
 use Rattle.amo_kk.proofs.Worlds.{here_is_worker, put_here, turn_lawful}
 use Rattle.amo_kk.proofs.Runs.{stored_local, stored_gone}
-use Rattle.amo_kk.proofs.Alone.{settles_soon}
+use Rattle.amo_kk.proofs.Alone.{claims_or_ends_soon}
 use Rattle.amo_world.proofs.Resting.{here_next}
 use Rattle.amo_plan.specs.Plan.{PlanSeen}
-use Rattle.amo_report.specs.Stops.{turns_to_settle, enough_turns, LoneRun, settled, settled_often, run_out, all_run_out, stopped_world, stopped}
+use Rattle.amo_report.specs.Stops.{lone_turns, enough_turns, LoneRun, after_lone_run, after_lone_runs, run_out, all_run_out, stopped_world, stopped}
 use Rattle.amo_report.proofs.ReachedWorlds.{reached_lawful}
-use Rattle.amo_report.proofs.Stopped.{turns_are, settled_here, settled_gone, IsUnderLimit, often_under, run_out_under, all_under, stopped_reached}
+use Rattle.amo_report.proofs.Stopped.{turns_are, after_lone_run_here, after_lone_run_gone, IsUnderLimit, often_under, run_out_under, all_under, stopped_reached}
 
 -- how many jobs p has claimed
 abbrev claims : World → ℕ → ℕ
@@ -95,7 +95,7 @@ module _ (g : Givens) (w : World) (p : ℕ) (law : IsLawful g w) (here : (proces
 
   turned : process (world_after_turn g w p) p ≡ process_after (want r) (process w p) x
   turned =
-      ap (λ b. process (if b then w else world_after_event g w p (process w p)) p) here
+      ap (λ b. process (if b then w else world_after_step g w p (process w p)) p) here
       ∙ put_here g w p (process_after (want r) (process w p) x) law.size (here_is_worker g w p law.size here)
 
   claimed_now : claims (world_after_turn g w p) p ≡ length x.claimed
@@ -111,7 +111,7 @@ module _ (g : Givens) (w : World) (p : ℕ) (law : IsLawful g w) (here : (proces
       (or_cases (is_claiming r.phase) (is_over x.phase) h)
 
 -- a worker that has come to rest is gone, or has claimed one job more
-rests : (g : Givens) (i : ℕ) (w : World) (p : ℕ) → IsLawful g w → (process w p).gone ≡ false → IsFirstToSettle g w p i
+rests : (g : Givens) (i : ℕ) (w : World) (p : ℕ) → IsLawful g w → (process w p).gone ≡ false → IsFirstToClaimOrEnd g w p i
     → ((process (world_after_turns g w p (suc i)) p).gone ≡ true) ⊎ (suc (claims w p) ≤ claims (world_after_turns g w p (suc i)) p)
 rests g zero w p law here first = turn_ends g w p law here first.this_one
 rests g (suc i) w p law here first =
@@ -123,22 +123,22 @@ rests g (suc i) w p law here first =
 
 -- and so one time after the other
 out_or_claims : (g : Givens) (p moves times : ℕ) (start : LoneRun) → IsUnderLimit g moves start
-    → ((process (settled_often g p times start).world p).gone ≡ true) ⊎ (times ≤ claims (settled_often g p times start).world p)
+    → ((process (after_lone_runs g p times start).world p).gone ≡ true) ⊎ (times ≤ claims (after_lone_runs g p times start).world p)
 out_or_claims g p moves zero start under = inr (omega arith)
 out_or_claims g p moves (suc times) start under = go (process before.world p).gone refl (out_or_claims g p moves times start under)
   where
     before : LoneRun
-    before = settled_often g p times start
+    before = after_lone_runs g p times start
 
     law : IsLawful g before.world
     law = reached_lawful g _ before.world (often_under g p times moves start under).reached
 
     go : (b : Bool) → (process before.world p).gone ≡ b → ((process before.world p).gone ≡ true) ⊎ (times ≤ claims before.world p)
-        → ((process (settled g p before).world p).gone ≡ true) ⊎ (suc times ≤ claims (settled g p before).world p)
-    go true e h = inl (ap (λ (y : LoneRun). (process y.world p).gone) (settled_gone g p before e) ∙ e)
+        → ((process (after_lone_run g p before).world p).gone ≡ true) ⊎ (suc times ≤ claims (after_lone_run g p before).world p)
+    go true e h = inl (ap (λ (y : LoneRun). (process y.world p).gone) (after_lone_run_gone g p before e) ∙ e)
     go false e h =
-        let soon = settles_soon g before.world p g.limits law e in
-        let after : (settled g p before).world ≡ world_after_turns g before.world p (suc soon.0) = ap (λ (y : LoneRun). y.world) (settled_here g p before e) ∙ ap (λ n. world_after_turns g before.world p n) (turns_are g soon.0 (enough_turns g) before.world p soon.1 soon.2) in
+        let soon = claims_or_ends_soon g before.world p g.limits law e in
+        let after : (after_lone_run g p before).world ≡ world_after_turns g before.world p (suc soon.0) = ap (λ (y : LoneRun). y.world) (after_lone_run_here g p before e) ∙ ap (λ n. world_after_turns g before.world p n) (turns_are g soon.0 (enough_turns g) before.world p soon.1 soon.2) in
         subst (λ y. ((process y p).gone ≡ true) ⊎ (suc times ≤ claims y p)) (sym after)
         (⊎_elim (λ gone. inl gone) (λ more. inr (⊎_elim (λ t. absurd (true≢false (sym t ∙ e))) (λ many. omega arith) h)) (rests g soon.0 before.world p law e soon.2))
 
@@ -163,7 +163,7 @@ turn_stays g w p q gone = go (process w p).gone refl
     a : Process
     a = process_after (want (process w p).local) (process w p) (record_after g p (loaded_value w (want (process w p).local)) (process w p).local)
 
-    go : (b : Bool) → (process w p).gone ≡ b → (process (if b then w else world_after_event g w p (process w p)) q).gone ≡ true
+    go : (b : Bool) → (process w p).gone ≡ b → (process (if b then w else world_after_step g w p (process w p)) q).gone ≡ true
     go true e = gone
     go false e = ap (λ (y : Process). y.gone) (numbered-put_other nobody a w.processes p q (λ (same : q ≡ p). true≢false (sym gone ∙ ap (λ k. (process w k).gone) same ∙ e))) ∙ gone
 
@@ -171,16 +171,16 @@ turns_stay : (g : Givens) (n : ℕ) (w : World) (p q : ℕ) → (process w q).go
 turns_stay g zero w p q gone = gone
 turns_stay g (suc n) w p q gone = turns_stay g n (world_after_turn g w p) p q (turn_stays g w p q gone)
 
-often_stays : (g : Givens) (p q times : ℕ) (start : LoneRun) → (process start.world q).gone ≡ true → (process (settled_often g p times start).world q).gone ≡ true
+often_stays : (g : Givens) (p q times : ℕ) (start : LoneRun) → (process start.world q).gone ≡ true → (process (after_lone_runs g p times start).world q).gone ≡ true
 often_stays g p q zero start gone = gone
 often_stays g p q (suc times) start gone = go (process before.world p).gone refl (often_stays g p q times start gone)
   where
     before : LoneRun
-    before = settled_often g p times start
+    before = after_lone_runs g p times start
 
-    go : (b : Bool) → (process before.world p).gone ≡ b → (process before.world q).gone ≡ true → (process (settled g p before).world q).gone ≡ true
-    go true e h = ap (λ (y : LoneRun). (process y.world q).gone) (settled_gone g p before e) ∙ h
-    go false e h = ap (λ (y : LoneRun). (process y.world q).gone) (settled_here g p before e) ∙ turns_stay g (turns_to_settle g p (enough_turns g) before.world) before.world p q h
+    go : (b : Bool) → (process before.world p).gone ≡ b → (process before.world q).gone ≡ true → (process (after_lone_run g p before).world q).gone ≡ true
+    go true e h = ap (λ (y : LoneRun). (process y.world q).gone) (after_lone_run_gone g p before e) ∙ h
+    go false e h = ap (λ (y : LoneRun). (process y.world q).gone) (after_lone_run_here g p before e) ∙ turns_stay g (lone_turns g p (enough_turns g) before.world) before.world p q h
 
 -- the first so many workers are gone
 all_out : (g : Givens) (n moves : ℕ) (start : LoneRun) → IsUnderLimit g moves start → n ≤ g.workers → (q : ℕ) → 1 ≤ q → q ≤ n → (process (all_run_out g n start).world q).gone ≡ true

@@ -1,9 +1,9 @@
 -- Workers that go on alone: how many turns they take, and what holds of the worlds that they leave.
 use Rattle.std.proofs.Common.{◌≡◌, ℕ, zero, suc, ◌+◌, ◌-◌, ◌*◌, ◌≤◌, ◌<◌, ◌^◌, min, max, length, take, length-take, Bool, true, false, refl, sym, ap, ◌∙◌, subst, arith, add-one}
 use Rattle.std.specs.Prelude.{if◌then◌else◌}
-use Rattle.amo_kk.specs.Event.{want, record_after}
-use Rattle.amo_kk.specs.World.{process, loaded_value, process_after, world_after_event, world_after_turn}
-use Rattle.amo_kk.specs.Alone.{claims_or_ends, world_after_turns, IsFirstToSettle}
+use Rattle.amo_kk.specs.Step.{want, record_after}
+use Rattle.amo_kk.specs.World.{process, loaded_value, process_after, world_after_step, world_after_turn}
+use Rattle.amo_kk.specs.Alone.{claims_or_ends, world_after_turns, IsFirstToClaimOrEnd}
 use Rattle.amo_kk.specs.Lawful.{IsLawful}
 use Rattle.amo_kk.specs.declared.givens.Givens.{Givens}
 use Rattle.amo_kk.specs.declared.model.Process.{Process}
@@ -17,13 +17,13 @@ use Rattle.amo_world.specs.declared.answer.Alone.{Alone}
 use Rattle.amo_world.proofs.Resting.{here_next}
 use Rattle.amo_report.specs.Reached.{IsReached}
 use Rattle.amo_plan.specs.Plan.{PlanSeen}
-use Rattle.amo_report.specs.Stops.{stopped_world, stopped, turns_to_settle, enough_turns, LoneRun, settled, settled_often, run_out, all_run_out}
+use Rattle.amo_report.specs.Stops.{stopped_world, stopped, lone_turns, enough_turns, LoneRun, after_lone_run, after_lone_runs, run_out, all_run_out}
 use Rattle.amo_report.proofs.ReachedWorlds.{reached_lawful, reached_steps, reached_later, reached_turns, reached_halt, reached_first}
 
 -- a turn of a worker that isn't gone is one event more
 turn_steps : (g : Givens) (w : World) (p : ℕ) → IsLawful g w → (process w p).gone ≡ false → (process (world_after_turn g w p) p).local.steps ≡ min ((process w p).local.steps + 1) (2 ^ 64 - 1)
 turn_steps g w p law here =
-    ap (λ b. (process (if b then w else world_after_event g w p (process w p)) p).local.steps) here
+    ap (λ b. (process (if b then w else world_after_step g w p (process w p)) p).local.steps) here
     ∙ ap (λ (x : Process). x.local.steps) (put_here g w p (process_after (want a.local) a r) law.size (here_is_worker g w p law.size here))
     ∙ ap (λ (x : Record). x.steps) (stored_local (want a.local) a r)
   where
@@ -33,7 +33,7 @@ turn_steps g w p law here =
     r : Record
     r = record_after g p (loaded_value w (want (process w p).local)) (process w p).local
 
--- and so the events tell the turns up to the one that settles
+-- and so the events tell the turns up to the one that claims or ends
 pub settling_steps : (g : Givens) (i : ℕ) (w : World) (p : ℕ) → IsLawful g w → (process w p).gone ≡ false → ((k : ℕ) → k < i → claims_or_ends g (world_after_turns g w p k) p ≡ false)
     → (process w p).local.steps + suc i < 2 ^ 64 → (process (world_after_turns g w p (suc i)) p).local.steps ≡ (process w p).local.steps + suc i
 settling_steps g zero w p law here none room = let one = turn_steps g w p law here in omega arith
@@ -43,16 +43,16 @@ settling_steps g (suc i) w p law here none room =
     let rest = settling_steps g i (world_after_turn g w p) p (turn_lawful g w p g.limits law) (here_next g w p law here now) (λ k l. none (suc k) (omega arith)) (omega arith) in
     omega arith
 
--- the search finds the first turn that settles
-pub turns_are : (g : Givens) (i most : ℕ) (w : World) (p : ℕ) → i < most → IsFirstToSettle g w p i → turns_to_settle g p most w ≡ suc i
+-- the search finds the first turn that claims or ends
+pub turns_are : (g : Givens) (i most : ℕ) (w : World) (p : ℕ) → i < most → IsFirstToClaimOrEnd g w p i → lone_turns g p most w ≡ suc i
 turns_are g i zero w p l first = absurd (omega arith)
-turns_are g zero (suc most) w p l first = ap (λ b. if b then 1 else suc (turns_to_settle g p most (world_after_turn g w p))) first.this_one
+turns_are g zero (suc most) w p l first = ap (λ b. if b then 1 else suc (lone_turns g p most (world_after_turn g w p))) first.this_one
 turns_are g (suc i) (suc most) w p l first =
-    ap (λ b. if b then 1 else suc (turns_to_settle g p most (world_after_turn g w p))) (first.none_before zero (omega arith))
+    ap (λ b. if b then 1 else suc (lone_turns g p most (world_after_turn g w p))) (first.none_before zero (omega arith))
     ∙ ap (λ n. suc n) (turns_are g i most (world_after_turn g w p) p (omega arith) (record { none_before = λ k m. first.none_before (suc k) (omega arith); this_one = first.this_one }))
 
 -- and never takes more turns than it may
-pub turns_few : (g : Givens) (p most : ℕ) (w : World) → turns_to_settle g p most w ≤ most
+pub turns_few : (g : Givens) (p most : ℕ) (w : World) → lone_turns g p most w ≤ most
 turns_few g p zero w = omega arith
 turns_few g p (suc most) w = go (claims_or_ends g w p) _ (turns_few g p most (world_after_turn g w p))
   where
@@ -61,12 +61,12 @@ turns_few g p (suc most) w = go (claims_or_ends g w p) _ (turns_few g p most (wo
     go false rest l = omega arith
 
 -- where p has come to rest: how many events it has had, and in which world
-pub record Settles (g : Givens) (w : World) (p : ℕ) (v : World) : Type 0 where
-  pub steps : (process v p).local.steps ≡ (process w p).local.steps + turns_to_settle g p (enough_turns g) w
-  pub leads : v ≡ world_after_turns g w p (turns_to_settle g p (enough_turns g) w)
+pub record RunsLone (g : Givens) (w : World) (p : ℕ) (v : World) : Type 0 where
+  pub steps : (process v p).local.steps ≡ (process w p).local.steps + lone_turns g p (enough_turns g) w
+  pub leads : v ≡ world_after_turns g w p (lone_turns g p (enough_turns g) w)
 
-pub settles : (g : Givens) (w v : World) (p : ℕ) (answer : Alone) → IsReached g 1000000000 w → (process w p).gone ≡ false → RunsAlone g w p v answer → Settles g w p v
-settles g w v p answer way here runs =
+pub runs_lone : (g : Givens) (w v : World) (p : ℕ) (answer : Alone) → IsReached g 1000000000 w → (process w p).gone ≡ false → RunsAlone g w p v answer → RunsLone g w p v
+runs_lone g w v p answer way here runs =
     let turns = turns_are g runs.others (enough_turns g) w p runs.soon runs.first in
     let before = reached_steps g 1000000000 w p way in
     let soon = runs.soon in
@@ -80,41 +80,41 @@ settles g w v p answer way here runs =
     }
 
 -- a worker that isn't gone, and one that is
-pub settled_here : (g : Givens) (p : ℕ) (r : LoneRun) → (process r.world p).gone ≡ false → settled g p r ≡ record { world = world_after_turns g r.world p (turns_to_settle g p (enough_turns g) r.world); most = max r.most (turns_to_settle g p (enough_turns g) r.world) }
-unfolding settled
-settled_here g p r here = ap (λ b. let x : LoneRun = if b then r else record { world = world_after_turns g r.world p (turns_to_settle g p (enough_turns g) r.world); most = max r.most (turns_to_settle g p (enough_turns g) r.world) } in x) here
+pub after_lone_run_here : (g : Givens) (p : ℕ) (r : LoneRun) → (process r.world p).gone ≡ false → after_lone_run g p r ≡ record { world = world_after_turns g r.world p (lone_turns g p (enough_turns g) r.world); most = max r.most (lone_turns g p (enough_turns g) r.world) }
+unfolding after_lone_run
+after_lone_run_here g p r here = ap (λ b. let x : LoneRun = if b then r else record { world = world_after_turns g r.world p (lone_turns g p (enough_turns g) r.world); most = max r.most (lone_turns g p (enough_turns g) r.world) } in x) here
 
-pub settled_gone : (g : Givens) (p : ℕ) (r : LoneRun) → (process r.world p).gone ≡ true → settled g p r ≡ r
-unfolding settled
-settled_gone g p r gone = ap (λ b. let x : LoneRun = if b then r else record { world = world_after_turns g r.world p (turns_to_settle g p (enough_turns g) r.world); most = max r.most (turns_to_settle g p (enough_turns g) r.world) } in x) gone
+pub after_lone_run_gone : (g : Givens) (p : ℕ) (r : LoneRun) → (process r.world p).gone ≡ true → after_lone_run g p r ≡ r
+unfolding after_lone_run
+after_lone_run_gone g p r gone = ap (λ b. let x : LoneRun = if b then r else record { world = world_after_turns g r.world p (lone_turns g p (enough_turns g) r.world); most = max r.most (lone_turns g p (enough_turns g) r.world) } in x) gone
 
 -- what holds of a run all along: its world is reached by so many moves, and no go took more turns than are enough
 pub record IsUnderLimit (g : Givens) (moves : ℕ) (r : LoneRun) : Type 0 where
   pub reached : IsReached g moves r.world
   pub most : r.most ≤ enough_turns g
 
-settled_under : (g : Givens) (p moves : ℕ) (r : LoneRun) → IsUnderLimit g moves r → IsUnderLimit g (moves + 4192) (settled g p r)
-settled_under g p moves r under = go (process r.world p).gone refl
+lone_run_under : (g : Givens) (p moves : ℕ) (r : LoneRun) → IsUnderLimit g moves r → IsUnderLimit g (moves + 4192) (after_lone_run g p r)
+lone_run_under g p moves r under = go (process r.world p).gone refl
   where
     turns : ℕ
-    turns = turns_to_settle g p (enough_turns g) r.world
+    turns = lone_turns g p (enough_turns g) r.world
 
-    go : (b : Bool) → (process r.world p).gone ≡ b → IsUnderLimit g (moves + 4192) (settled g p r)
-    go true e = subst (IsUnderLimit g (moves + 4192)) (sym (settled_gone g p r e)) (record { reached = reached_later g moves (moves + 4192) r.world (omega arith) under.reached; most = under.most })
+    go : (b : Bool) → (process r.world p).gone ≡ b → IsUnderLimit g (moves + 4192) (after_lone_run g p r)
+    go true e = subst (IsUnderLimit g (moves + 4192)) (sym (after_lone_run_gone g p r e)) (record { reached = reached_later g moves (moves + 4192) r.world (omega arith) under.reached; most = under.most })
     go false e =
         let few : turns ≤ enough_turns g = turns_few g p (enough_turns g) r.world in
         let jobs = g.limits.few_jobs in
         let workers = g.limits.few_workers in
         let most = under.most in
-        subst (IsUnderLimit g (moves + 4192)) (sym (settled_here g p r e)) (record {
+        subst (IsUnderLimit g (moves + 4192)) (sym (after_lone_run_here g p r e)) (record {
           reached = reached_later g (moves + turns) (moves + 4192) (world_after_turns g r.world p turns) (omega arith) (reached_turns g moves r.world p turns under.reached);
           most = omega arith;
         })
 
-pub often_under : (g : Givens) (p times moves : ℕ) (r : LoneRun) → IsUnderLimit g moves r → IsUnderLimit g (moves + times * 4192) (settled_often g p times r)
+pub often_under : (g : Givens) (p times moves : ℕ) (r : LoneRun) → IsUnderLimit g moves r → IsUnderLimit g (moves + times * 4192) (after_lone_runs g p times r)
 often_under g p zero moves r under = record { reached = reached_later g moves (moves + 0 * 4192) r.world (omega arith) under.reached; most = under.most }
 often_under g p (suc times) moves r under =
-    let last = settled_under g p (moves + times * 4192) (settled_often g p times r) (often_under g p times moves r under) in
+    let last = lone_run_under g p (moves + times * 4192) (after_lone_runs g p times r) (often_under g p times moves r under) in
     record { reached = reached_later g (moves + times * 4192 + 4192) (moves + suc times * 4192) _ (omega arith) last.reached; most = last.most }
 
 pub run_out_under : (g : Givens) (p moves : ℕ) (r : LoneRun) → IsUnderLimit g moves r → IsUnderLimit g (moves + 17174624) (run_out g p r)
@@ -134,12 +134,12 @@ pub record Shows (g : Givens) (r : LoneRun) (v : WorldView) (turns : ℕ) : Type
   pub world : v ≡ record { givens = g; world = r.world }
   pub most : turns ≡ r.most
 
-one_time_more : (g : Givens) (p n : ℕ) (start : LoneRun) → settled g p (settled_often g p n start) ≡ settled_often g p (n + 1) start
-one_time_more g p n start = ap (λ k. settled_often g p k start) (sym (add-one n))
+one_time_more : (g : Givens) (p n : ℕ) (start : LoneRun) → after_lone_run g p (after_lone_runs g p n start) ≡ after_lone_runs g p (n + 1) start
+one_time_more g p n start = ap (λ k. after_lone_runs g p k start) (sym (add-one n))
 
-pub goes_on : (g : Givens) (p n : ℕ) (start : LoneRun) (old new : WorldView) (most turns : ℕ) → Shows g (settled_often g p n start) old most → (process old.world p).gone ≡ false
-    → turns ≡ turns_to_settle old.givens p (enough_turns old.givens) old.world → new ≡ record { givens = old.givens; world = world_after_turns old.givens old.world p turns }
-    → Shows g (settled_often g p (n + 1) start) new (max most turns)
+pub goes_on : (g : Givens) (p n : ℕ) (start : LoneRun) (old new : WorldView) (most turns : ℕ) → Shows g (after_lone_runs g p n start) old most → (process old.world p).gone ≡ false
+    → turns ≡ lone_turns old.givens p (enough_turns old.givens) old.world → new ≡ record { givens = old.givens; world = world_after_turns old.givens old.world p turns }
+    → Shows g (after_lone_runs g p (n + 1) start) new (max most turns)
 goes_on g p n start old new most turns is here taken made =
     record {
       world = made ∙ (λ i. let v : WorldView = record { givens = (is.world i).givens; world = world_after_turns (is.world i).givens (is.world i).world p (so i) } in v)
@@ -148,19 +148,19 @@ goes_on g p n start old new most turns is here taken made =
     }
   where
     r : LoneRun
-    r = settled_often g p n start
+    r = after_lone_runs g p n start
 
-    so : turns ≡ turns_to_settle g p (enough_turns g) r.world
-    so = taken ∙ (λ i. turns_to_settle (is.world i).givens p (enough_turns (is.world i).givens) (is.world i).world)
+    so : turns ≡ lone_turns g p (enough_turns g) r.world
+    so = taken ∙ (λ i. lone_turns (is.world i).givens p (enough_turns (is.world i).givens) (is.world i).world)
 
-    next : (let x : LoneRun = record { world = world_after_turns g r.world p (turns_to_settle g p (enough_turns g) r.world); most = max r.most (turns_to_settle g p (enough_turns g) r.world) } in x) ≡ settled_often g p (n + 1) start
-    next = sym (settled_here g p r (sym (ap (λ (v : WorldView). (process v.world p).gone) is.world) ∙ here)) ∙ one_time_more g p n start
+    next : (let x : LoneRun = record { world = world_after_turns g r.world p (lone_turns g p (enough_turns g) r.world); most = max r.most (lone_turns g p (enough_turns g) r.world) } in x) ≡ after_lone_runs g p (n + 1) start
+    next = sym (after_lone_run_here g p r (sym (ap (λ (v : WorldView). (process v.world p).gone) is.world) ∙ here)) ∙ one_time_more g p n start
 
-pub stays : (g : Givens) (p n : ℕ) (start : LoneRun) (old : WorldView) (most : ℕ) → Shows g (settled_often g p n start) old most → (process old.world p).gone ≡ true → Shows g (settled_often g p (n + 1) start) old most
+pub stays : (g : Givens) (p n : ℕ) (start : LoneRun) (old : WorldView) (most : ℕ) → Shows g (after_lone_runs g p n start) old most → (process old.world p).gone ≡ true → Shows g (after_lone_runs g p (n + 1) start) old most
 stays g p n start old most is gone = subst (λ r. Shows g r old most) same is
   where
-    same : settled_often g p n start ≡ settled_often g p (n + 1) start
-    same = sym (settled_gone g p (settled_often g p n start) (sym (ap (λ (v : WorldView). (process v.world p).gone) is.world) ∙ gone)) ∙ one_time_more g p n start
+    same : after_lone_runs g p n start ≡ after_lone_runs g p (n + 1) start
+    same = sym (after_lone_run_gone g p (after_lone_runs g p n start) (sym (ap (λ (v : WorldView). (process v.world p).gone) is.world) ∙ gone)) ∙ one_time_more g p n start
 
 -- and after one worker more
 pub one_more_out : (g : Givens) (n : ℕ) (start : LoneRun) (old new : WorldView) (most result : ℕ) → Shows g (all_run_out g n start) old most

@@ -8,7 +8,7 @@ use Rattle.amo_report.specs.declared.replaying.ReplayFault.{ReplayFault}
 use Rattle.amo_report.specs.declared.replaying.ReplayFault.TheVariants.{Plan, Read, Write, NoMemory}
 use Rattle.amo_report.specs.Streams.{AppendsFront}
 
--- why no plan was read from a source that had these bytes, and whether it has failed now; want of memory is never given
+-- why no plan was read from a source that had these bytes, and whether it has failed now; out of memory is never given
 -- as a fault of the plan
 abbrev pub IsNoPlan : ReplayFault → Option (List ℕ) → Bool → Type 0
 IsNoPlan (Plan f) known failed = IfSome known (λ bytes. plan_of bytes ≡ Err f) × (f ≢ fault.NoMemory)

@@ -17,9 +17,9 @@ use Rattle.amo_report.specs.Happened.{is_done}
 use Rattle.amo_report.specs.Summary.{counts_part, verdict_part, numbers_from, least_of, least_line}
 
 -- how many turns p takes, alone, to claim a job or end, of so many at most
-abbrev pub turns_to_settle : Givens → ℕ → ℕ → World → ℕ
-turns_to_settle g p zero w = 0
-turns_to_settle g p (suc most) w = if claims_or_ends g w p then 1 else suc (turns_to_settle g p most (world_after_turn g w p))
+abbrev pub lone_turns : Givens → ℕ → ℕ → World → ℕ
+lone_turns g p zero w = 0
+lone_turns g p (suc most) w = if claims_or_ends g w p then 1 else suc (lone_turns g p most (world_after_turn g w p))
 
 -- so many are enough for a worker that isn't gone
 abbrev pub enough_turns : Givens → ℕ
@@ -31,21 +31,21 @@ pub record LoneRun : Type 0 where
   pub most : ℕ
 
 -- p, if it isn't gone, goes on alone until it claims a job or ends
-unfoldable pub settled : Givens → ℕ → LoneRun → LoneRun
-settled g p r =
-    let turns = turns_to_settle g p (enough_turns g) r.world in
+unfoldable pub after_lone_run : Givens → ℕ → LoneRun → LoneRun
+after_lone_run g p r =
+    let turns = lone_turns g p (enough_turns g) r.world in
     if (process r.world p).gone
     then r
     else (let after : LoneRun = record { world = world_after_turns g r.world p turns; most = max r.most turns } in after)
 
 -- the same, so many times
-abbrev pub settled_often : Givens → ℕ → ℕ → LoneRun → LoneRun
-settled_often g p zero r = r
-settled_often g p (suc times) r = settled g p (settled_often g p times r)
+abbrev pub after_lone_runs : Givens → ℕ → ℕ → LoneRun → LoneRun
+after_lone_runs g p zero r = r
+after_lone_runs g p (suc times) r = after_lone_run g p (after_lone_runs g p times r)
 
 -- p goes on alone until it is gone: it claims each job at most once, and ends
 abbrev pub run_out : Givens → ℕ → LoneRun → LoneRun
-run_out g p r = settled_often g p (g.jobs + 1) r
+run_out g p r = after_lone_runs g p (g.jobs + 1) r
 
 -- the first so many workers do this one after the other
 abbrev pub all_run_out : Givens → ℕ → LoneRun → LoneRun

@@ -21,7 +21,7 @@ fn push_check(out: &mut String, heads: &Heads) -> Result<(), AllocError>
 }
 
 /// The line that says that a plan is one, with its numbers: `ok jobs N workers M beta B moves K rounds R`, and
-/// from version 2 on the numbers of blocks. The only error is want of memory.
+/// from version 2 on the numbers of blocks. The only error is out of memory.
 pub fn check_text(alloc: Global, heads: &Heads) -> Result<String, AllocError>
     ensures { IfOk result (λ s. string_bytes s ≡ check_of_heads heads.now) }
 {

@@ -25,7 +25,7 @@ use std::alloc::{AllocError, Global};
 /// Why the text of a plan was not written, or not all of it.
 #[derive(Clone, Copy, Debug, PartialEq, Eq)]
 pub enum ReplayFault {
-    /// The source holds no plan, for this fault, which isn't want of memory. Nothing was written.
+    /// The source holds no plan, for this fault, which isn't out of memory. Nothing was written.
     Plan(PlanFault),
     /// The source failed. Nothing was written.
     Read,
@@ -78,7 +78,7 @@ fn write_text<W: Sink>(writer: &mut W, text: &String) -> Result<(), ReplayFault>
     }
 }
 
-/// The report of a plan, in the world after its schedule and its rounds. The only error is want of memory.
+/// The report of a plan, in the world after its schedule and its rounds. The only error is out of memory.
 fn plan_report(alloc: Global, plan: &Plan) -> Result<String, AllocError>
     ensures { IfOk result (λ s. string_bytes s ≡ report_of (plan_seen plan.now)) }
 {

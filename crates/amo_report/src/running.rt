@@ -28,7 +28,7 @@ pub fn run_rounds(world: &mut World, count: u32)
     }
 }
 
-/// The world of a plan: after its schedule and its rounds. The only error is want of memory.
+/// The world of a plan: after its schedule and its rounds. The only error is out of memory.
 pub fn run_plan(alloc: Global, plan: &Plan) -> Result<World, AllocError>
     ensures { IfOk result (λ w. w ≡ record { givens = (plan_seen plan.now).givens; world = world_of (plan_seen plan.now) }) }
 {
@@ -38,7 +38,7 @@ pub fn run_plan(alloc: Global, plan: &Plan) -> Result<World, AllocError>
     Ok(world)
 }
 
-/// Each worker's number of turns, in the order of their numbers. The only error is want of memory.
+/// Each worker's number of turns, in the order of their numbers. The only error is out of memory.
 pub fn all_turns(alloc: Global, world: &World) -> Result<Vec<u64>, AllocError>
     ensures { IfOk result (λ v. v.items ≡ turns_of world.now.givens world.now.world) }
 {

@@ -6,7 +6,7 @@ ghost use Rattle.amo_kk.specs.Alone.{world_after_turns};
 ghost use Rattle.amo_world.specs.declared.answer.Verdict.TheVariants.{Lawful};
 ghost use Rattle.amo_plan.specs.PlanSeen.{plan_seen};
 ghost use Rattle.amo_report.specs.Reached.{IsReached};
-ghost use Rattle.amo_report.specs.Stops.{turns_to_settle, enough_turns, run_out, all_run_out, stopped_world, stopped, stopped_verdict, stopped_dones, stop_line, stopped_line, stops_of};
+ghost use Rattle.amo_report.specs.Stops.{lone_turns, enough_turns, run_out, all_run_out, stopped_world, stopped, stopped_verdict, stopped_dones, stop_line, stopped_line, stops_of};
 
 use super::laws::stops_run_out;
 use super::summary::{count_performances, lesser, push_counts, push_least, push_verdict};
@@ -17,10 +17,10 @@ use std::alloc::{AllocError, Global};
 
 /// Runs worker p, which isn't gone, alone until it claims a job or ends, and tells in how many turns. The world is
 /// far from having had more moves than its workers count.
-fn settle(world: &mut World, p: u32) -> u64
+fn lone_run(world: &mut World, p: u32) -> u64
     requires here { (process world.old.world p).gone ≡ false }
     requires reached { IsReached world.old.givens 1000000000 world.old.world }
-    ensures turns { result ≡ turns_to_settle world.old.givens p (enough_turns world.old.givens) world.old.world }
+    ensures turns { result ≡ lone_turns world.old.givens p (enough_turns world.old.givens) world.old.world }
     ensures world { world.new ≡ record { givens = world.old.givens; world = world_after_turns world.old.givens world.old.world p result } }
 {
     let before = world.turns_of(p);
@@ -39,7 +39,7 @@ fn run_out(world: &mut World, p: u32, mut most: u64) -> u64
     // It claims each job at most once and ends, so it is gone after so many times.
     for _time in 0..world.givens().jobs + 1 {
         if !world.is_gone(p) {
-            most = most.max(settle(world, p));
+            most = most.max(lone_run(world, p));
         }
     }
     most
@@ -60,7 +60,7 @@ fn run_all_out(world: &mut World) -> u64
     most
 }
 
-/// The world in which worker p stops after the first `count` moves of the plan. The only error is want of memory.
+/// The world in which worker p stops after the first `count` moves of the plan. The only error is out of memory.
 fn stop_after(alloc: Global, plan: &Plan, p: u32, count: usize) -> Result<World, AllocError>
     requires worker { IsWorker plan.now.heads.givens p }
     requires count { count ≤ length plan.now.heads.moves }
@@ -118,7 +118,7 @@ fn push_stopped(
 /// says how much was claimed and performed, the most turns that a worker took in one go to claim a job or end, which
 /// is at most 6 * workers + jobs, and what the judge says, which is always `lawful`. The last line has the least
 /// number of performances. The plan's rounds aren't used. p is in 1..=workers, and there are at most 1000 moves. The
-/// only error is want of memory.
+/// only error is out of memory.
 #[tactic(auto, using(crate::proofs::Least::pieces_more, crate::proofs::Least::least_more))]
 pub fn stops_text(alloc: Global, plan: &Plan, p: u32) -> Result<String, AllocError>
     requires low { 1 ≤ p }

@@ -109,7 +109,7 @@ fn assert_refused(rt: &impl Abort, alloc: Global, made: Made, plan: &str, fault:
     assert_made(rt, alloc, made, plan, refused, "");
 }
 
-/// Asserts that this text is made of a plan, or for want of memory nothing.
+/// Asserts that this text is made of a plan, or, out of memory, nothing.
 fn assert_made_or_no_memory(rt: &impl Abort, alloc: Global, made: Made, plan: &str, text: &str) {
     if let Ok(mut out) = Room::new(alloc, 2000) {
         let answer = made.write(alloc, plan, &mut out);
@@ -131,7 +131,7 @@ fn plan_of(rt: &impl Abort, alloc: Global, heads: &str, jobs: &str) -> Plan {
     read_plan(alloc, text.as_bytes()).expect(rt, "no plan")
 }
 
-/// The plan, read from a source, or none for want of memory.
+/// The plan, read from a source, or none when out of memory.
 fn plan_or_no_memory(rt: &impl Abort, alloc: Global, plan: &str) -> Option<Plan> {
     match read_source(alloc, &mut Bytes::new(plan.as_bytes())) {
         Ok(plan) => Some(plan),
@@ -148,7 +148,7 @@ fn assert_text(rt: &impl Abort, made: Result<String, AllocError>, text: &str) {
     assert_eq!(rt; made.as_str(), text);
 }
 
-/// Asserts that a call made this text, or none for want of memory.
+/// Asserts that a call made this text, or none when out of memory.
 fn assert_text_or_no_memory(rt: &impl Abort, made: Result<String, AllocError>, text: &str) {
     if let Ok(made) = made {
         assert_eq!(rt; made.as_str(), text);
@@ -268,7 +268,7 @@ fn plans_that_are_refused_write_nothing(rt: HostRuntime) {
     }
 }
 
-/// The report, or nothing for want of memory.
+/// The report, or nothing when out of memory.
 #[test]
 fn refused_replay(rt: HostRuntime) {
     assert_made_or_no_memory(&rt, rt.alloc(), Made::Report, ONE_WORKER, ONE_WORKER_REPORT);

@@ -36,7 +36,7 @@ impl Model for JobSet {
 }
 
 impl JobSet {
-    /// All jobs of `1..=n`. The only error is want of memory.
+    /// All jobs of `1..=n`. The only error is out of memory.
     pub fn full(alloc: Global, n: u32) -> Result<JobSet, AllocError>
         ensures { IfOk result (λ s. s ≡ replicate n true) }
     {
@@ -52,7 +52,7 @@ impl JobSet {
         })
     }
 
-    /// No job of `1..=n`. The only error is want of memory.
+    /// No job of `1..=n`. The only error is out of memory.
     pub fn empty(alloc: Global, n: u32) -> Result<JobSet, AllocError>
         ensures { IfOk result (λ s. s ≡ replicate n false) }
     {
@@ -64,7 +64,7 @@ impl JobSet {
         })
     }
 
-    /// Another set of the same range with the same members. The only error is want of memory.
+    /// Another set of the same range with the same members. The only error is out of memory.
     pub fn copy(&self, alloc: Global) -> Result<JobSet, AllocError>
         ensures { IfOk result (λ s. s ≡ self.now) }
     {

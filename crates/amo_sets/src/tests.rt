@@ -1,4 +1,4 @@
-//! Counts, ranks and words worked by hand, and want of memory in the three makers.
+//! Counts, ranks and words worked by hand, and out of memory in the three makers.
 ghost use Rattle.std.specs.Prelude.{◌≡◌, IfOk, length};
 
 use crate::JobSet;

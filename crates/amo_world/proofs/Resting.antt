@@ -4,10 +4,10 @@ use Rattle.std.specs.Prelude.{if◌then◌else◌}
 use Rattle.std.proofs.lemmas.Bool.{cases_lt, cases_eq, cases_Bool, true≢false, or_parts}
 use Rattle.amo_kk.specs.Givens.{IsWorker}
 use Rattle.amo_kk.specs.Record.{is_over, wants_nothing}
-use Rattle.amo_kk.specs.Event.{want, record_after}
+use Rattle.amo_kk.specs.Step.{want, record_after}
 use Rattle.amo_kk.specs.World.{process, loaded_value, world_after_turn}
 use Rattle.amo_kk.specs.Answer.{shown, turn_shown}
-use Rattle.amo_kk.specs.Alone.{is_claiming, claims_or_ends, world_after_turns, IsFirstToSettle}
+use Rattle.amo_kk.specs.Alone.{is_claiming, claims_or_ends, world_after_turns, IsFirstToClaimOrEnd}
 use Rattle.amo_kk.specs.Lawful.{IsLawful}
 use Rattle.amo_kk.specs.declared.givens.Givens.{Givens}
 use Rattle.amo_kk.specs.declared.phase.Phase.{Phase}
@@ -15,7 +15,7 @@ use Rattle.amo_kk.specs.declared.phase.Phase.TheVariants.{Announcing, Trying, Re
 use Rattle.amo_kk.specs.declared.model.World.{World}
 use Rattle.amo_kk.proofs.Worlds.{here_is_worker, turn_lawful}
 use Rattle.amo_kk.proofs.OwnTurns.{own_turn}
-use Rattle.amo_kk.proofs.Alone.{settles_soon}
+use Rattle.amo_kk.proofs.Alone.{claims_or_ends_soon}
 use Rattle.amo_kk.proofs.Attempts.{fits_three}
 use Rattle.amo_world.specs.Answer.{turned, turn_answer, alone_answer}
 use Rattle.amo_world.specs.Resting.{RunsAlone}
@@ -36,7 +36,7 @@ pub record IsUnderWay (g : Givens) (before : World) (p k : ℕ) (w : World) : Ty
 -- it is known that one turn in time claims or ends p; so there was room for this one
 pub under_way_soon : (g : Givens) (before : World) (p k : ℕ) (w : World) → IsLawful g before → (process before p).gone ≡ false → IsUnderWay g before p k w → k < 6 * g.workers + g.jobs
 under_way_soon g before p k w law here way =
-    let soon = settles_soon g before p g.limits law here in
+    let soon = claims_or_ends_soon g before p g.limits law here in
     ⊎_elim (λ (l : soon.0 < k). absurd (true≢false (sym soon.2.this_one ∙ way.none soon.0 l))) (λ (l : k ≤ soon.0). let m = soon.1 in omega arith) (cases_lt soon.0 k)
 
 -- one turn more
@@ -148,7 +148,7 @@ turn_comes_to_rest g before p k w law here way rest =
       answers = turn_alone g w p way.lawful way.here ∙ ap (λ (x : World). alone_answer (process x p).local.phase) (sym way.leads);
     }
   where
-    first : IsFirstToSettle g before p k
+    first : IsFirstToClaimOrEnd g before p k
     first = record {
       none_before = way.none;
       this_one = ap (λ x. claims_or_ends g x p) way.leads ∙ sym (turn_rests g w p way.lawful way.here) ∙ rest;

@@ -8,9 +8,9 @@ use Rattle.amo_sets.specs.Sets.{has}
 use Rattle.amo_sets.proofs.Numbers.{has-get_or, has-append}
 use Rattle.amo_kk.specs.Givens.{IsJob, IsWorker, IsOther, others_before}
 use Rattle.amo_kk.specs.Record.{wants_nothing, can_leave, jobs_in_hand}
-use Rattle.amo_kk.specs.Event.{want, want_in, is_load, record_after, record_after_leave, shown_events, MayLoad}
+use Rattle.amo_kk.specs.Step.{want, want_in, is_load, record_after, record_after_leave, shown_events, MayLoad}
 use Rattle.amo_kk.specs.Lawful.{IsLawful, HasRun, FitsPhase, IsSoundProcess}
-use Rattle.amo_kk.specs.World.{process, loaded_value, process_after, world_with, world_after_event, world_after_turn, world_after_halt, world_after_leave}
+use Rattle.amo_kk.specs.World.{process, loaded_value, process_after, world_with, world_after_step, world_after_turn, world_after_halt, world_after_leave}
 use Rattle.amo_kk.specs.Machine.{LocalView}
 use Rattle.amo_kk.specs.Answer.{shown, events_of, turn_shown}
 use Rattle.amo_kk.specs.declared.givens.Givens.{Givens}
@@ -182,7 +182,7 @@ module _ (g : Givens) (seats : List Seat) (history : List Event) (room p : ℕ) 
   processes_are : (t : Seat) (a : Process) → process_of t ≡ a → map process_of (set seats (p - 1) t) ≡ put (map process_of seats) p a
   processes_are t a e = map-set process_of seats (p - 1) t ∙ ap (λ (x : Process). set (map process_of seats) (p - 1) x) e ∙ sym (put_before (map process_of seats) p a o.low)
 
-  pub row_free : length s.local.local.dones < length s.row.items
+  pub row_free : length s.local.state.dones < length s.row.items
   row_free =
       let few : length (process (world_of seats history) p).local.dones ≤ g.jobs = row_room g (process (world_of seats history)) kept.lawful.lawful p o in
       let size : length s.row.items ≡ g.jobs + 1 = sound.row_length in
@@ -190,51 +190,51 @@ module _ (g : Givens) (seats : List Seat) (history : List Event) (room p : ℕ) 
 
   -- a machine of this worker says that it may leave
   pub may_leave : (v : WorldView) (l : LocalView) (may : Bool) → record { givens = g; world = world_of seats history } ≡ v
-      → l ≡ record { givens = v.givens; number = p; local = (process v.world p).local } → may ≡ can_leave l.local.phase → may ≡ true → can_leave s.local.local.phase ≡ true
+      → l ≡ record { givens = v.givens; number = p; state = (process v.world p).local } → may ≡ can_leave l.state.phase → may ≡ true → can_leave s.local.state.phase ≡ true
   may_leave v l may same is can e =
       ap (λ (a : Process). can_leave a.local.phase) (sym process_is) ∙ ap (λ (y : WorldView). can_leave (process y.world p).local.phase) same
-      ∙ ap (λ (y : LocalView). can_leave y.local.phase) (sym is) ∙ sym can ∙ e
+      ∙ ap (λ (y : LocalView). can_leave y.state.phase) (sym is) ∙ sym can ∙ e
 
   module _ (here : (process (world_of seats history) p).gone ≡ false) where
-    pub going : wants_nothing s.local.local.phase ≡ false
-    going = ⊎_elim (λ t. absurd (true≢false (sym (sound.gone t) ∙ sym (ap (λ (a : Process). a.gone) process_is) ∙ here))) (λ f. f) (cases_Bool (wants_nothing s.local.local.phase))
+    pub going : wants_nothing s.local.state.phase ≡ false
+    going = ⊎_elim (λ t. absurd (true≢false (sym (sound.gone t) ∙ sym (ap (λ (a : Process). a.gone) process_is) ∙ here))) (λ f. f) (cases_Bool (wants_nothing s.local.state.phase))
 
     -- with the value that the load gives
     module _ (value : ℕ) (loads : value ≡ loaded_value (world_of seats history) (want (process (world_of seats history) p).local)) where
-      loads_here : value ≡ loaded_value (world_of seats history) (want s.local.local)
+      loads_here : value ≡ loaded_value (world_of seats history) (want s.local.state)
       loads_here = loads ∙ ap (λ (a : Process). loaded_value (world_of seats history) (want a.local)) process_is
 
-      pub hears : MayLoad s.local.givens value (want s.local.local)
-      hears = subst (λ x. MayLoad x value (want s.local.local)) (sym own_givens) (subst (λ x. MayLoad g x (want s.local.local)) (sym loads_here) (subst (λ (a : Process). MayLoad g (loaded_value (world_of seats history) (want a.local)) (want a.local)) process_is (may_load g seats history room p kept o)))
+      pub hears : MayLoad s.local.givens value (want s.local.state)
+      hears = subst (λ x. MayLoad x value (want s.local.state)) (sym own_givens) (subst (λ x. MayLoad g x (want s.local.state)) (sym loads_here) (subst (λ (a : Process). MayLoad g (loaded_value (world_of seats history) (want a.local)) (want a.local)) process_is (may_load g seats history room p kept o)))
 
-      pub stores_zero : is_load (want s.local.local) ≡ false → value ≡ 0
-      stores_zero h = loads_here ∙ store_zero (world_of seats history) (want s.local.local) h
+      pub stores_zero : is_load (want s.local.state) ≡ false → value ≡ 0
+      stores_zero h = loads_here ∙ store_zero (world_of seats history) (want s.local.state) h
 
       module _ (t : Seat) (x : Shown)
-          (makes : process_of t ≡ process_after (want s.local.local) (process_of s) (record_after s.local.givens s.local.number value s.local.local))
-          (answers : x ≡ shown s.local.local.phase t.local.local.phase) where
-        record_is : record_after s.local.givens s.local.number value s.local.local ≡ record_after g p (loaded_value (world_of seats history) (want s.local.local)) s.local.local
-        record_is = λ i. record_after (own_givens i) (own_number i) (loads_here i) s.local.local
+          (makes : process_of t ≡ process_after (want s.local.state) (process_of s) (record_after s.local.givens s.local.number value s.local.state))
+          (answers : x ≡ shown s.local.state.phase t.local.state.phase) where
+        record_is : record_after s.local.givens s.local.number value s.local.state ≡ record_after g p (loaded_value (world_of seats history) (want s.local.state)) s.local.state
+        record_is = λ i. record_after (own_givens i) (own_number i) (loads_here i) s.local.state
 
-        phase_is : t.local.local.phase ≡ (record_after g p (loaded_value (world_of seats history) (want s.local.local)) s.local.local).phase
+        phase_is : t.local.state.phase ≡ (record_after g p (loaded_value (world_of seats history) (want s.local.state)) s.local.state).phase
         phase_is = ap (λ (a : Process). a.local.phase) makes
-            ∙ ap (λ (r : Record). r.phase) (stored_local (want s.local.local) (process_of s) (record_after s.local.givens s.local.number value s.local.local) ∙ record_is)
+            ∙ ap (λ (r : Record). r.phase) (stored_local (want s.local.state) (process_of s) (record_after s.local.givens s.local.number value s.local.state) ∙ record_is)
 
         pub shown_is : x ≡ turn_shown g (world_of seats history) p
-        shown_is = answers ∙ ap (λ y. shown s.local.local.phase y) phase_is
+        shown_is = answers ∙ ap (λ y. shown s.local.state.phase y) phase_is
             ∙ ap (λ (a : Process). shown a.local.phase (record_after g p (loaded_value (world_of seats history) (want a.local)) a.local).phase) (sym process_is)
 
         pub turn_is : world_of (set seats (p - 1) t) (history ++ events_of p x) ≡ world_after_turn g (world_of seats history) p
         turn_is =
             (λ i. record {
-              processes = processes_are t (process_after (want s.local.local) (process_of s) (record_after g p (loaded_value (world_of seats history) (want s.local.local)) s.local.local)) (makes ∙ ap (λ r. process_after (want s.local.local) (process_of s) r) record_is) i;
+              processes = processes_are t (process_after (want s.local.state) (process_of s) (record_after g p (loaded_value (world_of seats history) (want s.local.state)) s.local.state)) (makes ∙ ap (λ r. process_after (want s.local.state) (process_of s) r) record_is) i;
               history = history ++ events_are i;
             })
-            ∙ ap (λ (a : Process). world_after_event g (world_of seats history) p a) (sym process_is)
-            ∙ sym (ap (λ b. if b then (world_of seats history) else world_after_event g (world_of seats history) p (process (world_of seats history) p)) here)
+            ∙ ap (λ (a : Process). world_after_step g (world_of seats history) p a) (sym process_is)
+            ∙ sym (ap (λ b. if b then (world_of seats history) else world_after_step g (world_of seats history) p (process (world_of seats history) p)) here)
           where
-            events_are : events_of p x ≡ shown_events p s.local.local.phase (record_after g p (loaded_value (world_of seats history) (want s.local.local)) s.local.local).phase
-            events_are = ap (λ y. events_of p y) (answers ∙ ap (λ y. shown s.local.local.phase y) phase_is) ∙ shows g p (loaded_value (world_of seats history) (want s.local.local)) s.local.local going
+            events_are : events_of p x ≡ shown_events p s.local.state.phase (record_after g p (loaded_value (world_of seats history) (want s.local.state)) s.local.state).phase
+            events_are = ap (λ y. events_of p y) (answers ∙ ap (λ y. shown s.local.state.phase y) phase_is) ∙ shows g p (loaded_value (world_of seats history) (want s.local.state)) s.local.state going
 
         pub turn_room : length history + length (events_of p x) ≤ room
         turn_room = has_room t (events_of p x) (world_after_turn g (world_of seats history) p) (turn_lawful g (world_of seats history) p g.limits kept.lawful) (turn_runs g (world_of seats history) p g.limits kept.lawful kept.run) turn_is
@@ -257,10 +257,10 @@ module _ (g : Givens) (seats : List Seat) (history : List Event) (room p : ℕ) 
       halt_kept more = kept_after t (Halted p ∷ []) (world_after_halt (world_of seats history) p) (halt_lawful g (world_of seats history) p kept.lawful) (halt_runs g (world_of seats history) p kept.lawful kept.run) halt_is more
 
     -- a leaving
-    module _ (t : Seat) (may : can_leave s.local.local.phase ≡ true) (makes : process_of t ≡ process_after (StoreNext 0) (process_of s) (record_after_leave s.local.local)) where
+    module _ (t : Seat) (may : can_leave s.local.state.phase ≡ true) (makes : process_of t ≡ process_after (StoreNext 0) (process_of s) (record_after_leave s.local.state)) where
       pub leave_is : world_of (set seats (p - 1) t) (history ++ LeftEvent p ∷ []) ≡ world_after_leave (world_of seats history) p
       leave_is =
-          ap {B = World} (λ l. record { processes = l; history = history ++ LeftEvent p ∷ [] }) (processes_are t (process_after (StoreNext 0) (process_of s) (record_after_leave s.local.local)) makes)
+          ap {B = World} (λ l. record { processes = l; history = history ++ LeftEvent p ∷ [] }) (processes_are t (process_after (StoreNext 0) (process_of s) (record_after_leave s.local.state)) makes)
           ∙ ap (λ (a : Process). world_with (world_of seats history) p (process_after (StoreNext 0) a (record_after_leave a.local)) (LeftEvent p ∷ [])) (sym process_is)
           ∙ sym (ap (λ b. if b then stays else (world_of seats history)) (ap (λ (a : Process). can_leave a.local.phase) process_is ∙ may))
           ∙ sym (ap (λ b. if b then (world_of seats history) else (if can_leave (process (world_of seats history) p).local.phase then stays else (world_of seats history))) here)

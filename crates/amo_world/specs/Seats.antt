@@ -11,7 +11,7 @@ use Rattle.amo_world.specs.declared.seat.Seat.{Seat}
 
 -- the process of a seat: the record and the words of its worker
 abbrev pub process_of : Seat → Process
-process_of s = record { local = s.local.local; next = s.next; claim = s.claim; row = s.row.items; gone = s.gone }
+process_of s = record { local = s.local.state; next = s.next; claim = s.claim; row = s.row.items; gone = s.gone }
 
 -- the world of these seats and this history
 abbrev pub world_of : List Seat → List Event → World

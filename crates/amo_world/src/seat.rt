@@ -3,7 +3,7 @@ ghost use Rattle.std.specs.Prelude.{◌≡◌, ◌≤◌, ◌<◌, ◌+◌, leng
 ghost use Rattle.amo_kk.specs.declared.phase.Want.{Want};
 ghost use Rattle.amo_kk.specs.Givens.{IsWorker};
 ghost use Rattle.amo_kk.specs.Record.{wants_nothing, can_leave};
-ghost use Rattle.amo_kk.specs.Event.{want, is_load, record_after, record_after_leave, MayLoad};
+ghost use Rattle.amo_kk.specs.Step.{want, is_load, record_after, record_after_leave, MayLoad};
 ghost use Rattle.amo_kk.specs.Answer.{shown};
 ghost use Rattle.amo_kk.specs.World.{process_after, first_process};
 ghost use Rattle.amo_world.specs.Seats.{process_of};
@@ -44,12 +44,12 @@ impl Seat {
 
     /// The event of a load that gave this value.
     fn load(&mut self, value: u32) -> Shown
-        requires load { is_load (want self.old.local.local) ≡ true }
-        requires hears { MayLoad self.old.local.givens value (want self.old.local.local) }
-        ensures process { process_of self.new ≡ process_after (want self.old.local.local) (process_of self.old) (record_after self.old.local.givens self.old.local.number value self.old.local.local) }
+        requires load { is_load (want self.old.local.state) ≡ true }
+        requires hears { MayLoad self.old.local.givens value (want self.old.local.state) }
+        ensures process { process_of self.new ≡ process_after (want self.old.local.state) (process_of self.old) (record_after self.old.local.givens self.old.local.number value self.old.local.state) }
         ensures givens { self.new.local.givens ≡ self.old.local.givens }
         ensures number { self.new.local.number ≡ self.old.local.number }
-        ensures shown { result ≡ shown self.old.local.local.phase self.new.local.local.phase }
+        ensures shown { result ≡ shown self.old.local.state.phase self.new.local.state.phase }
     {
         let shown = self.local.told(value as u64);
         self.gone = wants_nothing(self.local.phase());
@@ -58,11 +58,11 @@ impl Seat {
 
     /// The announcement of j is stored.
     fn store_next(&mut self, j: u32) -> Shown
-        requires { want self.old.local.local ≡ Want.StoreNext j }
-        ensures process { process_of self.new ≡ process_after (want self.old.local.local) (process_of self.old) (record_after self.old.local.givens self.old.local.number 0 self.old.local.local) }
+        requires { want self.old.local.state ≡ Want.StoreNext j }
+        ensures process { process_of self.new ≡ process_after (want self.old.local.state) (process_of self.old) (record_after self.old.local.givens self.old.local.number 0 self.old.local.state) }
         ensures givens { self.new.local.givens ≡ self.old.local.givens }
         ensures number { self.new.local.number ≡ self.old.local.number }
-        ensures shown { result ≡ shown self.old.local.local.phase self.new.local.local.phase }
+        ensures shown { result ≡ shown self.old.local.state.phase self.new.local.state.phase }
     {
         let shown = self.local.stored();
         self.next = j;
@@ -72,11 +72,11 @@ impl Seat {
 
     /// The claim of j is stored, as the worker's c-th.
     fn store_claim(&mut self, c: u32, j: u32) -> Shown
-        requires { want self.old.local.local ≡ Want.StoreClaim c j }
-        ensures process { process_of self.new ≡ process_after (want self.old.local.local) (process_of self.old) (record_after self.old.local.givens self.old.local.number 0 self.old.local.local) }
+        requires { want self.old.local.state ≡ Want.StoreClaim c j }
+        ensures process { process_of self.new ≡ process_after (want self.old.local.state) (process_of self.old) (record_after self.old.local.givens self.old.local.number 0 self.old.local.state) }
         ensures givens { self.new.local.givens ≡ self.old.local.givens }
         ensures number { self.new.local.number ≡ self.old.local.number }
-        ensures shown { result ≡ shown self.old.local.local.phase self.new.local.local.phase }
+        ensures shown { result ≡ shown self.old.local.state.phase self.new.local.state.phase }
     {
         let shown = self.local.stored();
         self.claim = c;
@@ -86,13 +86,13 @@ impl Seat {
 
     /// The performance of j is stored, as entry k of the row.
     fn store_done(&mut self, k: u32, j: u32) -> Shown
-        requires want { want self.old.local.local ≡ Want.StoreDone k j }
+        requires want { want self.old.local.state ≡ Want.StoreDone k j }
         requires low { 1 ≤ k }
         requires high { k ≤ length self.old.row.items }
-        ensures process { process_of self.new ≡ process_after (want self.old.local.local) (process_of self.old) (record_after self.old.local.givens self.old.local.number 0 self.old.local.local) }
+        ensures process { process_of self.new ≡ process_after (want self.old.local.state) (process_of self.old) (record_after self.old.local.givens self.old.local.number 0 self.old.local.state) }
         ensures givens { self.new.local.givens ≡ self.old.local.givens }
         ensures number { self.new.local.number ≡ self.old.local.number }
-        ensures shown { result ≡ shown self.old.local.local.phase self.new.local.local.phase }
+        ensures shown { result ≡ shown self.old.local.state.phase self.new.local.state.phase }
     {
         let shown = self.local.stored();
         self.row[k as usize - 1] = j;
@@ -102,14 +102,14 @@ impl Seat {
 
     /// The next event of the worker, where its load gave this value; 0 stands where it stores.
     pub fn act(&mut self, value: u32) -> Shown
-        requires going { wants_nothing self.old.local.local.phase ≡ false }
-        requires hears { MayLoad self.old.local.givens value (want self.old.local.local) }
-        requires stores { is_load (want self.old.local.local) ≡ false → value ≡ 0 }
-        requires row { length self.old.local.local.dones < length self.old.row.items }
-        ensures process { process_of self.new ≡ process_after (want self.old.local.local) (process_of self.old) (record_after self.old.local.givens self.old.local.number value self.old.local.local) }
+        requires going { wants_nothing self.old.local.state.phase ≡ false }
+        requires hears { MayLoad self.old.local.givens value (want self.old.local.state) }
+        requires stores { is_load (want self.old.local.state) ≡ false → value ≡ 0 }
+        requires row { length self.old.local.state.dones < length self.old.row.items }
+        ensures process { process_of self.new ≡ process_after (want self.old.local.state) (process_of self.old) (record_after self.old.local.givens self.old.local.number value self.old.local.state) }
         ensures givens { self.new.local.givens ≡ self.old.local.givens }
         ensures number { self.new.local.number ≡ self.old.local.number }
-        ensures shown { result ≡ shown self.old.local.local.phase self.new.local.local.phase }
+        ensures shown { result ≡ shown self.old.local.state.phase self.new.local.state.phase }
     {
         match self.local.want() {
             Want::LoadNext(_) | Want::LoadDone(_, _) => self.load(value),
@@ -122,8 +122,8 @@ impl Seat {
 
     /// The worker takes its announcement back and is gone.
     pub fn leave(&mut self)
-        requires { can_leave self.old.local.local.phase ≡ true }
-        ensures process { process_of self.new ≡ process_after (Want.StoreNext 0) (process_of self.old) (record_after_leave self.old.local.local) }
+        requires { can_leave self.old.local.state.phase ≡ true }
+        ensures process { process_of self.new ≡ process_after (Want.StoreNext 0) (process_of self.old) (record_after_leave self.old.local.state) }
         ensures givens { self.new.local.givens ≡ self.old.local.givens }
         ensures number { self.new.local.number ≡ self.old.local.number }
     {

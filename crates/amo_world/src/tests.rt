@@ -1,4 +1,4 @@
-//! Worked schedules, judged lists, and want of memory.
+//! Worked schedules, judged lists, and out of memory.
 use super::*;
 use amo_kk::{Givens, Leaving, Move};
 use std::alloc::Global;

@@ -7,7 +7,7 @@ ghost use Rattle.amo_kk.specs.Givens.{bound, IsJob, IsWorker};
 ghost use Rattle.amo_kk.specs.Object.{first_object};
 ghost use Rattle.amo_kk.specs.Run.{IsRun, claimed_jobs, done_jobs, has_claimed};
 ghost use Rattle.amo_kk.specs.World.{process, loaded_value, first_process, opening_world, world_after_turn, world_after_halt, world_after_leave, worker_of, world_after_move, world_after_moves, are_in_range};
-ghost use Rattle.amo_kk.specs.Event.{want};
+ghost use Rattle.amo_kk.specs.Step.{want};
 ghost use Rattle.amo_kk.specs.Answer.{events_of, leave_answer};
 ghost use Rattle.amo_kk.specs.Lawful.{IsLawful, Agrees, object_of};
 ghost use Rattle.amo_kk.specs.declared.event.Event.{Event};
@@ -218,7 +218,7 @@ impl World {
     /// The machine of worker p, in 1..=workers.
     pub fn local(&self, p: u32) -> &Local
         requires { IsWorker self.now.givens p }
-        ensures { result.now ≡ record { givens = self.now.givens; number = p; local = (process self.now.world p).local } }
+        ensures { result.now ≡ record { givens = self.now.givens; number = p; state = (process self.now.world p).local } }
     {
         &self.seat(p).local
     }

@@ -57,7 +57,7 @@ fn each_schedule_has_its_line(rt: HostRuntime) -> Result<(), Fail> {
     assert_explored(&rt, rt.alloc(), TWO_WORKERS, ["0", "2", "5"], done(text))
 }
 
-/// The text, or want of memory with nothing written.
+/// The text, or out of memory with nothing written.
 #[test]
 fn refused_exploring(rt: HostRuntime) {
     let words = ["explore", "0", "1", "0"];

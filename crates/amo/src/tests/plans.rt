@@ -16,7 +16,7 @@ fn a_replay_writes_the_report_alone(rt: HostRuntime) -> Result<(), Fail> {
     assert_replay(&rt, rt.alloc(), PLAN, done(REPORT))
 }
 
-/// The report, or want of memory with nothing written.
+/// The report, or out of memory with nothing written.
 #[test]
 fn refused_replay(rt: HostRuntime) {
     assert_outcome_or_no_memory(&rt, rt.alloc(), &["replay"], PLAN, 1000, done(REPORT));
@@ -76,7 +76,7 @@ fn a_refused_plan_gives_its_line(rt: HostRuntime) -> Result<(), Fail> {
     Ok(())
 }
 
-/// The line of a plan's fault, or want of memory; nothing is written to `out` either way.
+/// The line of a plan's fault, or out of memory; nothing is written to `out` either way.
 #[test]
 fn refused_line_of_a_fault(rt: HostRuntime) {
     let wanted = refused("fault 3 MissingKey 0\n");

@@ -39,7 +39,7 @@ fn each_stop_has_its_line(rt: HostRuntime) -> Result<(), Fail> {
     assert_stopped(&rt, rt.alloc(), FOUR_TURNS, "1", done(FIVE_STOPS))
 }
 
-/// The text, or want of memory with nothing written.
+/// The text, or out of memory with nothing written.
 #[test]
 fn refused_stops(rt: HostRuntime) {
     let words = ["stops", "1"];

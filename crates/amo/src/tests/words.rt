@@ -49,7 +49,7 @@ fn an_end_of_options_may_follow(rt: HostRuntime) -> Result<(), Fail> {
     assert_outcome(&rt, rt.alloc(), &words, PLAN, 1000, done(REPORT))
 }
 
-/// The refusal, or want of memory to find it out.
+/// The refusal, or out of memory to find it out.
 #[test]
 fn refused_reading_of_words(rt: HostRuntime) {
     assert_outcome_or_no_memory(&rt, rt.alloc(), &["repl"], PLAN, 1000, NO_COMMAND);

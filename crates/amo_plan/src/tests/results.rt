@@ -112,12 +112,12 @@ fn refused_text(rt: HostRuntime) -> Result<(), Fail> {
     Ok(())
 }
 
-/// The result of a sum, or want of memory.
+/// The result of a sum, or out of memory.
 fn sum_result(alloc: Global) -> Result<String, AllocError> {
     result(alloc, &Task::Add(row(alloc, &[2, 40])?))
 }
 
-/// The result of a text, or want of memory.
+/// The result of a text, or out of memory.
 fn text_result(alloc: Global) -> Result<String, AllocError> {
     result(alloc, &Task::Say(Text::from_str(alloc, "hi")?))
 }

@@ -116,7 +116,7 @@ fn no_plan_is_not_explored(rt: HostRuntime) {
     assert_refused(&rt, rt.alloc(), Made::Explored, plan, fault);
 }
 
-/// The text, or want of memory, also from the plan's bytes; then nothing is written.
+/// The text, or out of memory, also from the plan's bytes; then nothing is written.
 #[test]
 fn refused_explore(rt: HostRuntime) {
     if let Some(plan) = plan_or_no_memory(&rt, rt.alloc(), TWO_JOBS) {

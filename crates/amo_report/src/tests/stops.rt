@@ -88,7 +88,7 @@ fn plans_without_these_stops_write_nothing(rt: HostRuntime) {
     );
 }
 
-/// The text, or want of memory, also from the plan's bytes; then nothing is written.
+/// The text, or out of memory, also from the plan's bytes; then nothing is written.
 #[test]
 fn refused_stops(rt: HostRuntime) {
     if let Some(plan) = plan_or_no_memory(&rt, rt.alloc(), FOUR_TURNS) {

@@ -244,7 +244,7 @@ fn a_source_without_end_is_too_long(rt: HostRuntime) {
     assert_eq!(rt; reader.given, 1_048_577);
 }
 
-/// All bytes, or want of memory.
+/// All bytes, or out of memory.
 #[test]
 fn refused_read_all(rt: HostRuntime) {
     match read_all(rt.alloc(), &mut Bytes::new(b"some bytes")) {
@@ -253,7 +253,7 @@ fn refused_read_all(rt: HostRuntime) {
     }
 }
 
-/// A room that takes as much as it was made for, or want of memory.
+/// A room that takes as much as it was made for, or out of memory.
 #[test]
 fn refused_room(rt: HostRuntime) {
     if let Ok(mut room) = Room::new(rt.alloc(), 3) {

@@ -99,7 +99,7 @@ fn the_opening_world_is_reported(rt: HostRuntime) {
     );
 }
 
-/// Each text, or want of memory.
+/// Each text, or out of memory.
 #[test]
 fn refused_texts(rt: HostRuntime) {
     let line = fault_text(rt.alloc(), &PlanFault::WrongKind(1));

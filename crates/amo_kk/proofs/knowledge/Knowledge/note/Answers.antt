@@ -6,7 +6,7 @@ use Rattle.amo_sets.proofs.Numbers.{length-put}
 use Rattle.amo_sets.proofs.Sets.{set_of_bits-put}
 use Rattle.amo_sets.specs.Bits.{is_without}
 use Rattle.amo_sets.specs.Rank.{count}
-use Rattle.amo_kk.specs.Event.{with_announced}
+use Rattle.amo_kk.specs.Step.{with_announced}
 use Rattle.amo_kk.specs.Knowledge.{KnowledgeView, numbers_without}
 use Rattle.amo_kk.proofs.OpenJobs.{noted}
 use Rattle.amo_kk.proofs.knowledge.Knowledge.note.Goals as goal

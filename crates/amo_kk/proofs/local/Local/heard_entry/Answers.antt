@@ -2,7 +2,7 @@ use Rattle.std.proofs.Common.{◌≡◌, ◌+◌, ◌-◌, List, ℕ, set, ap, s
 use Rattle.std.specs.Vec.{vec_capacity}
 use Rattle.amo_sets.specs.Sets.{with_number}
 use Rattle.amo_kk.specs.Givens.{IsJob, IsOther}
-use Rattle.amo_kk.specs.Event.{want, want_in, MayLoad}
+use Rattle.amo_kk.specs.Step.{want, want_in, MayLoad}
 use Rattle.amo_kk.specs.declared.model.Record.{Record}
 use Rattle.amo_kk.specs.declared.phase.Phase.TheVariants.{Reading}
 use Rattle.amo_kk.specs.Knowledge.{KnowledgeView}
@@ -13,10 +13,10 @@ use Rattle.amo_kk.proofs.local.Local.heard_entry.Goals as goal
 pub invariant_of-self : goal.invariant_of-self
 invariant_of-self c =
     let r : Record = record { phase = c.self.inside.phase; known = c.self.inside.knowledge.known; tried = c.self.inside.knowledge.tried; fronts = c.self.inside.fronts.items; claimed = c.self.inside.claims.items; dones = c.self.inside.dones.items; steps = c.self.inside.steps } in
-    let is : r.phase ≡ Reading c.args.j c.args.q = ap (λ (v : LocalView). v.local.phase) c.self.view_is ∙ c.requires.phase in
+    let is : r.phase ≡ Reading c.args.j c.args.q = ap (λ (v : LocalView). v.state.phase) c.self.view_is ∙ c.requires.phase in
     let stands : IsJob c.self.inside.givens c.args.j × IsOther c.self.inside.givens c.self.inside.number c.args.q = rw is at c.self.invariant.fit.stands in
     let size = c.self.invariant.fit.fronts in
-    let heard : MayLoad c.self.inside.givens c.args.v (want r) = subst (λ (v : LocalView). MayLoad v.givens c.args.v (want v.local)) (sym c.self.view_is) c.requires.hears in
+    let heard : MayLoad c.self.inside.givens c.args.v (want r) = subst (λ (v : LocalView). MayLoad v.givens c.args.v (want v.state)) (sym c.self.view_is) c.requires.hears in
     let small = subst (λ x. MayLoad c.self.inside.givens c.args.v (want_in r x)) is heard in
     let known_is : c.learn.new.self.known ≡ with_number c.args.v r.known = ap (λ (v : KnowledgeView). v.known) c.learn.ensures in
     let fronts : List ℕ = set r.fronts (c.args.q - 1) (c.index_mut.result.now + 1) in

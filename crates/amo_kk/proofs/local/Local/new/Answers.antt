@@ -41,4 +41,4 @@ invariant_of-result c =
     c.in_ok-claims.ensures.capacity c.in_ok-dones.ensures.capacity
 
 pub returns : goal.returns
-returns c = ap {B = LocalView} (λ (r : Record). record { givens = c.args.givens; number = c.args.p; local = r }) (is_first c)
+returns c = ap {B = LocalView} (λ (r : Record). record { givens = c.args.givens; number = c.args.p; state = r }) (is_first c)

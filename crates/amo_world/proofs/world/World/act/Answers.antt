@@ -2,7 +2,7 @@ use Rattle.std.proofs.Common.{◌≡◌, false, sym, subst, ap, ◌∙◌, set, 
 use Rattle.std.specs.Prelude.{if◌then◌else◌}
 use Rattle.std.specs.Vec.{vec_capacity}
 use Rattle.amo_kk.specs.Givens.{IsWorker}
-use Rattle.amo_kk.specs.Event.{want}
+use Rattle.amo_kk.specs.Step.{want}
 use Rattle.amo_kk.specs.Answer.{turn_shown}
 use Rattle.amo_kk.specs.World.{process, loaded_value, world_after_turn}
 use Rattle.amo_kk.specs.declared.event.Event.{Event}

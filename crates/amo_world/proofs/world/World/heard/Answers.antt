@@ -1,6 +1,6 @@
 use Rattle.std.proofs.Common.{◌≡◌, ap, sym, subst, ◌∙◌, []}
 use Rattle.amo_kk.specs.Givens.{IsWorker}
-use Rattle.amo_kk.specs.Event.{want}
+use Rattle.amo_kk.specs.Step.{want}
 use Rattle.amo_kk.specs.World.{process, loaded_value}
 use Rattle.amo_kk.specs.declared.model.Process.{Process}
 use Rattle.amo_world.specs.Views.{WorldView}

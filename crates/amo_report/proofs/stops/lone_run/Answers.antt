@@ -3,10 +3,10 @@ use Rattle.amo_kk.specs.Givens.{IsWorker}
 use Rattle.amo_kk.specs.Alone.{world_after_turns}
 use Rattle.amo_kk.specs.declared.givens.Givens.{Givens}
 use Rattle.amo_kk.proofs.Worlds.{here_is_worker}
-use Rattle.amo_report.specs.Stops.{turns_to_settle, enough_turns}
+use Rattle.amo_report.specs.Stops.{lone_turns, enough_turns}
 use Rattle.amo_report.proofs.ReachedWorlds.{reached_lawful}
-use Rattle.amo_report.proofs.Stopped.{settles}
-use Rattle.amo_report.proofs.stops.settle.Goals as goal
+use Rattle.amo_report.proofs.Stopped.{runs_lone}
+use Rattle.amo_report.proofs.stops.lone_run.Goals as goal
 
 pub turns_of-before-requires : goal.turns_of-before-requires
 turns_of-before-requires c =
@@ -22,21 +22,21 @@ turns_of-requires c =
 pub overflow_sub-result : goal.overflow_sub-result
 overflow_sub-result c =
     let v = c.args.world.now in
-    let rest = settles v.givens v.world c.run_alone-alone.new.self.world c.args.p _ c.requires.reached c.requires.here c.run_alone-alone.ensures.alone in
+    let rest = runs_lone v.givens v.world c.run_alone-alone.new.self.world c.args.p _ c.requires.reached c.requires.here c.run_alone-alone.ensures.alone in
     let steps = rest.steps in
     omega arith
 
 pub returns-clause-turns : goal.returns-clause-turns
 returns-clause-turns c =
     let v = c.args.world.now in
-    let rest = settles v.givens v.world c.run_alone-alone.new.self.world c.args.p _ c.requires.reached c.requires.here c.run_alone-alone.ensures.alone in
+    let rest = runs_lone v.givens v.world c.run_alone-alone.new.self.world c.args.p _ c.requires.reached c.requires.here c.run_alone-alone.ensures.alone in
     let steps = rest.steps in
     omega arith
 
 pub returns-clause-world : goal.returns-clause-world
 returns-clause-world c =
     let v = c.args.world.now in
-    let rest = settles v.givens v.world c.run_alone-alone.new.self.world c.args.p _ c.requires.reached c.requires.here c.run_alone-alone.ensures.alone in
+    let rest = runs_lone v.givens v.world c.run_alone-alone.new.self.world c.args.p _ c.requires.reached c.requires.here c.run_alone-alone.ensures.alone in
     let steps = rest.steps in
-    let turns : turns_to_settle v.givens c.args.p (enough_turns v.givens) v.world ≡ c.turns_of.result - c.turns_of-before.result = omega arith in
+    let turns : lone_turns v.givens c.args.p (enough_turns v.givens) v.world ≡ c.turns_of.result - c.turns_of-before.result = omega arith in
     λ i. record { givens = c.run_alone-alone.ensures.givens i; world = (rest.leads ∙ ap (λ n. world_after_turns v.givens v.world c.args.p n) turns) i }
