@@ -16,23 +16,10 @@ use Rattle.amo_kk.specs.declared.model.Record.{Record}
 use Rattle.amo_kk.specs.declared.model.Process.{Process}
 use Rattle.amo_kk.specs.declared.model.Object.{Object}
 use Rattle.amo_kk.specs.declared.event.Event.TheVariants.{Claimed, Done}
+use Rattle.amo_sets.proofs.Removed.{has-without_same, has-without_other}
 use Rattle.amo_sets.proofs.Numbers.{numbered-put_same, numbered-put_other, length-put, has_push, has_push_kept, has_push_none, count_le, count_has, count_neither}
 
--- lists without a number, and the jobs of a worker
-
-pub has-without_other : (j : ℕ) (xs : List ℕ) (i : ℕ) → j ≢ i → has (without_number j xs) i ≡ has xs i
-has-without_other j [] i n = refl
-has-without_other j (x ∷ xs) i n = step x (without_number j xs) xs n (has-without_other j xs i n)
-  where
-    step : (x : ℕ) (ys xs : List ℕ) → j ≢ i → has ys i ≡ has xs i → has (if j == x then ys else x ∷ ys) i ≡ ((x == i) || has xs i)
-    step x ys xs n h = grind (arith, nat_tests)
-
-pub has-without_same : (j : ℕ) (xs : List ℕ) → has (without_number j xs) j ≡ false
-has-without_same j [] = refl
-has-without_same j (x ∷ xs) = step x (without_number j xs) (has-without_same j xs)
-  where
-    step : (x : ℕ) (ys : List ℕ) → has ys j ≡ false → has (if j == x then ys else x ∷ ys) j ≡ false
-    step x ys h = grind (arith, nat_tests)
+-- the jobs of a worker
 
 pub jobs_of-push : (xs : List (ℕ × ℕ)) (p j q : ℕ) → jobs_of (xs ++ (p, j) ∷ []) q ≡ (if nat_eq p q then jobs_of xs q ++ j ∷ [] else jobs_of xs q)
 jobs_of-push [] p j q = go (nat_eq p q)

@@ -2,6 +2,7 @@ pub mod Bytes
 pub mod Full
 pub mod Numbers
 pub mod Ranks
+pub mod Removed
 pub mod Sets
 pub mod Shown
 pub mod Tables

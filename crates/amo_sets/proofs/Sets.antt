@@ -18,14 +18,6 @@ members_agree (suc n) t u h =
     step : (a b : Bool) (xs ys : List ℕ) → a ≡ b → xs ≡ ys → (if a then xs ++ suc n ∷ [] else xs) ≡ (if b then ys ++ suc n ∷ [] else ys)
     step a b xs ys e f = λ i. if e i then f i ++ suc n ∷ [] else f i
 
-pub length-members : (n : ℕ) (t : ℕ → Bool) → length (members n t) ≡ count n t
-length-members zero t = refl
-length-members (suc n) t = step (t (suc n)) (members n t) (count n t) (length-members n t)
-  where
-    step : (b : Bool) (xs : List ℕ) (c : ℕ) → length xs ≡ c → length (if b then xs ++ suc n ∷ [] else xs) ≡ c + (if b then 1 else 0)
-    step true xs c e = simp length-append (omega arith)
-    step false xs c e = omega arith
-
 -- what the list has
 pub has-members : (n : ℕ) (t : ℕ → Bool) (j : ℕ) → has (members n t) j ≡ ((nat_le 1 j && nat_le j n) && t j)
 has-members zero t j = none j (t j)
@@ -135,10 +127,3 @@ set_of_bits-replicate n = members_agree (length (replicate {A = Bool} n false)) 
     none : (k : ℕ) → numbered false (replicate n false) k ≡ false
     none zero = refl
     none (suc k) = ⊎_elim (λ (l : k < n). get_or-replicate n k false false l) (λ (l : n ≤ k). get_or_past (replicate n false) k false (let e : length (replicate {A = Bool} n false) ≡ n = length-replicate n false in omega arith)) (cases_lt k n)
-
--- counts and ranks over the sets of bits are those over the bits
-pub count-set_of_bits : (n : ℕ) (known tried : List Bool) → count n (λ k. not (has (set_of_bits known) k) && not (has (set_of_bits tried) k)) ≡ count n (λ k. not (numbered false known k) && not (numbered false tried k))
-count-set_of_bits n known tried = λ i. count n (λ k. not (has-set_of_bits known k i) && not (has-set_of_bits tried k i))
-
-pub number_of_rank-set_of_bits : (n rank : ℕ) (known tried : List Bool) → number_of_rank n (λ k. not (has (set_of_bits known) k) && not (has (set_of_bits tried) k)) rank ≡ number_of_rank n (λ k. not (numbered false known k) && not (numbered false tried k)) rank
-number_of_rank-set_of_bits n rank known tried = λ i. number_of_rank n (λ k. not (has-set_of_bits known k i) && not (has-set_of_bits tried k i)) rank

@@ -1,9 +1,10 @@
 -- The list f 1 .. f n, item by item.
-use Rattle.std.proofs.Common.{⊎_elim, ◌≡◌, ℕ, zero, suc, ◌<◌, ◌≤◌, List, [], ◌∷◌, ◌++◌, length, get_or, replicate, sym, ◌∙◌, ap, refl, arith}
-use Rattle.std.proofs.lemmas.Bool.{cases_lt}
+use Rattle.std.proofs.Common.{⊎_elim, ◌≡◌, ℕ, zero, suc, ◌+◌, ◌<◌, ◌≤◌, true, List, [], ◌∷◌, ◌++◌, length, get_or, replicate, sym, ◌∙◌, ap, subst, refl, add-one, arith}
+use Rattle.std.proofs.lemmas.Bool.{cases_lt, cases_eq, true≢false, false_from_ne_true}
 use Rattle.std.proofs.lemmas.List.{get_or_append_left, get_or_at, ext_get_or, get_or-replicate, get_or_past, length-replicate}
 use Rattle.amo_sets.specs.Lists.{numbered, table}
-use Rattle.amo_sets.proofs.Numbers.{length-table}
+use Rattle.amo_sets.specs.Sets.{has, AreDistinct}
+use Rattle.amo_sets.proofs.Numbers.{length-table, has_push, has_push_kept, has_push_cases, distinct_push}
 
 pub get_or-table : {X : Type 0} (d : X) (f : ℕ → X) (n k : ℕ) → k < n → get_or (table n f) k d ≡ f (suc k)
 get_or-table d f zero k lt = absurd (omega arith)
@@ -33,7 +34,23 @@ pub numbered_past : {X : Type 0} (d : X) (xs : List X) (j : ℕ) → length xs <
 numbered_past d xs zero h = refl
 numbered_past d xs (suc k) h = get_or_past xs k d (omega arith)
 
--- a list is filled with x where each of its items is x
-pub filled_is : {X : Type 0} (d x : X) (n : ℕ) (xs : List X) → length xs ≡ n → ((j : ℕ) → 1 ≤ j → j ≤ n → numbered d xs j ≡ x) → xs ≡ replicate n x
-filled_is d x n xs len same =
-    ext_get_or d xs (replicate n x) (len ∙ sym (length-replicate n x)) (λ k lt. same (suc k) (omega arith) (omega arith) ∙ sym (get_or-replicate n k x d (omega arith)))
+-- one item more
+pub table_next : {X : Type 0} (n : ℕ) (f : ℕ → X) → table n f ++ f (n + 1) ∷ [] ≡ table (n + 1) f
+table_next n f = rw add-one refl
+
+-- the numbers 1 .. n
+
+pub has-numbers : (n j : ℕ) → 1 ≤ j → j ≤ n → has (table n (λ i. i)) j ≡ true
+has-numbers zero j l h = absurd (omega arith)
+has-numbers (suc n) j l h = ⊎_elim
+    (λ (e : j ≡ suc n). subst (λ k. has (table n (λ i. i) ++ suc n ∷ []) k ≡ true) (sym e) (has_push (table n (λ i. i)) (suc n)))
+    (λ (m : j ≡ suc n → ⊥). has_push_kept (table n (λ i. i)) (suc n) j (has-numbers n j l (omega arith)))
+    (cases_eq j (suc n))
+
+pub numbers_low : (n j : ℕ) → has (table n (λ i. i)) j ≡ true → j ≤ n
+numbers_low zero j h = absurd (true≢false (sym h))
+numbers_low (suc n) j h = ⊎_elim (λ t. let low = numbers_low n j t in omega arith) (λ (e : suc n ≡ j). omega arith) (has_push_cases (table n (λ i. i)) (suc n) j h)
+
+pub distinct_numbers : (n : ℕ) → AreDistinct (table n (λ i. i))
+distinct_numbers zero = tt
+distinct_numbers (suc n) = distinct_push (table n (λ i. i)) (suc n) (distinct_numbers n) (false_from_ne_true (has (table n (λ i. i)) (suc n)) (λ t. let low = numbers_low n (suc n) t in omega arith))
