@@ -20,7 +20,7 @@ use Rattle.amo_sets.proofs.Removed.{has-without_other, has-without_same}
 
 -- one event more
 
-claimed-append : (es fs : List Event) → claimed_jobs (es ++ fs) ≡ claimed_jobs es ++ claimed_jobs fs
+pub claimed-append : (es fs : List Event) → claimed_jobs (es ++ fs) ≡ claimed_jobs es ++ claimed_jobs fs
 claimed-append [] fs = refl
 claimed-append (Claimed p j ∷ es) fs = ap (λ l. j ∷ l) (claimed-append es fs)
 claimed-append (Done p j ∷ es) fs = claimed-append es fs
@@ -28,7 +28,7 @@ claimed-append (Ended p ∷ es) fs = claimed-append es fs
 claimed-append (Halted p ∷ es) fs = claimed-append es fs
 claimed-append (Left p ∷ es) fs = claimed-append es fs
 
-done-append : (es fs : List Event) → done_jobs (es ++ fs) ≡ done_jobs es ++ done_jobs fs
+pub done-append : (es fs : List Event) → done_jobs (es ++ fs) ≡ done_jobs es ++ done_jobs fs
 done-append [] fs = refl
 done-append (Claimed p j ∷ es) fs = done-append es fs
 done-append (Done p j ∷ es) fs = ap (λ l. j ∷ l) (done-append es fs)

@@ -17,3 +17,4 @@ pub mod Worked
 pub mod Bits
 pub mod OpenJobs
 pub mod Holding
+pub mod Wants

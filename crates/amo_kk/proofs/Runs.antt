@@ -34,13 +34,14 @@ use Rattle.amo_sets.proofs.Tables.{get_or-table, numbered-table}
 use Rattle.amo_kk.proofs.Worlds.{here_is_worker, put_here, turn_lawful, move_lawful, leaves_empty, opening_lawful, numbered-table_same, turned_kept}
 use Rattle.amo_kk.proofs.Steps.{enough, is_here_now, agrees_claim, agrees_done, agrees_gone, agrees_same}
 
--- what an event did to the lists and the hand
-record Did (r x : Record) (claims dones : List ℕ) (held : ℕ) : Type 0 where
-  claimed : x.claimed ≡ r.claimed ++ claims
-  done : x.dones ≡ r.dones ++ dones
-  held_now : job_in_hand x.phase ≡ held
+-- what a step did to the lists and the hand
+pub record Did (r x : Record) (claims dones : List ℕ) (held : ℕ) : Type 0 where
+  pub claimed : x.claimed ≡ r.claimed ++ claims
+  pub done : x.dones ≡ r.dones ++ dones
+  pub held_now : job_in_hand x.phase ≡ held
 
-abbrev HasDone : Record → Record → Phase → Type 0
+-- and so the step of each phase
+abbrev pub HasDone : Record → Record → Phase → Type 0
 HasDone r x (Announcing j) = Did r x [] [] 0
 HasDone r x (Trying j q) = Did r x [] [] 0
 HasDone r x (Reading j q) = Did r x [] [] 0
@@ -49,7 +50,7 @@ HasDone r x (Holding j) = Did r x [] (j ∷ []) 0
 HasDone r x Over = Did r x [] [] 0
 HasDone r x Left = Did r x [] [] 0
 
-has_done : (g : Givens) (p v : ℕ) (r : Record) (phase : Phase) → r.phase ≡ phase → HasDone r (record_after_phase g p v r phase) phase
+pub has_done : (g : Givens) (p v : ℕ) (r : Record) (phase : Phase) → r.phase ≡ phase → HasDone r (record_after_phase g p v r phase) phase
 has_done g p v r phase is = go phase is
   where
     P : Record → Type 0
@@ -118,7 +119,8 @@ record Goes (g : Givens) (at : ℕ → Process) (s : Object) (es : List Event) :
 goes_on : (g : Givens) (at now : ℕ → Process) (s : Object) (es fs : List Event) → Goes g at s es → Goes g now (object_after_all s es) fs → Goes g now s (es ++ fs)
 goes_on g at now s es fs h k = record { run = IsRun-append g s es fs h.run k.run; agrees = subst (λ x. Agrees g now x) (sym (object_after_all-append s es fs)) k.agrees }
 
-distinct_last : (xs : List ℕ) (j : ℕ) → AreDistinct (xs ++ j ∷ []) → has xs j ≡ false
+-- the last of a distinct list is not before it
+pub distinct_last : (xs : List ℕ) (j : ℕ) → AreDistinct (xs ++ j ∷ []) → has xs j ≡ false
 distinct_last [] j d = refl
 distinct_last (x ∷ xs) j d = or_from (x == j) (has xs j) (ne_eqb x j (λ e. true≢false (sym (subst (λ y. has (xs ++ j ∷ []) y ≡ true) (sym e) (has_push xs j)) ∙ d.0))) (distinct_last xs j d.1)
 

@@ -10,5 +10,6 @@ pub mod Words
 pub mod Answer
 pub mod Alone
 pub mod Lawful
+pub mod Fits
 pub mod Knowledge
 pub mod Machine

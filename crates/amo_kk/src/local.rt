@@ -12,6 +12,7 @@ ghost use Rattle.amo_kk.specs.Choice.{first_record};
 ghost use Rattle.amo_kk.specs.Record.{is_over, can_leave, jobs_in_hand};
 ghost use Rattle.amo_kk.specs.Step.{want, is_load, is_store, record_after, record_after_leave, MayLoad};
 ghost use Rattle.amo_kk.specs.Answer.{shown};
+ghost use Rattle.amo_kk.specs.Fits.{WantFits};
 ghost use Rattle.amo_kk.specs.Machine.{LocalView};
 
 use super::event::Shown;
@@ -107,7 +108,8 @@ impl Local {
 
     /// The one load or store that is wanted next.
     pub fn want(&self) -> Want
-        ensures { result ≡ want self.now.state }
+        ensures want { result ≡ want self.now.state }
+        ensures fits { WantFits self.now.givens self.now.number result }
     {
         match self.phase {
             Phase::Announcing(j) => Want::StoreNext(j),
