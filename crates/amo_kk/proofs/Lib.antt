@@ -18,3 +18,6 @@ pub mod Bits
 pub mod OpenJobs
 pub mod Holding
 pub mod Wants
+pub mod Loads
+pub mod Moves
+pub mod Growth

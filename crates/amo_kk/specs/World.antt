@@ -1,5 +1,5 @@
 -- All workers with their words, and the history, one event at a time.
-use Rattle.std.specs.Prelude.{ℕ, ◌+◌, Bool, true, ◌&&◌, List, [], ◌∷◌, ◌++◌, replicate, nat_lt, if◌then◌else◌}
+use Rattle.std.specs.Prelude.{ℕ, ◌+◌, Bool, true, false, ◌&&◌, ◌||◌, List, [], ◌∷◌, ◌++◌, replicate, nat_lt, if◌then◌else◌}
 use Rattle.amo_sets.specs.Lists.{numbered, put, table}
 use Rattle.amo_kk.specs.Object.{is_within}
 use Rattle.amo_kk.specs.Record.{wants_nothing, can_leave}
@@ -88,6 +88,17 @@ abbrev pub worker_of : Move → ℕ
 worker_of (Turn p) = p
 worker_of (Halt p) = p
 worker_of (Leave p) = p
+
+-- the move is a stop
+abbrev pub is_halt : Move → Bool
+is_halt (Turn p) = false
+is_halt (Halt p) = true
+is_halt (Leave p) = false
+
+-- one of these moves is a stop
+abbrev pub has_halt : List Move → Bool
+has_halt [] = false
+has_halt (m ∷ ms) = is_halt m || has_halt ms
 
 -- all moves are of workers that exist
 abbrev pub are_in_range : Givens → List Move → Bool
