@@ -21,3 +21,4 @@ pub mod Wants
 pub mod Loads
 pub mod Moves
 pub mod Growth
+pub mod Counts
