@@ -2,6 +2,8 @@
 ghost use Rattle.std.specs.Prelude.{◌≡◌, ◌<◌, ◌^◌};
 ghost use Rattle.amo_kk.specs.Givens.{next_other};
 
+use super::event::Leaving;
+
 /// Where a worker stands. The first number is the job of its attempt, the second another worker.
 #[derive(Clone, Copy, Debug, PartialEq, Eq)]
 pub enum Phase {
@@ -19,6 +21,39 @@ pub enum Phase {
     Over,
     /// It has left.
     Left,
+}
+
+impl Phase {
+    ghost use Rattle.amo_kk.specs.Record.{wants_nothing};
+    ghost use Rattle.amo_kk.specs.Answer.{leaving};
+
+    /// Whether a worker in this phase takes no step of its own any more: it has ended, or left.
+    pub fn wants_nothing(self) -> bool
+        ensures { result ≡ wants_nothing self }
+    {
+        match self {
+            Phase::Announcing(_)
+            | Phase::Trying(_, _)
+            | Phase::Reading(_, _)
+            | Phase::Claiming(_)
+            | Phase::Holding(_) => false,
+            Phase::Over | Phase::Left => true,
+        }
+    }
+
+    /// What becomes of a worker in this phase, which isn't gone, if it is asked to leave.
+    pub fn leaving(self) -> Leaving
+        ensures { result ≡ leaving self }
+    {
+        match self {
+            Phase::Announcing(_)
+            | Phase::Trying(_, _)
+            | Phase::Reading(_, _)
+            | Phase::Claiming(_) => Leaving::Left,
+            Phase::Holding(j) => Leaving::InHand(j),
+            Phase::Over | Phase::Left => Leaving::Gone,
+        }
+    }
 }
 
 /// The one load or store of a shared word that a worker wants next.
