@@ -8,7 +8,7 @@ use Rattle.amo_sets.proofs.Numbers.{numbered-put_same, numbered-put_other, lengt
 use Rattle.amo_sets.proofs.Tables.{numbered-table, numbered_past}
 use Rattle.amo_kk.specs.Givens.{IsWorker}
 use Rattle.amo_kk.specs.Record.{can_leave, empty_record, wants_nothing}
-use Rattle.amo_kk.specs.Step.{want, record_after, record_after_leave, shown_events}
+use Rattle.amo_kk.specs.Step.{want, record_after, record_after_leave, shown, events_of}
 use Rattle.amo_kk.specs.World.{nobody, process, loaded_value, process_after, world_with, world_after_step, world_after_turn, world_after_halt, world_after_leave, world_after_move, world_after_moves, worker_of, is_halt, has_halt, first_process, opening_world}
 use Rattle.amo_kk.specs.Lawful.{IsLawful}
 use Rattle.amo_kk.specs.declared.givens.Givens.{Givens}
@@ -91,7 +91,7 @@ move_cases g w (Turn p) P same other = go (process w p).gone refl
 
     go : (b : Bool) → (process w p).gone ≡ b → P (if b then w else world_after_step g w p (process w p))
     go true e = same
-    go false e = other (process_after x (process w p) r) (shown_events p (process w p).local.phase r.phase) e moved
+    go false e = other (process_after x (process w p) r) (events_of p (shown (process w p).local.phase r.phase)) e moved
 move_cases g w (Halt p) P same other = go (process w p).gone refl
   where
     go : (b : Bool) → (process w p).gone ≡ b → P (if b then w else world_with w p (record (process w p) { gone = true }) (Halted p ∷ []))

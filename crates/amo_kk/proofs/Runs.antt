@@ -11,9 +11,9 @@ use Rattle.amo_kk.specs.Object.{first_object, object_after}
 use Rattle.amo_kk.specs.Run.{object_after_all, IsRun}
 use Rattle.amo_kk.specs.Record.{empty_record, is_open, is_over, wants_nothing, can_leave, job_in_hand, jobs_in_hand}
 use Rattle.amo_kk.specs.Choice.{record_after_choice, record_after_check, first_record}
-use Rattle.amo_kk.specs.Step.{want, with_announced, record_at_row, record_at_announcement, record_after_phase, record_after, record_after_leave, claimed_or_done, ended_if_over, shown_events}
+use Rattle.amo_kk.specs.Step.{want, with_announced, record_at_row, record_at_announcement, record_after_phase, record_after, record_after_leave, shown, events_of}
 use Rattle.amo_kk.specs.World.{nobody, process, loaded_value, process_after, world_with, world_after_step, world_after_turn, world_after_halt, world_after_leave, world_after_move, world_after_moves, first_process, opening_world}
-use Rattle.amo_kk.specs.Lawful.{FitsPhase, IsSoundProcess, AreLawful, IsLawful, jobs_of, Agrees, HasRun}
+use Rattle.amo_kk.specs.Lawful.{FitsPhase, IsSoundProcess, AreLawful, IsLawful, jobs_of, Agrees, object_of, HasRun, GoesOn}
 use Rattle.amo_kk.specs.declared.givens.Givens.{Givens}
 use Rattle.amo_kk.specs.declared.phase.Phase.{Phase}
 use Rattle.amo_kk.specs.declared.phase.Phase.TheVariants.{Announcing, Trying, Reading, Claiming, Holding, Over, Left}
@@ -26,7 +26,8 @@ use Rattle.amo_kk.specs.declared.event.Move.{Move}
 use Rattle.amo_kk.specs.declared.event.Move.TheVariants.{Turn, Halt, Leave}
 use Rattle.amo_kk.specs.declared.model.Object.{Object}
 use Rattle.amo_kk.specs.declared.event.Event.{Event}
-use Rattle.amo_kk.specs.declared.event.Event.TheVariants.{Ended, Halted, Left as LeftEvent}
+use Rattle.amo_kk.specs.declared.event.Event.TheVariants.{Claimed, Done, Ended, Halted, Left as LeftEvent}
+use Rattle.amo_kk.specs.declared.event.Shown.TheVariants.{Quiet, Done as DoneShown, DoneEnded, Ended as EndedShown}
 use Rattle.amo_kk.proofs.Choice.{after_rests, choice_cases, check_cases, to_row_cases, to_announcement_cases}
 use Rattle.amo_kk.proofs.Kept.{IsKept}
 use Rattle.amo_sets.proofs.Numbers.{has_push, has-get_or, get_or-has, count_true, count_le_all, numbered-put_other, length-table}
@@ -101,6 +102,40 @@ stored_gone (LoadDone q k) a r = refl
 stored_gone (StoreClaim c j) a r = refl
 stored_gone (StoreDone k j) a r = refl
 stored_gone Nothing a r = refl
+
+-- what a step shows, in two parts: its claim or performance, and the end of the worker
+
+abbrev claimed_or_done : ℕ → Phase → List Event
+claimed_or_done p (Announcing j) = []
+claimed_or_done p (Trying j q) = []
+claimed_or_done p (Reading j q) = []
+claimed_or_done p (Claiming j) = Claimed p j ∷ []
+claimed_or_done p (Holding j) = Done p j ∷ []
+claimed_or_done p Over = []
+claimed_or_done p Left = []
+
+abbrev ended_if_over : ℕ → Phase → List Event
+ended_if_over p phase = if is_over phase then Ended p ∷ [] else []
+
+shows : (g : Givens) (p v : ℕ) (r : Record) → wants_nothing r.phase ≡ false → events_of p (shown r.phase (record_after g p v r).phase) ≡ claimed_or_done p r.phase ++ ended_if_over p (record_after g p v r).phase
+shows g p v r wants = go r.phase refl
+  where
+    quiet : (b : Bool) → events_of p (if b then EndedShown else Quiet) ≡ (if b then Ended p ∷ [] else [])
+    quiet true = refl
+    quiet false = refl
+
+    done : (j : ℕ) (b : Bool) → events_of p (if b then DoneEnded j else DoneShown j) ≡ Done p j ∷ (if b then Ended p ∷ [] else [])
+    done j true = refl
+    done j false = refl
+
+    go : (phase : Phase) → r.phase ≡ phase → events_of p (shown r.phase (record_after_phase g p v r r.phase).phase) ≡ claimed_or_done p r.phase ++ ended_if_over p (record_after_phase g p v r r.phase).phase
+    go (Announcing j) is = subst (λ x. events_of p (shown x (record_after_phase g p v r x).phase) ≡ claimed_or_done p x ++ ended_if_over p (record_after_phase g p v r x).phase) (sym is) (quiet (is_over (record_after_phase g p v r (Announcing j)).phase))
+    go (Trying j q) is = subst (λ x. events_of p (shown x (record_after_phase g p v r x).phase) ≡ claimed_or_done p x ++ ended_if_over p (record_after_phase g p v r x).phase) (sym is) (quiet (is_over (record_after_phase g p v r (Trying j q)).phase))
+    go (Reading j q) is = subst (λ x. events_of p (shown x (record_after_phase g p v r x).phase) ≡ claimed_or_done p x ++ ended_if_over p (record_after_phase g p v r x).phase) (sym is) (quiet (is_over (record_after_phase g p v r (Reading j q)).phase))
+    go (Claiming j) is = subst (λ x. events_of p (shown x (record_after_phase g p v r x).phase) ≡ claimed_or_done p x ++ ended_if_over p (record_after_phase g p v r x).phase) (sym is) refl
+    go (Holding j) is = subst (λ x. events_of p (shown x (record_after_phase g p v r x).phase) ≡ claimed_or_done p x ++ ended_if_over p (record_after_phase g p v r x).phase) (sym is) (done j (is_over (record_after_phase g p v r (Holding j)).phase))
+    go Over is = absurd (true≢false (sym (ap wants_nothing is) ∙ wants))
+    go Left is = absurd (true≢false (sym (ap wants_nothing is) ∙ wants))
 
 -- runs one after the other
 object_after_all-append : (s : Object) (es fs : List Event) → object_after_all s (es ++ fs) ≡ object_after_all (object_after_all s es) fs
@@ -215,12 +250,17 @@ counted r x n (Holding j) d = record { claimed = d.claimed; done = d.done; held_
 counted r x n Over d = record { claimed = d.claimed; done = d.done; held_now = d.held_now }
 counted r x n Left d = record { claimed = d.claimed; done = d.done; held_now = d.held_now }
 
-pub turn_runs : (g : Givens) (w : World) (p : ℕ) → AreGivens g → IsLawful g w → HasRun g w → HasRun g (world_after_turn g w p)
-turn_runs g w p ok law run = go (process w p).gone refl
+-- each move goes on from any state that agrees with the world
+
+stays_on : (g : Givens) (s : Object) (w : World) → Agrees g (process w) s → GoesOn g s w w
+stays_on g s w agrees = record { events = []; history = sym (append-nil w.history); run = tt; agrees = agrees }
+
+turn_goes : (g : Givens) (s : Object) (w : World) (p : ℕ) → AreGivens g → IsLawful g w → Agrees g (process w) s → GoesOn g s w (world_after_turn g w p)
+turn_goes g s w p ok law agrees = go (process w p).gone refl
   where
-    go : (b : Bool) → (process w p).gone ≡ b → HasRun g (if b then w else world_after_step g w p (process w p))
-    go true e = run
-    go false e = (all.run, all.agrees)
+    go : (b : Bool) → (process w p).gone ≡ b → GoesOn g s w (if b then w else world_after_step g w p (process w p))
+    go true e = stays_on g s w agrees
+    go false e = record { events = events_of p (shown r.phase x.phase); history = refl; run = both.run; agrees = both.agrees }
       where
         o : IsWorker g p
         o = here_is_worker g w p law.size e
@@ -236,9 +276,6 @@ turn_runs g w p ok law run = go (process w p).gone refl
 
         v : World
         v = world_after_step g w p (process w p)
-
-        s : Object
-        s = object_after_all (first_object g) w.history
 
         now_p : process v p ≡ a
         now_p = put_here g w p a law.size o
@@ -265,31 +302,33 @@ turn_runs g w p ok law run = go (process w p).gone refl
         did : HasDone r x r.phase
         did = counted r (record_after_phase g p (loaded_value w (want r)) r r.phase) (min (r.steps + 1) (2 ^ 64 - 1)) r.phase (has_done g p (loaded_value w (want r)) r r.phase refl)
 
+        wants : wants_nothing r.phase ≡ false
+        wants = false_from_ne_true _ (λ h. true≢false (sym ((law.lawful.sound p o).gone h) ∙ e))
+
         rests : wants_nothing x.phase ≡ is_over x.phase
-        rests = after_rests g p (loaded_value w (want r)) r (false_from_ne_true _ (λ h. true≢false (sym ((law.lawful.sound p o).gone h) ∙ e)))
+        rests = after_rests g p (loaded_value w (want r)) r wants
 
         local_is : a.local ≡ x
         local_is = stored_local (want r) (process w p) x
 
         first : Goes g mid s (claimed_or_done p r.phase)
-        first = deed_goes g ok (process w) law.lawful s run.1 p o e x did a (turned_kept g w p ok law o e) local_is mid stay local_is refl mid_p mid_q
+        first = deed_goes g ok (process w) law.lawful s agrees p o e x did a (turned_kept g w p ok law o e) local_is mid stay local_is refl mid_p mid_q
 
         last : Goes g (process v) (object_after_all s (claimed_or_done p r.phase)) (ended_if_over p a.local.phase)
         last = ending_goes g mid (object_after_all s (claimed_or_done p r.phase)) p a (process v) ok after_law.lawful o first.agrees (ap (λ (y : Process). y.gone) mid_p) mid_p
             (stored_gone (want r) (process w p) x ∙ rests ∙ ap (λ (y : Record). is_over y.phase) (sym local_is)) now_p (λ q n. now_q q n ∙ sym (mid_q q n))
 
-        both : Goes g (process v) s (shown_events p r.phase x.phase)
-        both = subst (λ (y : Record). Goes g (process v) s (claimed_or_done p r.phase ++ ended_if_over p y.phase)) local_is (goes_on g mid (process v) s (claimed_or_done p r.phase) (ended_if_over p a.local.phase) first last)
+        both : Goes g (process v) s (events_of p (shown r.phase x.phase))
+        both = subst (λ l. Goes g (process v) s l) (sym (shows g p (loaded_value w (want r)) r wants))
+            (subst (λ (y : Record). Goes g (process v) s (claimed_or_done p r.phase ++ ended_if_over p y.phase)) local_is
+            (goes_on g mid (process v) s (claimed_or_done p r.phase) (ended_if_over p a.local.phase) first last))
 
-        all : Goes g (process v) (first_object g) (w.history ++ shown_events p r.phase x.phase)
-        all = goes_on g (process w) (process v) (first_object g) w.history (shown_events p r.phase x.phase) (record { run = run.0; agrees = run.1 }) both
-
-pub halt_runs : (g : Givens) (w : World) (p : ℕ) → IsLawful g w → HasRun g w → HasRun g (world_after_halt w p)
-halt_runs g w p law run = go (process w p).gone refl
+halt_goes : (g : Givens) (s : Object) (w : World) (p : ℕ) → IsLawful g w → Agrees g (process w) s → GoesOn g s w (world_after_halt w p)
+halt_goes g s w p law agrees = go (process w p).gone refl
   where
-    go : (b : Bool) → (process w p).gone ≡ b → HasRun g (if b then w else world_with w p (record (process w p) { gone = true }) (Halted p ∷ []))
-    go true e = run
-    go false e = (all.run, all.agrees)
+    go : (b : Bool) → (process w p).gone ≡ b → GoesOn g s w (if b then w else world_with w p (record (process w p) { gone = true }) (Halted p ∷ []))
+    go true e = stays_on g s w agrees
+    go false e = record { events = Halted p ∷ []; history = refl; run = (is_here_now g (process w) s agrees p o e a (process v) now_p now_q, tt); agrees = agrees_gone g (process w) s agrees p o e a (process v) now_p now_q refl refl refl refl }
       where
         o : IsWorker g p
         o = here_is_worker g w p law.size e
@@ -300,20 +339,11 @@ halt_runs g w p law run = go (process w p).gone refl
         v : World
         v = world_with w p (record (process w p) { gone = true }) (Halted p ∷ [])
 
-        s : Object
-        s = object_after_all (first_object g) w.history
-
         now_p : process v p ≡ a
         now_p = put_here g w p a law.size o
 
         now_q : (q : ℕ) → q ≢ p → process v q ≡ process w q
         now_q q n = numbered-put_other nobody a w.processes p q n
-
-        one : Goes g (process v) s (Halted p ∷ [])
-        one = record { run = (is_here_now g (process w) s run.1 p o e a (process v) now_p now_q, tt); agrees = agrees_gone g (process w) s run.1 p o e a (process v) now_p now_q refl refl refl refl }
-
-        all : Goes g (process v) (first_object g) (w.history ++ Halted p ∷ [])
-        all = goes_on g (process w) (process v) (first_object g) w.history (Halted p ∷ []) (record { run = run.0; agrees = run.1 }) one
 
 is_hand : (phase : Phase) → jobs_in_hand phase ≡ [] → job_in_hand phase ≡ 0
 is_hand (Announcing j) h = refl
@@ -324,13 +354,19 @@ is_hand (Holding j) h = absurd (cc)
 is_hand Over h = refl
 is_hand Left h = refl
 
-pub leave_runs : (g : Givens) (w : World) (p : ℕ) → IsLawful g w → HasRun g w → HasRun g (world_after_leave w p)
-leave_runs g w p law run = go (process w p).gone (can_leave (process w p).local.phase) refl refl
+leave_goes : (g : Givens) (s : Object) (w : World) (p : ℕ) → IsLawful g w → Agrees g (process w) s → GoesOn g s w (world_after_leave w p)
+leave_goes g s w p law agrees = go (process w p).gone (can_leave (process w p).local.phase) refl refl
   where
-    go : (b c : Bool) → (process w p).gone ≡ b → can_leave (process w p).local.phase ≡ c → HasRun g (if b then w else (if c then world_with w p (process_after (StoreNext 0) (process w p) (record_after_leave (process w p).local)) (LeftEvent p ∷ []) else w))
-    go true c e f = run
-    go false false e f = run
-    go false true e f = (all.run, all.agrees)
+    go : (b c : Bool) → (process w p).gone ≡ b → can_leave (process w p).local.phase ≡ c → GoesOn g s w (if b then w else (if c then world_with w p (process_after (StoreNext 0) (process w p) (record_after_leave (process w p).local)) (LeftEvent p ∷ []) else w))
+    go true c e f = stays_on g s w agrees
+    go false false e f = stays_on g s w agrees
+    go false true e f =
+        record {
+          events = LeftEvent p ∷ [];
+          history = refl;
+          run = (and_from _ _ (is_here_now g (process w) s agrees p o e a (process v) now_p now_q) (eq-eqb _ _ (agrees.in_hand p o ∙ empty)), tt);
+          agrees = agrees_gone g (process w) s agrees p o e a (process v) now_p now_q refl refl (sym empty) refl;
+        }
       where
         o : IsWorker g p
         o = here_is_worker g w p law.size e
@@ -341,9 +377,6 @@ leave_runs g w p law run = go (process w p).gone (can_leave (process w p).local.
         v : World
         v = world_with w p (process_after (StoreNext 0) (process w p) (record_after_leave (process w p).local)) (LeftEvent p ∷ [])
 
-        s : Object
-        s = object_after_all (first_object g) w.history
-
         now_p : process v p ≡ a
         now_p = put_here g w p a law.size o
 
@@ -353,14 +386,25 @@ leave_runs g w p law run = go (process w p).gone (can_leave (process w p).local.
         empty : job_in_hand (process w p).local.phase ≡ 0
         empty = is_hand (process w p).local.phase (leaves_empty (process w p).local.phase f)
 
-        one : Goes g (process v) s (LeftEvent p ∷ [])
-        one = record {
-          run = (and_from _ _ (is_here_now g (process w) s run.1 p o e a (process v) now_p now_q) (eq-eqb _ _ (run.1.in_hand p o ∙ empty)), tt);
-          agrees = agrees_gone g (process w) s run.1 p o e a (process v) now_p now_q refl refl (sym empty) refl;
-        }
+pub move_goes : (g : Givens) (s : Object) (w : World) (m : Move) → AreGivens g → IsLawful g w → Agrees g (process w) s → GoesOn g s w (world_after_move g w m)
+move_goes g s w (Turn p) ok law agrees = turn_goes g s w p ok law agrees
+move_goes g s w (Halt p) ok law agrees = halt_goes g s w p law agrees
+move_goes g s w (Leave p) ok law agrees = leave_goes g s w p law agrees
 
-        all : Goes g (process v) (first_object g) (w.history ++ LeftEvent p ∷ [])
-        all = goes_on g (process w) (process v) (first_object g) w.history (LeftEvent p ∷ []) (record { run = run.0; agrees = run.1 }) one
+-- so what goes on from a world with a run has a run
+runs_on : (g : Givens) (w v : World) → HasRun g w → GoesOn g (object_of g w) w v → HasRun g v
+runs_on g w v run more =
+    let all = goes_on g (process w) (process v) (first_object g) w.history more.events (record { run = run.0; agrees = run.1 }) (record { run = more.run; agrees = more.agrees }) in
+    (subst (λ l. IsRun g (first_object g) l) (sym more.history) all.run, subst (λ l. Agrees g (process v) (object_after_all (first_object g) l)) (sym more.history) all.agrees)
+
+pub turn_runs : (g : Givens) (w : World) (p : ℕ) → AreGivens g → IsLawful g w → HasRun g w → HasRun g (world_after_turn g w p)
+turn_runs g w p ok law run = runs_on g w (world_after_turn g w p) run (turn_goes g (object_of g w) w p ok law run.1)
+
+pub halt_runs : (g : Givens) (w : World) (p : ℕ) → IsLawful g w → HasRun g w → HasRun g (world_after_halt w p)
+halt_runs g w p law run = runs_on g w (world_after_halt w p) run (halt_goes g (object_of g w) w p law run.1)
+
+pub leave_runs : (g : Givens) (w : World) (p : ℕ) → IsLawful g w → HasRun g w → HasRun g (world_after_leave w p)
+leave_runs g w p law run = runs_on g w (world_after_leave w p) run (leave_goes g (object_of g w) w p law run.1)
 
 -- the opening world
 
@@ -474,9 +518,7 @@ module _ (g : Givens) (ok : AreGivens g) where
           (tt, agrees_at g (gone_to 0) (process (opening_world g)) _ whole_agrees (λ q. refl) (λ q o. gone_is q o ∙ first_goes q (ltb-false _ _ e) ∙ sym (lt-leb q 0 o.low)))
 
 pub move_runs : (g : Givens) (w : World) (m : Move) → AreGivens g → IsLawful g w → HasRun g w → HasRun g (world_after_move g w m)
-move_runs g w (Turn p) ok law run = turn_runs g w p ok law run
-move_runs g w (Halt p) ok law run = halt_runs g w p law run
-move_runs g w (Leave p) ok law run = leave_runs g w p law run
+move_runs g w m ok law run = runs_on g w (world_after_move g w m) run (move_goes g (object_of g w) w m ok law run.1)
 
 pub worlds_run : (g : Givens) (w : World) (ms : List Move) → AreGivens g → IsLawful g w → HasRun g w → HasRun g (world_after_moves g w ms)
 worlds_run g w [] ok law run = run

@@ -1,51 +1,22 @@
 -- What the answers say of the history.
-use Rattle.std.proofs.Common.{◌≡◌, ℕ, Bool, true, false, [], ◌∷◌, ◌++◌, refl, sym, ap, ◌∙◌, subst}
+use Rattle.std.proofs.Common.{◌≡◌, ℕ, Bool, true, false, [], ◌∷◌, ◌++◌, refl, sym, ap, ◌∙◌}
 use Rattle.std.specs.Prelude.{if◌then◌else◌}
-use Rattle.std.proofs.lemmas.Bool.{true≢false, false_from_ne_true}
-use Rattle.amo_kk.specs.Record.{is_over, wants_nothing, can_leave}
-use Rattle.amo_kk.specs.Step.{want, record_after_phase, record_after, record_after_leave, shown_events}
-use Rattle.amo_kk.specs.World.{process, loaded_value, process_after, world_with, world_after_step, world_after_turn, world_after_leave}
-use Rattle.amo_kk.specs.Answer.{shown, events_of, turn_shown, leaving, leave_answer}
-use Rattle.amo_kk.specs.Lawful.{IsLawful}
+use Rattle.std.proofs.lemmas.Bool.{true≢false}
+use Rattle.amo_kk.specs.Record.{can_leave}
+use Rattle.amo_kk.specs.Step.{record_after_leave, events_of}
+use Rattle.amo_kk.specs.World.{process, process_after, world_with, world_after_step, world_after_turn, world_after_leave}
+use Rattle.amo_kk.specs.Answer.{turn_shown, leaving, leave_answer}
 use Rattle.amo_kk.specs.declared.givens.Givens.{Givens}
 use Rattle.amo_kk.specs.declared.phase.Phase.{Phase}
 use Rattle.amo_kk.specs.declared.phase.Phase.TheVariants.{Announcing, Trying, Reading, Claiming, Holding, Over, Left as LeftPhase}
-use Rattle.amo_kk.specs.declared.model.Record.{Record}
-use Rattle.amo_kk.specs.declared.event.Event.TheVariants.{Ended as EndedEvent, Done as DoneEvent, Left as LeftEvent}
-use Rattle.amo_kk.specs.declared.event.Shown.TheVariants.{Quiet, Done, DoneEnded, Ended}
+use Rattle.amo_kk.specs.declared.event.Event.TheVariants.{Left as LeftEvent}
 use Rattle.amo_kk.specs.declared.event.Leaving.{Leaving}
 use Rattle.amo_kk.specs.declared.event.Leaving.TheVariants.{Left as LeftNow, InHand, Gone}
 use Rattle.amo_kk.specs.declared.phase.Want.TheVariants.{StoreNext}
 use Rattle.amo_kk.specs.declared.model.World.{World}
-use Rattle.amo_kk.proofs.Worlds.{here_is_worker}
 
-pub shows : (g : Givens) (p v : ℕ) (r : Record) → wants_nothing r.phase ≡ false → events_of p (shown r.phase (record_after g p v r).phase) ≡ shown_events p r.phase (record_after g p v r).phase
-shows g p v r wants = go r.phase refl
-  where
-    quiet : (b : Bool) → events_of p (if b then Ended else Quiet) ≡ (if b then EndedEvent p ∷ [] else [])
-    quiet true = refl
-    quiet false = refl
-
-    done : (j : ℕ) (b : Bool) → events_of p (if b then DoneEnded j else Done j) ≡ DoneEvent p j ∷ (if b then EndedEvent p ∷ [] else [])
-    done j true = refl
-    done j false = refl
-
-    go : (phase : Phase) → r.phase ≡ phase → events_of p (shown r.phase (record_after_phase g p v r r.phase).phase) ≡ shown_events p r.phase (record_after_phase g p v r r.phase).phase
-    go (Announcing j) is = subst (λ x. events_of p (shown x (record_after_phase g p v r x).phase) ≡ shown_events p x (record_after_phase g p v r x).phase) (sym is) (quiet (is_over (record_after_phase g p v r (Announcing j)).phase))
-    go (Trying j q) is = subst (λ x. events_of p (shown x (record_after_phase g p v r x).phase) ≡ shown_events p x (record_after_phase g p v r x).phase) (sym is) (quiet (is_over (record_after_phase g p v r (Trying j q)).phase))
-    go (Reading j q) is = subst (λ x. events_of p (shown x (record_after_phase g p v r x).phase) ≡ shown_events p x (record_after_phase g p v r x).phase) (sym is) (quiet (is_over (record_after_phase g p v r (Reading j q)).phase))
-    go (Claiming j) is = subst (λ x. events_of p (shown x (record_after_phase g p v r x).phase) ≡ shown_events p x (record_after_phase g p v r x).phase) (sym is) refl
-    go (Holding j) is = subst (λ x. events_of p (shown x (record_after_phase g p v r x).phase) ≡ shown_events p x (record_after_phase g p v r x).phase) (sym is) (done j (is_over (record_after_phase g p v r (Holding j)).phase))
-    go Over is = absurd (true≢false (sym (ap wants_nothing is) ∙ wants))
-    go LeftPhase is = absurd (true≢false (sym (ap wants_nothing is) ∙ wants))
-
-pub turn_history : (g : Givens) (w : World) (p : ℕ) → IsLawful g w → (process w p).gone ≡ false → (world_after_turn g w p).history ≡ w.history ++ events_of p (turn_shown g w p)
-turn_history g w p law here =
-    ap (λ b. (if b then w else world_after_step g w p (process w p)).history) here
-    ∙ ap (λ l. w.history ++ l) (sym (shows g p (loaded_value w (want (process w p).local)) (process w p).local wants))
-  where
-    wants : wants_nothing (process w p).local.phase ≡ false
-    wants = false_from_ne_true _ (λ h. true≢false (sym ((law.lawful.sound p (here_is_worker g w p law.size here)).gone h) ∙ here))
+pub turn_history : (g : Givens) (w : World) (p : ℕ) → (process w p).gone ≡ false → (world_after_turn g w p).history ≡ w.history ++ events_of p (turn_shown g w p)
+turn_history g w p here = ap (λ b. (if b then w else world_after_step g w p (process w p)).history) here
 
 pub idle : (g : Givens) (w : World) (p : ℕ) → (process w p).gone ≡ true → world_after_turn g w p ≡ w
 idle g w p gone = ap (λ b. if b then w else world_after_step g w p (process w p)) gone

@@ -1,39 +1,16 @@
 -- What the calls answer, as functions of the record or the world before them.
-use Rattle.std.specs.Prelude.{ℕ, List, [], ◌∷◌, if◌then◌else◌}
-use Rattle.amo_kk.specs.Record.{is_over}
-use Rattle.amo_kk.specs.Step.{want, record_after}
+use Rattle.std.specs.Prelude.{ℕ, if◌then◌else◌}
+use Rattle.amo_kk.specs.Step.{want, record_after, shown}
 use Rattle.amo_kk.specs.World.{process, loaded_value}
 use Rattle.amo_kk.specs.declared.givens.Givens.{Givens}
 use Rattle.amo_kk.specs.declared.phase.Phase.{Phase}
 use Rattle.amo_kk.specs.declared.phase.Phase.TheVariants.{Announcing, Trying, Reading, Claiming, Holding, Over, Left as LeftPhase}
-use Rattle.amo_kk.specs.declared.event.Event.{Event}
-use Rattle.amo_kk.specs.declared.event.Event.TheVariants.{Claimed as ClaimedEvent, Done as DoneEvent, Ended as EndedEvent, Left as LeftEvent}
 use Rattle.amo_kk.specs.declared.event.Shown.{Shown}
-use Rattle.amo_kk.specs.declared.event.Shown.TheVariants.{Quiet, Claimed, Done, DoneEnded, Ended, Left}
 use Rattle.amo_kk.specs.declared.event.Leaving.{Leaving}
 use Rattle.amo_kk.specs.declared.event.Leaving.TheVariants.{Left as LeftNow, InHand, Gone}
 use Rattle.amo_kk.specs.declared.model.World.{World}
 
--- what an event shows, by the phases before and after it
-abbrev pub shown : Phase → Phase → Shown
-shown (Announcing j) after = if is_over after then Ended else Quiet
-shown (Trying j q) after = if is_over after then Ended else Quiet
-shown (Reading j q) after = if is_over after then Ended else Quiet
-shown (Claiming j) after = Claimed j
-shown (Holding j) after = if is_over after then DoneEnded j else Done j
-shown Over after = Quiet
-shown LeftPhase after = Quiet
-
--- the events of worker p for which such an answer stands
-abbrev pub events_of : ℕ → Shown → List Event
-events_of p Quiet = []
-events_of p (Claimed j) = ClaimedEvent p j ∷ []
-events_of p (Done j) = DoneEvent p j ∷ []
-events_of p (DoneEnded j) = DoneEvent p j ∷ EndedEvent p ∷ []
-events_of p Ended = EndedEvent p ∷ []
-events_of p Left = LeftEvent p ∷ []
-
--- what the event of worker p, which isn't gone, shows
+-- what the step of worker p, which isn't gone, shows
 abbrev pub turn_shown : Givens → World → ℕ → Shown
 turn_shown g w p = let r = (process w p).local in shown r.phase (record_after g p (loaded_value w (want r)) r).phase
 

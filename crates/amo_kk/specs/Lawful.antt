@@ -9,6 +9,7 @@ use Rattle.amo_kk.specs.Run.{object_after_all, IsRun}
 use Rattle.amo_kk.specs.Record.{is_open, wants_nothing, job_in_hand, jobs_in_hand, IsThrough, IsClear}
 use Rattle.amo_kk.specs.World.{process}
 use Rattle.amo_kk.specs.declared.givens.Givens.{Givens}
+use Rattle.amo_kk.specs.declared.event.Event.{Event}
 use Rattle.amo_kk.specs.declared.phase.Phase.{Phase}
 use Rattle.amo_kk.specs.declared.phase.Phase.TheVariants.{Announcing, Trying, Reading, Claiming, Holding, Over, Left}
 use Rattle.amo_kk.specs.declared.model.Record.{Record}
@@ -124,3 +125,11 @@ object_of g w = object_after_all (first_object g) w.history
 -- The history is a run of the object, and the state that it leaves agrees with the world.
 abbrev pub HasRun : Givens → World → Type 0
 HasRun g w = IsRun g (first_object g) w.history × Agrees g (process w) (object_of g w)
+
+-- The world v goes on from the world w, which agrees with the state s: the events that v has more in its history are a
+-- run from s, and the state that they leave agrees with v.
+pub record GoesOn (g : Givens) (s : Object) (w v : World) : Type 0 where
+  pub events : List Event
+  pub history : v.history ≡ w.history ++ events
+  pub run : IsRun g s events
+  pub agrees : Agrees g (process v) (object_after_all s events)

@@ -12,7 +12,9 @@ use Rattle.amo_kk.specs.declared.model.Record.{Record}
 use Rattle.amo_kk.specs.declared.phase.Want.{Want}
 use Rattle.amo_kk.specs.declared.phase.Want.TheVariants.{StoreNext, LoadNext, LoadDone, StoreClaim, StoreDone, Nothing}
 use Rattle.amo_kk.specs.declared.event.Event.{Event}
-use Rattle.amo_kk.specs.declared.event.Event.TheVariants.{Claimed, Done, Ended}
+use Rattle.amo_kk.specs.declared.event.Event.TheVariants.{Claimed as ClaimedEvent, Done as DoneEvent, Ended as EndedEvent, Left as LeftEvent}
+use Rattle.amo_kk.specs.declared.event.Shown.{Shown}
+use Rattle.amo_kk.specs.declared.event.Shown.TheVariants.{Quiet, Claimed, Done, DoneEnded, Ended, Left as LeftShown}
 
 -- the load or store of each phase, for this record
 abbrev pub want_in : Record → Phase → Want
@@ -80,23 +82,24 @@ record_after g p v r = let e = record_after_phase g p v r r.phase in record e { 
 abbrev pub record_after_leave : Record → Record
 record_after_leave r = record r { phase = Left; steps = min (r.steps + 1) (2 ^ 64 - 1) }
 
--- the claim or the performance that the event of this phase is
-abbrev pub claimed_or_done : ℕ → Phase → List Event
-claimed_or_done p (Announcing j) = []
-claimed_or_done p (Trying j q) = []
-claimed_or_done p (Reading j q) = []
-claimed_or_done p (Claiming j) = Claimed p j ∷ []
-claimed_or_done p (Holding j) = Done p j ∷ []
-claimed_or_done p Over = []
-claimed_or_done p Left = []
+-- what a step shows to its caller, by the phases before and after it
+abbrev pub shown : Phase → Phase → Shown
+shown (Announcing j) after = if is_over after then Ended else Quiet
+shown (Trying j q) after = if is_over after then Ended else Quiet
+shown (Reading j q) after = if is_over after then Ended else Quiet
+shown (Claiming j) after = Claimed j
+shown (Holding j) after = if is_over after then DoneEnded j else Done j
+shown Over after = Quiet
+shown Left after = Quiet
 
--- the end of worker p, where the phase is over
-abbrev pub ended_if_over : ℕ → Phase → List Event
-ended_if_over p phase = if is_over phase then Ended p ∷ [] else []
-
--- the events that an event shows, by the phases before and after it
-abbrev pub shown_events : ℕ → Phase → Phase → List Event
-shown_events p before after = claimed_or_done p before ++ ended_if_over p after
+-- the events of worker p in the history for which this stands
+abbrev pub events_of : ℕ → Shown → List Event
+events_of p Quiet = []
+events_of p (Claimed j) = ClaimedEvent p j ∷ []
+events_of p (Done j) = DoneEvent p j ∷ []
+events_of p (DoneEnded j) = DoneEvent p j ∷ EndedEvent p ∷ []
+events_of p Ended = EndedEvent p ∷ []
+events_of p LeftShown = LeftEvent p ∷ []
 
 -- v may be what the wanted load gives: a job or 0, and 0 in the last place of a row
 abbrev pub MayLoad : Givens → ℕ → Want → Type 0

@@ -4,7 +4,7 @@ use Rattle.amo_sets.specs.Lists.{numbered, put, table}
 use Rattle.amo_kk.specs.Object.{is_within}
 use Rattle.amo_kk.specs.Record.{wants_nothing, can_leave}
 use Rattle.amo_kk.specs.Choice.{first_record}
-use Rattle.amo_kk.specs.Step.{want, record_after, record_after_leave, shown_events}
+use Rattle.amo_kk.specs.Step.{want, record_after, record_after_leave, shown, events_of}
 use Rattle.amo_kk.specs.declared.givens.Givens.{Givens}
 use Rattle.amo_kk.specs.declared.phase.Phase.TheVariants.{Over}
 use Rattle.amo_kk.specs.declared.model.Record.{Record}
@@ -58,7 +58,7 @@ world_with w p a events = record { processes = put w.processes p a; history = w.
 abbrev pub world_after_step : Givens → World → ℕ → Process → World
 world_after_step g w p a =
     let r = record_after g p (loaded_value w (want a.local)) a.local in
-    world_with w p (process_after (want a.local) a r) (shown_events p a.local.phase r.phase)
+    world_with w p (process_after (want a.local) a r) (events_of p (shown a.local.phase r.phase))
 
 -- the world after a turn of p: the event of p, if p isn't gone
 abbrev pub world_after_turn : Givens → World → ℕ → World

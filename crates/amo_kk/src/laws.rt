@@ -9,10 +9,10 @@ ghost use Rattle.amo_kk.specs.Object.{first_object};
 ghost use Rattle.amo_kk.specs.Run.{IsRun, first_bad, IsFirstBad, claimed_jobs, done_jobs, has_claimed};
 ghost use Rattle.amo_kk.specs.Record.{can_leave, is_free, is_open, jobs_in_hand};
 ghost use Rattle.amo_kk.specs.Choice.{chosen_rank, chosen_job, first_record};
-ghost use Rattle.amo_kk.specs.Step.{want};
+ghost use Rattle.amo_kk.specs.Step.{want, events_of};
 ghost use Rattle.amo_kk.specs.World.{process, loaded_value, world_after_turn, world_after_leave, world_after_moves, opening_world};
 ghost use Rattle.amo_kk.specs.Words.{words_of, loaded_word, words_after};
-ghost use Rattle.amo_kk.specs.Answer.{events_of, turn_shown, leave_answer};
+ghost use Rattle.amo_kk.specs.Answer.{turn_shown, leave_answer};
 ghost use Rattle.amo_kk.specs.Alone.{IsFirstToClaimOrEnd, FitsThreeAttempts};
 ghost use Rattle.amo_kk.specs.Lawful.{IsLawful, Agrees, object_of};
 ghost use Rattle.amo_kk.specs.declared.givens.Givens.{Givens};
@@ -86,7 +86,7 @@ pub fn words_are_laid_out()
 
 /// What a turn or a leaving answers is what it adds to the history; whoever does not leave changes nothing.
 pub fn answers_are_history()
-    ensures turn { (g : Givens) (w : World) (p : ℕ) → IsLawful g w → (process w p).gone ≡ false
+    ensures turn { (g : Givens) (w : World) (p : ℕ) → (process w p).gone ≡ false
         → (world_after_turn g w p).history ≡ w.history ++ events_of p (turn_shown g w p) }
     ensures idle { (g : Givens) (w : World) (p : ℕ) → (process w p).gone ≡ true → world_after_turn g w p ≡ w }
     ensures left { (w : World) (p : ℕ) → leave_answer w p ≡ LeftNow → (world_after_leave w p).history ≡ w.history ++ Left p ∷ [] }

@@ -10,8 +10,7 @@ ghost use Rattle.amo_sets.specs.Sets.{has};
 ghost use Rattle.amo_kk.specs.Givens.{IsJob, IsWorker, IsOther};
 ghost use Rattle.amo_kk.specs.Choice.{first_record};
 ghost use Rattle.amo_kk.specs.Record.{is_over, can_leave, jobs_in_hand};
-ghost use Rattle.amo_kk.specs.Step.{want, is_load, is_store, record_after, record_after_leave, MayLoad};
-ghost use Rattle.amo_kk.specs.Answer.{shown};
+ghost use Rattle.amo_kk.specs.Step.{want, is_load, is_store, record_after, record_after_leave, shown, MayLoad};
 ghost use Rattle.amo_kk.specs.Fits.{WantFits};
 ghost use Rattle.amo_kk.specs.Machine.{LocalView};
 

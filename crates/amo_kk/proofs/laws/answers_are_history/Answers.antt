@@ -2,7 +2,7 @@ use Rattle.amo_kk.proofs.Shows.{turn_history, idle, left_history, kept_in_hand, 
 use Rattle.amo_kk.proofs.laws.answers_are_history.Goals as goal
 
 pub returns-clause-turn : goal.returns-clause-turn
-returns-clause-turn c = λ g w p law here. turn_history g w p law here
+returns-clause-turn c = λ g w p here. turn_history g w p here
 
 pub returns-clause-idle : goal.returns-clause-idle
 returns-clause-idle c = λ g w p gone. idle g w p gone
