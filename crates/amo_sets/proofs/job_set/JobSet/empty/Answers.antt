@@ -1,7 +1,7 @@
 use Rattle.std.proofs.Common.{◌≡◌, ◌+◌, ◌/◌, ℕ, false, sym, rules}
 use Rattle.amo_sets.specs.Bits.{bit}
 use Rattle.amo_sets.proofs.Tables.{table_constant}
-use Rattle.amo_sets.proofs.Tally.{count_nothing}
+use Rattle.amo_sets.proofs.Numbers.{count_nothing}
 use Rattle.amo_sets.proofs.Words.{bit-zeros}
 use Rattle.amo_sets.proofs.job_set.JobSet.empty.Goals as goal
 

@@ -3,7 +3,8 @@ use Rattle.std.proofs.lemmas.Nat.{pow_below}
 use Rattle.std.specs.Vec.{vec_len}
 use Rattle.amo_sets.specs.Bits.{bit}
 use Rattle.amo_sets.proofs.Tables.{table_constant}
-use Rattle.amo_sets.proofs.Full.{IsFull, filled_full, trimmed_full, count_every}
+use Rattle.amo_sets.proofs.Full.{IsFull, filled_full, trimmed_full}
+use Rattle.amo_sets.proofs.Numbers.{count_every}
 use Rattle.amo_sets.proofs.job_set.JobSet.full.Goals as goal
 use Rattle.amo_sets.proofs.job_set.JobSet.full.Goals.{then-rest-ne0, else-rest-ne0}
 

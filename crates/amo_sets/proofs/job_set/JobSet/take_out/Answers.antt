@@ -2,7 +2,7 @@ use Rattle.std.proofs.Common.{◌-◌, ◌%◌, ◌*◌, ◌^◌, ℕ, false, bi
 use Rattle.std.specs.Int.{bit_not}
 use Rattle.amo_sets.specs.Lists.{numbered}
 use Rattle.amo_sets.proofs.Shown.{kept_is, length_of, word_of, WritesJob, takes_job, shown_written, spare_written, count_taken}
-use Rattle.amo_sets.proofs.Tally.{count_pos}
+use Rattle.amo_sets.proofs.Numbers.{count_pos}
 use Rattle.amo_sets.proofs.job_set.JobSet.take_out.Goals as goal
 
 pub index_mut-requires : goal.index_mut-requires
