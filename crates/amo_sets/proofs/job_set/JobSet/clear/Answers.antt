@@ -11,6 +11,7 @@ invariant_of-self c =
     let none : (j : ℕ) → bit c.fill.new.self.items j ≡ false = bit-zeros c.fill.new.self.items (vec_len c.self.inside.words) (search rules) in
     record {
       size = c.fill.ensures.len ∙ c.self.invariant.size;
+      room = c.fill.ensures.capacity ∙ c.self.invariant.room;
       small = c.self.invariant.small;
       spare = λ j _. none j;
       kept = sym (count_nothing c.self.inside.range (bit c.fill.new.self.items) (λ j _ _. none j));

@@ -10,6 +10,7 @@ invariant_of-result c =
     let clear : (j : ℕ) → bit c.in_ok-words.words.items j ≡ false = bit-zeros c.in_ok-words.words.items ((c.args.n + 63) / 64) (search rules) in
     record {
       size = search rules;
+      room = search rules;
       small = c.ranges.n.fits;
       spare = λ j _. clear j;
       kept = sym (count_nothing c.args.n (bit c.in_ok-words.words.items) (λ j _ _. clear j));

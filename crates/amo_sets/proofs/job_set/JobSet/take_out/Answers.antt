@@ -23,6 +23,7 @@ invariant_of-self c =
     let count = count_taken c.self.inside c.args.self.now c.args.j (bit_and x (bit_not w64 (1 * 2 ^ ((c.args.j - 1) % 64) % 2 ^ 64))) writes (sym c.has.ensures ∙ c.if-has.true) in
     record {
       size = c.self.invariant.size;
+      room = c.self.invariant.room;
       small = c.self.invariant.small;
       spare = spare_written c.self.inside c.args.self.now c.args.j (bit_and x (bit_not w64 (1 * 2 ^ ((c.args.j - 1) % 64) % 2 ^ 64))) false writes;
       kept = omega arith;
