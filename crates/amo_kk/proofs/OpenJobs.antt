@@ -7,9 +7,9 @@ use Rattle.amo_sets.specs.Lists.{numbered, put}
 use Rattle.amo_sets.specs.Sets.{has, members, set_of_bits, with_number}
 use Rattle.amo_sets.specs.Rank.{count, number_of_rank}
 use Rattle.amo_sets.specs.Bits.{is_without}
-use Rattle.amo_sets.proofs.Numbers.{count_true, numbered-put_same, numbered-put_other, length-put}
+use Rattle.amo_sets.proofs.Numbers.{count_true, count_pos, numbered-put_same, numbered-put_other, length-put}
 use Rattle.amo_sets.proofs.Sets.{members_agree, members_none, has-members, with_member, has-set_of_bits}
-use Rattle.amo_sets.proofs.Tally.{count_same, count_gain, count_pos}
+use Rattle.amo_sets.proofs.Tally.{count_same, count_gain}
 use Rattle.amo_kk.specs.Record.{is_free, is_open}
 use Rattle.amo_kk.specs.Choice.{chosen_rank, chosen_job, record_after_choice}
 use Rattle.amo_kk.specs.Knowledge.{numbers_without}

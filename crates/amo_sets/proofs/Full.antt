@@ -71,10 +71,3 @@ trimmed_full n ws w is ne last = record { inside = inside; outside = outside }
         (λ (e : i / 64 ≡ n / 64). bit_none (set ws (n / 64) w) i (2 ^ (n % 64) - 1) (here i e) (bit_at_ones_above (n % 64) (i % 64) (omega arith)))
         (λ (d : i / 64 ≢ n / 64). past n (set ws (n / 64) w) i (length-set ws (n / 64) w ∙ len) (omega arith))
         (cases_eq (i / 64) (n / 64))
-
--- all of 1..n pass
-pub count_every : (n : ℕ) (t : ℕ → Bool) → ((j : ℕ) → 1 ≤ j → j ≤ n → t j ≡ true) → count n t ≡ n
-count_every zero t h = refl
-count_every (suc n) t h =
-    let before = count_every n t (λ j l m. h j l (omega arith)) in
-    ap (λ b. count n t + (if b then 1 else 0)) (h (suc n) (omega arith) (omega arith)) ∙ omega (arith, before)

@@ -2,7 +2,7 @@
 use Rattle.std.proofs.Common.{⊎_elim, ◌≡◌, ◌≢◌, ◌⊎◌, inl, inr, ℕ, zero, suc, ◌+◌, ◌<◌, ◌≤◌, Bool, true, false, not, ◌&&◌, ◌||◌, List, [], ◌∷◌, ◌++◌, length, get_or, refl, sym, ap, ◌∙◌, subst, arith}
 use Rattle.std.specs.Prelude.{◌==◌, if◌then◌else◌}
 use Rattle.std.proofs.lemmas.Bool.Decides.{nat_tests}
-use Rattle.std.proofs.lemmas.Bool.{and_parts, and_from, or_parts, or_left, or_right, true≢false, eq-eqb, eqb-true}
+use Rattle.std.proofs.lemmas.Bool.{and_parts, and_from, or_parts, or_left, or_right, true≢false, eq-eqb, ne_eqb, eqb-true}
 use Rattle.std.proofs.lemmas.List.{get_or-set_same, get_or-set_other, length-set, length-append}
 use Rattle.amo_sets.specs.Lists.{numbered, put, table}
 use Rattle.amo_sets.specs.Sets.{has, AreDistinct, with_number}
@@ -66,9 +66,25 @@ pub length-with_number : (i : ℕ) (xs : List ℕ) → length (with_number i xs)
 length-with_number i [] = omega arith
 length-with_number i (x ∷ xs) = length_step i x xs (length-with_number i xs)
 
+-- all of 1..n pass
+pub count_every : (n : ℕ) (t : ℕ → Bool) → ((j : ℕ) → 1 ≤ j → j ≤ n → t j ≡ true) → count n t ≡ n
+count_every zero t h = refl
+count_every (suc n) t h =
+    let before = count_every n t (λ j l m. h j l (omega arith)) in
+    ap (λ b. count n t + (if b then 1 else 0)) (h (suc n) (omega arith) (omega arith)) ∙ omega (arith, before)
+
 pub count_true : (n : ℕ) → count n (λ _. true) ≡ n
-count_true zero = refl
-count_true (suc n) = let h = count_true n in omega arith
+count_true n = count_every n (λ _. true) (λ _ _ _. refl)
+
+-- none of 1..n passes
+pub count_nothing : (n : ℕ) (t : ℕ → Bool) → ((j : ℕ) → 1 ≤ j → j ≤ n → t j ≡ false) → count n t ≡ 0
+count_nothing zero t h = refl
+count_nothing (suc n) t h = λ i. count_nothing n t (λ j l m. h j l (omega arith)) i + (if h (suc n) (omega arith) (omega arith) i then 1 else 0)
+
+-- where j passes, some do
+pub count_pos : (n : ℕ) (t : ℕ → Bool) (j : ℕ) → 1 ≤ j → j ≤ n → t j ≡ true → 1 ≤ count n t
+count_pos zero t j l h passes = absurd (omega arith)
+count_pos (suc n) t j l h passes = let r = count_pos n t j l in grind (arith, nat_tests)
 
 pub count_le : (t u : ℕ → Bool) → ((k : ℕ) → t k ≡ true → u k ≡ true) → (n : ℕ) → count n t ≤ count n u
 count_le t u h zero = omega arith
@@ -83,14 +99,10 @@ pub count_without : (t u : ℕ → Bool) (n : ℕ) → count n (λ k. not (t k))
 count_without t u zero = omega arith
 count_without t u (suc n) = let l = count_without t u n in grind (arith, nat_tests)
 
-count_above : (x n : ℕ) → n < x → count n (λ k. x == k) ≡ 0
-count_above x zero h = refl
-count_above x (suc n) h = let l = count_above x n (omega arith) in grind (arith, nat_tests)
-
 count_one : (x n : ℕ) → count n (λ k. x == k) ≤ 1
 count_one x zero = omega arith
 count_one x (suc n) =
-    let above = count_above x n in
+    let above : n < x → count n (λ k. x == k) ≡ 0 = λ h. count_nothing n (λ k. x == k) (λ k l m. ne_eqb x k (λ e. omega arith)) in
     let l = count_one x n in
     grind (arith, nat_tests)
 
@@ -98,28 +110,20 @@ count_or : (t u : ℕ → Bool) (n : ℕ) → count n (λ k. t k || u k) ≤ cou
 count_or t u zero = omega arith
 count_or t u (suc n) = let l = count_or t u n in grind (arith, nat_tests)
 
-count_none : (n : ℕ) → count n (λ _. false) ≡ 0
-count_none zero = refl
-count_none (suc n) = let h = count_none n in omega arith
-
 pub count_has : (xs : List ℕ) (n : ℕ) → count n (has xs) ≤ length xs
-count_has [] n = let c = count_none n in omega arith
+count_has [] n = let c = count_nothing n (has []) (λ _ _ _. refl) in omega arith
 count_has (x ∷ xs) n = let a = count_or (λ k. x == k) (has xs) n in let b = count_one x n in let c = count_has xs n in omega arith
-
--- a list of distinct numbers of 1..n has at most n
-count_in : (x n : ℕ) → 1 ≤ x → x ≤ n → 1 ≤ count n (λ k. x == k)
-count_in x zero l h = omega arith
-count_in x (suc n) l h = let r = count_in x n l in grind (arith, nat_tests)
 
 pub count_apart : (t u : ℕ → Bool) (n : ℕ) → ((k : ℕ) → t k ≡ true → u k ≡ false) → count n t + count n u ≤ count n (λ k. t k || u k)
 count_apart t u zero h = omega arith
 count_apart t u (suc n) h = let l = count_apart t u n h in let m = h (suc n) in grind (arith, nat_tests)
 
+-- a list of distinct numbers of 1..n has at most n
 pub length_distinct : (xs : List ℕ) (n : ℕ) → AreDistinct xs → ((j : ℕ) → has xs j ≡ true → (1 ≤ j) × (j ≤ n)) → length xs ≤ count n (has xs)
 length_distinct [] n d h = omega arith
 length_distinct (x ∷ xs) n d h =
     let here = h x (grind (arith, nat_tests)) in
-    let one = count_in x n here.0 here.1 in
+    let one = count_pos n (λ k. x == k) x here.0 here.1 (eq-eqb x x refl) in
     let rest = length_distinct xs n d.1 (λ j k. h j (or_right (x == j) (has xs j) k)) in
     let both = count_apart (λ k. x == k) (has xs) n (λ k e. subst (λ y. has xs y ≡ false) (eqb-true x k e) d.0) in
     omega arith

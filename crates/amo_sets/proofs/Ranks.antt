@@ -4,8 +4,7 @@ use Rattle.std.specs.Prelude.{◌==◌, if◌then◌else◌}
 use Rattle.std.proofs.lemmas.Bool.{and_from, eq-eqb}
 use Rattle.std.proofs.lemmas.Bool.Decides.{nat_tests}
 use Rattle.amo_sets.specs.Rank.{count, has_rank, number_of_rank}
-use Rattle.amo_sets.proofs.Numbers.{IsRanked, count_more, ranked_found}
-use Rattle.amo_sets.proofs.Tally.{count_pos}
+use Rattle.amo_sets.proofs.Numbers.{IsRanked, count_more, count_pos, ranked_found}
 
 pub number_of_no_rank : (n : ℕ) (test : ℕ → Bool) (i : ℕ) → (i ≡ 0) ⊎ (count n test < i) → number_of_rank n test i ≡ 0
 number_of_no_rank zero test i h = refl

@@ -4,7 +4,7 @@ use Rattle.std.specs.Prelude.{if◌then◌else◌}
 use Rattle.std.proofs.lemmas.Bool.{cases_lt, cases_eq}
 use Rattle.std.proofs.lemmas.Bool.Decides.{nat_tests}
 use Rattle.amo_sets.specs.Rank.{count}
-use Rattle.amo_sets.proofs.Numbers.{count_le_all}
+use Rattle.amo_sets.proofs.Numbers.{count_le_all, count_nothing}
 
 unfoldable pub tally : ℕ → (ℕ → Bool) → ℕ
 tally n test = count n test
@@ -27,8 +27,7 @@ tally_same (suc n) t u h =
     tally-suc n t ∙ (λ i. tally_same n t u (λ j l m. h j l (omega arith)) i + (if h (suc n) (omega arith) (omega arith) i then 1 else 0)) ∙ sym (tally-suc n u)
 
 pub tally_none : (n : ℕ) (t : ℕ → Bool) → ((j : ℕ) → 1 ≤ j → j ≤ n → t j ≡ false) → tally n t ≡ 0
-tally_none zero t h = tally-zero t
-tally_none (suc n) t h = tally-suc n t ∙ (λ i. tally_none n t (λ j l m. h j l (omega arith)) i + (if h (suc n) (omega arith) (omega arith) i then 1 else 0))
+tally_none n t h = tally_count n t ∙ count_nothing n t h
 
 -- in two parts
 pub tally-add : (a b : ℕ) (t : ℕ → Bool) → tally (a + b) t ≡ tally a t + tally b (λ r. t (a + r))
@@ -85,13 +84,5 @@ pub count_lt : (n : ℕ) (t : ℕ → Bool) (j : ℕ) → 1 ≤ j → j ≤ n �
 count_lt zero t j l h fails = absurd (omega arith)
 count_lt (suc n) t j l h fails = let r = count_lt n t j l in let all = count_le_all t n in grind (arith, nat_tests)
 
--- where j passes, some do
-pub count_pos : (n : ℕ) (t : ℕ → Bool) (j : ℕ) → 1 ≤ j → j ≤ n → t j ≡ true → 1 ≤ count n t
-count_pos zero t j l h passes = absurd (omega arith)
-count_pos (suc n) t j l h passes = let r = count_pos n t j l in grind (arith, nat_tests)
-
 pub count_same : (n : ℕ) (t u : ℕ → Bool) → ((j : ℕ) → 1 ≤ j → j ≤ n → t j ≡ u j) → count n t ≡ count n u
 count_same n t u h = sym (tally_count n t) ∙ tally_same n t u h ∙ tally_count n u
-
-pub count_nothing : (n : ℕ) (t : ℕ → Bool) → ((j : ℕ) → 1 ≤ j → j ≤ n → t j ≡ false) → count n t ≡ 0
-count_nothing n t h = sym (tally_count n t) ∙ tally_none n t h

@@ -1,5 +1,6 @@
 //! A set of jobs within 1..=n, one bit a job.
-ghost use Rattle.std.specs.Prelude.{◌≡◌, ◌↔◌, ◌⊎◌, ℕ, ◌+◌, ◌/◌, ◌<◌, ◌≤◌, true, false, IsTrue, IsNone, IfOk, IfSome, count_ones, length, replicate, unwrap_or};
+ghost use Rattle.std.specs.Prelude.{◌≡◌, ◌↔◌, ◌⊎◌, ℕ, ◌+◌, ◌/◌, ◌<◌, ◌≤◌, true, false, IsTrue, IsNone, IfOk, IfSome, count_ones, length, replicate, unwrap_or, vec_len};
+ghost use Rattle.std.specs.Vec.{vec_capacity};
 ghost use Rattle.amo_sets.specs.Bits.{bit, is_one, is_without};
 ghost use Rattle.amo_sets.specs.Lists.{numbered, put};
 ghost use Rattle.amo_sets.specs.Rank.{count, has_rank, number_of_rank};
@@ -19,6 +20,7 @@ pub struct JobSet {
 
 impl Model for JobSet {
     ghost use Rattle.std.specs.Prelude.{◌≡◌, ℕ, ◌+◌, ◌/◌, ◌<◌, ◌^◌, Bool, false, List, vec_len};
+    ghost use Rattle.std.specs.Vec.{vec_capacity};
     ghost use Rattle.amo_sets.specs.Bits.{bit};
     ghost use Rattle.amo_sets.specs.Lists.{table};
     ghost use Rattle.amo_sets.specs.Rank.{count};
@@ -29,6 +31,7 @@ impl Model for JobSet {
 
     ghost invariant = { λ s. record {
       size : vec_len s.words ≡ (s.range + 63) / 64;
+      room : vec_capacity s.words ≡ (s.range + 63) / 64;
       small : s.range < 2 ^ 32;
       spare : (j : ℕ) → s.range < j → bit s.words.items j ≡ false;
       kept : s.len ≡ count s.range (bit s.words.items);
@@ -40,7 +43,7 @@ impl JobSet {
     pub fn full(alloc: Global, n: u32) -> Result<JobSet, AllocError>
         ensures { IfOk result (λ s. s ≡ replicate n true) }
     {
-        let mut words = Vec::from_elem(alloc, u64::MAX, (n as usize + 63) / 64)?;
+        let mut words = filled(alloc, n, u64::MAX)?;
         let rest = n % 64;
         if rest != 0 {
             words[n as usize / 64] = (1 << rest) - 1;
@@ -56,7 +59,7 @@ impl JobSet {
     pub fn empty(alloc: Global, n: u32) -> Result<JobSet, AllocError>
         ensures { IfOk result (λ s. s ≡ replicate n false) }
     {
-        let words = Vec::from_elem(alloc, 0u64, (n as usize + 63) / 64)?;
+        let words = filled(alloc, n, 0)?;
         Ok(JobSet {
             words,
             range: n,
@@ -68,7 +71,8 @@ impl JobSet {
     pub fn copy(&self, alloc: Global) -> Result<JobSet, AllocError>
         ensures { IfOk result (λ s. s ≡ self.now) }
     {
-        let words = Vec::from_slice(alloc, self.words.as_slice())?;
+        let mut words = filled(alloc, self.range, 0)?;
+        words.copy_from_slice(self.words.as_slice());
         Ok(JobSet {
             words,
             range: self.range,
@@ -191,6 +195,20 @@ impl JobSet {
         self.words.fill(0);
         self.len = 0;
     }
+}
+
+/// The words of a set within `1..=n`, each of them this one, with room for no more. The only error is out of memory.
+fn filled(alloc: Global, n: u32, word: u64) -> Result<Vec<u64>, AllocError>
+    ensures items { IfOk result (λ v. v.items ≡ replicate ((n + 63) / 64) word) }
+    ensures len { IfOk result (λ v. vec_len v ≡ (n + 63) / 64) }
+    ensures room { IfOk result (λ v. vec_capacity v ≡ (n + 63) / 64) }
+{
+    let count = (n as usize + 63) / 64;
+    let mut words = Vec::with_capacity(alloc, count)?;
+    while words.len() < count {
+        words.push_reserved(word);
+    }
+    Ok(words)
 }
 
 /// Where the byte of the word begins that has its i-th bit that is 1, the lowest first, and how many bits of that

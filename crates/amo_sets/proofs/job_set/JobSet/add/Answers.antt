@@ -22,6 +22,7 @@ invariant_of-self c =
     let count = count_added c.self.inside c.args.self.now c.args.j (bit_or x (1 * 2 ^ ((c.args.j - 1) % 64) % 2 ^ 64)) writes (sym c.has.ensures ∙ c.if-not-has.true) in
     record {
       size = c.self.invariant.size;
+      room = c.self.invariant.room;
       small = c.self.invariant.small;
       spare = spare_written c.self.inside c.args.self.now c.args.j (bit_or x (1 * 2 ^ ((c.args.j - 1) % 64) % 2 ^ 64)) true writes;
       kept = omega arith;

@@ -1,7 +1,7 @@
 use Rattle.std.proofs.Common.{◌≡◌, vec_len, ℕ, replicate, false, rules, ap, sym, ◌∙◌}
 use Rattle.amo_sets.specs.Bits.{bit}
 use Rattle.amo_sets.proofs.Tables.{table_constant}
-use Rattle.amo_sets.proofs.Tally.{count_nothing}
+use Rattle.amo_sets.proofs.Numbers.{count_nothing}
 use Rattle.amo_sets.proofs.Words.{bit-zeros}
 use Rattle.amo_sets.proofs.Shown.{length_of}
 use Rattle.amo_sets.proofs.job_set.JobSet.clear.Goals as goal
@@ -11,6 +11,7 @@ invariant_of-self c =
     let none : (j : ℕ) → bit c.fill.new.self.items j ≡ false = bit-zeros c.fill.new.self.items (vec_len c.self.inside.words) (search rules) in
     record {
       size = c.fill.ensures.len ∙ c.self.invariant.size;
+      room = c.fill.ensures.capacity ∙ c.self.invariant.room;
       small = c.self.invariant.small;
       spare = λ j _. none j;
       kept = sym (count_nothing c.self.inside.range (bit c.fill.new.self.items) (λ j _ _. none j));

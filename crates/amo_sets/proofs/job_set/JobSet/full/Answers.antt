@@ -1,9 +1,10 @@
 use Rattle.std.proofs.Common.{rules, arith, ◌≡◌, ◌+◌, ◌-◌, ◌*◌, ◌/◌, ◌%◌, ◌^◌, ◌<◌, ℕ, replicate, ap, sym, ◌∙◌, true}
 use Rattle.std.proofs.lemmas.Nat.{pow_below}
-use Rattle.std.specs.Vec.{vec_len}
+use Rattle.std.specs.Vec.{vec_len, vec_capacity}
 use Rattle.amo_sets.specs.Bits.{bit}
 use Rattle.amo_sets.proofs.Tables.{table_constant}
-use Rattle.amo_sets.proofs.Full.{IsFull, filled_full, trimmed_full, count_every}
+use Rattle.amo_sets.proofs.Full.{IsFull, filled_full, trimmed_full}
+use Rattle.amo_sets.proofs.Numbers.{count_every}
 use Rattle.amo_sets.proofs.job_set.JobSet.full.Goals as goal
 use Rattle.amo_sets.proofs.job_set.JobSet.full.Goals.{then-rest-ne0, else-rest-ne0}
 
@@ -25,11 +26,18 @@ size c = elim c.if-rest-ne0.branch [
   | else-rest-ne0 w ↦ ap vec_len w.words-is ∙ (search rules)
 ]
 
+room : (c : goal.Joined-rest-ne0) → vec_capacity c.if-rest-ne0.words ≡ (c.args.n + 63) / 64
+room c = elim c.if-rest-ne0.branch [
+  | then-rest-ne0 w ↦ ap vec_capacity w.words-is ∙ (search rules)
+  | else-rest-ne0 w ↦ ap vec_capacity w.words-is ∙ (search rules)
+]
+
 pub invariant_of-result : goal.invariant_of-result
 invariant_of-result c =
     let full = is_full c in
     record {
       size = size c;
+      room = room c;
       small = c.ranges.n.fits;
       spare = full.outside;
       kept = sym (count_every c.args.n (bit c.if-rest-ne0.words.items) full.inside);

@@ -2,7 +2,7 @@ use Rattle.std.proofs.Common.{◌-◌, ◌%◌, ◌*◌, ◌^◌, ℕ, false, bi
 use Rattle.std.specs.Int.{bit_not}
 use Rattle.amo_sets.specs.Lists.{numbered}
 use Rattle.amo_sets.proofs.Shown.{kept_is, length_of, word_of, WritesJob, takes_job, shown_written, spare_written, count_taken}
-use Rattle.amo_sets.proofs.Tally.{count_pos}
+use Rattle.amo_sets.proofs.Numbers.{count_pos}
 use Rattle.amo_sets.proofs.job_set.JobSet.take_out.Goals as goal
 
 pub index_mut-requires : goal.index_mut-requires
@@ -23,6 +23,7 @@ invariant_of-self c =
     let count = count_taken c.self.inside c.args.self.now c.args.j (bit_and x (bit_not w64 (1 * 2 ^ ((c.args.j - 1) % 64) % 2 ^ 64))) writes (sym c.has.ensures ∙ c.if-has.true) in
     record {
       size = c.self.invariant.size;
+      room = c.self.invariant.room;
       small = c.self.invariant.small;
       spare = spare_written c.self.inside c.args.self.now c.args.j (bit_and x (bit_not w64 (1 * 2 ^ ((c.args.j - 1) % 64) % 2 ^ 64))) false writes;
       kept = omega arith;
