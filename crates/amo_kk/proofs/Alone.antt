@@ -11,7 +11,7 @@ use Rattle.amo_kk.specs.Record.{is_open, is_over, wants_nothing, jobs_in_hand}
 use Rattle.amo_kk.specs.Choice.{chosen_job, record_after_choice, record_after_check}
 use Rattle.amo_kk.specs.Step.{want_in, want, with_announced, record_at_row, record_after_phase, record_after}
 use Rattle.amo_kk.specs.World.{process, loaded_value, world_after_turn}
-use Rattle.amo_kk.specs.Alone.{is_claiming, claims_or_ends, world_after_turns, IsFirstToClaimOrEnd, stores_announcement, want_at}
+use Rattle.amo_kk.specs.Alone.{lone_bound, is_claiming, claims_or_ends, world_after_turns, IsFirstToClaimOrEnd, stores_announcement, want_at}
 use Rattle.amo_kk.specs.Lawful.{IsLawful}
 use Rattle.amo_kk.specs.declared.givens.Givens.{Givens}
 use Rattle.amo_kk.specs.declared.phase.Phase.{Phase}
@@ -547,10 +547,10 @@ module _ (g : Givens) (w : World) (law : IsLawful g w) where
       false_from_ne_true _ (λ m. true≢false (sym (claimed_too (suc k) j o m) ∙ (law.lawful.apart r.0 (suc k) other (record { worker = o; differs = λ e. let l = r.2 in omega arith })).claims j (claimed_too r.0 j other r.3)))) in
       omega arith
 
--- From every lawful world, a worker that isn't gone claims a job or ends within 6 m + n turns of its own, and
+-- From every lawful world, a worker that isn't gone claims a job or ends within lone_bound turns of its own, and
 -- begins at most three attempts, or two where it is in one.
-pub alone : (g : Givens) (w : World) (p : ℕ) → AreGivens g → IsLawful g w → (process w p).gone ≡ false → ClaimsOrEndsWithin g p (6 * g.workers + g.jobs) (to_begin (process w p).local.phase + 2) w
-alone g w p ok law here = goes g ok p o (process w) (6 * g.workers + g.jobs) _ w law (λ q n. refl) here (small (process w p).local.phase refl) (omega arith)
+pub alone : (g : Givens) (w : World) (p : ℕ) → AreGivens g → IsLawful g w → (process w p).gone ≡ false → ClaimsOrEndsWithin g p (lone_bound g) (to_begin (process w p).local.phase + 2) w
+alone g w p ok law here = goes g ok p o (process w) (lone_bound g) _ w law (λ q n. refl) here (small (process w p).local.phase refl) (omega arith)
   where
     o : IsWorker g p
     o = here_is_worker g w p law.size here
@@ -566,10 +566,10 @@ alone g w p ok law here = goes g ok p o (process w) (6 * g.workers + g.jobs) _ w
         one true n m = omega arith
         one false n m = omega arith
 
-    small : (phase : Phase) → (process w p).local.phase ≡ phase → cost g ok p o (process w) (process w p).local.phase + unread g ok p o (process w) (process w p).local + 2 * whole_attempt g ok p o (process w) < 6 * g.workers + g.jobs
-    small phase is = subst (λ x. cost g ok p o (process w) x + unread g ok p o (process w) (process w p).local + 2 * whole_attempt g ok p o (process w) < 6 * g.workers + g.jobs) (sym is) (bound phase)
+    small : (phase : Phase) → (process w p).local.phase ≡ phase → cost g ok p o (process w) (process w p).local.phase + unread g ok p o (process w) (process w p).local + 2 * whole_attempt g ok p o (process w) < lone_bound g
+    small phase is = subst (λ x. cost g ok p o (process w) x + unread g ok p o (process w) (process w p).local + 2 * whole_attempt g ok p o (process w) < lone_bound g) (sym is) (bound phase)
       where
-        bound : (phase : Phase) → cost g ok p o (process w) phase + unread g ok p o (process w) (process w p).local + 2 * whole_attempt g ok p o (process w) < 6 * g.workers + g.jobs
+        bound : (phase : Phase) → cost g ok p o (process w) phase + unread g ok p o (process w) (process w p).local + 2 * whole_attempt g ok p o (process w) < lone_bound g
         bound (Announcing j) = let e = entries in let s = ok.some in omega arith
         bound (Trying j q) = let e = entries in let s = ok.some in omega arith
         bound (Reading j q) = let e = entries in let s = ok.some in omega arith
@@ -579,8 +579,8 @@ alone g w p ok law here = goes g ok p o (process w) (6 * g.workers + g.jobs) _ w
         bound Left = let e = entries in let s = ok.some in omega arith
 
 pub stores_few : (g : Givens) (w : World) (p : ℕ) → AreGivens g → IsLawful g w → (process w p).gone ≡ false
-    → (i : ℕ) × (i < 6 * g.workers + g.jobs) × IsFirstToClaimOrEnd g w p i × (stored_within g w p i ≤ to_begin (process w p).local.phase + 2)
-stores_few g w p ok law here = first_of_them g p (6 * g.workers + g.jobs) _ w (alone g w p ok law here)
+    → (i : ℕ) × (i < lone_bound g) × IsFirstToClaimOrEnd g w p i × (stored_within g w p i ≤ to_begin (process w p).local.phase + 2)
+stores_few g w p ok law here = first_of_them g p (lone_bound g) _ w (alone g w p ok law here)
 
-pub claims_or_ends_soon : (g : Givens) (w : World) (p : ℕ) → AreGivens g → IsLawful g w → (process w p).gone ≡ false → (i : ℕ) × (i < 6 * g.workers + g.jobs) × IsFirstToClaimOrEnd g w p i
+pub claims_or_ends_soon : (g : Givens) (w : World) (p : ℕ) → AreGivens g → IsLawful g w → (process w p).gone ≡ false → (i : ℕ) × (i < lone_bound g) × IsFirstToClaimOrEnd g w p i
 claims_or_ends_soon g w p ok law here = let f = stores_few g w p ok law here in (f.0, f.1, f.2)

@@ -11,6 +11,10 @@ use Rattle.amo_kk.specs.declared.phase.Want.TheVariants.{StoreNext, LoadNext, Lo
 use Rattle.amo_kk.specs.declared.event.Move.TheVariants.{Turn}
 use Rattle.amo_kk.specs.declared.model.World.{World}
 
+-- a worker alone claims a job or ends within so many turns: six for each worker, and one for each job
+abbrev pub lone_bound : Givens → ℕ
+lone_bound g = 6 * g.workers + g.jobs
+
 -- the next event of a worker in this phase is a claim
 abbrev pub is_claiming : Phase → Bool
 is_claiming (Announcing j) = false

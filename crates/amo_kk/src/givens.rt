@@ -39,6 +39,7 @@ pub struct Givens {
 
 impl Givens {
     ghost use Rattle.amo_kk.specs.Givens.{bound, givens_of};
+    ghost use Rattle.amo_kk.specs.Alone.{lone_bound};
 
     /// The givens of these three numbers, or the first limit that they break.
     pub fn try_new(jobs: u64, workers: u64, beta: u64) -> Result<Givens, GivensFault>
@@ -93,5 +94,13 @@ impl Givens {
         ensures { result ≡ bound self.now }
     {
         self.jobs.saturating_sub(self.beta + self.workers - 2)
+    }
+
+    /// A worker that isn't gone claims a job or ends within so many turns of its own, with no other move between
+    /// them: 6 * workers + jobs.
+    pub fn lone_bound(&self) -> u32
+        ensures { result ≡ lone_bound self.now }
+    {
+        6 * self.workers + self.jobs
     }
 }

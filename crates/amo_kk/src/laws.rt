@@ -13,7 +13,7 @@ ghost use Rattle.amo_kk.specs.Step.{want, events_of};
 ghost use Rattle.amo_kk.specs.World.{process, loaded_value, world_after_turn, world_after_leave, world_after_moves, opening_world};
 ghost use Rattle.amo_kk.specs.Words.{words_of, loaded_word, words_after};
 ghost use Rattle.amo_kk.specs.Answer.{turn_shown, leave_answer};
-ghost use Rattle.amo_kk.specs.Alone.{IsFirstToClaimOrEnd, FitsThreeAttempts};
+ghost use Rattle.amo_kk.specs.Alone.{lone_bound, IsFirstToClaimOrEnd, FitsThreeAttempts};
 ghost use Rattle.amo_kk.specs.Lawful.{IsLawful, Agrees, object_of};
 ghost use Rattle.amo_kk.specs.declared.givens.Givens.{Givens};
 ghost use Rattle.amo_kk.specs.declared.event.Move.{Move};
@@ -59,10 +59,11 @@ pub fn first_bad_is_the_first()
         → first_bad g s events ≡ suc i → IsFirstBad g s events (suc i) }
 {}
 
-/// From every lawful world a worker that isn't gone, alone, claims a job or ends within `6 * workers + jobs` turns.
+/// From every lawful world a worker that isn't gone, alone, claims a job or ends within `lone_bound` turns,
+/// which is 6 * workers + jobs.
 pub fn alone_claims_or_ends_soon()
     ensures { (g : Givens) (w : World) (p : ℕ) → IsLawful g w → (process w p).gone ≡ false
-        → (i : ℕ) × (i < 6 * g.workers + g.jobs) × IsFirstToClaimOrEnd g w p i }
+        → (i : ℕ) × (i < lone_bound g) × IsFirstToClaimOrEnd g w p i }
 {}
 
 /// What these turns store and read, up to the one that claims or ends: at most three attempts go on or begin, each
