@@ -22,3 +22,4 @@ pub mod Loads
 pub mod Moves
 pub mod Growth
 pub mod Counts
+pub mod Ends

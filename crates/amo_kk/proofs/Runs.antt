@@ -33,6 +33,7 @@ use Rattle.amo_kk.proofs.Kept.{IsKept}
 use Rattle.amo_sets.proofs.Numbers.{has_push, has-get_or, get_or-has, count_true, count_le_all, numbered-put_other, length-table}
 use Rattle.amo_sets.proofs.Tables.{get_or-table, numbered-table}
 use Rattle.amo_kk.proofs.Worlds.{here_is_worker, put_here, turn_lawful, move_lawful, leaves_empty, opening_lawful, numbered-table_same, turned_kept}
+use Rattle.amo_kk.proofs.Ends.{over_few}
 use Rattle.amo_kk.proofs.Steps.{enough, is_here_now, agrees_claim, agrees_done, agrees_gone, agrees_same}
 
 -- what a step did to the lists and the hand
@@ -222,15 +223,6 @@ ending_goes g at s p a now ok law o agrees here was gone is_now others = go (is_
         sound : IsSoundProcess g p a
         sound = subst (λ x. IsSoundProcess g p x) is_now (law.sound p o)
 
-        few : (phase : Phase) → is_over phase ≡ true → FitsPhase g p a.local phase → count g.jobs (is_open a.local) < g.beta
-        few (Announcing j) h st = absurd (true≢false (sym h))
-        few (Trying j q) h st = absurd (true≢false (sym h))
-        few (Reading j q) h st = absurd (true≢false (sym h))
-        few (Claiming j) h st = absurd (true≢false (sym h))
-        few (Holding j) h st = absurd (true≢false (sym h))
-        few Over h st = st
-        few Left h st = absurd (true≢false (sym h))
-
         performed_now : (q : ℕ) → jobs_of s.performed q ≡ (now q).local.dones
         performed_now q = ⊎_elim
             (λ (i : q ≡ p). subst (λ x. jobs_of s.performed x ≡ (now x).local.dones) (sym i) (agrees.performed p ∙ ap (λ (y : Record). y.dones) same ∙ ap (λ (x : Process). x.local.dones) (sym is_now)))
@@ -238,7 +230,7 @@ ending_goes g at s p a now ok law o agrees here was gone is_now others = go (is_
             (cases_eq q p)
 
         many : g.jobs + 2 ≤ length s.performed + g.beta + g.workers
-        many = enough g a.local s.performed ok.some (few a.local.phase e sound.local.stands) sound.local.tried_few
+        many = enough g a.local s.performed ok.some (over_few g p a.local a.local.phase e sound.local.stands) sound.local.tried_few
             (λ j h. let d = law.known p j o (subst (λ x. has x.local.known j ≡ true) (sym is_now) h) in (d.0, ap (λ l. has l j) (performed_now d.0) ∙ d.2))
 
 counted : (r x : Record) (n : ℕ) (phase : Phase) → HasDone r x phase → HasDone r (record x { steps = n }) phase

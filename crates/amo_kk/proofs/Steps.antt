@@ -51,15 +51,23 @@ has_all (x ∷ xs) q j h = go (nat_eq x.0 q) (has_all xs q j) h
     go true rest h = both (x.1 == j) (has (jobs_of xs q) j) (has (all_jobs xs) j) rest h
     go false rest h = or_right (x.1 == j) (has (all_jobs xs) j) (rest h)
 
--- Enough jobs were performed where few are open.
+-- Enough jobs are in a list of all that are known, where few are open.
+pub enough_known : (g : Givens) (r : Record) (jobs : List ℕ) → 1 ≤ g.workers → count g.jobs (is_open r) < g.beta → length r.tried < g.workers
+    → ((j : ℕ) → has r.known j ≡ true → has jobs j ≡ true)
+    → g.jobs + 2 ≤ length jobs + g.beta + g.workers
+enough_known g r jobs some few tried known =
+    let all = count_neither (has r.known) (has r.tried) g.jobs in
+    let seen = count_has r.tried g.jobs in
+    let done = count_le (has r.known) (has jobs) known g.jobs in
+    let size = count_has jobs g.jobs in
+    omega arith
+
+-- so enough jobs were performed
 pub enough : (g : Givens) (r : Record) (performed : List (ℕ × ℕ)) → 1 ≤ g.workers → count g.jobs (is_open r) < g.beta → length r.tried < g.workers
     → ((j : ℕ) → has r.known j ≡ true → (q : ℕ) × (has (jobs_of performed q) j ≡ true))
     → g.jobs + 2 ≤ length performed + g.beta + g.workers
 enough g r performed some few tried known =
-    let all = count_neither (has r.known) (has r.tried) g.jobs in
-    let seen = count_has r.tried g.jobs in
-    let done = count_le (has r.known) (has (all_jobs performed)) (λ j h. let k = known j h in has_all performed k.0 j k.1) g.jobs in
-    let size = count_has (all_jobs performed) g.jobs in
+    let many = enough_known g r (all_jobs performed) some few tried (λ j h. let k = known j h in has_all performed k.0 j k.1) in
     let same : length (all_jobs performed) ≡ length performed = length-map performed (λ (x : ℕ × ℕ). x.1) in
     omega arith
 

@@ -1,5 +1,6 @@
 -- All workers with their words, and the history, one event at a time.
-use Rattle.std.specs.Prelude.{ℕ, ◌+◌, Bool, true, false, ◌&&◌, ◌||◌, List, [], ◌∷◌, ◌++◌, replicate, nat_lt, if◌then◌else◌}
+use Rattle.std.specs.Prelude.{ℕ, ◌+◌, Bool, true, false, ◌&&◌, ◌||◌, List, [], ◌∷◌, ◌++◌, length, replicate, nat_lt, if◌then◌else◌}
+use Rattle.std.specs.List.{sum_by}
 use Rattle.amo_sets.specs.Lists.{numbered, put, table}
 use Rattle.amo_kk.specs.Object.{is_within}
 use Rattle.amo_kk.specs.Record.{wants_nothing, can_leave}
@@ -31,6 +32,10 @@ nobody =
 -- worker p with its words
 abbrev pub process : World → ℕ → Process
 process w p = numbered nobody w.processes p
+
+-- how many jobs all workers together have done
+abbrev pub done_count : World → ℕ
+done_count w = sum_by (λ (a : Process). length a.local.dones) w.processes
 
 -- the value that the wanted load gives
 abbrev pub loaded_value : World → Want → ℕ

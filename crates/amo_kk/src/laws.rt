@@ -4,17 +4,17 @@ ghost use Rattle.std.specs.Prelude.{◌≡◌, ◌<◌, ◌≤◌, ◌↔◌, �
 ghost use Rattle.amo_sets.specs.Sets.{has, AreDistinct};
 ghost use Rattle.amo_sets.specs.Rank.{count, has_rank};
 ghost use Rattle.amo_kk.specs.Limits.{AreWithinLimits, first_fault};
-ghost use Rattle.amo_kk.specs.Givens.{bound, IsJob, IsWorker};
+ghost use Rattle.amo_kk.specs.Givens.{bound, IsJob, IsWorker, IsOther};
 ghost use Rattle.amo_kk.specs.Object.{first_object};
 ghost use Rattle.amo_kk.specs.Run.{IsRun, first_bad, IsFirstBad, claimed_jobs, done_jobs, has_claimed};
-ghost use Rattle.amo_kk.specs.Record.{can_leave, is_free, is_open, jobs_in_hand};
+ghost use Rattle.amo_kk.specs.Record.{can_leave, is_free, is_open, is_over, wants_nothing, jobs_in_hand};
 ghost use Rattle.amo_kk.specs.Choice.{chosen_rank, chosen_job, first_record};
 ghost use Rattle.amo_kk.specs.Step.{want, events_of};
-ghost use Rattle.amo_kk.specs.World.{process, loaded_value, world_after_turn, world_after_leave, world_after_moves, opening_world};
+ghost use Rattle.amo_kk.specs.World.{process, loaded_value, world_after_turn, world_after_leave, world_after_move, world_after_moves, has_halt, done_count, opening_world};
 ghost use Rattle.amo_kk.specs.Words.{words_of, loaded_word, words_after};
 ghost use Rattle.amo_kk.specs.Answer.{turn_shown, leave_answer};
 ghost use Rattle.amo_kk.specs.Alone.{lone_bound, IsFirstToClaimOrEnd, FitsThreeAttempts};
-ghost use Rattle.amo_kk.specs.Lawful.{IsLawful, Agrees, object_of};
+ghost use Rattle.amo_kk.specs.Lawful.{IsLawful, Agrees, object_of, GoesOn};
 ghost use Rattle.amo_kk.specs.declared.givens.Givens.{Givens};
 ghost use Rattle.amo_kk.specs.declared.event.Move.{Move};
 ghost use Rattle.amo_kk.specs.declared.event.Event.{Event};
@@ -36,6 +36,15 @@ pub fn history_is_a_run()
         → Agrees g (process (world_after_moves g (opening_world g) moves)) (object_of g (world_after_moves g (opening_world g) moves)) }
 {}
 
+/// The step of the law. Each turn, stop and leaving leads from a lawful world to a lawful world. And the run goes on:
+/// from every state that agrees with the world before, the events that the move adds to the history are a run, and the
+/// state that they leave agrees with the world after.
+pub fn moves_keep_worlds_lawful()
+    ensures lawful { (g : Givens) (w : World) (m : Move) → IsLawful g w → IsLawful g (world_after_move g w m) }
+    ensures run { (g : Givens) (s : Object) (w : World) (m : Move) → IsLawful g w → Agrees g (process w) s
+        → GoesOn g s w (world_after_move g w m) }
+{}
+
 /// What a run says in plain words: no job is claimed twice, none is performed twice, each performance comes after
 /// the same worker's claim, and an end comes after at least `bound` performances.
 pub fn runs_claim_once()
@@ -45,6 +54,13 @@ pub fn runs_claim_once()
         → IsRun g (first_object g) (before ++ Done p j ∷ after) → has_claimed before p j ≡ true }
     ensures late_end { (g : Givens) (before after : List Event) (p : ℕ)
         → IsRun g (first_object g) (before ++ Ended p ∷ after) → bound g ≤ length (done_jobs before) }
+{}
+
+/// The same of every lawful world, whatever led to it: where a worker has ended by its own choice, all workers together
+/// have done at least `bound` jobs.
+pub fn ends_come_late()
+    ensures { (g : Givens) (w : World) (p : ℕ) → IsLawful g w → IsWorker g p → is_over (process w p).local.phase ≡ true
+        → bound g ≤ done_count w }
 {}
 
 /// A run has at most two events for each job and one for each worker.
@@ -122,4 +138,17 @@ pub fn claims_are_dones_and_in_hand()
     ensures list { (g : Givens) (w : World) (p : ℕ) → IsLawful g w → IsWorker g p
         → (process w p).local.claimed ≡ (process w p).local.dones ++ jobs_in_hand (process w p).local.phase }
     ensures distinct { (g : Givens) (w : World) (p : ℕ) → IsLawful g w → IsWorker g p → AreDistinct (process w p).local.claimed }
+{}
+
+/// In every lawful world no job is claimed by two workers.
+pub fn claims_are_apart()
+    ensures { (g : Givens) (w : World) (p q j : ℕ) → IsLawful g w → IsWorker g p → IsOther g p q
+        → has (process w p).local.claimed j ≡ true → has (process w q).local.claimed j ≡ false }
+{}
+
+/// Where nobody was stopped, gone are just the workers that want nothing any more: those that have ended or left.
+pub fn gone_without_stops()
+    ensures { (g : Givens) (moves : List Move) (p : ℕ) → has_halt moves ≡ false
+        → (process (world_after_moves g (opening_world g) moves) p).gone
+            ≡ wants_nothing (process (world_after_moves g (opening_world g) moves) p).local.phase }
 {}

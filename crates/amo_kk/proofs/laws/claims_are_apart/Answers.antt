@@ -1,0 +1,4 @@
+use Rattle.amo_kk.proofs.laws.claims_are_apart.Goals as goal
+
+pub returns : goal.returns
+returns c = λ g w p q j law o other claimed. (law.lawful.apart p q o other).claims j claimed
