@@ -20,17 +20,17 @@ use Rattle.amo_kk.proofs.Worlds.{leaves_empty}
 use Rattle.amo_kk.specs.Record.{can_leave}
 use Rattle.amo_kk.specs.Machine.{IsHeld}
 
-pub held : (g : Givens) (p : ℕ) (r : Record) (range claims dones : ℕ) → AreGivens g → IsWorker g p → IsSoundRecord g p r → range ≡ g.jobs → g.jobs ≤ claims → g.jobs ≤ dones → IsHeld g p r range claims dones
-held g p r range claims dones ok o fit k c d =
+pub held : (g : Givens) (p : ℕ) (r : Record) (range fronts claims dones : ℕ) → AreGivens g → IsWorker g p → IsSoundRecord g p r → range ≡ g.jobs → fronts ≡ g.workers → claims ≡ g.jobs → dones ≡ g.jobs → IsHeld g p r range fronts claims dones
+held g p r range fronts claims dones ok o fit k f c d =
     let few = claims_fit g p r fit in
-    record { givens = ok; worker = o; fit = fit; claims_few = few.0; dones_few = few.1; front_few = λ i. fit.front (suc i); range_is = k; claims_fit = c; dones_fit = d }
+    record { givens = ok; worker = o; fit = fit; claims_few = few.0; dones_few = few.1; front_few = λ i. fit.front (suc i); range_is = k; fronts_room_is = f; claims_room_is = c; dones_room_is = d }
 
 -- after an event
-pub held_after : (g : Givens) (p v : ℕ) (r x : Record) (range claims dones range' claims' dones' : ℕ) → IsHeld g p r range claims dones → MayLoad g v (want r) → record_after g p v r ≡ x
-    → range' ≡ range → claims ≤ claims' → dones ≤ dones' → IsHeld g p x range' claims' dones'
-held_after g p v r x range claims dones range' claims' dones' h heard is k c d =
-    held g p x range' claims' dones' h.givens h.worker (subst (λ y. IsSoundRecord g p y) is (after_fit g h.givens p h.worker r v h.fit heard))
-    (k ∙ h.range_is) (let l = h.claims_fit in omega arith) (let l = h.dones_fit in omega arith)
+pub held_after : (g : Givens) (p v : ℕ) (r x : Record) (range fronts claims dones range' fronts' claims' dones' : ℕ) → IsHeld g p r range fronts claims dones → MayLoad g v (want r) → record_after g p v r ≡ x
+    → range' ≡ range → fronts' ≡ fronts → claims' ≡ claims → dones' ≡ dones → IsHeld g p x range' fronts' claims' dones'
+held_after g p v r x range fronts claims dones range' fronts' claims' dones' h heard is k f c d =
+    held g p x range' fronts' claims' dones' h.givens h.worker (subst (λ y. IsSoundRecord g p y) is (after_fit g h.givens p h.worker r v h.fit heard))
+    (k ∙ h.range_is) (f ∙ h.fronts_room_is) (c ∙ h.claims_room_is) (d ∙ h.dones_room_is)
 
 pub after_by : (g : Givens) (p v : ℕ) (r y : Record) (phase : Phase) (n : ℕ) → r.phase ≡ phase → record_after_phase g p v r phase ≡ y → n ≡ min (r.steps + 1) (2 ^ 64 - 1) → record_after g p v r ≡ record y { steps = n }
 after_by g p v r y phase n is to steps = ap (λ x. record (record_after_phase g p v r x) { steps = min (r.steps + 1) (2 ^ 64 - 1) }) is ∙ (λ i. record (to i) { steps = sym steps i })
@@ -44,12 +44,12 @@ hears_zero g (StoreDone k j) = tt
 hears_zero g Nothing = tt
 
 -- after leaving
-pub held_left : (g : Givens) (p : ℕ) (r : Record) (n range claims dones : ℕ) → IsHeld g p r range claims dones → can_leave r.phase ≡ true → n ≡ min (r.steps + 1) (2 ^ 64 - 1)
-    → IsHeld g p (record r { phase = Left; steps = n }) range claims dones
-held_left g p r n range claims dones h may steps =
-    held g p (record r { phase = Left; steps = n }) range claims dones h.givens h.worker
+pub held_left : (g : Givens) (p : ℕ) (r : Record) (n range fronts claims dones : ℕ) → IsHeld g p r range fronts claims dones → can_leave r.phase ≡ true → n ≡ min (r.steps + 1) (2 ^ 64 - 1)
+    → IsHeld g p (record r { phase = Left; steps = n }) range fronts claims dones
+held_left g p r n range fronts claims dones h may steps =
+    held g p (record r { phase = Left; steps = n }) range fronts claims dones h.givens h.worker
     (subst (λ x. IsSoundRecord g p (record r { phase = Left; steps = x })) (sym steps) (left_fit g h.givens p h.worker r (leaves_empty r.phase may) h.fit))
-    h.range_is h.claims_fit h.dones_fit
+    h.range_is h.fronts_room_is h.claims_room_is h.dones_room_is
 
 -- before a claim there is room for it
 pub claim_room : (g : Givens) (p : ℕ) (r : Record) (j : ℕ) → AreGivens g → IsWorker g p → IsSoundRecord g p r → r.phase ≡ Claiming j → length r.claimed < g.jobs

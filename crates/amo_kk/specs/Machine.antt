@@ -11,8 +11,8 @@ pub record LocalView : Type 0 where
   pub number : ℕ
   pub state : Record
 
--- The record is sound, its sets have the range of the jobs, and its lists have room for all of them.
-pub record IsHeld (g : Givens) (p : ℕ) (r : Record) (range claims_room dones_room : ℕ) : Type 0 where
+-- The record is sound, its sets have the range of the jobs, and its lists have just the room that they may need.
+pub record IsHeld (g : Givens) (p : ℕ) (r : Record) (range fronts_room claims_room dones_room : ℕ) : Type 0 where
   pub givens : AreGivens g
   pub worker : IsWorker g p
   pub fit : IsSoundRecord g p r
@@ -21,5 +21,6 @@ pub record IsHeld (g : Givens) (p : ℕ) (r : Record) (range claims_room dones_r
   pub dones_few : length r.dones ≤ g.jobs
   pub front_few : (k : ℕ) → get_or r.fronts k 0 ≤ g.jobs
   pub range_is : range ≡ g.jobs
-  pub claims_fit : g.jobs ≤ claims_room
-  pub dones_fit : g.jobs ≤ dones_room
+  pub fronts_room_is : fronts_room ≡ g.workers
+  pub claims_room_is : claims_room ≡ g.jobs
+  pub dones_room_is : dones_room ≡ g.jobs

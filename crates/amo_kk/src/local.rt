@@ -18,6 +18,7 @@ use super::event::Shown;
 use super::givens::Givens;
 use super::knowledge::Knowledge;
 use super::phase::{Phase, Want, next_other};
+use amo_sets::filled;
 use std::alloc::{AllocError, Global};
 use std::marker::Model;
 
@@ -64,7 +65,7 @@ impl Model for Local {
           dones = l.dones.items;
           steps = l.steps;
         }
-        l.knowledge.range (vec_capacity l.claims) (vec_capacity l.dones) };
+        l.knowledge.range (vec_capacity l.fronts) (vec_capacity l.claims) (vec_capacity l.dones) };
 }
 
 impl Local {
@@ -74,7 +75,7 @@ impl Local {
         ensures { IfOk result (λ l. l ≡ record { givens = givens; number = p; state = first_record givens p }) }
     {
         let mut knowledge = Knowledge::new(alloc, givens.jobs)?;
-        let fronts = vec![in alloc; 0u32; givens.workers as usize]?;
+        let fronts = filled(alloc, givens.workers as usize, 0u32)?;
         let claims = Vec::with_capacity(alloc, givens.jobs as usize)?;
         let dones = Vec::with_capacity(alloc, givens.jobs as usize)?;
         let phase = knowledge.choose(givens, p);
@@ -353,13 +354,13 @@ impl Local {
     }
 }
 
-/// Adds a job where there is room.
+/// Adds a job where there is room, and takes no more.
 fn add_within(list: &mut Vec<u32>, job: u32)
     requires { length list.old.items < vec_capacity list.old }
     ensures items { list.new.items ≡ list.old.items ++ job ∷ [] }
-    ensures capacity { vec_capacity list.old ≤ vec_capacity list.new }
+    ensures capacity { vec_capacity list.new ≡ vec_capacity list.old }
 {
-    let _pushed = list.push(job);
+    list.push_reserved(job);
 }
 
 /// What an event shows, by the phases before and after it.

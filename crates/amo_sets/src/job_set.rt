@@ -1,10 +1,10 @@
 //! A set of jobs within 1..=n, one bit a job.
-ghost use Rattle.std.specs.Prelude.{◌≡◌, ◌↔◌, ◌⊎◌, ℕ, ◌+◌, ◌/◌, ◌<◌, ◌≤◌, true, false, IsTrue, IsNone, IfOk, IfSome, count_ones, length, replicate, unwrap_or, vec_len};
-ghost use Rattle.std.specs.Vec.{vec_capacity};
+ghost use Rattle.std.specs.Prelude.{◌≡◌, ◌↔◌, ◌⊎◌, ℕ, ◌+◌, ◌/◌, ◌<◌, ◌≤◌, true, false, IsTrue, IsNone, IfOk, IfSome, count_ones, length, replicate, unwrap_or};
 ghost use Rattle.amo_sets.specs.Bits.{bit, is_one, is_without};
 ghost use Rattle.amo_sets.specs.Lists.{numbered, put};
 ghost use Rattle.amo_sets.specs.Rank.{count, has_rank, number_of_rank};
 
+use super::lists::filled;
 use std::alloc::{AllocError, Global};
 use std::marker::Model;
 
@@ -43,7 +43,7 @@ impl JobSet {
     pub fn full(alloc: Global, n: u32) -> Result<JobSet, AllocError>
         ensures { IfOk result (λ s. s ≡ replicate n true) }
     {
-        let mut words = filled(alloc, n, u64::MAX)?;
+        let mut words = filled(alloc, (n as usize + 63) / 64, u64::MAX)?;
         let rest = n % 64;
         if rest != 0 {
             words[n as usize / 64] = (1 << rest) - 1;
@@ -59,7 +59,7 @@ impl JobSet {
     pub fn empty(alloc: Global, n: u32) -> Result<JobSet, AllocError>
         ensures { IfOk result (λ s. s ≡ replicate n false) }
     {
-        let words = filled(alloc, n, 0)?;
+        let words = filled(alloc, (n as usize + 63) / 64, 0u64)?;
         Ok(JobSet {
             words,
             range: n,
@@ -71,7 +71,7 @@ impl JobSet {
     pub fn copy(&self, alloc: Global) -> Result<JobSet, AllocError>
         ensures { IfOk result (λ s. s ≡ self.now) }
     {
-        let mut words = filled(alloc, self.range, 0)?;
+        let mut words = filled(alloc, self.words.len(), 0u64)?;
         words.copy_from_slice(self.words.as_slice());
         Ok(JobSet {
             words,
@@ -195,20 +195,6 @@ impl JobSet {
         self.words.fill(0);
         self.len = 0;
     }
-}
-
-/// The words of a set within `1..=n`, each of them this one, with room for no more. The only error is out of memory.
-fn filled(alloc: Global, n: u32, word: u64) -> Result<Vec<u64>, AllocError>
-    ensures items { IfOk result (λ v. v.items ≡ replicate ((n + 63) / 64) word) }
-    ensures len { IfOk result (λ v. vec_len v ≡ (n + 63) / 64) }
-    ensures room { IfOk result (λ v. vec_capacity v ≡ (n + 63) / 64) }
-{
-    let count = (n as usize + 63) / 64;
-    let mut words = Vec::with_capacity(alloc, count)?;
-    while words.len() < count {
-        words.push_reserved(word);
-    }
-    Ok(words)
 }
 
 /// Where the byte of the word begins that has its i-th bit that is 1, the lowest first, and how many bits of that

@@ -3,7 +3,9 @@
 #![tactic(auto)]
 
 mod job_set;
+mod lists;
 #[cfg(test)]
 mod tests;
 
 pub use job_set::JobSet;
+pub use lists::filled;

@@ -13,8 +13,8 @@ invariant_of-self c =
     let r : Record = record { phase = c.self.inside.phase; known = c.self.inside.knowledge.known; tried = c.self.inside.knowledge.tried; fronts = c.self.inside.fronts.items; claimed = c.self.inside.claims.items; dones = c.self.inside.dones.items; steps = c.self.inside.steps } in
     let is : r.phase ≡ Announcing c.args.j = ap (λ (v : LocalView). v.state.phase) c.self.view_is ∙ c.requires.phase in
     let y : Record = record r { phase = c.to_announcement-self-inside.result; known = c.to_announcement-self-inside.new.self.known; tried = c.to_announcement-self-inside.new.self.tried } in
-    held_after c.self.inside.givens c.self.inside.number 0 r (record y { steps = c.saturating_add-self-inside.result }) c.self.inside.knowledge.range (vec_capacity c.self.inside.claims) (vec_capacity c.self.inside.dones) _ _ _ c.self.invariant (hears_zero c.self.inside.givens (want r))
+    held_after c.self.inside.givens c.self.inside.number 0 r (record y { steps = c.saturating_add-self-inside.result }) c.self.inside.knowledge.range (vec_capacity c.self.inside.fronts) (vec_capacity c.self.inside.claims) (vec_capacity c.self.inside.dones) _ _ _ _ c.self.invariant (hears_zero c.self.inside.givens (want r))
     (after_by c.self.inside.givens c.self.inside.number 0 r y (Announcing c.args.j) c.saturating_add-self-inside.result is
     (ap (λ q. record_at_announcement c.self.inside.givens c.self.inside.number c.args.j q r) (sym c.next_other-first.ensures) ∙ c.to_announcement-self-inside.ensures.announcement r refl refl ∙ (λ i. record r { phase = c.to_announcement-self-inside.result; known = sym (ap (λ (v : KnowledgeView). v.known) c.to_announcement-self-inside.ensures.stays) i; tried = c.to_announcement-self-inside.new.self.tried }))
     c.saturating_add-self-inside.ensures)
-    (ap (λ (v : KnowledgeView). v.range) c.to_announcement-self-inside.ensures.stays) (omega arith) (omega arith)
+    (ap (λ (v : KnowledgeView). v.range) c.to_announcement-self-inside.ensures.stays) refl refl refl

@@ -12,7 +12,7 @@ add_within-requires c =
     let r : Record = record { phase = c.self.inside.phase; known = c.self.inside.knowledge.known; tried = c.self.inside.knowledge.tried; fronts = c.self.inside.fronts.items; claimed = c.self.inside.claims.items; dones = c.self.inside.dones.items; steps = c.self.inside.steps } in
     let is : r.phase ≡ Claiming c.args.j = ap (λ (v : LocalView). v.state.phase) c.self.view_is ∙ c.requires.phase in
     let few = claim_room c.self.inside.givens c.self.inside.number r c.args.j c.self.invariant.givens c.self.invariant.worker c.self.invariant.fit is in
-    let room = c.self.invariant.claims_fit in
+    let room = c.self.invariant.claims_room_is in
     omega arith
 
 pub invariant_of-self : goal.invariant_of-self
@@ -20,9 +20,9 @@ invariant_of-self c =
     let r : Record = record { phase = c.self.inside.phase; known = c.self.inside.knowledge.known; tried = c.self.inside.knowledge.tried; fronts = c.self.inside.fronts.items; claimed = c.self.inside.claims.items; dones = c.self.inside.dones.items; steps = c.self.inside.steps } in
     let is : r.phase ≡ Claiming c.args.j = ap (λ (v : LocalView). v.state.phase) c.self.view_is ∙ c.requires.phase in
     let y : Record = record r { phase = Holding c.args.j; claimed = c.add_within.new.list.items } in
-    held_after c.self.inside.givens c.self.inside.number 0 r (record y { steps = c.saturating_add-self-inside.result }) c.self.inside.knowledge.range (vec_capacity c.self.inside.claims) (vec_capacity c.self.inside.dones) _ _ _ c.self.invariant
+    held_after c.self.inside.givens c.self.inside.number 0 r (record y { steps = c.saturating_add-self-inside.result }) c.self.inside.knowledge.range (vec_capacity c.self.inside.fronts) (vec_capacity c.self.inside.claims) (vec_capacity c.self.inside.dones) _ _ _ _ c.self.invariant
     (hears_zero c.self.inside.givens (want r))
     (after_by c.self.inside.givens c.self.inside.number 0 r y (Claiming c.args.j) c.saturating_add-self-inside.result is
     (ap (λ l. record r { phase = Holding c.args.j; claimed = l }) (sym c.add_within.ensures.items))
     c.saturating_add-self-inside.ensures)
-    refl c.add_within.ensures.capacity (omega arith)
+    refl refl c.add_within.ensures.capacity refl

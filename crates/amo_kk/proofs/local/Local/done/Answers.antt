@@ -19,10 +19,10 @@ invariant_of-self c =
     let known_is : c.learn.new.self.known ≡ with_number c.args.j r.known = ap (λ (v : KnowledgeView). v.known) c.learn.ensures in
     let mid : Record = record r { dones = c.add_within.new.list.items; known = c.learn.new.self.known; tried = c.learn.new.self.tried } in
     let y : Record = record mid { phase = c.choose-self-inside.result; known = c.choose-self-inside.new.self.known; tried = c.choose-self-inside.new.self.tried } in
-    held_after c.self.inside.givens c.self.inside.number 0 r (record y { steps = c.saturating_add-self-inside.result }) c.self.inside.knowledge.range (vec_capacity c.self.inside.claims) (vec_capacity c.self.inside.dones) _ _ _ c.self.invariant
+    held_after c.self.inside.givens c.self.inside.number 0 r (record y { steps = c.saturating_add-self-inside.result }) c.self.inside.knowledge.range (vec_capacity c.self.inside.fronts) (vec_capacity c.self.inside.claims) (vec_capacity c.self.inside.dones) _ _ _ _ c.self.invariant
     (hears_zero c.self.inside.givens (want r))
     (after_by c.self.inside.givens c.self.inside.number 0 r y (Holding c.args.j) c.saturating_add-self-inside.result is
     ((λ i. record_after_choice c.self.inside.givens c.self.inside.number (record r { dones = sym c.add_within.ensures.items i; known = sym known_is i; tried = sym (ap (λ (v : KnowledgeView). v.tried) c.learn.ensures) i })) ∙ c.choose-self-inside.ensures.choice mid refl refl
     ∙ (λ i. record mid { phase = c.choose-self-inside.result; known = sym (ap (λ (v : KnowledgeView). v.known) c.choose-self-inside.ensures.stays) i; tried = c.choose-self-inside.new.self.tried }))
     c.saturating_add-self-inside.ensures)
-    (ap (λ (v : KnowledgeView). v.range) c.choose-self-inside.ensures.stays ∙ ap (λ (v : KnowledgeView). v.range) c.learn.ensures) (omega arith) c.add_within.ensures.capacity
+    (ap (λ (v : KnowledgeView). v.range) c.choose-self-inside.ensures.stays ∙ ap (λ (v : KnowledgeView). v.range) c.learn.ensures) refl refl c.add_within.ensures.capacity

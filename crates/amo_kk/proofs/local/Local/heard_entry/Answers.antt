@@ -21,10 +21,10 @@ invariant_of-self c =
     let known_is : c.learn.new.self.known ≡ with_number c.args.v r.known = ap (λ (v : KnowledgeView). v.known) c.learn.ensures in
     let fronts : List ℕ = set r.fronts (c.args.q - 1) (c.index_mut.result.now + 1) in
     let y : Record = record r { known = c.learn.new.self.known; tried = c.learn.new.self.tried; fronts = fronts } in
-    held_after c.self.inside.givens c.self.inside.number c.args.v r (record y { steps = c.saturating_add-self-inside.result }) c.self.inside.knowledge.range (vec_capacity c.self.inside.claims) (vec_capacity c.self.inside.dones) _ _ _ c.self.invariant
+    held_after c.self.inside.givens c.self.inside.number c.args.v r (record y { steps = c.saturating_add-self-inside.result }) c.self.inside.knowledge.range (vec_capacity c.self.inside.fronts) (vec_capacity c.self.inside.claims) (vec_capacity c.self.inside.dones) _ _ _ _ c.self.invariant
     heard
     (after_by c.self.inside.givens c.self.inside.number c.args.v r y (Reading c.args.j c.args.q) c.saturating_add-self-inside.result is
     (entry_moves c.self.inside.givens c.self.inside.number c.args.v c.args.j c.args.q c.index_mut.result.now r c.learn.new.self.known fronts c.requires.some stands.1.worker.low (let h = stands.1.worker.high in omega arith) c.index_mut.ensures.value known_is refl
     ∙ (λ i. record r { known = c.learn.new.self.known; tried = sym (ap (λ (v : KnowledgeView). v.tried) c.learn.ensures) i; fronts = fronts }))
     c.saturating_add-self-inside.ensures)
-    (ap (λ (v : KnowledgeView). v.range) c.learn.ensures) (omega arith) (omega arith)
+    (ap (λ (v : KnowledgeView). v.range) c.learn.ensures) refl refl refl

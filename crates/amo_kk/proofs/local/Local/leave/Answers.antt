@@ -10,4 +10,4 @@ pub invariant_of-self : goal.invariant_of-self
 invariant_of-self c =
     let r : Record = record { phase = c.self.inside.phase; known = c.self.inside.knowledge.known; tried = c.self.inside.knowledge.tried; fronts = c.self.inside.fronts.items; claimed = c.self.inside.claims.items; dones = c.self.inside.dones.items; steps = c.self.inside.steps } in
     let may : can_leave r.phase ≡ true = ap (λ (v : LocalView). can_leave v.state.phase) c.self.view_is ∙ c.requires in
-    held_left c.self.inside.givens c.self.inside.number r c.saturating_add-self-inside.result c.self.inside.knowledge.range (vec_capacity c.self.inside.claims) (vec_capacity c.self.inside.dones) c.self.invariant may c.saturating_add-self-inside.ensures
+    held_left c.self.inside.givens c.self.inside.number r c.saturating_add-self-inside.result c.self.inside.knowledge.range (vec_capacity c.self.inside.fronts) (vec_capacity c.self.inside.claims) (vec_capacity c.self.inside.dones) c.self.invariant may c.saturating_add-self-inside.ensures
