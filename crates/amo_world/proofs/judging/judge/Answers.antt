@@ -1,4 +1,4 @@
-use Rattle.std.proofs.Common.{◌≡◌, ◌+◌, suc, true, false, get_or, drop, sym, ap, ◌∙◌, arith}
+use Rattle.std.proofs.Common.{◌≡◌, ◌+◌, suc, true, get_or, drop, sym, ap, ◌∙◌, arith}
 use Rattle.amo_kk.specs.Object.{first_object, is_step, object_after}
 use Rattle.amo_kk.specs.Run.{first_bad}
 use Rattle.amo_kk.specs.declared.event.Event.TheVariants.{Claimed}
@@ -38,7 +38,7 @@ bad_is : (c : goal.After-drop-state-inside-then-not-allows-3) → first_bad c.ar
 bad_is c =
     c.loop-event.invariant.rest
     ∙ bad_here c.args.givens c.loop-event.state.object c.args.events.now c.loop-event.event-index (Claimed 0 0) c.loop-event-test.true
-        (ap (λ (x : Givens). is_step x c.loop-event.state.object (get_or c.args.events.now c.loop-event.event-index (Claimed 0 0))) (sym c.loop-event.invariant.givens) ∙ sym c.allows.ensures ∙ c.if-not-allows.true)
+    (ap (λ (x : Givens). is_step x c.loop-event.state.object (get_or c.args.events.now c.loop-event.event-index (Claimed 0 0))) (sym c.loop-event.invariant.givens) ∙ sym c.allows.ensures ∙ c.if-not-allows.true)
 
 pub returns-then-not-allows-clause-run : goal.returns-then-not-allows-clause-run
 returns-then-not-allows-clause-run c = named_no_run c.args.givens c.args.events.now c.loop-event.event-index c.loop-event.place (bad_is c) c.loop-event.invariant.place
