@@ -1,7 +1,8 @@
 -- The seats and the history of the opening world, one worker more at a time.
-use Rattle.std.proofs.Common.{◌≡◌, ⊎_elim, ℕ, ◌+◌, ◌*◌, ◌<◌, ◌≤◌, List, [], ◌∷◌, ◌++◌, map, length, get_or, refl, sym, ap, subst, ◌∙◌, arith, add-one}
+use Rattle.std.proofs.Common.{◌≡◌, ⊎_elim, ℕ, ◌+◌, ◌*◌, ◌<◌, List, [], ◌∷◌, ◌++◌, map, length, get_or, refl, sym, ap, subst, ◌∙◌, arith, add-one}
 use Rattle.std.proofs.lemmas.Bool.{cases_eq}
 use Rattle.std.proofs.lemmas.List.{length_push, get_or_push, get_or_append_left, map-append}
+use Rattle.std.specs.Vec.{vec_capacity}
 use Rattle.amo_sets.specs.Lists.{table}
 use Rattle.amo_kk.specs.World.{first_process, opening_world}
 use Rattle.amo_kk.specs.Lawful.{IsLawful, HasRun}
@@ -20,8 +21,8 @@ pub seats_next : (g : Givens) (n : ℕ) (seats : List Seat) (s : Seat) → map p
     → map process_of (seats ++ s ∷ []) ≡ table (n + 1) (first_process g)
 seats_next g n seats s all one = map-append process_of seats (s ∷ []) ∙ (λ i. all i ++ one i ∷ []) ∙ table_next n (first_process g)
 
-pub seated_next : (g : Givens) (n : ℕ) (seats : List Seat) (s : Seat) → AreSeats g n seats → s.local.givens ≡ g → s.local.number ≡ n + 1 → AreSeats g (n + 1) (seats ++ s ∷ [])
-seated_next g n seats s seated givens number =
+pub seated_next : (g : Givens) (n : ℕ) (seats : List Seat) (s : Seat) → AreSeats g n seats → s.local.givens ≡ g → s.local.number ≡ n + 1 → vec_capacity s.row ≡ g.jobs + 1 → AreSeats g (n + 1) (seats ++ s ∷ [])
+seated_next g n seats s seated givens number room =
     record {
       size = length_push seats s ∙ ap (λ k. k + 1) seated.size;
       givens = λ k d h. ⊎_elim
@@ -32,6 +33,10 @@ seated_next g n seats s seated givens number =
           (λ (e : k ≡ n). ap (λ (x : Seat). x.local.number) (last k d e) ∙ number ∙ ap (λ x. x + 1) (sym e))
           (λ m. ap (λ (x : Seat). x.local.number) (old k d (let more = length_push seats s in let size = seated.size in omega arith)) ∙ seated.number k d (let more = length_push seats s in let size = seated.size in omega arith))
           (cases_eq k n);
+      room = λ k d h. ⊎_elim
+          (λ (e : k ≡ n). ap (λ (x : Seat). vec_capacity x.row) (last k d e) ∙ room)
+          (λ m. ap (λ (x : Seat). vec_capacity x.row) (old k d (let more = length_push seats s in let size = seated.size in omega arith)) ∙ seated.room k d (let more = length_push seats s in let size = seated.size in omega arith))
+          (cases_eq k n);
     }
   where
     last : (k : ℕ) (d : Seat) → k ≡ n → get_or (seats ++ s ∷ []) k d ≡ s
@@ -40,11 +45,13 @@ seated_next g n seats s seated givens number =
     old : (k : ℕ) (d : Seat) → k < length seats → get_or (seats ++ s ∷ []) k d ≡ get_or seats k d
     old k d h = get_or_append_left seats (s ∷ []) d k h
 
-pub opening_kept : (g : Givens) (seats : List Seat) (history : List Event) (room : ℕ) → AreSeats g g.workers seats → world_of seats history ≡ opening_world g → 2 * g.jobs + g.workers ≤ room → IsKept g seats history room
-opening_kept g seats history room seated is fits =
+pub opening_kept : (g : Givens) (seats : List Seat) (history : List Event) (places room : ℕ) → AreSeats g g.workers seats → world_of seats history ≡ opening_world g
+    → places ≡ g.workers → room ≡ 2 * g.jobs + g.workers → IsKept g seats history places room
+opening_kept g seats history places room seated is seats_fit history_fits =
     record {
       seated = seated;
       lawful = subst (λ (w : World). IsLawful g w) (sym is) (opening_lawful g g.limits);
       run = subst (λ (w : World). HasRun g w) (sym is) (always_runs g [] g.limits);
-      fits = fits;
+      seats_fit = seats_fit;
+      history_fits = history_fits;
     }

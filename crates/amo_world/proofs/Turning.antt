@@ -3,6 +3,7 @@ use Rattle.std.proofs.Common.{◌≡◌, ⊎_elim, ℕ, zero, suc, ◌+◌, ◌-
 use Rattle.std.specs.Prelude.{if◌then◌else◌}
 use Rattle.std.proofs.lemmas.Bool.{true≢false, cases_Bool, cases_eq, cases_lt}
 use Rattle.std.proofs.lemmas.List.{map-set, length-set, get_or-set_same, get_or-set_other, get_or_past}
+use Rattle.std.specs.Vec.{vec_capacity}
 use Rattle.amo_sets.specs.Lists.{numbered, put}
 use Rattle.amo_sets.specs.Sets.{has}
 use Rattle.amo_sets.proofs.Numbers.{has-get_or, has-append}
@@ -62,8 +63,9 @@ store_zero w (StoreDone k j) h = refl
 store_zero w Nothing h = refl
 
 -- a seat in place of another of the same givens and number
-seated_after : (g : Givens) (seats : List Seat) (k : ℕ) (t s : Seat) → AreSeats g g.workers seats → k < length seats → s ≡ get_or seats k s → t.local.givens ≡ s.local.givens → t.local.number ≡ s.local.number → AreSeats g g.workers (set seats k t)
-seated_after g seats k t s seated h is same_givens same_number =
+seated_after : (g : Givens) (seats : List Seat) (k : ℕ) (t s : Seat) → AreSeats g g.workers seats → k < length seats → s ≡ get_or seats k s → t.local.givens ≡ s.local.givens → t.local.number ≡ s.local.number → vec_capacity t.row ≡ vec_capacity s.row
+    → AreSeats g g.workers (set seats k t)
+seated_after g seats k t s seated h is same_givens same_number same_room =
     record {
       size = length-set seats k t ∙ seated.size;
       givens = λ i d l. ⊎_elim
@@ -74,13 +76,17 @@ seated_after g seats k t s seated h is same_givens same_number =
           (λ (e : i ≡ k). ap (λ (y : Seat). y.local.number) (here i d e) ∙ same_number ∙ ap (λ (y : Seat). y.local.number) is ∙ seated.number k s h ∙ omega arith)
           (λ n. ap (λ (y : Seat). y.local.number) (get_or-set_other seats k i t d n) ∙ seated.number i d (let z = length-set seats k t in omega arith))
           (cases_eq i k);
+      room = λ i d l. ⊎_elim
+          (λ (e : i ≡ k). ap (λ (y : Seat). vec_capacity y.row) (here i d e) ∙ same_room ∙ ap (λ (y : Seat). vec_capacity y.row) is ∙ seated.room k s h)
+          (λ n. ap (λ (y : Seat). vec_capacity y.row) (get_or-set_other seats k i t d n) ∙ seated.room i d (let z = length-set seats k t in omega arith))
+          (cases_eq i k);
     }
   where
     here : (i : ℕ) (d : Seat) → i ≡ k → get_or (set seats k t) i d ≡ t
     here i d e = ap (λ x. get_or (set seats k t) x d) e ∙ get_or-set_same seats k t d h
 
 -- what the wanted load finds
-module _ (g : Givens) (seats : List Seat) (history : List Event) (room p : ℕ) (kept : IsKept g seats history room) (o : IsWorker g p) where
+module _ (g : Givens) (seats : List Seat) (history : List Event) (places room p : ℕ) (kept : IsKept g seats history places room) (o : IsWorker g p) where
   pub can_load : CanLoad seats (want (process (world_of seats history) p).local)
   can_load = go (process (world_of seats history) p).local.phase refl
     where
@@ -143,7 +149,7 @@ module _ (g : Givens) (seats : List Seat) (history : List Event) (room p : ℕ) 
       go Over e = subst (λ x. MayLoad g (loaded_value (world_of seats history) (want_in (process (world_of seats history) p).local x)) (want_in (process (world_of seats history) p).local x)) (sym e) tt
       go LeftPhase e = subst (λ x. MayLoad g (loaded_value (world_of seats history) (want_in (process (world_of seats history) p).local x)) (want_in (process (world_of seats history) p).local x)) (sym e) tt
 
-module _ (g : Givens) (seats : List Seat) (history : List Event) (room p : ℕ) (kept : IsKept g seats history room) (o : IsWorker g p) (s : Seat) (is : s ≡ get_or seats (p - 1) s) where
+module _ (g : Givens) (seats : List Seat) (history : List Event) (places room p : ℕ) (kept : IsKept g seats history places room) (o : IsWorker g p) (s : Seat) (is : s ≡ get_or seats (p - 1) s) where
   pub process_is : process (world_of seats history) p ≡ process_of s
   process_is = seat_at seats p s o.low (let e = kept.seated.size in let h = o.high in omega arith) ∙ ap process_of (sym is)
 
@@ -167,16 +173,17 @@ module _ (g : Givens) (seats : List Seat) (history : List Event) (room p : ℕ) 
         let run : HasRun g (world_of (set seats (p - 1) t) (history ++ events)) = subst (λ (u : World). HasRun g u) (sym makes) runs in
         let short = run_is_short g (history ++ events) run.0 in
         let e = length-append history events in
-        let r = kept.fits in
+        let r = kept.history_fits in
         omega arith
 
-    kept_after : (more : ℕ) → t.local.givens ≡ s.local.givens → t.local.number ≡ s.local.number → room ≤ more → IsKept g (set seats (p - 1) t) (history ++ events) more
-    kept_after more same_givens same_number l =
+    kept_after : (more : ℕ) → t.local.givens ≡ s.local.givens → t.local.number ≡ s.local.number → vec_capacity t.row ≡ vec_capacity s.row → more ≡ room → IsKept g (set seats (p - 1) t) (history ++ events) places more
+    kept_after more same_givens same_number same_room same =
         record {
-          seated = seated_after g seats (p - 1) t s kept.seated place is same_givens same_number;
+          seated = seated_after g seats (p - 1) t s kept.seated place is same_givens same_number same_room;
           lawful = subst (λ (u : World). IsLawful g u) (sym makes) law;
           run = subst (λ (u : World). HasRun g u) (sym makes) runs;
-          fits = let r = kept.fits in omega arith;
+          seats_fit = kept.seats_fit;
+          history_fits = same ∙ kept.history_fits;
         }
 
   processes_are : (t : Seat) (a : Process) → process_of t ≡ a → map process_of (set seats (p - 1) t) ≡ put (map process_of seats) p a
@@ -205,7 +212,7 @@ module _ (g : Givens) (seats : List Seat) (history : List Event) (room p : ℕ) 
       loads_here = loads ∙ ap (λ (a : Process). loaded_value (world_of seats history) (want a.local)) process_is
 
       pub hears : MayLoad s.local.givens value (want s.local.state)
-      hears = subst (λ x. MayLoad x value (want s.local.state)) (sym own_givens) (subst (λ x. MayLoad g x (want s.local.state)) (sym loads_here) (subst (λ (a : Process). MayLoad g (loaded_value (world_of seats history) (want a.local)) (want a.local)) process_is (may_load g seats history room p kept o)))
+      hears = subst (λ x. MayLoad x value (want s.local.state)) (sym own_givens) (subst (λ x. MayLoad g x (want s.local.state)) (sym loads_here) (subst (λ (a : Process). MayLoad g (loaded_value (world_of seats history) (want a.local)) (want a.local)) process_is (may_load g seats history places room p kept o)))
 
       pub stores_zero : is_load (want s.local.state) ≡ false → value ≡ 0
       stores_zero h = loads_here ∙ store_zero (world_of seats history) (want s.local.state) h
@@ -239,7 +246,7 @@ module _ (g : Givens) (seats : List Seat) (history : List Event) (room p : ℕ) 
         pub turn_room : length history + length (events_of p x) ≤ room
         turn_room = has_room t (events_of p x) (world_after_turn g (world_of seats history) p) (turn_lawful g (world_of seats history) p g.limits kept.lawful) (turn_runs g (world_of seats history) p g.limits kept.lawful kept.run) turn_is
 
-        pub turn_kept : (more : ℕ) → t.local.givens ≡ s.local.givens → t.local.number ≡ s.local.number → room ≤ more → IsKept g (set seats (p - 1) t) (history ++ events_of p x) more
+        pub turn_kept : (more : ℕ) → t.local.givens ≡ s.local.givens → t.local.number ≡ s.local.number → vec_capacity t.row ≡ vec_capacity s.row → more ≡ room → IsKept g (set seats (p - 1) t) (history ++ events_of p x) places more
         turn_kept more = kept_after t (events_of p x) (world_after_turn g (world_of seats history) p) (turn_lawful g (world_of seats history) p g.limits kept.lawful) (turn_runs g (world_of seats history) p g.limits kept.lawful kept.run) turn_is more
 
     -- a stop
@@ -253,7 +260,7 @@ module _ (g : Givens) (seats : List Seat) (history : List Event) (room p : ℕ) 
       pub halt_room : length history + 1 ≤ room
       halt_room = has_room t (Halted p ∷ []) (world_after_halt (world_of seats history) p) (halt_lawful g (world_of seats history) p kept.lawful) (halt_runs g (world_of seats history) p kept.lawful kept.run) halt_is
 
-      pub halt_kept : (more : ℕ) → t.local.givens ≡ s.local.givens → t.local.number ≡ s.local.number → room ≤ more → IsKept g (set seats (p - 1) t) (history ++ Halted p ∷ []) more
+      pub halt_kept : (more : ℕ) → t.local.givens ≡ s.local.givens → t.local.number ≡ s.local.number → vec_capacity t.row ≡ vec_capacity s.row → more ≡ room → IsKept g (set seats (p - 1) t) (history ++ Halted p ∷ []) places more
       halt_kept more = kept_after t (Halted p ∷ []) (world_after_halt (world_of seats history) p) (halt_lawful g (world_of seats history) p kept.lawful) (halt_runs g (world_of seats history) p kept.lawful kept.run) halt_is more
 
     -- a leaving
@@ -271,5 +278,5 @@ module _ (g : Givens) (seats : List Seat) (history : List Event) (room p : ℕ) 
       pub leave_room : length history + 1 ≤ room
       leave_room = has_room t (LeftEvent p ∷ []) (world_after_leave (world_of seats history) p) (leave_lawful g (world_of seats history) p kept.lawful) (leave_runs g (world_of seats history) p kept.lawful kept.run) leave_is
 
-      pub leave_kept : (more : ℕ) → t.local.givens ≡ s.local.givens → t.local.number ≡ s.local.number → room ≤ more → IsKept g (set seats (p - 1) t) (history ++ LeftEvent p ∷ []) more
+      pub leave_kept : (more : ℕ) → t.local.givens ≡ s.local.givens → t.local.number ≡ s.local.number → vec_capacity t.row ≡ vec_capacity s.row → more ≡ room → IsKept g (set seats (p - 1) t) (history ++ LeftEvent p ∷ []) places more
       leave_kept more = kept_after t (LeftEvent p ∷ []) (world_after_leave (world_of seats history) p) (leave_lawful g (world_of seats history) p kept.lawful) (leave_runs g (world_of seats history) p kept.lawful kept.run) leave_is more

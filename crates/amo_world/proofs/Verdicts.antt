@@ -1,15 +1,19 @@
 -- The state of the judge as the object, and its walk over the events.
-use Rattle.std.proofs.Common.{◌≡◌, ℕ, suc, ◌+◌, ◌^◌, ◌≤◌, ◌<◌, Bool, true, List, [], ◌∷◌, ◌++◌, length, take, drop, get_or, refl, sym, ap, ◌∙◌, subst, arith, add-one}
+use Rattle.std.proofs.Common.{◌≡◌, ℕ, suc, ◌+◌, ◌^◌, ◌≤◌, ◌<◌, Bool, true, false, ◌↔◌, List, [], ◌∷◌, ◌++◌, length, take, drop, get_or, refl, sym, ap, ◌∙◌, subst, arith, add-one}
 use Rattle.std.specs.Prelude.{if◌then◌else◌, ◌==◌}
+use Rattle.std.proofs.lemmas.Bool.{true≢false}
 use Rattle.std.proofs.lemmas.Bool.Decides.{nat_tests}
 use Rattle.std.proofs.lemmas.List.{length-take-le}
 use Rattle.std.proofs.Math.Seq.{take-suc, drop-cons}
 use Rattle.amo_kk.specs.Object.{first_object, is_step, object_after}
-use Rattle.amo_kk.specs.Run.{object_after_all, IsRun, first_bad}
+use Rattle.amo_kk.specs.Run.{object_after_all, IsRun, first_bad, IsFirstBad}
 use Rattle.amo_kk.specs.declared.givens.Givens.{Givens}
 use Rattle.amo_kk.specs.declared.model.Object.{Object}
 use Rattle.amo_kk.specs.declared.event.Event.{Event}
+use Rattle.amo_kk.proofs.Claims.{run_first_bad, first_bad_is}
 use Rattle.amo_kk.proofs.Room.{run_is_short}
+use Rattle.amo_world.specs.declared.answer.Verdict.{Verdict}
+use Rattle.amo_world.specs.declared.answer.Verdict.TheVariants.{Lawful, FirstBad}
 
 -- the place n, or none where it is 0, counted from k places earlier
 abbrev pub later : ℕ → ℕ → ℕ
@@ -51,6 +55,36 @@ next_rest g s es k d l step = ap (λ n. later k n) (dropped g s es k d l) ∙ on
   where
     one : (b : Bool) (n : ℕ) → b ≡ true → later k (first_of b n) ≡ later (k + 1) n
     one b n e = grind (arith, nat_tests)
+
+-- an event that is no step is the first bad one, after a run
+pub bad_here : (g : Givens) (s : Object) (es : List Event) (k : ℕ) (d : Event) → k < length es → is_step g s (get_or es k d) ≡ false → later k (first_bad g s (drop k es)) ≡ suc k
+bad_here g s es k d l refused = ap (λ n. later k n) (dropped g s es k d l) ∙ one (is_step g s (get_or es k d)) (first_bad g (object_after s (get_or es k d)) (drop (k + 1) es)) refused
+  where
+    one : (b : Bool) (n : ℕ) → b ≡ false → later k (first_of b n) ≡ suc k
+    one b n e = grind (arith, nat_tests)
+
+-- which verdict it is, and the place that it names
+
+is_lawful : Verdict → Bool
+is_lawful Lawful = true
+is_lawful (FirstBad i) = false
+
+place_of : Verdict → ℕ
+place_of Lawful = 0
+place_of (FirstBad i) = i
+
+-- what it means that the first bad event is named
+module _ (g : Givens) (es : List Event) (k place : ℕ) (is : first_bad g (first_object g) es ≡ suc k) (same : place ≡ k) where
+  pub named_no_run : (FirstBad (place + 1) ≡ Lawful) ↔ IsRun g (first_object g) es
+  unfolding is_lawful
+  named_no_run = (
+    λ e. absurd (true≢false (sym (ap is_lawful e))),
+    λ run. let none = run_first_bad g (first_object g) es run in absurd (omega arith),
+  )
+
+  pub named_first : (i : ℕ) → FirstBad (place + 1) ≡ FirstBad i → IsFirstBad g (first_object g) es i
+  unfolding place_of
+  named_first i e = let one : place + 1 ≡ i = ap place_of e in subst (λ n. IsFirstBad g (first_object g) es n) (omega arith) (first_bad_is g (first_object g) es k is)
 
 -- the place of an event after a run is small
 pub place_fits : (g : Givens) (es : List Event) (k : ℕ) → k ≤ length es → IsRun g (first_object g) (take k es) → k + 1 < 2 ^ 32

@@ -1,5 +1,6 @@
 -- Seats as the processes that they are, and what holds of the fields of a world.
 use Rattle.std.specs.Prelude.{◌≡◌, ℕ, ◌<◌, ◌≤◌, ◌+◌, ◌-◌, ◌*◌, List, length, map, get_or, ⊤}
+use Rattle.std.specs.Vec.{vec_capacity}
 use Rattle.amo_kk.specs.Lawful.{IsLawful, HasRun}
 use Rattle.amo_kk.specs.declared.givens.Givens.{Givens}
 use Rattle.amo_kk.specs.declared.event.Event.{Event}
@@ -26,15 +27,19 @@ CanLoad seats (StoreClaim c j) = ⊤
 CanLoad seats (StoreDone k j) = ⊤
 CanLoad seats Nothing = ⊤
 
--- The seats are those of the workers 1..n in their order, each with a machine of these givens.
+-- The seats are those of the workers 1..n in their order, each with a machine of these givens and with room for the
+-- row that such a worker can have, and no more.
 pub record AreSeats (g : Givens) (n : ℕ) (seats : List Seat) : Type 0 where
   pub size : length seats ≡ n
   pub givens : (k : ℕ) (s : Seat) → k < length seats → (get_or seats k s).local.givens ≡ g
   pub number : (k : ℕ) (s : Seat) → k < length seats → (get_or seats k s).local.number ≡ k + 1
+  pub room : (k : ℕ) (s : Seat) → k < length seats → vec_capacity (get_or seats k s).row ≡ g.jobs + 1
 
--- The world is lawful, its history is a run, and there is room for all events that a run can have.
-pub record IsKept (g : Givens) (seats : List Seat) (history : List Event) (room : ℕ) : Type 0 where
+-- The world is lawful, its history is a run, and there is room for all seats and for all events that a run can have,
+-- and no more.
+pub record IsKept (g : Givens) (seats : List Seat) (history : List Event) (seats_room history_room : ℕ) : Type 0 where
   pub seated : AreSeats g g.workers seats
   pub lawful : IsLawful g (world_of seats history)
   pub run : HasRun g (world_of seats history)
-  pub fits : 2 * g.jobs + g.workers ≤ room
+  pub seats_fit : seats_room ≡ g.workers
+  pub history_fits : history_room ≡ 2 * g.jobs + g.workers

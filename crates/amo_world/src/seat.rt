@@ -1,5 +1,6 @@
 //! One worker with the shared words that it alone writes.
-ghost use Rattle.std.specs.Prelude.{◌≡◌, ◌≤◌, ◌<◌, ◌+◌, length, true, false, ℕ, IfOk};
+ghost use Rattle.std.specs.Prelude.{◌≡◌, ◌≤◌, ◌<◌, ◌+◌, length, true, false, ℕ, IfOk, replicate};
+ghost use Rattle.std.specs.Vec.{vec_capacity};
 ghost use Rattle.amo_kk.specs.declared.phase.Want.{Want};
 ghost use Rattle.amo_kk.specs.Givens.{IsWorker};
 ghost use Rattle.amo_kk.specs.Record.{wants_nothing, can_leave};
@@ -29,9 +30,10 @@ impl Seat {
         ensures process { IfOk result (λ s. process_of s ≡ first_process givens p) }
         ensures givens { IfOk result (λ s. s.local.givens ≡ givens) }
         ensures number { IfOk result (λ s. s.local.number ≡ p) }
+        ensures room { IfOk result (λ s. vec_capacity s.row ≡ givens.jobs + 1) }
     {
         let local = Local::new(alloc, givens, p)?;
-        let row = vec![in alloc; 0u32; givens.jobs as usize + 1]?;
+        let row = zeros(alloc, givens.jobs as usize + 1)?;
         let gone = wants_nothing(local.phase());
         Ok(Seat {
             local,
@@ -49,6 +51,7 @@ impl Seat {
         ensures process { process_of self.new ≡ process_after (want self.old.local.state) (process_of self.old) (record_after self.old.local.givens self.old.local.number value self.old.local.state) }
         ensures givens { self.new.local.givens ≡ self.old.local.givens }
         ensures number { self.new.local.number ≡ self.old.local.number }
+        ensures room { vec_capacity self.new.row ≡ vec_capacity self.old.row }
         ensures shown { result ≡ shown self.old.local.state.phase self.new.local.state.phase }
     {
         let shown = self.local.told(value as u64);
@@ -62,6 +65,7 @@ impl Seat {
         ensures process { process_of self.new ≡ process_after (want self.old.local.state) (process_of self.old) (record_after self.old.local.givens self.old.local.number 0 self.old.local.state) }
         ensures givens { self.new.local.givens ≡ self.old.local.givens }
         ensures number { self.new.local.number ≡ self.old.local.number }
+        ensures room { vec_capacity self.new.row ≡ vec_capacity self.old.row }
         ensures shown { result ≡ shown self.old.local.state.phase self.new.local.state.phase }
     {
         let shown = self.local.stored();
@@ -76,6 +80,7 @@ impl Seat {
         ensures process { process_of self.new ≡ process_after (want self.old.local.state) (process_of self.old) (record_after self.old.local.givens self.old.local.number 0 self.old.local.state) }
         ensures givens { self.new.local.givens ≡ self.old.local.givens }
         ensures number { self.new.local.number ≡ self.old.local.number }
+        ensures room { vec_capacity self.new.row ≡ vec_capacity self.old.row }
         ensures shown { result ≡ shown self.old.local.state.phase self.new.local.state.phase }
     {
         let shown = self.local.stored();
@@ -92,6 +97,7 @@ impl Seat {
         ensures process { process_of self.new ≡ process_after (want self.old.local.state) (process_of self.old) (record_after self.old.local.givens self.old.local.number 0 self.old.local.state) }
         ensures givens { self.new.local.givens ≡ self.old.local.givens }
         ensures number { self.new.local.number ≡ self.old.local.number }
+        ensures room { vec_capacity self.new.row ≡ vec_capacity self.old.row }
         ensures shown { result ≡ shown self.old.local.state.phase self.new.local.state.phase }
     {
         let shown = self.local.stored();
@@ -109,6 +115,7 @@ impl Seat {
         ensures process { process_of self.new ≡ process_after (want self.old.local.state) (process_of self.old) (record_after self.old.local.givens self.old.local.number value self.old.local.state) }
         ensures givens { self.new.local.givens ≡ self.old.local.givens }
         ensures number { self.new.local.number ≡ self.old.local.number }
+        ensures room { vec_capacity self.new.row ≡ vec_capacity self.old.row }
         ensures shown { result ≡ shown self.old.local.state.phase self.new.local.state.phase }
     {
         match self.local.want() {
@@ -126,9 +133,22 @@ impl Seat {
         ensures process { process_of self.new ≡ process_after (Want.StoreNext 0) (process_of self.old) (record_after_leave self.old.local.state) }
         ensures givens { self.new.local.givens ≡ self.old.local.givens }
         ensures number { self.new.local.number ≡ self.old.local.number }
+        ensures room { vec_capacity self.new.row ≡ vec_capacity self.old.row }
     {
         let _shown = self.local.leave();
         self.next = 0;
         self.gone = true;
     }
+}
+
+/// So many zeros, with room for no more.
+fn zeros(alloc: Global, size: usize) -> Result<Vec<u32>, AllocError>
+    ensures items { IfOk result (λ v. v.items ≡ replicate size 0) }
+    ensures room { IfOk result (λ v. vec_capacity v ≡ size) }
+{
+    let mut zeros = Vec::with_capacity(alloc, size)?;
+    for k in 0..size {
+        zeros.push_reserved(0);
+    }
+    Ok(zeros)
 }

@@ -1,4 +1,4 @@
-//! Worked schedules, judged lists, and out of memory.
+//! Worked schedules, judged lists, the largest world, and out of memory.
 use super::*;
 use amo_kk::{Givens, Leaving, Move};
 use std::alloc::Global;
@@ -7,6 +7,7 @@ use std::test::Fail;
 
 mod judged;
 mod leavings;
+mod memory;
 mod schedules;
 
 /// The opening world of so many jobs, workers and that threshold.

@@ -42,7 +42,7 @@ impl Model for World {
 
     ghost view = { λ w. record { givens = w.givens; world = world_of w.seats.items w.history.items } };
 
-    ghost invariant = { λ w. IsKept w.givens w.seats.items w.history.items (vec_capacity w.history) };
+    ghost invariant = { λ w. IsKept w.givens w.seats.items w.history.items (vec_capacity w.seats) (vec_capacity w.history) };
 }
 
 impl World {
@@ -287,24 +287,25 @@ fn worker_of(one: Move) -> u32
 fn first_seats(alloc: Global, givens: Givens) -> Result<Vec<Seat>, AllocError>
     ensures processes { IfOk result (λ v. map process_of v.items ≡ table givens.workers (first_process givens)) }
     ensures seated { IfOk result (λ v. AreSeats givens givens.workers v.items) }
+    ensures room { IfOk result (λ v. vec_capacity v ≡ givens.workers) }
 {
     let mut seats = Vec::with_capacity(alloc, givens.workers as usize)?;
     for p in 0..givens.workers {
         let seat = Seat::new(alloc, givens, p + 1)?;
-        seats.push(seat)?;
+        seats.push_reserved(seat);
     }
     Ok(seats)
 }
 
-/// The history of the opening world, with room for all events of a run.
+/// The history of the opening world, with room for all events of a run and no more.
 fn first_history(alloc: Global, givens: Givens) -> Result<Vec<Event>, AllocError>
     ensures events { IfOk result (λ v. v.items ≡ (if nat_lt givens.jobs givens.beta then table givens.workers (λ p. Event.Ended p) else [])) }
-    ensures room { IfOk result (λ v. 2 * givens.jobs + givens.workers ≤ vec_capacity v) }
+    ensures room { IfOk result (λ v. vec_capacity v ≡ 2 * givens.jobs + givens.workers) }
 {
     let mut history = Vec::with_capacity(alloc, (2 * givens.jobs + givens.workers) as usize)?;
     if givens.jobs < givens.beta {
         for p in 0..givens.workers {
-            history.push(Event::Ended(p + 1))?;
+            history.push_reserved(Event::Ended(p + 1));
         }
     }
     Ok(history)
@@ -326,16 +327,16 @@ fn loaded(seats: &[Seat], want: Want) -> u32
 fn add_event(history: &mut Vec<Event>, event: Event)
     requires { length history.old.items < vec_capacity history.old }
     ensures items { history.new.items ≡ history.old.items ++ event ∷ [] }
-    ensures room { vec_capacity history.old ≤ vec_capacity history.new }
+    ensures room { vec_capacity history.new ≡ vec_capacity history.old }
 {
-    let _pushed = history.push(event);
+    history.push_reserved(event);
 }
 
 /// Adds what an event of worker p shows, where there is room.
 fn add_shown(history: &mut Vec<Event>, p: u32, shown: Shown)
     requires { length history.old.items + length (events_of p shown) ≤ vec_capacity history.old }
     ensures items { history.new.items ≡ history.old.items ++ events_of p shown }
-    ensures room { vec_capacity history.old ≤ vec_capacity history.new }
+    ensures room { vec_capacity history.new ≡ vec_capacity history.old }
 {
     match shown {
         Shown::Quiet => {}

@@ -35,6 +35,28 @@ fn who_has_left_takes_no_step(rt: HostRuntime) -> Result<(), Fail> {
     Ok(())
 }
 
+/// Each job claimed and performed by worker 1, and then the ends of all workers: as long as a run can be.
+fn longest_run(alloc: Global, givens: Givens) -> Result<Vec<Event>, AllocError> {
+    let mut events = Vec::new(alloc);
+    for k in 0..givens.jobs() {
+        events.push(Claimed(1, k + 1))?;
+        events.push(Done(1, k + 1))?;
+    }
+    for k in 0..givens.workers() {
+        events.push(Ended(k + 1))?;
+    }
+    Ok(events)
+}
+
+#[test]
+fn the_longest_run_is_lawful(rt: HostRuntime) -> Result<(), Fail> {
+    let givens = Givens::try_new(4096, 16, 16)?;
+    let events = longest_run(rt.alloc(), givens)?;
+    assert_eq!(rt; events.len(), 2 * 4096 + 16);
+    assert!(rt; judge(rt.alloc(), givens, &events)? == Lawful);
+    Ok(())
+}
+
 #[test]
 fn refused_judge(rt: HostRuntime) {
     if let Ok(givens) = Givens::try_new(2, 2, 2) {

@@ -295,13 +295,3 @@ fn a_worker_alone_claims_or_ends_soon(rt: HostRuntime) -> Result<(), Fail> {
     }
     Ok(())
 }
-
-#[test]
-fn refused_world(rt: HostRuntime) {
-    if let Ok(givens) = Givens::try_new(5, 2, 2) {
-        match World::new(rt.alloc(), givens) {
-            Ok(world) => expect_world(&rt, &world, &[], &[1, 2, 3, 4, 5]),
-            Err(std::alloc::AllocError) => {}
-        }
-    }
-}

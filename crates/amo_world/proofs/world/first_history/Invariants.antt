@@ -1,4 +1,4 @@
-use Rattle.std.proofs.Common.{◌≡◌, ◌≤◌, ◌+◌, ◌*◌}
+use Rattle.std.proofs.Common.{◌≡◌, ◌+◌, ◌*◌, length}
 use Rattle.std.specs.Vec.{vec_capacity}
 use Rattle.amo_sets.specs.Lists.{table}
 use Rattle.amo_kk.specs.declared.event.Event.TheVariants.{Ended}
@@ -8,5 +8,6 @@ abbrev pub invariant-loop-p : goal.invariant-loop-p
 invariant-loop-p l =
     record {
       events : l.history.items ≡ table l.p (λ p. Ended p);
-      room : 2 * l.fn.givens.jobs + l.fn.givens.workers ≤ vec_capacity l.history;
+      size : length l.history.items ≡ l.p;
+      room : vec_capacity l.history ≡ 2 * l.fn.givens.jobs + l.fn.givens.workers;
     }

@@ -13,7 +13,7 @@ loaded-requires c =
     let o : IsWorker c.self.inside.givens c.args.p = worker_here _ _ _ c.self.view_is c.requires in
     let same : c.want.result ≡ want (process (world_of c.self.inside.seats.items c.self.inside.history.items) c.args.p).local = c.want.ensures ∙ ap (λ (a : Process). want a.local) c.seat.ensures.process ∙ ap (λ (v : WorldView). want (process v.world c.args.p).local) (sym c.self.view_is) in
     subst (λ l. CanLoad l c.want.result) (sym c.deref.ensures.value)
-    (subst (λ x. CanLoad c.self.inside.seats.items x) (sym same) (can_load _ _ _ _ _ c.self.invariant o))
+    (subst (λ x. CanLoad c.self.inside.seats.items x) (sym same) (can_load _ _ _ _ _ _ c.self.invariant o))
 
 pub returns : goal.returns
 returns c =

@@ -11,14 +11,14 @@ worker c = subst (λ (v : WorldView). IsWorker v.givens c.args.p) (sym c.self.vi
 
 pub returns-clause-process : goal.returns-clause-process
 returns-clause-process c =
-    sym (turning.process_is c.self.inside.givens c.self.inside.seats.items c.self.inside.history.items (vec_capacity c.self.inside.history) c.args.p c.self.invariant (worker c) c.index.result.now c.index.ensures)
+    sym (turning.process_is c.self.inside.givens c.self.inside.seats.items c.self.inside.history.items (vec_capacity c.self.inside.seats) (vec_capacity c.self.inside.history) c.args.p c.self.invariant (worker c) c.index.result.now c.index.ensures)
     ∙ ap (λ (v : WorldView). process v.world c.args.p) c.self.view_is
 
 pub returns-clause-givens : goal.returns-clause-givens
 returns-clause-givens c =
-    turning.own_givens c.self.inside.givens c.self.inside.seats.items c.self.inside.history.items (vec_capacity c.self.inside.history) c.args.p c.self.invariant (worker c) c.index.result.now c.index.ensures
+    turning.own_givens c.self.inside.givens c.self.inside.seats.items c.self.inside.history.items (vec_capacity c.self.inside.seats) (vec_capacity c.self.inside.history) c.args.p c.self.invariant (worker c) c.index.result.now c.index.ensures
     ∙ ap (λ (v : WorldView). v.givens) c.self.view_is
 
 pub returns-clause-number : goal.returns-clause-number
 returns-clause-number c =
-    turning.own_number c.self.inside.givens c.self.inside.seats.items c.self.inside.history.items (vec_capacity c.self.inside.history) c.args.p c.self.invariant (worker c) c.index.result.now c.index.ensures
+    turning.own_number c.self.inside.givens c.self.inside.seats.items c.self.inside.history.items (vec_capacity c.self.inside.seats) (vec_capacity c.self.inside.history) c.args.p c.self.invariant (worker c) c.index.result.now c.index.ensures
