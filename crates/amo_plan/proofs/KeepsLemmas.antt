@@ -23,8 +23,8 @@ use Rattle.amo_plan.specs.Steps.{◌>>=◌, or_fault, unless, is_between}
 use Rattle.amo_plan.specs.Top.{TopSeen, MoreSeen, newest_version, version_of, block_in, block_of, so_many, jobs_of, text_of, rounds_of, budgets_of, is_two, is_top_key, form_of, more_values, top_values, top_of}
 use Rattle.amo_plan.specs.Tree.{has, each_key, natural, naturals_in, natural_at}
 use Rattle.amo_plan.proofs.FineLemmas.{AreNames, jobs_fit, jobs_named}
-use Rattle.amo_plan.proofs.StepsLemmas.{bind_ok, ok_is, or_ok, unless_ok}
-use Rattle.amo_plan.proofs.WithinLemmas.{schedule_within, taken}
+use Rattle.amo_plan.proofs.StepsLemmas.{bind_ok, ok_is, or_ok, unless_ok, taken}
+use Rattle.amo_plan.proofs.WithinLemmas.{schedule_within}
 
 -- a number that was taken within its bounds
 within_bounds : (low high : ℕ) (o : Option ℕ) (n : ℕ) → option_and_then (λ m. cond (is_between low high m) (Some m) None) o ≡ Some n → is_between low high n ≡ true

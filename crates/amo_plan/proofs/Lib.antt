@@ -1,4 +1,5 @@
 pub mod StepsLemmas
+pub mod DigitsLemmas
 pub mod TreeLemmas
 pub mod MovesLemmas
 pub mod PlanLemmas

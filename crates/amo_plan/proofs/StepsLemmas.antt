@@ -1,5 +1,5 @@
 -- A loop that reads each of a list.
-use Rattle.std.proofs.Common.{◌≡◌, ℕ, ◌+◌, ◌<◌, ◌≤◌, List, [], ◌∷◌, ◌++◌, map, length, get_or, drop, Bool, true, false, Option, Some, None, Result, Ok, Err, refl, sym, ap, ◌∙◌, append_assoc}
+use Rattle.std.proofs.Common.{◌≡◌, ℕ, ◌+◌, ◌<◌, ◌≤◌, List, [], ◌∷◌, ◌++◌, map, length, get_or, drop, Bool, true, false, cond, Option, Some, None, Result, Ok, Err, refl, sym, ap, ◌∙◌, append_assoc}
 use Rattle.std.proofs.lemmas.List.{append-nil, drop_all, drop_more}
 use Rattle.amo_plan.specs.declared.fault.PlanFault.{PlanFault}
 use Rattle.amo_plan.specs.Steps.{◌>>=◌, or_fault, unless, each, capped}
@@ -36,6 +36,11 @@ or_ok (Some x) f y e = ap Some (ok_is x y e)
 pub unless_ok : {A : Type 0} (b : Bool) (f : PlanFault) (r : Result A PlanFault) (x : A) → unless b f r ≡ Ok x → (b ≡ true) × (r ≡ Ok x)
 unless_ok true f r x e = (refl, e)
 unless_ok false f r x e = absurd cc
+
+-- what stands where a test holds
+pub taken : {A : Type 0} (b : Bool) (o : Option A) (x : A) → cond b o None ≡ Some x → (b ≡ true) × (o ≡ Some x)
+taken true o x e = (refl, e)
+taken false o x e = absurd cc
 
 module _ {A B C : Type 0} (seen : C → A) (f : ℕ → A → Result B PlanFault) where
   -- the loop L has read front, and the i-th of xs is the next

@@ -1,8 +1,8 @@
 -- The moves that are read are those of the workers that there are.
-use Rattle.std.proofs.Common.{◌≡◌, ℕ, zero, suc, ◌+◌, ◌-◌, ◌*◌, ◌≤◌, Bool, true, false, cond, leb, List, [], ◌∷◌, length, slice_index, take, drop, Option, Some, None, option_map, Result, Ok, refl, ◌∙◌, subst, arith, replicate}
+use Rattle.std.proofs.Common.{◌≡◌, ℕ, zero, suc, ◌+◌, ◌≤◌, Bool, true, false, cond, leb, List, [], ◌∷◌, length, slice_index, take, drop, Option, Some, None, option_map, Result, Ok, refl, ◌∙◌, subst, replicate}
 use Rattle.std.specs.Prelude.{◌&&◌, position}
 use Rattle.std.specs.List.{list_all}
-use Rattle.std.proofs.lemmas.Bool.{leb-true, le-leb, and_parts}
+use Rattle.std.proofs.lemmas.Bool.{le-leb, and_parts}
 use Rattle.std.proofs.lemmas.List.Folds.{list_all-append}
 use Rattle.amo_kk.specs.declared.event.Move.{Move}
 use Rattle.amo_kk.specs.declared.event.Move.TheVariants.{Turn}
@@ -10,32 +10,16 @@ use Rattle.amo_plan.specs.declared.fault.PlanFault.{PlanFault}
 use Rattle.amo_plan.specs.declared.fault.PlanFault.TheVariants.{TooLong, BadScheduleWord, NoSuchWorker}
 use Rattle.amo_plan.specs.declared.word.Word.{Word}
 use Rattle.amo_plan.specs.declared.word.Word.TheVariants.{Turns, Stop, Departure}
-use Rattle.amo_plan.specs.Schedule.{is_digit, is_x, is_l, is_asterisk, digits_after, number_of, turns_of, turns_at, turns_word, word_of, worker_of, word_at, words_of, read_words, moves_of_word, moves_of, short_moves_of, read_schedule}
+use Rattle.amo_plan.specs.Digits.{number_in}
+use Rattle.amo_plan.specs.Schedule.{is_x, is_l, is_asterisk, number_of, turns_of, turns_at, turns_word, word_of, worker_of, word_at, words_of, read_words, moves_of_word, moves_of, short_moves_of, read_schedule}
 use Rattle.amo_plan.specs.Keeps.{is_within, all_within}
 use Rattle.amo_plan.specs.Steps.{◌>>=◌, or_fault, unless, each, capped}
+use Rattle.amo_plan.proofs.DigitsLemmas.{within_some}
 use Rattle.amo_plan.proofs.StepsLemmas.{bind_ok, ok_is, or_ok, unless_ok}
 
--- what stands where a test holds
-pub taken : {A : Type 0} (b : Bool) (o : Option A) (x : A) → cond b o None ≡ Some x → (b ≡ true) × (o ≡ Some x)
-taken true o x e = (refl, e)
-taken false o x e = absurd cc
-
-grow_if : (b : Bool) (n m k : ℕ) (rest : Option ℕ) → (rest ≡ Some k → m ≤ k) → n ≤ m → cond b rest None ≡ Some k → n ≤ k
-grow_if true n m k rest more le e = omega (arith, more e)
-grow_if false n m k rest more le e = absurd cc
-
-digits_grow : (n k : ℕ) (ds : List ℕ) → digits_after n ds ≡ Some k → n ≤ k
-digits_grow n k [] e = let same : n ≡ k = cc in omega arith
-digits_grow n k (d ∷ ds) e = grow_if (is_digit d) n (10 * n + (d - 48)) k (digits_after (10 * n + (d - 48)) ds) (digits_grow (10 * n + (d - 48)) k ds) (omega arith) e
-
-number_some : (ds : List ℕ) (k : ℕ) → number_of ds ≡ Some k → 1 ≤ k
+number_some : (text : List ℕ) (k : ℕ) → number_of text ≡ Some k → 1 ≤ k
 unfolding number_of
-number_some [] k e = absurd cc
-number_some (d ∷ ds) k e =
-    let a = taken (leb 49 d && leb (length ds) 5) (digits_after 0 (d ∷ ds)) k e in
-    let b = taken (is_digit d) (digits_after (10 * 0 + (d - 48)) ds) k a.1 in
-    let big : 49 ≤ d = leb-true 49 d (and_parts (leb 49 d) (leb (length ds) 5) a.0).0 in
-    omega (arith, digits_grow (10 * 0 + (d - 48)) k ds b.1)
+number_some text k e = (within_some 1 999999 k (number_in text) e).1
 
 -- a word that names the worker of a number
 one_some : (named : ℕ → Word) → ((k : ℕ) → worker_of (named k) ≡ k) → (o : Option ℕ) (x : Word) → ((k : ℕ) → o ≡ Some k → 1 ≤ k) → option_map named o ≡ Some x → 1 ≤ worker_of x

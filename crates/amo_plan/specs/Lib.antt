@@ -1,3 +1,4 @@
+pub mod Digits
 pub mod Steps
 pub mod Tree
 pub mod Top

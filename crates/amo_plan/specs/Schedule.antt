@@ -1,5 +1,5 @@
 -- What a schedule says: its words, and the moves that each is.
-use Rattle.std.specs.Prelude.{ℕ, ◌+◌, ◌-◌, ◌*◌, List, [], ◌∷◌, length, slice_index, take, drop, filter, position, Bool, not, ◌&&◌, ◌||◌, ◌==◌, nat_le, Option, Some, None, option_map, Result, Ok, if◌then◌else◌, replicate}
+use Rattle.std.specs.Prelude.{ℕ, ◌+◌, List, [], ◌∷◌, length, slice_index, take, drop, filter, position, Bool, not, ◌&&◌, ◌||◌, ◌==◌, nat_le, Option, Some, None, option_map, Result, Ok, if◌then◌else◌, replicate}
 use Rattle.std.specs.List.{slice_split, flat_map}
 use Rattle.amo_kk.specs.declared.event.Move.{Move}
 use Rattle.amo_kk.specs.declared.event.Move.TheVariants.{Turn, Halt, Leave}
@@ -7,6 +7,7 @@ use Rattle.amo_plan.specs.declared.fault.PlanFault.{PlanFault}
 use Rattle.amo_plan.specs.declared.fault.PlanFault.TheVariants.{BadScheduleWord, NoSuchWorker, TooLong}
 use Rattle.amo_plan.specs.declared.word.Word.{Word}
 use Rattle.amo_plan.specs.declared.word.Word.TheVariants.{Turns, Stop, Departure}
+use Rattle.amo_plan.specs.Digits.{number_in, within}
 use Rattle.amo_plan.specs.Steps.{◌>>=◌, or_fault, unless, each}
 
 -- space, tab, LF, CR
@@ -21,19 +22,9 @@ is_word w = not (length w == 0)
 abbrev pub words_of : List ℕ → List (List ℕ)
 words_of text = filter is_word (slice_split is_space text)
 
--- 0 to 9
-abbrev pub is_digit : ℕ → Bool
-is_digit b = nat_le 48 b && nat_le b 57
-
--- the number of decimal digits that come after n, if all are digits
-abbrev pub digits_after : ℕ → List ℕ → Option ℕ
-digits_after n [] = Some n
-digits_after n (d ∷ ds) = if is_digit d then digits_after (10 * n + (d - 48)) ds else None
-
--- at most six digits, of which the first isn't 0
+-- a number of 1 to 999999
 unfoldable pub number_of : List ℕ → Option ℕ
-number_of [] = None
-number_of (d ∷ ds) = if nat_le 49 d && nat_le (length ds) 5 then digits_after 0 (d ∷ ds) else None
+number_of text = within 1 999999 (number_in text)
 
 -- so many turns, if both numbers are there
 abbrev pub turns_of : Option ℕ → Option ℕ → Option Word

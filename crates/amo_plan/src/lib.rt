@@ -1,13 +1,16 @@
 //! Plans: a text that names jobs and a schedule, read from bytes, and the results of its jobs.
 //!
 //! `read_plan` gives the plan of a text, or the first test that the text fails. What a plan is, and which tests
-//! there are in which order, is the definition `plan_of` in specs/Plan.antt, a function of the bytes.
+//! there are in which order, is the definition `plan_of` in specs/Plan.antt, a function of the bytes. The module
+//! `laws` has the theorems over the definitions: which texts are numbers.
 #![tactic(auto)]
 
 mod answer;
 mod block;
+mod digits;
 mod fault;
 mod job;
+pub mod laws;
 mod limits;
 mod naming;
 mod place;
@@ -24,6 +27,7 @@ mod word;
 
 pub use answer::{Answer, answer_of};
 pub use block::{Block, answer_block, blocks_of};
+pub use digits::number_within;
 pub use fault::PlanFault;
 pub use plan::{Heads, Plan};
 pub use reading::read_plan;

@@ -1,8 +1,9 @@
 //! Reads the words of a schedule, each by itself.
 ghost use Rattle.std.specs.Prelude.{◌≡◌, ◌<◌, length, IfSome, IsTrue, position, slice_index};
 ghost use Rattle.amo_plan.specs.Steps.{Gives};
-ghost use Rattle.amo_plan.specs.Schedule.{is_digit, is_asterisk, is_x, is_l, number_of, turns_word, word_of, worker_of, word_at, moves_of_word};
+ghost use Rattle.amo_plan.specs.Schedule.{is_asterisk, is_x, is_l, number_of, turns_word, word_of, worker_of, word_at, moves_of_word};
 
+use super::digits::number_within;
 use super::fault::PlanFault;
 
 /// What a word says.
@@ -40,30 +41,13 @@ impl Word {
     }
 }
 
-/// The byte is one of 0 to 9.
-fn is_digit(b: u8) -> bool
-    ensures { result ≡ is_digit b }
-{
-    b'0' <= b && b <= b'9'
-}
-
-/// A number of at most six digits, of which the first isn't 0.
+/// A number of 1 to 999999.
 #[tactic(auto, unfolding(crate::specs::Schedule::number_of))]
 fn number(text: &[u8]) -> Option<u32>
     ensures { result ≡ number_of text.now }
 {
-    let (first, rest) = text.split_first()?;
-    if *first < b'1' || rest.len() > 5 {
-        return None;
-    }
-    let mut value = 0u32;
-    for b in text {
-        if !is_digit(*b) {
-            return None;
-        }
-        value = 10 * value + (*b as u32 - 48);
-    }
-    Some(value)
+    let number = number_within(1, 999_999, text)?;
+    Some(number as u32)
 }
 
 /// Where the first asterisk stands.
