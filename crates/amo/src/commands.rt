@@ -1,7 +1,7 @@
 //! Reads the words of a command line.
 ghost use Rattle.std.specs.Prelude.{◌≡◌, ◌≤◌, false, IfOk, IfSome, map, option_copied};
-ghost use Rattle.clap.specs.Words.{app_of, rule_of, rows_of, found_of, first_of};
-ghost use Rattle.amo.specs.Commands.{Answers, IsWithinRanges, amo_app, required, number_at, explore_of_rows, stops_of_rows, request_of_row, request_of_line, asked};
+ghost use Rattle.clap.specs.Words.{app_of, new_app, with_subcommand, rule_of, rows_of, found_of, first_of};
+ghost use Rattle.amo.specs.Commands.{Answers, IsWithinRanges, amo_app, explore_app, stops_app, required, number_at, explore_of_rows, stops_of_rows, request_of_row, request_of_line, asked};
 
 use super::numbers::number;
 use super::request::{Request, RequestFault};
@@ -17,23 +17,45 @@ fn required(alloc: Global, id: &str) -> Arg<'_>
     Arg::new(alloc, id).required(true)
 }
 
-/// The program's command, with a subcommand for each request.
-fn amo_command<'a>(alloc: Global) -> Result<Command<'a>, AllocError>
-    ensures { IfOk result (λ c. app_of c ≡ amo_app) }
+/// The command with a subcommand of this name, which takes nothing.
+fn with_bare<'a>(
+    alloc: Global,
+    parent: Command<'a>,
+    name: &'a str,
+) -> Result<Command<'a>, AllocError>
+    ensures { IfOk result (λ c. app_of c ≡ with_subcommand (app_of parent.entry) (new_app name.entry.now).top) }
 {
-    let replay = Command::new(alloc, "replay");
-    let check = Command::new(alloc, "check");
+    parent.subcommand(Command::new(alloc, name))
+}
+
+/// The command with the subcommand `explore`, which takes three texts.
+fn with_explore<'a>(alloc: Global, parent: Command<'a>) -> Result<Command<'a>, AllocError>
+    ensures { IfOk result (λ c. app_of c ≡ with_subcommand (app_of parent.entry) explore_app.top) }
+{
     let explore = Command::new(alloc, "explore")
         .arg(required(alloc, "FROM"))?
         .arg(required(alloc, "COUNT"))?
         .arg(required(alloc, "LENGTH"))?;
+    parent.subcommand(explore)
+}
+
+/// The command with the subcommand `stops`, which takes one text.
+fn with_stops<'a>(alloc: Global, parent: Command<'a>) -> Result<Command<'a>, AllocError>
+    ensures { IfOk result (λ c. app_of c ≡ with_subcommand (app_of parent.entry) stops_app.top) }
+{
     let stops = Command::new(alloc, "stops").arg(required(alloc, "WORKER"))?;
-    Command::new(alloc, "amo")
-        .subcommand_required(true)
-        .subcommand(replay)?
-        .subcommand(check)?
-        .subcommand(explore)?
-        .subcommand(stops)
+    parent.subcommand(stops)
+}
+
+/// The program's command, with a subcommand for each request.
+fn amo_command<'a>(alloc: Global) -> Result<Command<'a>, AllocError>
+    ensures { IfOk result (λ c. app_of c ≡ amo_app) }
+{
+    let command = Command::new(alloc, "amo").subcommand_required(true);
+    let command = with_bare(alloc, command, "replay")?;
+    let command = with_bare(alloc, command, "check")?;
+    let command = with_explore(alloc, command)?;
+    with_stops(alloc, command)
 }
 
 /// The text at an id.
