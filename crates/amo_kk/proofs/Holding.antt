@@ -25,7 +25,7 @@ held g p r range claims dones ok o fit k c d =
     let few = claims_fit g p r fit in
     record { givens = ok; worker = o; fit = fit; claims_few = few.0; dones_few = few.1; front_few = λ i. fit.front (suc i); range_is = k; claims_fit = c; dones_fit = d }
 
--- after an event
+-- after a step
 pub held_after : (g : Givens) (p v : ℕ) (r x : Record) (range claims dones range' claims' dones' : ℕ) → IsHeld g p r range claims dones → MayLoad g v (want r) → record_after g p v r ≡ x
     → range' ≡ range → claims ≤ claims' → dones ≤ dones' → IsHeld g p x range' claims' dones'
 held_after g p v r x range claims dones range' claims' dones' h heard is k c d =
