@@ -99,7 +99,7 @@ to_announcement_cases g p j q r P tries reads = go (nat_le q g.workers) refl
     go true e = tries (leb-true _ _ e)
     go false e = reads (leb-false _ _ e)
 
--- After an event of a worker that wants something, only who is over wants nothing.
+-- After a step of a worker that wants something, only who is over wants nothing.
 pub after_rests : (g : Givens) (p v : ℕ) (r : Record) → wants_nothing r.phase ≡ false → wants_nothing (record_after g p v r).phase ≡ is_over (record_after g p v r).phase
 after_rests g p v r wants = go r.phase refl
   where

@@ -25,7 +25,7 @@ held g p r range fronts claims dones ok o fit k f c d =
     let few = claims_fit g p r fit in
     record { givens = ok; worker = o; fit = fit; claims_few = few.0; dones_few = few.1; front_few = λ i. fit.front (suc i); range_is = k; fronts_room_is = f; claims_room_is = c; dones_room_is = d }
 
--- after an event
+-- after a step
 pub held_after : (g : Givens) (p v : ℕ) (r x : Record) (range fronts claims dones range' fronts' claims' dones' : ℕ) → IsHeld g p r range fronts claims dones → MayLoad g v (want r) → record_after g p v r ≡ x
     → range' ≡ range → fronts' ≡ fronts → claims' ≡ claims → dones' ≡ dones → IsHeld g p x range' fronts' claims' dones'
 held_after g p v r x range fronts claims dones range' fronts' claims' dones' h heard is k f c d =

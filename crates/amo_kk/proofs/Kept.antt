@@ -1,4 +1,4 @@
--- Each event of a worker, and each stop, keeps what is lawful.
+-- Each step of a worker, and each stop, keeps what is lawful.
 use Rattle.std.proofs.Common.{◌≡◌, ◌≢◌, ◌⊎◌, inl, inr, ⊎_elim, ℕ, suc, ◌+◌, ◌-◌, ◌<◌, ◌≤◌, Bool, true, false, ◌||◌, List, [], ◌∷◌, ◌++◌, length, get_or, set, refl, sym, ap, ◌∙◌, subst, arith, add-one, length-append, min, ◌^◌}
 use Rattle.std.specs.Prelude.{◌==◌, if◌then◌else◌}
 use Rattle.std.proofs.lemmas.Bool.Decides.{nat_tests}
@@ -22,7 +22,7 @@ use Rattle.amo_kk.specs.declared.model.Process.{Process}
 use Rattle.amo_sets.proofs.Numbers.{numbered-put_same, numbered-put_other, length-put, has-get_or, get_or-has, has-append, length_distinct, count_le_all, length-with_number, has_with_same, has_with_kept, has_with_cases, has_with_none, has_push, has_push_kept, has_push_cases, has_push_none, distinct_push}
 use Rattle.amo_kk.proofs.Choice.{chosen_is_job, choice_cases, check_cases, to_row_cases, to_announcement_cases, next_other_differs, next_other_above, next_other_next}
 
--- what an event of p keeps, where a is p after it
+-- what a step of p keeps, where a is p after it
 pub record IsKept (g : Givens) (at : ℕ → Process) (p : ℕ) (a : Process) : Type 0 where
   pub sound : IsSoundProcess g p a
   pub mine : (q : ℕ) → IsOther g p q → IsSoundTowards p a.local q (at q).local
@@ -30,7 +30,7 @@ pub record IsKept (g : Givens) (at : ℕ → Process) (p : ℕ) (a : Process) : 
   pub known : (j : ℕ) → has a.local.known j ≡ true → (has a.local.dones j ≡ true) ⊎ IsDone g at j
   pub dones : (j : ℕ) → has (at p).local.dones j ≡ true → has a.local.dones j ≡ true
 
--- a record after an event that neither claims nor does a job
+-- a record after a step that neither claims nor does a job
 abbrev pub quiet_record : Record → Phase → List ℕ → List ℕ → List ℕ → ℕ → Record
 quiet_record r phase known tried fronts steps = record { phase = phase; known = known; tried = tried; fronts = fronts; claimed = r.claimed; dones = r.dones; steps = steps }
 
@@ -601,7 +601,7 @@ module _ (g : Givens) (at : ℕ → Process) (before : AreLawful g at) (p : ℕ)
       go Over is h = not_both _ ((before.sound p w).gone (ap wants_nothing is)) here
       go Left is h = not_both _ ((before.sound p w).gone (ap wants_nothing is)) here
 
--- What an event keeps, when its worker is put in place of the old one.
+-- What a step keeps, when its worker is put in place of the old one.
 pub lawful_put : (g : Givens) (at : ℕ → Process) (p : ℕ) (a : Process) (now : ℕ → Process) → AreLawful g at → IsWorker g p → IsKept g at p a
     → now p ≡ a → ((q : ℕ) → q ≢ p → now q ≡ at q) → AreLawful g now
 lawful_put g at p a now before w kept here there =

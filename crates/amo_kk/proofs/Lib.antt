@@ -1,25 +1,29 @@
-pub mod Limits
+-- The crates above lean on these too. Worlds and runs:
+pub mod Worlds
+pub mod Kept
+pub mod Runs
+pub mod Steps
+pub mod Claims
+pub mod Counts
+pub mod Room
+pub mod Shows
+pub mod Ends
+-- what a step and a move do:
 pub mod Choice
 pub mod FirstChoice
 pub mod Fit
-pub mod Kept
-pub mod Worlds
-pub mod Steps
-pub mod Runs
-pub mod Claims
-pub mod Room
-pub mod Words
-pub mod OwnTurns
-pub mod Alone
-pub mod Attempts
-pub mod Shows
-pub mod Worked
-pub mod Bits
-pub mod OpenJobs
 pub mod Holding
 pub mod Wants
 pub mod Loads
-pub mod Moves
 pub mod Growth
-pub mod Counts
-pub mod Ends
+pub mod Moves
+pub mod OwnTurns
+pub mod Words
+pub mod Bits
+-- a worker alone:
+pub mod Alone
+pub mod Attempts
+-- These serve this crate alone.
+mod Limits
+mod OpenJobs
+mod Worked

@@ -9,7 +9,7 @@ use Rattle.amo_sets.proofs.Tables.{numbered-table, numbered_past}
 use Rattle.amo_kk.specs.Givens.{IsWorker}
 use Rattle.amo_kk.specs.Record.{can_leave, empty_record, wants_nothing}
 use Rattle.amo_kk.specs.Step.{want, record_after, record_after_leave, shown, events_of}
-use Rattle.amo_kk.specs.World.{nobody, process, loaded_value, process_after, world_with, world_after_step, world_after_turn, world_after_halt, world_after_leave, world_after_move, world_after_moves, worker_of, is_halt, has_halt, first_process, opening_world}
+use Rattle.amo_kk.specs.World.{nobody, process, loaded_value, process_after, world_with, world_after_step, world_after_turn, world_after_leave, world_after_move, world_after_moves, worker_of, is_halt, has_halt, first_process, opening_world}
 use Rattle.amo_kk.specs.Lawful.{IsLawful}
 use Rattle.amo_kk.specs.declared.givens.Givens.{Givens}
 use Rattle.amo_kk.specs.declared.phase.Want.{Want}
@@ -135,13 +135,19 @@ moves_steps g w (m ∷ ms) q law =
     let rest = moves_steps g (world_after_move g w m) ms q (move_lawful g w m g.limits law) in
     omega arith
 
--- at first none
-pub opening_steps : (g : Givens) (q : ℕ) → steps (opening_world g) q ≡ 0
-opening_steps g zero = refl
-opening_steps g (suc k) = ⊎_elim
-    (λ (l : k < g.workers). ap (λ (x : Process). x.local.steps) (numbered-table nobody (first_process g) g.workers (suc k) (omega arith) (omega arith)) ∙ choice_cases g (suc k) (empty_record g) (λ r. r.steps ≡ 0) (λ _. refl) (λ _. refl))
-    (λ (l : g.workers ≤ k). ap (λ (x : Process). x.local.steps) (numbered_past nobody (table g.workers (first_process g)) (suc k) (let e = length-table (first_process g) g.workers in omega arith)))
+-- each worker of the opening world is as it begins, and no other number has one
+opening_each : (g : Givens) (P : Process → Type 0) → P nobody → ((p : ℕ) → P (first_process g p)) → (q : ℕ) → P (process (opening_world g) q)
+opening_each g P none first zero = none
+opening_each g P none first (suc k) = ⊎_elim
+    (λ (l : k < g.workers). subst P (sym (numbered-table nobody (first_process g) g.workers (suc k) (omega arith) (omega arith))) (first (suc k)))
+    (λ (l : g.workers ≤ k).
+    let size = length-table (first_process g) g.workers in
+    subst P (sym (numbered_past nobody (table g.workers (first_process g)) (suc k) (omega arith))) none)
     (cases_lt k g.workers)
+
+-- so at first none has had a step
+pub opening_steps : (g : Givens) (q : ℕ) → steps (opening_world g) q ≡ 0
+opening_steps g q = opening_each g (λ (a : Process). a.local.steps ≡ 0) refl (λ p. choice_cases g p (empty_record g) (λ r. r.steps ≡ 0) (λ _. refl) (λ _. refl)) q
 
 -- who is gone where nobody is stopped
 
@@ -156,7 +162,9 @@ each_put P a all p mine others q = ⊎_elim
     here zero = others zero
     here (suc k) = ⊎_elim
         (λ (l : k < length all). subst P (sym (numbered-put_same nobody a all (suc k) (omega arith) (omega arith))) mine)
-        (λ (l : length all ≤ k). let size = length-put a all (suc k) in subst P (numbered_past nobody all (suc k) (omega arith) ∙ sym (numbered_past nobody (put all (suc k) a) (suc k) (omega arith))) (others (suc k)))
+        (λ (l : length all ≤ k).
+        let size = length-put a all (suc k) in
+        subst P (numbered_past nobody all (suc k) (omega arith) ∙ sym (numbered_past nobody (put all (suc k) a) (suc k) (omega arith))) (others (suc k)))
         (cases_lt k (length all))
 
 -- each worker is gone just where it wants nothing
@@ -171,11 +179,7 @@ moves_gone g w (m ∷ ms) none all =
     (move_cases g w m (λ v. AreGoneIfIdle v) all (λ a events e moved. each_put (λ x. x.gone ≡ wants_nothing x.local.phase) a w.processes (worker_of m) (moved.gone parts.0) all))
 
 opening_gone : (g : Givens) → AreGoneIfIdle (opening_world g)
-opening_gone g zero = refl
-opening_gone g (suc k) = ⊎_elim
-    (λ (l : k < g.workers). subst (λ (x : Process). x.gone ≡ wants_nothing x.local.phase) (sym (numbered-table nobody (first_process g) g.workers (suc k) (omega arith) (omega arith))) refl)
-    (λ (l : g.workers ≤ k). subst (λ (x : Process). x.gone ≡ wants_nothing x.local.phase) (sym (numbered_past nobody (table g.workers (first_process g)) (suc k) (let e = length-table (first_process g) g.workers in omega arith))) refl)
-    (cases_lt k g.workers)
+opening_gone g q = opening_each g (λ (a : Process). a.gone ≡ wants_nothing a.local.phase) refl (λ p. refl) q
 
 pub gone_is : (g : Givens) (ms : List Move) → has_halt ms ≡ false → AreGoneIfIdle (world_after_moves g (opening_world g) ms)
 gone_is g ms none = moves_gone g (opening_world g) ms none (opening_gone g)

@@ -127,21 +127,6 @@ learned free tried j opened left low high is less = go (is_without free tried j)
     go true was e = let n = learned_open free tried j low high was in omega arith
     go false was e = let n = learned_other free tried j low high was in omega arith
 
--- once nothing counts as seen announced, each free job is open
-pub opens_after_choice : (free none : List Bool) → none ≡ replicate (length free) false → count (length free) (numbered false free) ≡ count (length free) (is_without free none)
-opens_after_choice free none is = count_same (length free) (numbered false free) (is_without free none) each
-  where
-    on : (b : Bool) → b ≡ (b && true)
-    on true = refl
-    on false = refl
-
-    untried : (j : ℕ) → 1 ≤ j → j ≤ length free → numbered false (replicate (length free) false) j ≡ false
-    untried zero low high = refl
-    untried (suc k) low high = get_or-replicate (length free) k false false (omega arith)
-
-    each : (k : ℕ) → 1 ≤ k → k ≤ length free → numbered false free k ≡ is_without free none k
-    each k low high = on (numbered false free k) ∙ sym (ap (λ (xs : List Bool). numbered false free k && not (numbered false xs k)) is ∙ ap (λ b. numbered false free k && not b) (untried k low high))
-
 -- the choice
 
 number_of_rank_same : (n : ℕ) (t u : ℕ → Bool) (i : ℕ) → ((j : ℕ) → 1 ≤ j → j ≤ n → t j ≡ u j) → number_of_rank n t i ≡ number_of_rank n u i

@@ -13,7 +13,7 @@ use Rattle.amo_kk.specs.Record.{empty_record, is_open, is_over, wants_nothing, c
 use Rattle.amo_kk.specs.Choice.{record_after_choice, record_after_check, first_record}
 use Rattle.amo_kk.specs.Step.{want, with_announced, record_at_row, record_at_announcement, record_after_phase, record_after, record_after_leave, shown, events_of}
 use Rattle.amo_kk.specs.World.{nobody, process, loaded_value, process_after, world_with, world_after_step, world_after_turn, world_after_halt, world_after_leave, world_after_move, world_after_moves, first_process, opening_world}
-use Rattle.amo_kk.specs.Lawful.{FitsPhase, IsSoundProcess, AreLawful, IsLawful, jobs_of, Agrees, object_of, HasRun, GoesOn}
+use Rattle.amo_kk.specs.Lawful.{IsSoundProcess, AreLawful, IsLawful, jobs_of, Agrees, object_of, HasRun, GoesOn}
 use Rattle.amo_kk.specs.declared.givens.Givens.{Givens}
 use Rattle.amo_kk.specs.declared.phase.Phase.{Phase}
 use Rattle.amo_kk.specs.declared.phase.Phase.TheVariants.{Announcing, Trying, Reading, Claiming, Holding, Over, Left}
@@ -161,7 +161,7 @@ distinct_last [] j d = refl
 distinct_last (x ∷ xs) j d = or_from (x == j) (has xs j) (ne_eqb x j (λ e. true≢false (sym (subst (λ y. has (xs ++ j ∷ []) y ≡ true) (sym e) (has_push xs j)) ∙ d.0))) (distinct_last xs j d.1)
 
 module _ (g : Givens) (ok : AreGivens g) (at : ℕ → Process) (law : AreLawful g at) (s : Object) (agrees : Agrees g at s) (p : ℕ) (o : IsWorker g p) (here : (at p).gone ≡ false) where
-  -- what the event itself shows, where p isn't gone yet
+  -- what the step itself shows, where p isn't gone yet
   deed_goes : (x : Record) → HasDone (at p).local x (at p).local.phase → (b : Process) → IsKept g at p b → b.local ≡ x → (now : ℕ → Process) (a : Process) → a.local ≡ x → a.gone ≡ false → now p ≡ a → ((q : ℕ) → q ≢ p → now q ≡ at q)
       → Goes g now s (claimed_or_done p (at p).local.phase)
   deed_goes x did b kept same now a is stays is_now others = go (at p).local.phase refl did

@@ -29,7 +29,7 @@ is_over (Holding j) = false
 is_over Over = true
 is_over Left = false
 
--- the worker takes no event of its own any more: it has ended, or left
+-- the worker takes no step of its own any more: it has ended, or left
 abbrev pub wants_nothing : Phase → Bool
 wants_nothing (Announcing j) = false
 wants_nothing (Trying j q) = false

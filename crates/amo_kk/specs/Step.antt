@@ -1,4 +1,4 @@
--- The events of a worker: what each loads or stores, the record after it, and what it shows.
+-- The steps of a worker: what each loads or stores, the record after it, and what it shows.
 use Rattle.std.specs.Prelude.{◌≡◌, ℕ, ◌+◌, ◌-◌, ◌^◌, ◌≤◌, min, Bool, true, false, List, [], ◌∷◌, ◌++◌, length, nat_le, ◌==◌, if◌then◌else◌, ⊤}
 use Rattle.amo_sets.specs.Lists.{numbered, put}
 use Rattle.amo_sets.specs.Sets.{with_number}
@@ -61,7 +61,7 @@ abbrev pub record_at_announcement : Givens → ℕ → ℕ → ℕ → Record �
 record_at_announcement g p j q r =
     if nat_le q g.workers then record r { phase = Trying j q } else record_at_row g p j (next_other p 0) r
 
--- the record after the event of each phase, v being what was loaded, but for the count of steps
+-- the record after the step of each phase, v being what was loaded, but for the count of steps
 abbrev pub record_after_phase : Givens → ℕ → ℕ → Record → Phase → Record
 record_after_phase g p v r (Announcing j) = record_at_announcement g p j (next_other p 0) r
 record_after_phase g p v r (Trying j q) = record_at_announcement g p j (next_other p q) (record r { tried = with_announced v r.tried })
@@ -74,7 +74,7 @@ record_after_phase g p v r (Holding j) = record_after_choice g p (record r { don
 record_after_phase g p v r Over = r
 record_after_phase g p v r Left = r
 
--- the record after the event of worker p, v being what was loaded
+-- the record after the step of worker p, v being what was loaded
 abbrev pub record_after : Givens → ℕ → ℕ → Record → Record
 record_after g p v r = let e = record_after_phase g p v r r.phase in record e { steps = min (r.steps + 1) (2 ^ 64 - 1) }
 
@@ -92,7 +92,7 @@ shown (Holding j) after = if is_over after then DoneEnded j else Done j
 shown Over after = Quiet
 shown Left after = Quiet
 
--- the events of worker p in the history for which this stands
+-- the events of worker p that this adds to the history
 abbrev pub events_of : ℕ → Shown → List Event
 events_of p Quiet = []
 events_of p (Claimed j) = ClaimedEvent p j ∷ []

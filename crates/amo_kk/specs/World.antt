@@ -1,4 +1,4 @@
--- All workers with their words, and the history, one event at a time.
+-- All workers with their words, and the history, one move at a time.
 use Rattle.std.specs.Prelude.{ℕ, ◌+◌, Bool, true, false, ◌&&◌, ◌||◌, List, [], ◌∷◌, ◌++◌, length, replicate, nat_lt, if◌then◌else◌}
 use Rattle.std.specs.List.{sum_by}
 use Rattle.amo_sets.specs.Lists.{numbered, put, table}
@@ -46,7 +46,7 @@ loaded_value w (StoreClaim c j) = 0
 loaded_value w (StoreDone k j) = 0
 loaded_value w Nothing = 0
 
--- the process a after an event with this load or store, r being its record after it: it is gone where it wants nothing
+-- the process a after a step with this load or store, r being its record after it: it is gone where it wants nothing
 abbrev pub process_after : Want → Process → Record → Process
 process_after (StoreNext j) a r = record a { local = r; next = j; gone = wants_nothing r.phase }
 process_after (LoadNext q) a r = record a { local = r; gone = wants_nothing r.phase }
@@ -59,13 +59,13 @@ process_after Nothing a r = record a { local = r; gone = wants_nothing r.phase }
 abbrev pub world_with : World → ℕ → Process → List Event → World
 world_with w p a events = record { processes = put w.processes p a; history = w.history ++ events }
 
--- the world after the event of worker p, which is the process a
+-- the world after the step of worker p, which is the process a
 abbrev pub world_after_step : Givens → World → ℕ → Process → World
 world_after_step g w p a =
     let r = record_after g p (loaded_value w (want a.local)) a.local in
     world_with w p (process_after (want a.local) a r) (events_of p (shown a.local.phase r.phase))
 
--- the world after a turn of p: the event of p, if p isn't gone
+-- the world after a turn of p: the step of p, if p isn't gone
 abbrev pub world_after_turn : Givens → World → ℕ → World
 world_after_turn g w p = if (process w p).gone then w else world_after_step g w p (process w p)
 

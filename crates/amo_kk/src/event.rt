@@ -1,9 +1,9 @@
-//! What happens: the moves of a schedule, the events of a history, and what a worker's event shows.
+//! What happens: the moves of a schedule, the events of a history, and what a worker's step shows.
 
 /// One choice of a schedule. The number is the worker's.
 #[derive(Clone, Copy, Debug, PartialEq, Eq)]
 pub enum Move {
-    /// The worker takes its next event, if it isn't gone.
+    /// The worker takes its next step, if it isn't gone.
     Turn(u32),
     /// The worker is stopped, if it isn't gone.
     Halt(u32),
@@ -27,7 +27,7 @@ pub enum Event {
     Left(u32),
 }
 
-/// What an event of a worker shows to its caller.
+/// What a step of a worker shows to its caller.
 #[derive(Clone, Copy, Debug, PartialEq, Eq)]
 pub enum Shown {
     /// Nothing that others are told.

@@ -69,7 +69,7 @@ impl Model for Local {
 }
 
 impl Local {
-    /// The machine of worker p before its first event. Its room is made here.
+    /// The machine of worker p before its first step. Its room is made here.
     pub fn new(alloc: Global, givens: Givens, p: u32) -> Result<Local, AllocError>
         requires worker { IsWorker givens p }
         ensures { IfOk result (λ l. l ≡ record { givens = givens; number = p; state = first_record givens p }) }
@@ -190,7 +190,7 @@ impl Local {
         self.steps = self.steps.saturating_add(1);
     }
 
-    /// The event of a load that gave v.
+    /// The step of a load that gave v.
     pub fn told(&mut self, v: u64) -> Shown
         requires load { is_load (want self.old.state) ≡ true }
         requires hears { MayLoad self.old.givens v (want self.old.state) }
@@ -216,7 +216,7 @@ impl Local {
         shown(before, self.phase)
     }
 
-    /// The event of a store.
+    /// The step of a store.
     pub fn stored(&mut self) -> Shown
         requires { is_store (want self.old.state) ≡ true }
         ensures shows { result ≡ shown self.old.state.phase self.new.state.phase }
@@ -339,7 +339,7 @@ impl Local {
         }
     }
 
-    /// How many events it has had.
+    /// How many steps it has taken, its leaving among them.
     pub fn steps(&self) -> u64
         ensures { result ≡ self.now.state.steps }
     {
@@ -363,7 +363,7 @@ fn add_within(list: &mut Vec<u32>, job: u32)
     list.push_reserved(job);
 }
 
-/// What an event shows, by the phases before and after it.
+/// What a step shows, by the phases before and after it.
 fn shown(before: Phase, after: Phase) -> Shown
     ensures { result ≡ shown before after }
 {

@@ -30,7 +30,7 @@ pub struct Record {
     pub claimed: LinkedList<u32>,
     /// The jobs that it has performed, in their order.
     pub dones: LinkedList<u32>,
-    /// How many events it has had.
+    /// How many steps it has taken, its leaving among them.
     pub steps: u64,
 }
 
