@@ -10,6 +10,7 @@ pub mod Claims
 pub mod Room
 pub mod Words
 pub mod OwnTurns
+pub mod AttemptReads
 pub mod Alone
 pub mod Attempts
 pub mod Shows
