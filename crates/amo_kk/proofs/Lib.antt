@@ -24,6 +24,7 @@ pub mod Bits
 pub mod Alone
 pub mod Attempts
 -- These serve this crate alone.
+mod AttemptReads
 mod Limits
 mod OpenJobs
 mod Worked

@@ -1,7 +1,7 @@
 -- A worker whose turns follow one another, with no other move between them.
 use Rattle.std.specs.Prelude.{◌≡◌, ℕ, zero, suc, ◌+◌, ◌-◌, ◌*◌, ◌<◌, ◌≤◌, Bool, true, false, not, ◌&&◌, ◌||◌, replicate, ◌==◌, if◌then◌else◌}
 use Rattle.amo_kk.specs.Record.{is_over}
-use Rattle.amo_kk.specs.Step.{want, record_after}
+use Rattle.amo_kk.specs.Step.{want, is_load, record_after}
 use Rattle.amo_kk.specs.World.{process, loaded_value, world_after_moves}
 use Rattle.amo_kk.specs.declared.givens.Givens.{Givens}
 use Rattle.amo_kk.specs.declared.phase.Phase.{Phase}
@@ -99,16 +99,23 @@ attempts_going_on (Holding j) = 0
 attempts_going_on Over = 0
 attempts_going_on Left = 0
 
--- how many attempts go on in w or begin in the turns 0..i of p
-abbrev pub attempts_within : Givens → World → ℕ → ℕ → ℕ
-attempts_within g w p i =
-    attempts_going_on (process w p).local.phase + turns_that (λ k. stores_announcement (want_at g w p k)) i
+-- The number of the attempt that the turn of p after k others is of: 1 where it goes on from w, or else is the first
+-- that begins, and one more with each announcement that is stored. A turn with number 0 is of none.
+abbrev pub attempt_at : Givens → World → ℕ → ℕ → ℕ
+attempt_at g w p k =
+    attempts_going_on (process w p).local.phase + turns_that (λ l. stores_announcement (want_at g w p l)) k
 
--- In the turns 0..i of p at most three attempts go on or begin, each with one announcement stored. By each turn k of
--- these, at most as many announcements are read for each attempt so far as there are others, and at most as many
--- zeros. No entry of a row is read twice.
+-- how many of the turns 0..i of p are of attempt a and pass the test
+abbrev pub turns_of_attempt : Givens → World → (p a : ℕ) → (ℕ → Bool) → ℕ → ℕ
+turns_of_attempt g w p a test i = turns_that (λ k. (attempt_at g w p k == a) && test k) i
+
+-- The turns 0..i of p are of at most three attempts. In each attempt at most one announcement is stored, at most as
+-- many announcements are read as there are others, and at most as many zeros. A turn that is of no attempt loads
+-- nothing. No entry of a row is read twice in all these turns.
 pub record FitsThreeAttempts (g : Givens) (w : World) (p i : ℕ) : Type 0 where
-  pub three : attempts_within g w p i ≤ 3
-  pub announcements : (k : ℕ) → k ≤ i → turns_that (λ l. reads_announcement (want_at g w p l)) k ≤ attempts_within g w p k * (g.workers - 1)
-  pub zeros : (k : ℕ) → k ≤ i → turns_that (λ l. reads_zero (want_at g w p l) (value_at g w p l)) k ≤ attempts_within g w p k * (g.workers - 1)
-  pub entries : (q e : ℕ) → turns_that (λ l. reads_entry q e (want_at g w p l) (value_at g w p l)) i ≤ 1
+  pub three : attempt_at g w p i ≤ 3
+  pub stores : (a : ℕ) → turns_of_attempt g w p a (λ k. stores_announcement (want_at g w p k)) i ≤ 1
+  pub announcements : (a : ℕ) → turns_of_attempt g w p a (λ k. reads_announcement (want_at g w p k)) i ≤ g.workers - 1
+  pub zeros : (a : ℕ) → turns_of_attempt g w p a (λ k. reads_zero (want_at g w p k) (value_at g w p k)) i ≤ g.workers - 1
+  pub between : (k : ℕ) → k ≤ i → attempt_at g w p k ≡ 0 → is_load (want_at g w p k) ≡ false
+  pub entries : (q e : ℕ) → turns_that (λ k. reads_entry q e (want_at g w p k) (value_at g w p k)) i ≤ 1

@@ -89,9 +89,9 @@ pub fn alone_claims_or_ends_soon()
         → (i : ℕ) × (i < lone_bound g) × IsFirstToClaimOrEnd g w p i }
 {}
 
-/// What these turns store and read, up to the one that claims or ends: at most three attempts go on or begin, each
-/// with one announcement stored; at each moment at most `workers - 1` announcements and `workers - 1` zeros are read
-/// for each attempt so far; no entry of a row is read twice.
+/// What these turns store and read, up to the one that claims or ends: at most three attempts go on or begin; in each
+/// attempt at most one announcement is stored, at most `workers - 1` announcements are read, and at most `workers - 1`
+/// zeros; no entry of a row is read twice.
 pub fn alone_takes_three_attempts()
     ensures { (g : Givens) (w : World) (p i : ℕ) → IsLawful g w → (process w p).gone ≡ false
         → IsFirstToClaimOrEnd g w p i → FitsThreeAttempts g w p i }
