@@ -11,11 +11,12 @@ use Rattle.amo_kk.specs.declared.givens.Givens.{Givens}
 use Rattle.amo_kk.specs.declared.givens.GivensFault.{GivensFault}
 use Rattle.amo_kk.specs.Givens.{givens_of, numbers_or_fault}
 use Rattle.amo_kk.specs.Limits.{first_fault}
+use Rattle.amo_kk.specs.World.{are_in_range}
 use Rattle.amo_plan.specs.declared.fault.PlanFault.TheVariants.{TooLong, WrongKind, UnknownKey, MissingKey}
 use Rattle.amo_plan.specs.declared.job.Job.{Job}
 use Rattle.amo_plan.specs.declared.top.Form.{Form}
 use Rattle.amo_plan.specs.Jobs.{read_jobs, fine_jobs}
-use Rattle.amo_plan.specs.Keeps.{is_form, all_fit, all_within}
+use Rattle.amo_plan.specs.Keeps.{is_form, all_fit}
 use Rattle.amo_plan.specs.Limits.{is_small, small_budgets, budgets_within}
 use Rattle.amo_plan.specs.Plan.{PlanSeen, document, or_bad_givens, plan_with, plan_in, plan_of}
 use Rattle.amo_plan.specs.Schedule.{read_schedule}
@@ -24,7 +25,7 @@ use Rattle.amo_plan.specs.Top.{TopSeen, MoreSeen, newest_version, version_of, bl
 use Rattle.amo_plan.specs.Tree.{has, each_key, natural, naturals_in, natural_at}
 use Rattle.amo_plan.proofs.FineLemmas.{AreNames, jobs_fit, jobs_named}
 use Rattle.amo_plan.proofs.StepsLemmas.{bind_ok, ok_is, or_ok, unless_ok, taken}
-use Rattle.amo_plan.proofs.WithinLemmas.{schedule_within}
+use Rattle.amo_plan.proofs.WithinLemmas.{schedule_in_range}
 
 -- a number that was taken within its bounds
 within_bounds : (low high : ℕ) (o : Option ℕ) (n : ℕ) → option_and_then (λ m. cond (is_between low high m) (Some m) None) o ≡ Some n → is_between low high n ≡ true
@@ -125,7 +126,7 @@ pub record Keeps (p : PlanSeen) : Type 0 where
   pub named : AreNames [] p.names
   pub fitting : all_fit p.tasks ≡ true
   pub budgeted : length p.budgets ≡ p.givens.workers
-  pub within : all_within p.givens.workers p.moves ≡ true
+  pub within : are_in_range p.givens p.moves ≡ true
 
 with_keeps : (top : TopSeen) (g : Givens) (jobs : List Job) (p : PlanSeen) → TopKeeps top → div_ceil (length jobs) top.block ≡ g.jobs → top.workers ≡ g.workers → plan_with top g jobs ≡ Ok p → Keeps p
 unfolding plan_with
@@ -142,7 +143,7 @@ with_keeps top g jobs p keeps count workers e =
       named = jobs_named [] 1 jobs fine of_fine;
       fitting = jobs_fit [] 1 jobs fine of_fine;
       budgeted = within_many top.workers top.rounds top.budgets budgets keeps.budgets of_budgets ∙ workers;
-      within = subst (λ (m : ℕ). all_within m moves ≡ true) workers (schedule_within top.version top.workers top.schedule moves of_moves);
+      within = schedule_in_range top.version g top.schedule moves (subst (λ (m : ℕ). read_schedule top.version m top.schedule ≡ Ok moves) workers of_moves);
     })
 
 in_keeps : (doc : Members) (p : PlanSeen) → plan_in doc ≡ Ok p → Keeps p

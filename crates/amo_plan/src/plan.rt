@@ -1,7 +1,8 @@
 //! A plan.
 ghost use Rattle.std.specs.Prelude.{◌≡◌, true, length};
 ghost use Rattle.std.specs.Int.{div_ceil};
-ghost use Rattle.amo_plan.specs.Keeps.{is_form, all_within, all_fit};
+ghost use Rattle.amo_kk.specs.World.{are_in_range};
+ghost use Rattle.amo_plan.specs.Keeps.{is_form, all_fit};
 
 use super::row::Row;
 use super::task::Task;
@@ -41,5 +42,5 @@ pub struct Plan {
     pub ghost tasked: { length tasks ≡ length heads.names },
     pub ghost fitting: { all_fit tasks ≡ true },
     pub ghost budgeted: { length heads.budgets ≡ heads.givens.workers },
-    pub ghost within: { all_within heads.givens.workers heads.moves ≡ true },
+    pub ghost within: { are_in_range heads.givens heads.moves ≡ true },
 }
