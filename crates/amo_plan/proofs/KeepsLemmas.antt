@@ -84,8 +84,8 @@ more_many m doc more e =
 
 -- what the top level keeps
 record TopKeeps (top : TopSeen) : Type 0 where
-  form : is_form top.version top.block ≡ true
-  budgets : IfSome top.budgets (λ ys. length ys ≡ top.workers)
+  form : is_form top.form.version top.form.block ≡ true
+  budgets : IfSome top.more.budgets (λ ys. length ys ≡ top.workers)
 
 top_keeps : (doc : Members) (top : TopSeen) → top_of doc ≡ Ok top → TopKeeps top
 unfolding top_of top_values
@@ -97,7 +97,7 @@ top_keeps doc top e =
     let (beta, of_beta, e3) = bind_ok (or_fault (natural_at (codes "beta") doc) (WrongKind 0)) _ top e2 in
     let (jobs, of_jobs, e4) = bind_ok (or_fault (jobs_of (get_member (codes "job") doc)) (WrongKind 0)) _ top e3 in
     let (more, of_more, e5) = bind_ok (more_values workers doc) _ top e4 in
-    let seen : TopSeen = record { version = form.version; block = form.block; workers = workers; beta = beta; jobs = jobs; schedule = more.schedule; rounds = more.rounds; budgets = more.budgets } in
+    let seen : TopSeen = record { form = form; workers = workers; beta = beta; jobs = jobs; more = more } in
     let same : seen ≡ top = ok_is seen top e5 in
     subst TopKeeps {x = seen} same (record { form = form_known doc form of_form; budgets = more_many workers doc more of_more })
 
@@ -128,13 +128,13 @@ pub record Keeps (p : PlanSeen) : Type 0 where
   pub budgeted : length p.budgets ≡ p.givens.workers
   pub within : are_in_range p.givens p.moves ≡ true
 
-with_keeps : (top : TopSeen) (g : Givens) (jobs : List Job) (p : PlanSeen) → TopKeeps top → div_ceil (length jobs) top.block ≡ g.jobs → top.workers ≡ g.workers → plan_with top g jobs ≡ Ok p → Keeps p
+with_keeps : (top : TopSeen) (g : Givens) (jobs : List Job) (p : PlanSeen) → TopKeeps top → div_ceil (length jobs) top.form.block ≡ g.jobs → top.workers ≡ g.workers → plan_with top g jobs ≡ Ok p → Keeps p
 unfolding plan_with
 with_keeps top g jobs p keeps count workers e =
     let (fine, of_fine, e1) = bind_ok (fine_jobs [] 1 jobs) _ p e in
-    let (moves, of_moves, e2) = bind_ok (read_schedule top.version top.workers top.schedule) _ p e1 in
-    let (budgets, of_budgets, e3) = bind_ok (budgets_within top.workers top.rounds top.budgets) _ p e2 in
-    let plan : PlanSeen = record { version = top.version; block = top.block; givens = g; names = map (λ job. job.name) jobs; tasks = map (λ job. job.task) jobs; moves = moves; rounds = top.rounds; budgets = budgets } in
+    let (moves, of_moves, e2) = bind_ok (read_schedule top.form.version top.workers top.more.schedule) _ p e1 in
+    let (budgets, of_budgets, e3) = bind_ok (budgets_within top.workers top.more.rounds top.more.budgets) _ p e2 in
+    let plan : PlanSeen = record { version = top.form.version; block = top.form.block; givens = g; names = map (λ job. job.name) jobs; tasks = map (λ job. job.task) jobs; moves = moves; rounds = top.more.rounds; budgets = budgets } in
     let same : plan ≡ p = ok_is plan p e3 in
     subst Keeps same (record {
       form = keeps.form;
@@ -142,8 +142,8 @@ with_keeps top g jobs p keeps count workers e =
       tasked = simp length-map;
       named = jobs_named [] 1 jobs fine of_fine;
       fitting = jobs_fit [] 1 jobs fine of_fine;
-      budgeted = within_many top.workers top.rounds top.budgets budgets keeps.budgets of_budgets ∙ workers;
-      within = schedule_in_range top.version g top.schedule moves (subst (λ (m : ℕ). read_schedule top.version m top.schedule ≡ Ok moves) workers of_moves);
+      budgeted = within_many top.workers top.more.rounds top.more.budgets budgets keeps.budgets of_budgets ∙ workers;
+      within = schedule_in_range top.form.version g top.more.schedule moves (subst (λ (m : ℕ). read_schedule top.form.version m top.more.schedule ≡ Ok moves) workers of_moves);
     })
 
 in_keeps : (doc : Members) (p : PlanSeen) → plan_in doc ≡ Ok p → Keeps p
@@ -151,8 +151,8 @@ unfolding plan_in
 in_keeps doc p e =
     let (top, of_top, e1) = bind_ok (top_of doc) _ p e in
     let (jobs, of_jobs, e2) = bind_ok (read_jobs top.jobs) _ p e1 in
-    let (g, of_g, e3) = bind_ok (or_bad_givens (givens_of (div_ceil (length jobs) top.block) top.workers top.beta)) _ p e2 in
-    let (count, workers) = numbers_kept (div_ceil (length jobs) top.block) top.workers top.beta (first_fault (div_ceil (length jobs) top.block) top.workers top.beta) refl g of_g in
+    let (g, of_g, e3) = bind_ok (or_bad_givens (givens_of (div_ceil (length jobs) top.form.block) top.workers top.beta)) _ p e2 in
+    let (count, workers) = numbers_kept (div_ceil (length jobs) top.form.block) top.workers top.beta (first_fault (div_ceil (length jobs) top.form.block) top.workers top.beta) refl g of_g in
     with_keeps top g jobs p (top_keeps doc top of_top) count workers e3
 
 -- each plan that a text has by the definition keeps this
