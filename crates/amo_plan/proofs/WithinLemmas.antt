@@ -10,8 +10,8 @@ use Rattle.amo_kk.specs.declared.event.Move.{Move}
 use Rattle.amo_kk.specs.declared.event.Move.TheVariants.{Turn}
 use Rattle.amo_plan.specs.declared.fault.PlanFault.{PlanFault}
 use Rattle.amo_plan.specs.declared.fault.PlanFault.TheVariants.{TooLong, BadScheduleWord, NoSuchWorker}
-use Rattle.amo_plan.specs.declared.word.Word.{Word}
-use Rattle.amo_plan.specs.declared.word.Word.TheVariants.{Turns, Stop, Departure}
+use Rattle.amo_plan.specs.declared.schedule_word.ScheduleWord.{ScheduleWord}
+use Rattle.amo_plan.specs.declared.schedule_word.ScheduleWord.TheVariants.{Turns, Stop, Departure}
 use Rattle.amo_plan.specs.Digits.{number_in}
 use Rattle.amo_plan.specs.Schedule.{is_x, is_l, is_asterisk, number_of, turns_of, turns_at, turns_word, word_of, worker_of, word_at, words_of, read_words, moves_of_word, moves_of, short_moves_of, read_schedule}
 use Rattle.amo_plan.specs.Steps.{◌>>=◌, or_fault, unless, each, capped}
@@ -23,26 +23,26 @@ unfolding number_of
 number_some text k e = (within_some 1 999999 k (number_in text) e).1
 
 -- a word that names the worker of a number
-one_some : (named : ℕ → Word) → ((k : ℕ) → worker_of (named k) ≡ k) → (o : Option ℕ) (x : Word) → ((k : ℕ) → o ≡ Some k → 1 ≤ k) → option_map named o ≡ Some x → 1 ≤ worker_of x
+one_some : (named : ℕ → ScheduleWord) → ((k : ℕ) → worker_of (named k) ≡ k) → (o : Option ℕ) (x : ScheduleWord) → ((k : ℕ) → o ≡ Some k → 1 ≤ k) → option_map named o ≡ Some x → 1 ≤ worker_of x
 one_some named of_it None x some e = absurd cc
 one_some named of_it (Some k) x some e =
     let same : named k ≡ x = cc in
-    subst (λ (y : Word). 1 ≤ worker_of y) same (rw (of_it k) (some k refl))
+    subst (λ (y : ScheduleWord). 1 ≤ worker_of y) same (rw (of_it k) (some k refl))
 
-turns_some : (o p : Option ℕ) (x : Word) → ((k : ℕ) → o ≡ Some k → 1 ≤ k) → turns_of o p ≡ Some x → 1 ≤ worker_of x
+turns_some : (o p : Option ℕ) (x : ScheduleWord) → ((k : ℕ) → o ≡ Some k → 1 ≤ k) → turns_of o p ≡ Some x → 1 ≤ worker_of x
 turns_some None p x some e = absurd cc
 turns_some (Some k) None x some e = absurd cc
-turns_some (Some k) (Some c) x some e = let same : Turns k c ≡ x = cc in subst (λ (y : Word). 1 ≤ worker_of y) same (some k refl)
+turns_some (Some k) (Some c) x some e = let same : Turns k c ≡ x = cc in subst (λ (y : ScheduleWord). 1 ≤ worker_of y) same (some k refl)
 
-at_some : (i : Option ℕ) (w : List ℕ) (x : Word) → turns_at i w ≡ Some x → 1 ≤ worker_of x
+at_some : (i : Option ℕ) (w : List ℕ) (x : ScheduleWord) → turns_at i w ≡ Some x → 1 ≤ worker_of x
 at_some None w x e = turns_some (number_of w) (Some 1) x (number_some w) e
 at_some (Some i) w x e = turns_some (number_of (take i w)) (number_of (drop (i + 1) w)) x (number_some (take i w)) e
 
-either_some : (b : Bool) (o p : Option Word) (x : Word) → (o ≡ Some x → 1 ≤ worker_of x) → (p ≡ Some x → 1 ≤ worker_of x) → cond b o p ≡ Some x → 1 ≤ worker_of x
+either_some : (b : Bool) (o p : Option ScheduleWord) (x : ScheduleWord) → (o ≡ Some x → 1 ≤ worker_of x) → (p ≡ Some x → 1 ≤ worker_of x) → cond b o p ≡ Some x → 1 ≤ worker_of x
 either_some true o p x f g e = f e
 either_some false o p x f g e = g e
 
-word_some : (version : ℕ) (w : List ℕ) (x : Word) → word_of version w ≡ Some x → 1 ≤ worker_of x
+word_some : (version : ℕ) (w : List ℕ) (x : ScheduleWord) → word_of version w ≡ Some x → 1 ≤ worker_of x
 unfolding word_of turns_word
 word_some version w x e =
     let of_rest = number_some (drop 1 w) in
@@ -52,10 +52,10 @@ word_some version w x e =
     (one_some Departure (λ k. refl) (number_of (drop 1 w)) x of_rest) (at_some (position is_asterisk w) w x)) e
 
 -- the word is of one of m workers
-abbrev word_within : ℕ → Word → Bool
+abbrev word_within : ℕ → ScheduleWord → Bool
 word_within m x = is_within m (worker_of x)
 
-at_within : (version m j : ℕ) (w : List ℕ) (x : Word) → word_at version m j w ≡ Ok x → word_within m x ≡ true
+at_within : (version m j : ℕ) (w : List ℕ) (x : ScheduleWord) → word_at version m j w ≡ Ok x → word_within m x ≡ true
 unfolding word_at
 at_within version m j w x e =
     let a = bind_ok (or_fault (word_of version w) (BadScheduleWord j)) (λ word. unless (leb (worker_of word) m) (NoSuchWorker j) (Ok word)) x e in
@@ -83,12 +83,12 @@ turns_in_range : (g : Givens) (k c : ℕ) → is_within g.workers k ≡ true →
 turns_in_range g k zero h = refl
 turns_in_range g k (suc c) h = rw (h, turns_in_range g k c h) refl
 
-of_word_in_range : (g : Givens) (x : Word) → word_within g.workers x ≡ true → are_in_range g (moves_of_word x) ≡ true
+of_word_in_range : (g : Givens) (x : ScheduleWord) → word_within g.workers x ≡ true → are_in_range g (moves_of_word x) ≡ true
 of_word_in_range g (Turns k c) h = turns_in_range g k c h
 of_word_in_range g (Stop k) h = rw h refl
 of_word_in_range g (Departure k) h = rw h refl
 
-of_words_in_range : (g : Givens) (ws : List Word) → list_all (word_within g.workers) ws ≡ true → are_in_range g (moves_of ws) ≡ true
+of_words_in_range : (g : Givens) (ws : List ScheduleWord) → list_all (word_within g.workers) ws ≡ true → are_in_range g (moves_of ws) ≡ true
 of_words_in_range g [] h = refl
 of_words_in_range g (w ∷ ws) h =
     let (here, more) = and_parts (word_within g.workers w) (list_all (word_within g.workers) ws) h in

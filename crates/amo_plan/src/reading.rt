@@ -14,7 +14,7 @@ use super::job::{Job, read_jobs};
 use super::limits::budgets_within;
 use super::naming::{check_jobs, part_jobs};
 use super::plan::{Heads, Plan};
-use super::row::Row;
+use super::items::Items;
 use super::schedule::read_schedule;
 use super::top::{Top, read_top};
 use amo_kk::Givens;
@@ -68,12 +68,12 @@ fn plan_with(
             version: top.form.version,
             block: top.form.block,
             givens,
-            names: Row::new(names),
-            moves: Row::new(moves),
+            names: Items::new(names),
+            moves: Items::new(moves),
             rounds: top.more.rounds as u32,
-            budgets: Row::new(budgets),
+            budgets: Items::new(budgets),
         },
-        tasks: Row::new(tasks),
+        tasks: Items::new(tasks),
     })
 }
 
