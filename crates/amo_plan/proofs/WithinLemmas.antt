@@ -1,6 +1,6 @@
 -- The moves that are read are those of the workers that there are.
-use Rattle.std.proofs.Common.{◌≡◌, ℕ, zero, suc, ◌+◌, ◌≤◌, Bool, true, false, cond, leb, List, [], ◌∷◌, ◌++◌, length, slice_index, take, drop, Option, Some, None, option_map, Result, Ok, refl, ◌∙◌, subst, replicate}
-use Rattle.std.specs.Prelude.{◌&&◌, position}
+use Rattle.std.proofs.Common.{◌≡◌, ℕ, zero, suc, ◌+◌, ◌≤◌, Bool, true, false, cond, leb, List, [], ◌∷◌, ◌++◌, length, slice_index, take, drop, Option, Some, None, option_map, Result, Ok, refl, subst, replicate}
+use Rattle.std.specs.Prelude.{position}
 use Rattle.std.specs.List.{list_all}
 use Rattle.std.proofs.lemmas.Bool.{le-leb, and_parts}
 use Rattle.amo_kk.specs.Object.{is_within}

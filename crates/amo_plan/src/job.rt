@@ -8,8 +8,8 @@ ghost use Rattle.amo_plan.specs.Tree.{is_known, each_key, naturals_in};
 ghost use Rattle.amo_plan.specs.Jobs.{job_keys, task_of, job_at, read_jobs};
 
 use super::fault::PlanFault;
-use super::place::place_of;
 use super::items::Items;
+use super::place::place_of;
 use super::task::Task;
 use super::text::Text;
 use super::tree::{has_key, naturals, text_at, value_at};

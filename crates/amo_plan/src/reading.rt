@@ -10,11 +10,11 @@ ghost use Rattle.amo_plan.specs.PlanSeen.{plan_seen};
 ghost use Rattle.amo_kk.specs.Givens.{givens_of};
 
 use super::fault::PlanFault;
+use super::items::Items;
 use super::job::{Job, read_jobs};
 use super::limits::budgets_within;
 use super::naming::{check_jobs, part_jobs};
 use super::plan::{Heads, Plan};
-use super::items::Items;
 use super::schedule::read_schedule;
 use super::top::{Top, read_top};
 use amo_kk::Givens;

@@ -109,7 +109,12 @@ fn read_word(version: u32, text: &[u8]) -> Option<ScheduleWord>
 
 /// The word in this place, of the workers up to so many.
 #[tactic(auto, unfolding(crate::specs::Schedule::word_at))]
-pub fn word_at(version: u32, workers: u32, place: u32, text: &[u8]) -> Result<ScheduleWord, PlanFault>
+pub fn word_at(
+    version: u32,
+    workers: u32,
+    place: u32,
+    text: &[u8],
+) -> Result<ScheduleWord, PlanFault>
     ensures { Gives (λ w. w) result (word_at version workers place text.now) }
 {
     match read_word(version, text) {
