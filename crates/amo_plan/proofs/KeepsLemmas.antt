@@ -1,11 +1,14 @@
 -- The plans of the definition keep what each plan keeps.
-use Rattle.std.proofs.Common.{◌≡◌, ℕ, true, cond, leb, List, [], length, map, Option, Some, None, Ok, refl, sym, ap, ◌∙◌, replicate, arith, inl, inr, subst}
+use Rattle.std.proofs.Common.{◌≡◌, ◌≤◌, ℕ, zero, suc, true, cond, leb, List, [], length, map, Option, Some, None, Ok, refl, sym, ap, ◌∙◌, replicate, arith, inl, inr, subst}
 use Rattle.std.specs.Prelude.{IfSome, ◌&&◌, ◌==◌, codes, option_and_then}
 use Rattle.std.specs.Int.{div_ceil}
 use Rattle.std.specs.List.{list_all}
-use Rattle.std.proofs.lemmas.Bool.{cases_Bool}
+use Rattle.std.proofs.lemmas.Bool.{cases_Bool, leb-true}
 use Rattle.std.proofs.lemmas.Bool.Decides.{nat_tests}
 use Rattle.std.proofs.lemmas.List.{length-map, length-replicate}
+use Rattle.std.proofs.lemmas.Map.Made.{AllPairs-from_IsDistinct}
+use Rattle.std.proofs.lemmas.Slice.Eq.{bytes_eq-Decides}
+use Rattle.amo_kk.specs.declared.event.Move.{Move}
 use Rattle.toml.specs.Data.{Data, Members, get_member}
 use Rattle.amo_kk.specs.declared.givens.Givens.{Givens}
 use Rattle.amo_kk.specs.declared.givens.GivensFault.{GivensFault}
@@ -15,16 +18,16 @@ use Rattle.amo_plan.specs.declared.fault.PlanFault.TheVariants.{TooLong, WrongKi
 use Rattle.amo_plan.specs.declared.job.Job.{Job}
 use Rattle.amo_plan.specs.declared.top.Form.{Form}
 use Rattle.amo_plan.specs.Jobs.{read_jobs, fine_jobs}
-use Rattle.amo_plan.specs.Keeps.{is_form, all_fit, all_within}
+use Rattle.amo_plan.specs.Keeps.{is_form, Keeps}
 use Rattle.amo_plan.specs.Limits.{is_small, small_budgets, budgets_within}
 use Rattle.amo_plan.specs.Plan.{PlanSeen, document, or_bad_givens, plan_with, plan_in, plan_of}
-use Rattle.amo_plan.specs.Schedule.{read_schedule}
+use Rattle.amo_plan.specs.Schedule.{words_of, read_words, moves_of, short_moves_of, read_schedule}
 use Rattle.amo_plan.specs.Steps.{◌>>=◌, or_fault, unless, is_between}
 use Rattle.amo_plan.specs.Top.{TopSeen, MoreSeen, newest_version, version_of, block_in, block_of, so_many, jobs_of, text_of, rounds_of, budgets_of, is_two, is_top_key, form_of, more_values, top_values, top_of}
 use Rattle.amo_plan.specs.Tree.{has, each_key, natural, naturals_in, natural_at}
-use Rattle.amo_plan.proofs.FineLemmas.{AreNames, jobs_fit, jobs_named}
+use Rattle.amo_plan.proofs.FineLemmas.{jobs_fit, jobs_named}
 use Rattle.amo_plan.proofs.StepsLemmas.{bind_ok, ok_is, or_ok, unless_ok, taken}
-use Rattle.amo_plan.proofs.WithinLemmas.{schedule_within}
+use Rattle.amo_plan.proofs.WithinLemmas.{schedule_in_range}
 
 -- a number that was taken within its bounds
 within_bounds : (low high : ℕ) (o : Option ℕ) (n : ℕ) → option_and_then (λ m. cond (is_between low high m) (Some m) None) o ≡ Some n → is_between low high n ≡ true
@@ -83,8 +86,8 @@ more_many m doc more e =
 
 -- what the top level keeps
 record TopKeeps (top : TopSeen) : Type 0 where
-  form : is_form top.version top.block ≡ true
-  budgets : IfSome top.budgets (λ ys. length ys ≡ top.workers)
+  form : is_form top.form.version top.form.block ≡ true
+  budgets : IfSome top.more.budgets (λ ys. length ys ≡ top.workers)
 
 top_keeps : (doc : Members) (top : TopSeen) → top_of doc ≡ Ok top → TopKeeps top
 unfolding top_of top_values
@@ -96,7 +99,7 @@ top_keeps doc top e =
     let (beta, of_beta, e3) = bind_ok (or_fault (natural_at (codes "beta") doc) (WrongKind 0)) _ top e2 in
     let (jobs, of_jobs, e4) = bind_ok (or_fault (jobs_of (get_member (codes "job") doc)) (WrongKind 0)) _ top e3 in
     let (more, of_more, e5) = bind_ok (more_values workers doc) _ top e4 in
-    let seen : TopSeen = record { version = form.version; block = form.block; workers = workers; beta = beta; jobs = jobs; schedule = more.schedule; rounds = more.rounds; budgets = more.budgets } in
+    let seen : TopSeen = record { form = form; workers = workers; beta = beta; jobs = jobs; more = more } in
     let same : seen ≡ top = ok_is seen top e5 in
     subst TopKeeps {x = seen} same (record { form = form_known doc form of_form; budgets = more_many workers doc more of_more })
 
@@ -108,41 +111,59 @@ small_many m (Some xs) out many e =
     let same : xs ≡ out = ok_is xs out small.1 in
     rw (← same) many
 
-within_many : (m rounds : ℕ) (o : Option (List ℕ)) (out : List ℕ) → IfSome o (λ ys. length ys ≡ m) → budgets_within m rounds o ≡ Ok out → length out ≡ m
+-- budgets within their limit are small
+all_small : (m : ℕ) → list_all is_small (replicate m 1000000) ≡ true
+all_small zero = refl
+all_small (suc m) = all_small m
+
+small_small : (m : ℕ) (o : Option (List ℕ)) (out : List ℕ) → small_budgets m o ≡ Ok out → list_all is_small out ≡ true
+small_small m None out e = let same : replicate m 1000000 ≡ out = ok_is _ out e in rw (← same) (all_small m)
+small_small m (Some xs) out e =
+    let small = unless_ok (list_all is_small xs) TooLong (Ok xs) out e in
+    let same : xs ≡ out = ok_is xs out small.1 in
+    rw (← same) small.0
+
+-- and the rounds before them are not too many
+budgets_few : (m rounds : ℕ) (o : Option (List ℕ)) (out : List ℕ) → budgets_within m rounds o ≡ Ok out → (leb rounds 10000 ≡ true) × (small_budgets m o ≡ Ok out)
 unfolding budgets_within
-within_many m rounds o out many e = small_many m o out many (unless_ok (leb rounds 10000) TooLong (small_budgets m o) out e).1
+budgets_few m rounds o out e = unless_ok (leb rounds 10000) TooLong (small_budgets m o) out e
+
+-- the moves that are read are not too many
+schedule_short : (version m : ℕ) (text : List ℕ) (moves : List Move) → read_schedule version m text ≡ Ok moves → length moves ≤ 100000
+unfolding read_schedule short_moves_of
+schedule_short version m text moves e =
+    let (words, of_words, e1) = bind_ok (read_words version m (words_of text)) _ moves e in
+    let few = unless_ok (leb (length (moves_of words)) 100000) TooLong (Ok (moves_of words)) moves e1 in
+    let same : moves_of words ≡ moves = ok_is _ _ few.1 in
+    rw (← same) (leb-true (length (moves_of words)) 100000 few.0)
 
 -- the givens have the numbers that they are of
 numbers_kept : (n m beta : ℕ) (fault : Option GivensFault) (is : first_fault n m beta ≡ fault) (g : Givens) → or_bad_givens (numbers_or_fault n m beta fault is) ≡ Ok g → (n ≡ g.jobs) × (m ≡ g.workers)
 numbers_kept n m beta None is g e = let same = ok_is _ g e in (ap (λ (h : Givens). h.jobs) same, ap (λ (h : Givens). h.workers) same)
 numbers_kept n m beta (Some fault) is g e = absurd cc
 
--- what a plan keeps
-pub record Keeps (p : PlanSeen) : Type 0 where
-  pub form : is_form p.version p.block ≡ true
-  pub blocks : div_ceil (length p.names) p.block ≡ p.givens.jobs
-  pub tasked : length p.tasks ≡ length p.names
-  pub named : AreNames [] p.names
-  pub fitting : all_fit p.tasks ≡ true
-  pub budgeted : length p.budgets ≡ p.givens.workers
-  pub within : all_within p.givens.workers p.moves ≡ true
-
-with_keeps : (top : TopSeen) (g : Givens) (jobs : List Job) (p : PlanSeen) → TopKeeps top → div_ceil (length jobs) top.block ≡ g.jobs → top.workers ≡ g.workers → plan_with top g jobs ≡ Ok p → Keeps p
+with_keeps : (top : TopSeen) (g : Givens) (jobs : List Job) (p : PlanSeen) → TopKeeps top → div_ceil (length jobs) top.form.block ≡ g.jobs → top.workers ≡ g.workers → plan_with top g jobs ≡ Ok p → Keeps p
 unfolding plan_with
 with_keeps top g jobs p keeps count workers e =
     let (fine, of_fine, e1) = bind_ok (fine_jobs [] 1 jobs) _ p e in
-    let (moves, of_moves, e2) = bind_ok (read_schedule top.version top.workers top.schedule) _ p e1 in
-    let (budgets, of_budgets, e3) = bind_ok (budgets_within top.workers top.rounds top.budgets) _ p e2 in
-    let plan : PlanSeen = record { version = top.version; block = top.block; givens = g; names = map (λ job. job.name) jobs; tasks = map (λ job. job.task) jobs; moves = moves; rounds = top.rounds; budgets = budgets } in
+    let (moves, of_moves, e2) = bind_ok (read_schedule top.form.version top.workers top.more.schedule) _ p e1 in
+    let (budgets, of_budgets, e3) = bind_ok (budgets_within top.workers top.more.rounds top.more.budgets) _ p e2 in
+    let plan : PlanSeen = record { version = top.form.version; block = top.form.block; givens = g; names = map (λ job. job.name) jobs; tasks = map (λ job. job.task) jobs; moves = moves; rounds = top.more.rounds; budgets = budgets } in
     let same : plan ≡ p = ok_is plan p e3 in
+    let names = jobs_named [] 1 jobs fine of_fine in
+    let few = budgets_few top.workers top.more.rounds top.more.budgets budgets of_budgets in
     subst Keeps same (record {
       form = keeps.form;
       blocks = simp length-map count;
       tasked = simp length-map;
-      named = jobs_named [] 1 jobs fine of_fine;
+      named = names.proper;
+      distinct = AllPairs-from_IsDistinct bytes_eq-Decides (map (λ job. job.name) jobs) names.distinct;
       fitting = jobs_fit [] 1 jobs fine of_fine;
-      budgeted = within_many top.workers top.rounds top.budgets budgets keeps.budgets of_budgets ∙ workers;
-      within = subst (λ (m : ℕ). all_within m moves ≡ true) workers (schedule_within top.version top.workers top.schedule moves of_moves);
+      within = schedule_in_range top.form.version g top.more.schedule moves (subst (λ (m : ℕ). read_schedule top.form.version m top.more.schedule ≡ Ok moves) workers of_moves);
+      short = schedule_short top.form.version top.workers top.more.schedule moves of_moves;
+      rounded = leb-true top.more.rounds 10000 few.0;
+      budgeted = small_many top.workers top.more.budgets budgets keeps.budgets few.1 ∙ workers;
+      small = small_small top.workers top.more.budgets budgets few.1;
     })
 
 in_keeps : (doc : Members) (p : PlanSeen) → plan_in doc ≡ Ok p → Keeps p
@@ -150,11 +171,11 @@ unfolding plan_in
 in_keeps doc p e =
     let (top, of_top, e1) = bind_ok (top_of doc) _ p e in
     let (jobs, of_jobs, e2) = bind_ok (read_jobs top.jobs) _ p e1 in
-    let (g, of_g, e3) = bind_ok (or_bad_givens (givens_of (div_ceil (length jobs) top.block) top.workers top.beta)) _ p e2 in
-    let (count, workers) = numbers_kept (div_ceil (length jobs) top.block) top.workers top.beta (first_fault (div_ceil (length jobs) top.block) top.workers top.beta) refl g of_g in
+    let (g, of_g, e3) = bind_ok (or_bad_givens (givens_of (div_ceil (length jobs) top.form.block) top.workers top.beta)) _ p e2 in
+    let (count, workers) = numbers_kept (div_ceil (length jobs) top.form.block) top.workers top.beta (first_fault (div_ceil (length jobs) top.form.block) top.workers top.beta) refl g of_g in
     with_keeps top g jobs p (top_keeps doc top of_top) count workers e3
 
--- each plan that a text has by the definition keeps this
+-- each plan of a text keeps what a plan keeps
 pub plan_keeps : (bytes : List ℕ) (p : PlanSeen) → plan_of bytes ≡ Ok p → Keeps p
 unfolding plan_of
 plan_keeps bytes p e =

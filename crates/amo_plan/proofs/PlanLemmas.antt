@@ -25,9 +25,9 @@ document_refused bytes refused =
     ]
 
 -- what the plan of a tree rests on
-pub plan_in_is : (doc : Members) (top : TopSeen) (jobs : List Job) (givens : Givens) (n : ℕ) → n ≡ length jobs → top_of doc ≡ Ok top → read_jobs top.jobs ≡ Ok jobs → or_bad_givens (givens_of (div_ceil n top.block) top.workers top.beta) ≡ Ok givens → plan_in doc ≡ plan_with top givens jobs
+pub plan_in_is : (doc : Members) (top : TopSeen) (jobs : List Job) (givens : Givens) (n : ℕ) → n ≡ length jobs → top_of doc ≡ Ok top → read_jobs top.jobs ≡ Ok jobs → or_bad_givens (givens_of (div_ceil n top.form.block) top.workers top.beta) ≡ Ok givens → plan_in doc ≡ plan_with top givens jobs
 unfolding plan_in
 plan_in_is doc top jobs givens n count of_top of_jobs of_givens =
-    let fine : or_bad_givens (givens_of (div_ceil (length jobs) top.block) top.workers top.beta) ≡ Ok givens =
-    ap (λ (k : ℕ). or_bad_givens (givens_of (div_ceil k top.block) top.workers top.beta)) (sym count) ∙ of_givens in
+    let fine : or_bad_givens (givens_of (div_ceil (length jobs) top.form.block) top.workers top.beta) ≡ Ok givens =
+    ap (λ (k : ℕ). or_bad_givens (givens_of (div_ceil k top.form.block) top.workers top.beta)) (sym count) ∙ of_givens in
     rw (of_top, of_jobs, fine) refl

@@ -1,18 +1,19 @@
 -- The moves that are read are those of the workers that there are.
-use Rattle.std.proofs.Common.{◌≡◌, ℕ, zero, suc, ◌+◌, ◌≤◌, Bool, true, false, cond, leb, List, [], ◌∷◌, length, slice_index, take, drop, Option, Some, None, option_map, Result, Ok, refl, ◌∙◌, subst, replicate}
-use Rattle.std.specs.Prelude.{◌&&◌, position}
+use Rattle.std.proofs.Common.{◌≡◌, ℕ, zero, suc, ◌+◌, ◌≤◌, Bool, true, false, cond, leb, List, [], ◌∷◌, ◌++◌, length, slice_index, take, drop, Option, Some, None, option_map, Result, Ok, refl, subst, replicate}
+use Rattle.std.specs.Prelude.{position}
 use Rattle.std.specs.List.{list_all}
 use Rattle.std.proofs.lemmas.Bool.{le-leb, and_parts}
-use Rattle.std.proofs.lemmas.List.Folds.{list_all-append}
+use Rattle.amo_kk.specs.Object.{is_within}
+use Rattle.amo_kk.specs.World.{are_in_range, worker_of as mover}
+use Rattle.amo_kk.specs.declared.givens.Givens.{Givens}
 use Rattle.amo_kk.specs.declared.event.Move.{Move}
 use Rattle.amo_kk.specs.declared.event.Move.TheVariants.{Turn}
 use Rattle.amo_plan.specs.declared.fault.PlanFault.{PlanFault}
 use Rattle.amo_plan.specs.declared.fault.PlanFault.TheVariants.{TooLong, BadScheduleWord, NoSuchWorker}
-use Rattle.amo_plan.specs.declared.word.Word.{Word}
-use Rattle.amo_plan.specs.declared.word.Word.TheVariants.{Turns, Stop, Departure}
+use Rattle.amo_plan.specs.declared.schedule_word.ScheduleWord.{ScheduleWord}
+use Rattle.amo_plan.specs.declared.schedule_word.ScheduleWord.TheVariants.{Turns, Stop, Departure}
 use Rattle.amo_plan.specs.Digits.{number_in}
 use Rattle.amo_plan.specs.Schedule.{is_x, is_l, is_asterisk, number_of, turns_of, turns_at, turns_word, word_of, worker_of, word_at, words_of, read_words, moves_of_word, moves_of, short_moves_of, read_schedule}
-use Rattle.amo_plan.specs.Keeps.{is_within, all_within}
 use Rattle.amo_plan.specs.Steps.{◌>>=◌, or_fault, unless, each, capped}
 use Rattle.amo_plan.proofs.DigitsLemmas.{within_some}
 use Rattle.amo_plan.proofs.StepsLemmas.{bind_ok, ok_is, or_ok, unless_ok}
@@ -22,26 +23,26 @@ unfolding number_of
 number_some text k e = (within_some 1 999999 k (number_in text) e).1
 
 -- a word that names the worker of a number
-one_some : (named : ℕ → Word) → ((k : ℕ) → worker_of (named k) ≡ k) → (o : Option ℕ) (x : Word) → ((k : ℕ) → o ≡ Some k → 1 ≤ k) → option_map named o ≡ Some x → 1 ≤ worker_of x
+one_some : (named : ℕ → ScheduleWord) → ((k : ℕ) → worker_of (named k) ≡ k) → (o : Option ℕ) (x : ScheduleWord) → ((k : ℕ) → o ≡ Some k → 1 ≤ k) → option_map named o ≡ Some x → 1 ≤ worker_of x
 one_some named of_it None x some e = absurd cc
 one_some named of_it (Some k) x some e =
     let same : named k ≡ x = cc in
-    subst (λ (y : Word). 1 ≤ worker_of y) same (rw (of_it k) (some k refl))
+    subst (λ (y : ScheduleWord). 1 ≤ worker_of y) same (rw (of_it k) (some k refl))
 
-turns_some : (o p : Option ℕ) (x : Word) → ((k : ℕ) → o ≡ Some k → 1 ≤ k) → turns_of o p ≡ Some x → 1 ≤ worker_of x
+turns_some : (o p : Option ℕ) (x : ScheduleWord) → ((k : ℕ) → o ≡ Some k → 1 ≤ k) → turns_of o p ≡ Some x → 1 ≤ worker_of x
 turns_some None p x some e = absurd cc
 turns_some (Some k) None x some e = absurd cc
-turns_some (Some k) (Some c) x some e = let same : Turns k c ≡ x = cc in subst (λ (y : Word). 1 ≤ worker_of y) same (some k refl)
+turns_some (Some k) (Some c) x some e = let same : Turns k c ≡ x = cc in subst (λ (y : ScheduleWord). 1 ≤ worker_of y) same (some k refl)
 
-at_some : (i : Option ℕ) (w : List ℕ) (x : Word) → turns_at i w ≡ Some x → 1 ≤ worker_of x
+at_some : (i : Option ℕ) (w : List ℕ) (x : ScheduleWord) → turns_at i w ≡ Some x → 1 ≤ worker_of x
 at_some None w x e = turns_some (number_of w) (Some 1) x (number_some w) e
 at_some (Some i) w x e = turns_some (number_of (take i w)) (number_of (drop (i + 1) w)) x (number_some (take i w)) e
 
-either_some : (b : Bool) (o p : Option Word) (x : Word) → (o ≡ Some x → 1 ≤ worker_of x) → (p ≡ Some x → 1 ≤ worker_of x) → cond b o p ≡ Some x → 1 ≤ worker_of x
+either_some : (b : Bool) (o p : Option ScheduleWord) (x : ScheduleWord) → (o ≡ Some x → 1 ≤ worker_of x) → (p ≡ Some x → 1 ≤ worker_of x) → cond b o p ≡ Some x → 1 ≤ worker_of x
 either_some true o p x f g e = f e
 either_some false o p x f g e = g e
 
-word_some : (version : ℕ) (w : List ℕ) (x : Word) → word_of version w ≡ Some x → 1 ≤ worker_of x
+word_some : (version : ℕ) (w : List ℕ) (x : ScheduleWord) → word_of version w ≡ Some x → 1 ≤ worker_of x
 unfolding word_of turns_word
 word_some version w x e =
     let of_rest = number_some (drop 1 w) in
@@ -51,10 +52,10 @@ word_some version w x e =
     (one_some Departure (λ k. refl) (number_of (drop 1 w)) x of_rest) (at_some (position is_asterisk w) w x)) e
 
 -- the word is of one of m workers
-abbrev word_within : ℕ → Word → Bool
-word_within m x = leb 1 (worker_of x) && leb (worker_of x) m
+abbrev word_within : ℕ → ScheduleWord → Bool
+word_within m x = is_within m (worker_of x)
 
-at_within : (version m j : ℕ) (w : List ℕ) (x : Word) → word_at version m j w ≡ Ok x → word_within m x ≡ true
+at_within : (version m j : ℕ) (w : List ℕ) (x : ScheduleWord) → word_at version m j w ≡ Ok x → word_within m x ≡ true
 unfolding word_at
 at_within version m j w x e =
     let a = bind_ok (or_fault (word_of version w) (BadScheduleWord j)) (λ word. unless (leb (worker_of word) m) (NoSuchWorker j) (Ok word)) x e in
@@ -71,26 +72,34 @@ each_within {A} {B} p f good i (x ∷ xs) ys e =
     let parts : first.0 ∷ rest.0 ≡ ys = ok_is _ _ rest.2 in
     rw (← parts, good (capped i) x first.0 first.1, each_within p f good (i + 1) xs rest.0 rest.1) refl
 
-turns_within : (m k c : ℕ) → is_within m (Turn k) ≡ true → all_within m (replicate c (Turn k)) ≡ true
-turns_within m k zero h = refl
-turns_within m k (suc c) h = rw (h, turns_within m k c h) refl
+-- one list of moves after another
+in_range-append : (g : Givens) (xs ys : List Move) → are_in_range g xs ≡ true → are_in_range g ys ≡ true → are_in_range g (xs ++ ys) ≡ true
+in_range-append g [] ys front back = back
+in_range-append g (x ∷ xs) ys front back =
+    let (here, more) = and_parts (is_within g.workers (mover x)) (are_in_range g xs) front in
+    rw (here, in_range-append g xs ys more back) refl
 
-of_word_within : (m : ℕ) (x : Word) → word_within m x ≡ true → all_within m (moves_of_word x) ≡ true
-of_word_within m (Turns k c) h = turns_within m k c h
-of_word_within m (Stop k) h = rw h refl
-of_word_within m (Departure k) h = rw h refl
+turns_in_range : (g : Givens) (k c : ℕ) → is_within g.workers k ≡ true → are_in_range g (replicate c (Turn k)) ≡ true
+turns_in_range g k zero h = refl
+turns_in_range g k (suc c) h = rw (h, turns_in_range g k c h) refl
 
-moves_within : (m : ℕ) (ws : List Word) → list_all (word_within m) ws ≡ true → all_within m (moves_of ws) ≡ true
-moves_within m [] h = refl
-moves_within m (w ∷ ws) h =
-    let (here, more) = and_parts (word_within m w) (list_all (word_within m) ws) h in
-    list_all-append (is_within m) (moves_of_word w) (moves_of ws) ∙ rw (of_word_within m w here, moves_within m ws more) refl
+of_word_in_range : (g : Givens) (x : ScheduleWord) → word_within g.workers x ≡ true → are_in_range g (moves_of_word x) ≡ true
+of_word_in_range g (Turns k c) h = turns_in_range g k c h
+of_word_in_range g (Stop k) h = rw h refl
+of_word_in_range g (Departure k) h = rw h refl
 
--- the moves that are read are of one of m workers
-pub schedule_within : (version m : ℕ) (text : List ℕ) (moves : List Move) → read_schedule version m text ≡ Ok moves → all_within m moves ≡ true
+of_words_in_range : (g : Givens) (ws : List ScheduleWord) → list_all (word_within g.workers) ws ≡ true → are_in_range g (moves_of ws) ≡ true
+of_words_in_range g [] h = refl
+of_words_in_range g (w ∷ ws) h =
+    let (here, more) = and_parts (word_within g.workers w) (list_all (word_within g.workers) ws) h in
+    in_range-append g (moves_of_word w) (moves_of ws) (of_word_in_range g w here) (of_words_in_range g ws more)
+
+-- the moves that are read are of workers that exist
+pub schedule_in_range : (version : ℕ) (g : Givens) (text : List ℕ) (moves : List Move) → read_schedule version g.workers text ≡ Ok moves → are_in_range g moves ≡ true
 unfolding read_schedule short_moves_of
-schedule_within version m text moves e =
+schedule_in_range version g text moves e =
+    let m = g.workers in
     let a = bind_ok (read_words version m (words_of text)) (λ words. unless (leb (length (moves_of words)) 100000) TooLong (Ok (moves_of words))) moves e in
     let b = unless_ok (leb (length (moves_of a.0)) 100000) TooLong (Ok (moves_of a.0)) moves a.2 in
     let same : moves_of a.0 ≡ moves = ok_is _ _ b.1 in
-    rw (← same) (moves_within m a.0 (each_within (word_within m) (word_at version m) (at_within version m) 1 (words_of text) a.0 a.1))
+    rw (← same) (of_words_in_range g a.0 (each_within (word_within m) (word_at version m) (at_within version m) 1 (words_of text) a.0 a.1))

@@ -47,16 +47,16 @@ or_bad_givens (Err fault) = Err (BadGivens fault)
 unfoldable pub plan_with : TopSeen → Givens → List Job → Result PlanSeen PlanFault
 plan_with top givens jobs = do
   fine ← fine_jobs [] 1 jobs
-  moves ← read_schedule top.version top.workers top.schedule
-  budgets ← budgets_within top.workers top.rounds top.budgets
+  moves ← read_schedule top.form.version top.workers top.more.schedule
+  budgets ← budgets_within top.workers top.more.rounds top.more.budgets
   Ok (record {
-    version = top.version;
-    block = top.block;
+    version = top.form.version;
+    block = top.form.block;
     givens = givens;
     names = map (λ job. job.name) jobs;
     tasks = map (λ job. job.task) jobs;
     moves = moves;
-    rounds = top.rounds;
+    rounds = top.more.rounds;
     budgets = budgets;
   })
 
@@ -65,7 +65,7 @@ unfoldable pub plan_in : Members → Result PlanSeen PlanFault
 plan_in doc = do
   top ← top_of doc
   jobs ← read_jobs top.jobs
-  givens ← or_bad_givens (givens_of (div_ceil (length jobs) top.block) top.workers top.beta)
+  givens ← or_bad_givens (givens_of (div_ceil (length jobs) top.form.block) top.workers top.beta)
   plan_with top givens jobs
 
 -- the plan of a text

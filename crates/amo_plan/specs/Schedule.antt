@@ -5,8 +5,8 @@ use Rattle.amo_kk.specs.declared.event.Move.{Move}
 use Rattle.amo_kk.specs.declared.event.Move.TheVariants.{Turn, Halt, Leave}
 use Rattle.amo_plan.specs.declared.fault.PlanFault.{PlanFault}
 use Rattle.amo_plan.specs.declared.fault.PlanFault.TheVariants.{BadScheduleWord, NoSuchWorker, TooLong}
-use Rattle.amo_plan.specs.declared.word.Word.{Word}
-use Rattle.amo_plan.specs.declared.word.Word.TheVariants.{Turns, Stop, Departure}
+use Rattle.amo_plan.specs.declared.schedule_word.ScheduleWord.{ScheduleWord}
+use Rattle.amo_plan.specs.declared.schedule_word.ScheduleWord.TheVariants.{Turns, Stop, Departure}
 use Rattle.amo_plan.specs.Digits.{number_in, within}
 use Rattle.amo_plan.specs.Steps.{◌>>=◌, or_fault, unless, each}
 
@@ -27,7 +27,7 @@ unfoldable pub number_of : List ℕ → Option ℕ
 number_of text = within 1 999999 (number_in text)
 
 -- so many turns, if both numbers are there
-abbrev pub turns_of : Option ℕ → Option ℕ → Option Word
+abbrev pub turns_of : Option ℕ → Option ℕ → Option ScheduleWord
 turns_of (Some k) (Some c) = Some (Turns k c)
 turns_of _ _ = None
 
@@ -40,12 +40,12 @@ abbrev pub is_asterisk : ℕ → Bool
 is_asterisk b = b == 42
 
 -- a number; or two, where there is an asterisk
-abbrev pub turns_at : Option ℕ → List ℕ → Option Word
+abbrev pub turns_at : Option ℕ → List ℕ → Option ScheduleWord
 turns_at None w = turns_of (number_of w) (Some 1)
 turns_at (Some i) w = turns_of (number_of (take i w)) (number_of (drop (i + 1) w))
 
 -- turns of a worker
-unfoldable pub turns_word : List ℕ → Option Word
+unfoldable pub turns_word : List ℕ → Option ScheduleWord
 turns_word w = turns_at (position is_asterisk w) w
 
 -- an l begins a word of version 2
@@ -53,38 +53,38 @@ abbrev pub is_l : ℕ → ℕ → Bool
 is_l version b = version == 2 && b == 108
 
 -- x and a number, in version 2 l and a number, a number, or two numbers parted by an asterisk
-unfoldable pub word_of : ℕ → List ℕ → Option Word
+unfoldable pub word_of : ℕ → List ℕ → Option ScheduleWord
 word_of version w =
     if is_x (slice_index w 0)
     then option_map Stop (number_of (drop 1 w))
     else (if is_l version (slice_index w 0) then option_map Departure (number_of (drop 1 w)) else turns_word w)
 
 -- the worker that a word names
-abbrev pub worker_of : Word → ℕ
+abbrev pub worker_of : ScheduleWord → ℕ
 worker_of (Turns k c) = k
 worker_of (Stop k) = k
 worker_of (Departure k) = k
 
 -- the i-th word, of workers up to m
-unfoldable pub word_at : ℕ → ℕ → ℕ → List ℕ → Result Word PlanFault
+unfoldable pub word_at : ℕ → ℕ → ℕ → List ℕ → Result ScheduleWord PlanFault
 word_at version m i w = or_fault (word_of version w) (BadScheduleWord i) >>= λ word. unless (nat_le (worker_of word) m) (NoSuchWorker i) (Ok word)
 
 -- what the words say
-abbrev pub read_words : ℕ → ℕ → List (List ℕ) → Result (List Word) PlanFault
+abbrev pub read_words : ℕ → ℕ → List (List ℕ) → Result (List ScheduleWord) PlanFault
 read_words version m ws = each (word_at version m) 1 ws
 
 -- the moves that a word is
-abbrev pub moves_of_word : Word → List Move
+abbrev pub moves_of_word : ScheduleWord → List Move
 moves_of_word (Turns k c) = replicate c (Turn k)
 moves_of_word (Stop k) = Halt k ∷ []
 moves_of_word (Departure k) = Leave k ∷ []
 
 -- the moves of the words, one after the other
-abbrev pub moves_of : List Word → List Move
+abbrev pub moves_of : List ScheduleWord → List Move
 moves_of ws = flat_map moves_of_word ws
 
 -- the moves of the words, of which a plan has at most 100000
-unfoldable pub short_moves_of : List Word → Result (List Move) PlanFault
+unfoldable pub short_moves_of : List ScheduleWord → Result (List Move) PlanFault
 short_moves_of ws = unless (nat_le (length (moves_of ws)) 100000) TooLong (Ok (moves_of ws))
 
 -- the moves of a text, of workers up to m

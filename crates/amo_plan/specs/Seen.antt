@@ -12,12 +12,9 @@ more_seen m = record { schedule = m.schedule.now; rounds = m.rounds; budgets = o
 -- what the top level says
 abbrev pub top_seen : TopCode → TopSeen
 top_seen t = record {
-  version = t.version;
-  block = t.block;
+  form = t.form;
   workers = t.workers;
   beta = t.beta;
   jobs = map (λ x. table_view x.now) t.jobs.items;
-  schedule = t.schedule.now;
-  rounds = t.rounds;
-  budgets = option_map (λ v. v.items) t.budgets;
+  more = more_seen t.more;
 }

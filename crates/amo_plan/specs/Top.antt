@@ -8,17 +8,20 @@ use Rattle.amo_plan.specs.declared.top.Form.{Form}
 use Rattle.amo_plan.specs.Steps.{◌>>=◌, or_fault, unless, is_between}
 use Rattle.amo_plan.specs.Tree.{Key, has, natural, natural_at, is_known, each_key, tables_of, naturals_in}
 
--- what the top level says
-pub record TopSeen : Type 0 where
-  pub version : ℕ
-  pub block : ℕ
-  pub workers : ℕ
-  pub beta : ℕ
-  pub jobs : List Members
+-- the values that may be absent, but for the jobs
+pub record MoreSeen : Type 0 where
   pub schedule : List ℕ
   pub rounds : ℕ
   -- none where the key is absent
   pub budgets : Option (List ℕ)
+
+-- what the top level says
+pub record TopSeen : Type 0 where
+  pub form : Form
+  pub workers : ℕ
+  pub beta : ℕ
+  pub jobs : List Members
+  pub more : MoreSeen
 
 -- the newest version of the format
 abbrev pub newest_version : ℕ
@@ -89,13 +92,7 @@ form_of doc = do
   block ← or_fault (block_of version doc) (WrongKind 0)
   Ok (record { version = version; block = block })
 
--- the values that may be absent, but for the jobs
-pub record MoreSeen : Type 0 where
-  pub schedule : List ℕ
-  pub rounds : ℕ
-  pub budgets : Option (List ℕ)
-
--- these, each of its kind
+-- the values that may be absent, each of its kind
 unfoldable pub more_values : ℕ → Members → Result MoreSeen PlanFault
 more_values workers doc = do
   schedule ← or_fault (text_of (get_member (codes "schedule") doc)) (WrongKind 0)
@@ -111,16 +108,7 @@ top_values doc = do
   beta ← or_fault (natural_at (codes "beta") doc) (WrongKind 0)
   jobs ← or_fault (jobs_of (get_member (codes "job") doc)) (WrongKind 0)
   more ← more_values workers doc
-  Ok (record {
-    version = form.version;
-    block = form.block;
-    workers = workers;
-    beta = beta;
-    jobs = jobs;
-    schedule = more.schedule;
-    rounds = more.rounds;
-    budgets = more.budgets;
-  })
+  Ok (record { form = form; workers = workers; beta = beta; jobs = jobs; more = more })
 
 -- no other keys, each that is needed, and each of its kind
 unfoldable pub top_of : Members → Result TopSeen PlanFault

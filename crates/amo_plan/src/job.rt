@@ -8,8 +8,8 @@ ghost use Rattle.amo_plan.specs.Tree.{is_known, each_key, naturals_in};
 ghost use Rattle.amo_plan.specs.Jobs.{job_keys, task_of, job_at, read_jobs};
 
 use super::fault::PlanFault;
+use super::items::Items;
 use super::place::place_of;
-use super::row::Row;
 use super::task::Task;
 use super::text::Text;
 use super::tree::{has_key, naturals, text_at, value_at};
@@ -49,7 +49,7 @@ fn read_add(alloc: Global, place: u32, value: &Value) -> Result<Task, PlanFault>
     ensures { Gives (λ t. t) result (or_fault (task_of None (Some (view value.now))) (PlanFault.WrongKind place)) }
 {
     match value.as_array() {
-        Some(items) => Ok(Task::Add(Row::new(naturals(
+        Some(items) => Ok(Task::Add(Items::new(naturals(
             alloc,
             items,
             PlanFault::WrongKind(place),

@@ -2,13 +2,14 @@
 //!
 //! `read_plan` gives the plan of a text, or the first test that the text fails. What a plan is, and which tests
 //! there are in which order, is the definition `plan_of` in specs/Plan.antt, a function of the bytes. The module
-//! `laws` has the theorems over the definitions: which texts are numbers.
+//! `laws` has the theorems over the definitions: which texts are numbers, and what each plan keeps.
 #![tactic(auto)]
 
 mod answer;
 mod block;
 mod digits;
 mod fault;
+mod items;
 mod job;
 pub mod laws;
 mod limits;
@@ -17,22 +18,21 @@ mod place;
 mod plan;
 mod reading;
 mod result;
-mod row;
 mod schedule;
+mod schedule_word;
 mod task;
 mod text;
 mod top;
 mod tree;
-mod word;
 
 pub use answer::{Answer, answer_of};
 pub use block::{Block, answer_block, blocks_of};
 pub use digits::number_within;
 pub use fault::PlanFault;
+pub use items::Items;
 pub use plan::{Heads, Plan};
 pub use reading::read_plan;
 pub use result::result_of;
-pub use row::Row;
 pub use task::Task;
 pub use text::Text;
 

@@ -1,9 +1,10 @@
 //! A plan.
 ghost use Rattle.std.specs.Prelude.{◌≡◌, true, length};
 ghost use Rattle.std.specs.Int.{div_ceil};
-ghost use Rattle.amo_plan.specs.Keeps.{is_form, all_within, all_fit};
+ghost use Rattle.amo_kk.specs.World.{are_in_range};
+ghost use Rattle.amo_plan.specs.Keeps.{is_form, all_fit};
 
-use super::row::Row;
+use super::items::Items;
 use super::task::Task;
 use super::text::Text;
 use amo_kk::{Givens, Move};
@@ -18,13 +19,13 @@ pub struct Heads {
     /// The givens of the algorithm, whose jobs are the blocks.
     pub givens: Givens,
     /// The names of the jobs.
-    pub names: Row<Text>,
+    pub names: Items<Text>,
     /// The moves of the schedule.
-    pub moves: Row<Move>,
+    pub moves: Items<Move>,
     /// How many rounds follow the schedule, at most 10,000. In each, each worker has one turn.
     pub rounds: u32,
     /// How many steps each worker has, where they run: at most 10,000,000.
-    pub budgets: Row<u64>,
+    pub budgets: Items<u64>,
 }
 
 /// A plan: jobs with names and tasks, and how workers take turns at them. It keeps as many names as tasks, a
@@ -35,11 +36,11 @@ pub struct Plan {
     /// All but the tasks.
     pub heads: Heads,
     /// The tasks of the jobs, in their order.
-    pub tasks: Row<Task>,
+    pub tasks: Items<Task>,
     pub ghost form: { is_form heads.version heads.block ≡ true },
     pub ghost blocks: { div_ceil (length heads.names) heads.block ≡ heads.givens.jobs },
     pub ghost tasked: { length tasks ≡ length heads.names },
     pub ghost fitting: { all_fit tasks ≡ true },
     pub ghost budgeted: { length heads.budgets ≡ heads.givens.workers },
-    pub ghost within: { all_within heads.givens.workers heads.moves ≡ true },
+    pub ghost within: { are_in_range heads.givens heads.moves ≡ true },
 }

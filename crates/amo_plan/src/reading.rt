@@ -10,11 +10,11 @@ ghost use Rattle.amo_plan.specs.PlanSeen.{plan_seen};
 ghost use Rattle.amo_kk.specs.Givens.{givens_of};
 
 use super::fault::PlanFault;
+use super::items::Items;
 use super::job::{Job, read_jobs};
 use super::limits::budgets_within;
 use super::naming::{check_jobs, part_jobs};
 use super::plan::{Heads, Plan};
-use super::row::Row;
 use super::schedule::read_schedule;
 use super::top::{Top, read_top};
 use amo_kk::Givens;
@@ -53,27 +53,27 @@ fn plan_with(
     top: &Top<'_>,
     jobs: Vec<Job>,
 ) -> Result<Plan, PlanFault>
-    requires form { is_form top.now.version top.now.block ≡ true }
-    requires blocks { givens.jobs ≡ div_ceil (length jobs.items) top.now.block }
+    requires form { is_form top.now.form.version top.now.form.block ≡ true }
+    requires blocks { givens.jobs ≡ div_ceil (length jobs.items) top.now.form.block }
     requires workers { givens.workers ≡ top.now.workers }
-    requires budgets { IfSome top.now.budgets (λ v. length v.items ≡ top.now.workers) }
+    requires budgets { IfSome top.now.more.budgets (λ v. length v.items ≡ top.now.workers) }
     ensures { Gives plan_seen result (plan_with (top_seen top.now) givens jobs.items) }
 {
     check_jobs(alloc, &jobs)?;
-    let moves = read_schedule(alloc, top.version, givens.workers, top.schedule)?;
-    let budgets = budgets_within(alloc, givens.workers, top.rounds, &top.budgets)?;
+    let moves = read_schedule(alloc, top.form.version, givens.workers, top.more.schedule)?;
+    let budgets = budgets_within(alloc, givens.workers, top.more.rounds, &top.more.budgets)?;
     let (names, tasks) = part_jobs(alloc, jobs)?;
     Ok(Plan {
         heads: Heads {
-            version: top.version,
-            block: top.block,
+            version: top.form.version,
+            block: top.form.block,
             givens,
-            names: Row::new(names),
-            moves: Row::new(moves),
-            rounds: top.rounds as u32,
-            budgets: Row::new(budgets),
+            names: Items::new(names),
+            moves: Items::new(moves),
+            rounds: top.more.rounds as u32,
+            budgets: Items::new(budgets),
         },
-        tasks: Row::new(tasks),
+        tasks: Items::new(tasks),
     })
 }
 
@@ -84,7 +84,7 @@ fn plan_in(alloc: Global, table: &Table) -> Result<Plan, PlanFault>
 {
     let top = read_top(alloc, table)?;
     let jobs = read_jobs(alloc, &top.jobs)?;
-    let givens = block_givens(jobs.len(), top.block, top.workers, top.beta)?;
+    let givens = block_givens(jobs.len(), top.form.block, top.workers, top.beta)?;
     plan_with(alloc, givens, &top, jobs)
 }
 

@@ -6,7 +6,7 @@ ghost use Rattle.amo_plan.specs.Schedule.{is_space, words_of, read_words, moves_
 
 use super::fault::PlanFault;
 use super::place::place_of;
-use super::word::{Word, word_at};
+use super::schedule_word::{ScheduleWord, word_at};
 use amo_kk::Move;
 use std::alloc::{AllocError, Global};
 
@@ -33,7 +33,7 @@ fn read_words(
     version: u32,
     workers: u32,
     words: &[&[u8]],
-) -> Result<Vec<Word>, PlanFault>
+) -> Result<Vec<ScheduleWord>, PlanFault>
     ensures { Gives (λ v. v.items) result (read_words version workers (map (λ w. w.now) words.now)) }
 {
     let mut read = Vec::with_capacity(alloc, words.len())?;
@@ -55,18 +55,18 @@ fn push_turns(moves: &mut Vec<Move>, worker: u32, count: u32) -> Result<(), Allo
 }
 
 /// The moves of a word at the end of the moves.
-fn push_word(moves: &mut Vec<Move>, word: Word) -> Result<(), AllocError>
+fn push_word(moves: &mut Vec<Move>, word: ScheduleWord) -> Result<(), AllocError>
     ensures { OnOk result (moves.new.items ≡ moves.old.items ++ moves_of_word word) }
 {
     match word {
-        Word::Turns(worker, count) => push_turns(moves, worker, count),
-        Word::Stop(worker) => Ok(moves.push(Move::Halt(worker))?),
-        Word::Departure(worker) => Ok(moves.push(Move::Leave(worker))?),
+        ScheduleWord::Turns(worker, count) => push_turns(moves, worker, count),
+        ScheduleWord::Stop(worker) => Ok(moves.push(Move::Halt(worker))?),
+        ScheduleWord::Departure(worker) => Ok(moves.push(Move::Leave(worker))?),
     }
 }
 
 /// The moves of the words, if they are not too many.
-fn moves(alloc: Global, words: &[Word]) -> Result<Vec<Move>, PlanFault>
+fn moves(alloc: Global, words: &[ScheduleWord]) -> Result<Vec<Move>, PlanFault>
     ensures { Gives (λ v. v.items) result (short_moves_of words.now) }
 {
     let mut moves = Vec::new(alloc);

@@ -3,7 +3,7 @@ ghost use Rattle.std.specs.Prelude.{◌≡◌, ◌≤◌, sum, is_some};
 ghost use Rattle.std.specs.Option.{SomeIff};
 ghost use Rattle.amo_plan.specs.Results.{fits};
 
-use super::row::Row;
+use super::items::Items;
 use super::text::Text;
 
 /// What a job does.
@@ -12,7 +12,7 @@ pub enum Task {
     /// It says this text.
     Say(Text),
     /// It adds these numbers up.
-    Add(Row<u64>),
+    Add(Items<u64>),
 }
 
 impl Task {

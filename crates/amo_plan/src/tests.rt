@@ -125,9 +125,9 @@ pub fn with_jobs(alloc: Global, heads: &str, job: &Frame, jobs: u32) -> Result<S
     Ok(text)
 }
 
-/// A row of these numbers.
-pub fn row(alloc: Global, numbers: &[u64]) -> Result<Row<u64>, AllocError> {
-    Ok(Row::new(numbers.to_vec(alloc)?))
+/// Items that are these numbers.
+pub fn as_items(alloc: Global, numbers: &[u64]) -> Result<Items<u64>, AllocError> {
+    Ok(Items::new(numbers.to_vec(alloc)?))
 }
 
 /// This is the text, if there is one.

@@ -40,22 +40,16 @@ pub struct More<'a> {
 /// What the top level says.
 #[derive(Drop)]
 pub struct Top<'a> {
-    /// The version, 1 or 2.
-    pub version: u32,
-    /// How many jobs make a block, 1 to 4096.
-    pub block: u32,
+    /// The version, and how many jobs make a block.
+    pub form: Form,
     /// How many workers there are to be. No limit is tested yet.
     pub workers: u64,
     /// The threshold. No limit is tested yet.
     pub beta: u64,
     /// The tables of the jobs, none where the key is absent.
     pub jobs: Vec<&'a Table>,
-    /// The text of the schedule, empty where the key is absent.
-    pub schedule: &'a str,
-    /// How many rounds, 0 where the key is absent. Their limit isn't tested yet.
-    pub rounds: u64,
-    /// As many budgets as workers; None where the key is absent. Their limit isn't tested yet.
-    pub budgets: Option<Vec<u64>>,
+    /// The values that may be absent, but for the jobs.
+    pub more: More<'a>,
 }
 
 /// The version, if it is one that there is.
@@ -209,8 +203,8 @@ fn read_more(alloc: Global, workers: u64, table: &Table) -> Result<More<'_>, Pla
 /// The values, each of its kind.
 #[tactic(auto, unfolding(crate::specs::Top::top_values))]
 fn read_values(alloc: Global, table: &Table) -> Result<Top<'_>, PlanFault>
-    ensures count { IfOk result (λ t. IfSome t.budgets (λ v. length v.items ≡ t.workers)) }
-    ensures fine { IfOk result (λ t. is_form t.version t.block ≡ true) }
+    ensures count { IfOk result (λ t. IfSome t.more.budgets (λ v. length v.items ≡ t.workers)) }
+    ensures fine { IfOk result (λ t. is_form t.form.version t.form.block ≡ true) }
     ensures top { Gives top_seen result (top_values (table_view table.now)) }
 {
     let form = read_form(table)?;
@@ -219,22 +213,19 @@ fn read_values(alloc: Global, table: &Table) -> Result<Top<'_>, PlanFault>
     let jobs = jobs(alloc, table)?;
     let more = read_more(alloc, workers, table)?;
     Ok(Top {
-        version: form.version,
-        block: form.block,
+        form,
         workers,
         beta,
         jobs,
-        schedule: more.schedule,
-        rounds: more.rounds,
-        budgets: more.budgets,
+        more,
     })
 }
 
 /// The top level: no other keys, each that is needed, and each of its kind.
 #[tactic(auto, unfolding(crate::specs::Top::top_of))]
 pub fn read_top(alloc: Global, table: &Table) -> Result<Top<'_>, PlanFault>
-    ensures count { IfOk result (λ t. IfSome t.budgets (λ v. length v.items ≡ t.workers)) }
-    ensures fine { IfOk result (λ t. is_form t.version t.block ≡ true) }
+    ensures count { IfOk result (λ t. IfSome t.more.budgets (λ v. length v.items ≡ t.workers)) }
+    ensures fine { IfOk result (λ t. is_form t.form.version t.form.block ≡ true) }
     ensures top { Gives top_seen result (top_of (table_view table.now)) }
 {
     if !has_top_keys(version(table) == Some(2), table) {

@@ -9,7 +9,7 @@ fn say(alloc: Global, text: &str) -> Result<Task, PlanFault> {
 
 /// The task that adds these numbers up.
 fn add(alloc: Global, numbers: &[u64]) -> Result<Task, PlanFault> {
-    Ok(Task::Add(row(alloc, numbers)?))
+    Ok(Task::Add(as_items(alloc, numbers)?))
 }
 
 /// Five tasks: three texts, a sum, and one that doesn't fit.

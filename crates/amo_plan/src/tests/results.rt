@@ -69,7 +69,7 @@ fn a_result_is_the_text_or_the_sum(rt: HostRuntime) -> Result<(), Fail> {
 
 /// The sum of these numbers fits.
 fn sum_fits(alloc: Global, numbers: &[u64]) -> Result<bool, AllocError> {
-    Ok(Task::Add(row(alloc, numbers)?).fits())
+    Ok(Task::Add(as_items(alloc, numbers)?).fits())
 }
 
 /// This text fits.
@@ -85,10 +85,10 @@ fn a_sum_of_more_than_64_bits_does_not_fit(rt: HostRuntime) -> Result<(), Fail> 
     Ok(())
 }
 
-/// The row holds these numbers, and gives them up.
-fn assert_row(rt: &impl Abort, row: Row<u64>, numbers: &[u64]) {
-    assert_numbers(rt, row.as_slice(), numbers);
-    assert_numbers(rt, row.into_vec().as_slice(), numbers);
+/// The items are these numbers, and are given up.
+fn assert_items(rt: &impl Abort, items: Items<u64>, numbers: &[u64]) {
+    assert_numbers(rt, items.as_slice(), numbers);
+    assert_numbers(rt, items.into_vec().as_slice(), numbers);
 }
 
 /// The text holds this, and gives it up.
@@ -99,7 +99,7 @@ fn assert_held(rt: &impl Abort, text: Text, held: &str) {
 
 #[test]
 fn a_row_and_a_text_give_up_what_they_hold(rt: HostRuntime) -> Result<(), Fail> {
-    assert_row(&rt, row(rt.alloc(), &[3, 4])?, &[3, 4]);
+    assert_items(&rt, as_items(rt.alloc(), &[3, 4])?, &[3, 4]);
     assert_held(&rt, Text::from_str(rt.alloc(), "held")?, "held");
     Ok(())
 }
@@ -114,7 +114,7 @@ fn refused_text(rt: HostRuntime) -> Result<(), Fail> {
 
 /// The result of a sum, or out of memory.
 fn sum_result(alloc: Global) -> Result<String, AllocError> {
-    result(alloc, &Task::Add(row(alloc, &[2, 40])?))
+    result(alloc, &Task::Add(as_items(alloc, &[2, 40])?))
 }
 
 /// The result of a text, or out of memory.

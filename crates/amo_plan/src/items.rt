@@ -1,28 +1,28 @@
-//! Values in a row, as contracts see them: their list.
+//! Items, as contracts see them: their list.
 ghost use Rattle.std.specs.Prelude.{◌≡◌};
 
 use std::marker::Model;
 
-/// Values in a row, seen as their list.
+/// Items, seen as their list.
 #[derive(Debug, Drop)]
-pub struct Row<T> {
+pub struct Items<T> {
     items: Vec<T>,
 }
 
-impl<T> Model for Row<T> {
+impl<T> Model for Items<T> {
     ghost use Rattle.std.specs.Prelude.{List};
 
     ghost Value = { List T };
 
-    ghost view = { λ r. r.items.items };
+    ghost view = { λ i. i.items.items };
 }
 
-impl<T> Row<T> {
-    /// The values that this vector holds. It takes no memory.
-    pub fn new(items: Vec<T>) -> Row<T>
+impl<T> Items<T> {
+    /// The items that this vector holds. It takes no memory.
+    pub fn new(items: Vec<T>) -> Items<T>
         ensures { result ≡ items.items }
     {
-        Row { items }
+        Items { items }
     }
 
     /// What it holds.
@@ -36,7 +36,7 @@ impl<T> Row<T> {
     pub fn into_vec(self) -> Vec<T>
         ensures { result.items ≡ self }
     {
-        let Row { items } = self;
+        let Items { items } = self;
         items
     }
 }

@@ -8,7 +8,7 @@ use super::fault::PlanFault;
 
 /// What a word says.
 #[derive(Clone, Copy, Debug, PartialEq, Eq)]
-pub enum Word {
+pub enum ScheduleWord {
     /// Of a worker so many turns.
     Turns(u32, u32),
     /// A stop of a worker.
@@ -17,15 +17,15 @@ pub enum Word {
     Departure(u32),
 }
 
-impl Word {
+impl ScheduleWord {
     /// How many moves it is.
     pub fn count(&self) -> u32
         ensures { result ≡ length (moves_of_word self.now) }
     {
         match self {
-            Word::Turns(_, count) => *count,
-            Word::Stop(_) => 1,
-            Word::Departure(_) => 1,
+            ScheduleWord::Turns(_, count) => *count,
+            ScheduleWord::Stop(_) => 1,
+            ScheduleWord::Departure(_) => 1,
         }
     }
 
@@ -34,9 +34,9 @@ impl Word {
         ensures { result ≡ worker_of self.now }
     {
         match self {
-            Word::Turns(worker, _) => *worker,
-            Word::Stop(worker) => *worker,
-            Word::Departure(worker) => *worker,
+            ScheduleWord::Turns(worker, _) => *worker,
+            ScheduleWord::Stop(worker) => *worker,
+            ScheduleWord::Departure(worker) => *worker,
         }
     }
 }
@@ -60,17 +60,17 @@ fn asterisk_at(text: &[u8]) -> Option<usize>
 
 /// Turns of a worker: a number, or two parted by an asterisk.
 #[tactic(auto, unfolding(crate::specs::Schedule::turns_word))]
-fn read_turns(text: &[u8]) -> Option<Word>
+fn read_turns(text: &[u8]) -> Option<ScheduleWord>
     ensures { result ≡ turns_word text.now }
 {
     match asterisk_at(text) {
-        None => Some(Word::Turns(number(text)?, 1)),
+        None => Some(ScheduleWord::Turns(number(text)?, 1)),
         Some(at) => {
             let (front, _) = text.split_at(at);
             let (_, back) = text.split_at(at + 1);
             let worker = number(front)?;
             let count = number(back)?;
-            Some(Word::Turns(worker, count))
+            Some(ScheduleWord::Turns(worker, count))
         }
     }
 }
@@ -93,23 +93,28 @@ fn begins_with_l(version: u32, text: &[u8]) -> bool
 
 /// What a word says, if it is one.
 #[tactic(auto, unfolding(crate::specs::Schedule::word_of))]
-fn read_word(version: u32, text: &[u8]) -> Option<Word>
+fn read_word(version: u32, text: &[u8]) -> Option<ScheduleWord>
     ensures { result ≡ word_of version text.now }
 {
     if begins_with_x(text) {
         let (_, rest) = text.split_at(1);
-        return Some(Word::Stop(number(rest)?));
+        return Some(ScheduleWord::Stop(number(rest)?));
     }
     if begins_with_l(version, text) {
         let (_, rest) = text.split_at(1);
-        return Some(Word::Departure(number(rest)?));
+        return Some(ScheduleWord::Departure(number(rest)?));
     }
     read_turns(text)
 }
 
 /// The word in this place, of the workers up to so many.
 #[tactic(auto, unfolding(crate::specs::Schedule::word_at))]
-pub fn word_at(version: u32, workers: u32, place: u32, text: &[u8]) -> Result<Word, PlanFault>
+pub fn word_at(
+    version: u32,
+    workers: u32,
+    place: u32,
+    text: &[u8],
+) -> Result<ScheduleWord, PlanFault>
     ensures { Gives (λ w. w) result (word_at version workers place text.now) }
 {
     match read_word(version, text) {
