@@ -43,9 +43,9 @@ pub fn history_is_a_run()
         → Agrees g (process (world_after_moves g (opening_world g) moves)) (object_of g (world_after_moves g (opening_world g) moves)) }
 {}
 
-/// The step of the law. Each turn, stop and leaving leads from a lawful world to a lawful world. And the run goes on:
-/// from every state that agrees with the world before, the events that the move adds to the history are a run, and the
-/// state that they leave agrees with the world after.
+/// The step of the headline. Each turn, stop and leaving leads from a lawful world to a lawful world. And the run goes
+/// on: from every state that agrees with the world before, the events that the move adds to the history are a run, and
+/// the state that they leave agrees with the world after.
 pub fn moves_keep_worlds_lawful()
     ensures lawful { (g : Givens) (w : World) (m : Move) → IsLawful g w → IsLawful g (world_after_move g w m) }
     ensures run { (g : Givens) (s : Object) (w : World) (m : Move) → IsLawful g w → Agrees g (process w) s
