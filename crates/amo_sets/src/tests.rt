@@ -1,7 +1,7 @@
-//! Counts, ranks and words worked by hand, and out of memory in the three makers.
+//! Counts, ranks and words worked by hand, what takes no memory, and out of memory in the makers.
 ghost use Rattle.std.specs.Prelude.{◌≡◌, IfOk, length};
 
-use crate::JobSet;
+use crate::{JobSet, filled};
 use std::alloc::{AllocError, Global};
 use std::process::Abort;
 use std::test::*;
@@ -79,6 +79,68 @@ fn the_length_is_kept(rt: HostRuntime) -> Result<(), Fail> {
     assert_eq!(rt; set.range(), 70);
     assert_eq!(rt; kept.words(), [4, 0].as_slice());
     Ok(())
+}
+
+#[test]
+fn the_largest_set_is_copied_and_ranked(rt: HostRuntime) -> Result<(), Fail> {
+    let none = JobSet::empty(rt.alloc(), 4096)?;
+    let all = JobSet::full(rt.alloc(), 4096)?;
+    let copy = all.copy(rt.alloc())?;
+    assert_eq!(rt; copy.len(), 4096);
+    for (i, want) in [
+        (1, Some(1)),
+        (65, Some(65)),
+        (4096, Some(4096)),
+        (4097, None),
+    ] {
+        assert_eq!(rt; copy.rank_without(&none, i), want, "rank {i}");
+    }
+    Ok(())
+}
+
+#[test]
+fn a_list_is_filled(rt: HostRuntime) -> Result<(), Fail> {
+    let list = filled(rt.alloc(), 3, 7u32)?;
+    assert_eq!(rt; list.as_slice(), [7, 7, 7].as_slice());
+    Ok(())
+}
+
+/// Makes two sets, and then so many times each call that takes no memory.
+fn use_sets(rt: &impl Abort, alloc: Global, times: u32) -> Result<(), AllocError> {
+    let mut set = JobSet::empty(alloc, 130)?;
+    let mut other = JobSet::empty(alloc, 130)?;
+    other.add(2);
+    for round in 0..times {
+        set.add(130);
+        set.add(3);
+        set.add(2);
+        set.add(2);
+        set.take_out(130);
+        let has = set.covers(130) && set.has(3) && !set.is_empty() && set.range() == 130;
+        let counts = set.len() == 2 && set.count_without(&other) == 1 && set.words().len() == 3;
+        let ranks = set.rank_without(&other, 1) == Some(3);
+        assert!(rt; has && counts && ranks, "round {round}");
+        set.clear();
+    }
+    Ok(())
+}
+
+#[test]
+fn takes_no_memory_once(rt: HostRuntime) -> Result<(), Fail> {
+    Ok(use_sets(&rt, rt.alloc(), 1)?)
+}
+
+#[test]
+fn takes_no_memory_often(rt: HostRuntime) -> Result<(), Fail> {
+    Ok(use_sets(&rt, rt.alloc(), 100)?)
+}
+
+#[test]
+fn refused_filled(rt: HostRuntime) {
+    match filled(rt.alloc(), 3, 7u32) {
+        Ok(list) => assert_eq!(rt; list.as_slice(), [7, 7, 7].as_slice()),
+        Err(AllocError) => {}
+    }
 }
 
 #[test]
