@@ -8,4 +8,3 @@ pub mod WithinLemmas
 pub mod FineLemmas
 pub mod BlocksLemmas
 pub mod KeepsLemmas
-pub mod AnswerLemmas

@@ -63,8 +63,8 @@ pub fn check_jobs(alloc: Global, jobs: &[Job]) -> Result<(), PlanFault>
     let mut names = BTreeMap::new(alloc);
     for (i, job) in jobs.iter().enumerate() {
         let name = job.name.as_str();
-        check_job(names.contains_key(&name), place_of(i), job)?;
-        names.insert(name, ())?;
+        let other = names.insert(name, ())?;
+        check_job(other.is_some(), place_of(i), job)?;
     }
     Ok(())
 }

@@ -1,7 +1,8 @@
 //! Reads a plan.
-ghost use Rattle.std.specs.Prelude.{◌≡◌, ◌<◌, true, map, length, IfOk, IfSome};
+ghost use Rattle.std.specs.Prelude.{◌≡◌, ◌<◌, true, map, length, Err, IfOk, IfSome};
 ghost use Rattle.std.specs.Int.{div_ceil};
 ghost use Rattle.toml.specs.View.{table_view};
+ghost use Rattle.amo_plan.specs.declared.fault.PlanFault.TheVariants.{TooLong};
 ghost use Rattle.amo_plan.specs.Steps.{Gives};
 ghost use Rattle.amo_plan.specs.Keeps.{is_form};
 ghost use Rattle.amo_plan.specs.Plan.{document, or_bad_givens, plan_with, plan_in, plan_of};
@@ -91,11 +92,12 @@ fn plan_in(alloc: Global, table: &Table) -> Result<Plan, PlanFault>
 /// The plan of a text, or why it is none, or out of memory.
 ///
 /// `plan_of` gives for each text either a plan or the first test that the text fails. `Ok` comes only where it
-/// gives just that plan, and a fault other than `NoMemory` only where it gives that fault. After a fault nothing
-/// is left behind.
+/// gives just that plan, and a fault other than `NoMemory` only where it gives that fault. A text that is too long is
+/// refused before any memory is taken. After a fault nothing is left behind.
 #[tactic(auto, unfolding(crate::specs::Plan::plan_of))]
 pub fn read_plan(alloc: Global, bytes: &[u8]) -> Result<Plan, PlanFault>
-    ensures { Gives plan_seen result (plan_of bytes.now) }
+    ensures plan { Gives plan_seen result (plan_of bytes.now) }
+    ensures long { 1048576 < length bytes.now → result ≡ Err TooLong }
 {
     if bytes.len() > 1_048_576 {
         return Err(PlanFault::TooLong);
