@@ -1,7 +1,6 @@
 pub mod Places
 pub mod Turning
 pub mod Opening
-pub mod Tallies
 pub mod Verdicts
 pub mod Unclaimed
 pub mod Resting

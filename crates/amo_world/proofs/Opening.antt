@@ -1,9 +1,10 @@
 -- The seats and the history of the opening world, one worker more at a time.
-use Rattle.std.proofs.Common.{◌≡◌, ⊎_elim, ℕ, ◌+◌, ◌*◌, ◌<◌, List, [], ◌∷◌, ◌++◌, map, length, get_or, refl, sym, ap, subst, ◌∙◌, arith, add-one}
+use Rattle.std.proofs.Common.{◌≡◌, ⊎_elim, ℕ, ◌+◌, ◌*◌, ◌<◌, List, [], ◌∷◌, ◌++◌, map, length, get_or, sym, ap, subst, ◌∙◌, arith}
 use Rattle.std.proofs.lemmas.Bool.{cases_eq}
 use Rattle.std.proofs.lemmas.List.{length_push, get_or_push, get_or_append_left, map-append}
 use Rattle.std.specs.Vec.{vec_capacity}
 use Rattle.amo_sets.specs.Lists.{table}
+use Rattle.amo_sets.proofs.Tables.{table_next}
 use Rattle.amo_kk.specs.World.{first_process, opening_world}
 use Rattle.amo_kk.specs.Lawful.{IsLawful, HasRun}
 use Rattle.amo_kk.specs.declared.givens.Givens.{Givens}
@@ -13,9 +14,6 @@ use Rattle.amo_kk.proofs.Worlds.{opening_lawful}
 use Rattle.amo_kk.proofs.Runs.{always_runs}
 use Rattle.amo_world.specs.declared.seat.Seat.{Seat}
 use Rattle.amo_world.specs.Seats.{process_of, world_of, AreSeats, IsKept}
-
-pub table_next : {X : Type 0} (n : ℕ) (f : ℕ → X) → table n f ++ f (n + 1) ∷ [] ≡ table (n + 1) f
-table_next n f = rw add-one refl
 
 pub seats_next : (g : Givens) (n : ℕ) (seats : List Seat) (s : Seat) → map process_of seats ≡ table n (first_process g) → process_of s ≡ first_process g (n + 1)
     → map process_of (seats ++ s ∷ []) ≡ table (n + 1) (first_process g)

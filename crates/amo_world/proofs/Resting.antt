@@ -1,13 +1,13 @@
 -- A worker that runs alone: how far it has come, and that it comes to rest in time.
-use Rattle.std.proofs.Common.{◌≡◌, ⊎_elim, ℕ, zero, suc, ◌+◌, ◌*◌, ◌<◌, ◌≤◌, Bool, true, false, ◌||◌, refl, sym, ap, ◌∙◌, subst, arith, add-one}
+use Rattle.std.proofs.Common.{◌≡◌, ⊎_elim, ℕ, zero, suc, ◌+◌, ◌<◌, ◌≤◌, Bool, true, false, ◌||◌, refl, sym, ap, ◌∙◌, subst, arith, add-one}
 use Rattle.std.specs.Prelude.{if◌then◌else◌}
 use Rattle.std.proofs.lemmas.Bool.{cases_lt, cases_eq, cases_Bool, true≢false, or_parts}
 use Rattle.amo_kk.specs.Givens.{IsWorker}
 use Rattle.amo_kk.specs.Record.{is_over, wants_nothing}
-use Rattle.amo_kk.specs.Step.{want, record_after}
+use Rattle.amo_kk.specs.Step.{want, record_after, shown}
 use Rattle.amo_kk.specs.World.{process, loaded_value, world_after_turn}
-use Rattle.amo_kk.specs.Answer.{shown, turn_shown}
-use Rattle.amo_kk.specs.Alone.{is_claiming, claims_or_ends, world_after_turns, IsFirstToClaimOrEnd}
+use Rattle.amo_kk.specs.Answer.{turn_shown}
+use Rattle.amo_kk.specs.Alone.{lone_bound, is_claiming, claims_or_ends, world_after_turns, IsFirstToClaimOrEnd}
 use Rattle.amo_kk.specs.Lawful.{IsLawful}
 use Rattle.amo_kk.specs.declared.givens.Givens.{Givens}
 use Rattle.amo_kk.specs.declared.phase.Phase.{Phase}
@@ -34,7 +34,7 @@ pub record IsUnderWay (g : Givens) (before : World) (p k : ℕ) (w : World) : Ty
   pub here : (process w p).gone ≡ false
 
 -- it is known that one turn in time claims or ends p; so there was room for this one
-pub under_way_soon : (g : Givens) (before : World) (p k : ℕ) (w : World) → IsLawful g before → (process before p).gone ≡ false → IsUnderWay g before p k w → k < 6 * g.workers + g.jobs
+pub under_way_soon : (g : Givens) (before : World) (p k : ℕ) (w : World) → IsLawful g before → (process before p).gone ≡ false → IsUnderWay g before p k w → k < lone_bound g
 under_way_soon g before p k w law here way =
     let soon = claims_or_ends_soon g before p g.limits law here in
     ⊎_elim (λ (l : soon.0 < k). absurd (true≢false (sym soon.2.this_one ∙ way.none soon.0 l))) (λ (l : k ≤ soon.0). let m = soon.1 in omega arith) (cases_lt soon.0 k)
@@ -117,9 +117,6 @@ module _ (g : Givens) (w : World) (p : ℕ) (law : IsLawful g w) (here : (proces
   -- and after a turn that does neither, the worker isn't gone
   pub here_next : claims_or_ends g w p ≡ false → (process (world_after_turn g w p) p).gone ≡ false
   here_next h = (own_turn g w p g.limits law here (or_parts (is_claiming (process w p).local.phase) (is_over (record_after g p (loaded_value w (want (process w p).local)) (process w p).local).phase) h).1).here
-
-pub starts : (g : Givens) (w : World) (p : ℕ) → IsLawful g w → (process w p).gone ≡ false → IsUnderWay g w p 0 w
-starts g w p law here = record { leads = refl; none = λ i l. absurd (omega arith); lawful = law; here = here }
 
 turn_goes_on : (g : Givens) (before : World) (p k : ℕ) (w : World) → IsUnderWay g before p k w → rests (turn_answer g w p) ≡ false → IsUnderWay g before p (k + 1) (world_after_turn g w p)
 turn_goes_on g before p k w way quiet =

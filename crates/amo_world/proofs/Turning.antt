@@ -1,24 +1,19 @@
 -- What holds of the fields of a world before and after a turn, a stop and a leaving of a worker that isn't gone.
-use Rattle.std.proofs.Common.{◌≡◌, ⊎_elim, ℕ, zero, suc, ◌+◌, ◌-◌, ◌<◌, ◌≤◌, Bool, true, false, ◌||◌, List, [], ◌∷◌, ◌++◌, map, length, get_or, set, refl, sym, ap, ◌∙◌, subst, arith, length-append}
+use Rattle.std.proofs.Common.{◌≡◌, ⊎_elim, ℕ, ◌+◌, ◌-◌, ◌<◌, ◌≤◌, Bool, true, false, List, [], ◌∷◌, ◌++◌, map, length, get_or, set, sym, ap, ◌∙◌, subst, arith, length-append}
 use Rattle.std.specs.Prelude.{if◌then◌else◌}
-use Rattle.std.proofs.lemmas.Bool.{true≢false, cases_Bool, cases_eq, cases_lt}
-use Rattle.std.proofs.lemmas.List.{map-set, length-set, get_or-set_same, get_or-set_other, get_or_past}
+use Rattle.std.proofs.lemmas.Bool.{true≢false, cases_Bool, cases_eq}
+use Rattle.std.proofs.lemmas.List.{map-set, length-set, get_or-set_same, get_or-set_other}
 use Rattle.std.specs.Vec.{vec_capacity}
-use Rattle.amo_sets.specs.Lists.{numbered, put}
-use Rattle.amo_sets.specs.Sets.{has}
-use Rattle.amo_sets.proofs.Numbers.{has-get_or, has-append}
-use Rattle.amo_kk.specs.Givens.{IsJob, IsWorker, IsOther, others_before}
-use Rattle.amo_kk.specs.Record.{wants_nothing, can_leave, jobs_in_hand}
-use Rattle.amo_kk.specs.Step.{want, want_in, is_load, record_after, record_after_leave, shown_events, MayLoad}
-use Rattle.amo_kk.specs.Lawful.{IsLawful, HasRun, FitsPhase, IsSoundProcess}
+use Rattle.amo_sets.specs.Lists.{put}
+use Rattle.amo_kk.specs.Givens.{IsWorker}
+use Rattle.amo_kk.specs.Record.{wants_nothing, can_leave}
+use Rattle.amo_kk.specs.Step.{want, is_load, record_after, record_after_leave, shown, events_of, MayLoad}
+use Rattle.amo_kk.specs.Lawful.{IsLawful, HasRun, IsSoundProcess}
 use Rattle.amo_kk.specs.World.{process, loaded_value, process_after, world_with, world_after_step, world_after_turn, world_after_halt, world_after_leave}
 use Rattle.amo_kk.specs.Machine.{LocalView}
-use Rattle.amo_kk.specs.Answer.{shown, events_of, turn_shown}
+use Rattle.amo_kk.specs.Answer.{turn_shown}
 use Rattle.amo_kk.specs.declared.givens.Givens.{Givens}
-use Rattle.amo_kk.specs.declared.phase.Phase.{Phase}
-use Rattle.amo_kk.specs.declared.phase.Phase.TheVariants.{Announcing, Trying, Reading, Claiming, Holding, Over, Left as LeftPhase}
-use Rattle.amo_kk.specs.declared.phase.Want.{Want}
-use Rattle.amo_kk.specs.declared.phase.Want.TheVariants.{StoreNext, LoadNext, LoadDone, StoreClaim, StoreDone, Nothing}
+use Rattle.amo_kk.specs.declared.phase.Want.TheVariants.{StoreNext}
 use Rattle.amo_kk.specs.declared.model.Record.{Record}
 use Rattle.amo_kk.specs.declared.model.Process.{Process}
 use Rattle.amo_kk.specs.declared.model.World.{World}
@@ -30,10 +25,10 @@ use Rattle.amo_kk.proofs.Holding.{put_before}
 use Rattle.amo_kk.proofs.Worlds.{turn_lawful, halt_lawful, leave_lawful}
 use Rattle.amo_kk.proofs.Runs.{turn_runs, halt_runs, leave_runs, stored_local}
 use Rattle.amo_kk.proofs.Room.{run_is_short}
-use Rattle.amo_kk.proofs.Shows.{shows}
+use Rattle.amo_kk.proofs.Loads.{store_zero, may_load}
 use Rattle.amo_world.specs.declared.seat.Seat.{Seat}
 use Rattle.amo_world.specs.Views.{WorldView}
-use Rattle.amo_world.specs.Seats.{process_of, world_of, CanLoad, AreSeats, IsKept}
+use Rattle.amo_world.specs.Seats.{process_of, world_of, AreSeats, IsKept}
 use Rattle.amo_world.proofs.Places.{seat_at}
 
 -- the worker of a call on a world that is seen as v, its fields as x
@@ -43,24 +38,6 @@ worker_here x v p same o = subst (λ (y : WorldView). IsWorker y.givens p) (sym 
 -- and it is not gone, as a test has answered
 pub still_here : (x v : WorldView) (p : ℕ) (answer : Bool) → x ≡ v → answer ≡ (process v.world p).gone → answer ≡ false → (process x.world p).gone ≡ false
 still_here x v p answer same is e = ap (λ (y : WorldView). (process y.world p).gone) same ∙ sym is ∙ e
-
--- a load does not look at the history
-pub same_load : (seats : List Seat) (history : List Event) (w : Want) → loaded_value (world_of seats []) w ≡ loaded_value (world_of seats history) w
-same_load seats history (StoreNext j) = refl
-same_load seats history (LoadNext q) = refl
-same_load seats history (LoadDone q k) = refl
-same_load seats history (StoreClaim c j) = refl
-same_load seats history (StoreDone k j) = refl
-same_load seats history Nothing = refl
-
--- where no load is wanted, 0 stands for its value
-store_zero : (w : World) (x : Want) → is_load x ≡ false → loaded_value w x ≡ 0
-store_zero w (StoreNext j) h = refl
-store_zero w (LoadNext q) h = absurd (true≢false h)
-store_zero w (LoadDone q k) h = absurd (true≢false h)
-store_zero w (StoreClaim c j) h = refl
-store_zero w (StoreDone k j) h = refl
-store_zero w Nothing h = refl
 
 -- a seat in place of another of the same givens and number
 seated_after : (g : Givens) (seats : List Seat) (k : ℕ) (t s : Seat) → AreSeats g g.workers seats → k < length seats → s ≡ get_or seats k s → t.local.givens ≡ s.local.givens → t.local.number ≡ s.local.number → vec_capacity t.row ≡ vec_capacity s.row
@@ -84,70 +61,6 @@ seated_after g seats k t s seated h is same_givens same_number same_room =
   where
     here : (i : ℕ) (d : Seat) → i ≡ k → get_or (set seats k t) i d ≡ t
     here i d e = ap (λ x. get_or (set seats k t) x d) e ∙ get_or-set_same seats k t d h
-
--- what the wanted load finds
-module _ (g : Givens) (seats : List Seat) (history : List Event) (places room p : ℕ) (kept : IsKept g seats history places room) (o : IsWorker g p) where
-  pub can_load : CanLoad seats (want (process (world_of seats history) p).local)
-  can_load = go (process (world_of seats history) p).local.phase refl
-    where
-      stands : FitsPhase g p (process (world_of seats history) p).local (process (world_of seats history) p).local.phase
-      stands = (kept.lawful.lawful.sound p o).local.stands
-
-      go : (phase : Phase) → (process (world_of seats history) p).local.phase ≡ phase → CanLoad seats (want_in (process (world_of seats history) p).local (process (world_of seats history) p).local.phase)
-      go (Announcing j) e = subst (λ x. CanLoad seats (want_in (process (world_of seats history) p).local x)) (sym e) tt
-      go (Trying j q) e =
-          let st : IsJob g j × IsOther g p q × (length (process (world_of seats history) p).local.tried ≤ others_before p q) = rw e at stands in
-          subst (λ x. CanLoad seats (want_in (process (world_of seats history) p).local x)) (sym e) (st.1.worker.low, let z = kept.seated.size in let h = st.1.worker.high in omega arith)
-      go (Reading j q) e =
-          let st : IsJob g j × IsOther g p q = rw e at stands in
-          let front : numbered 0 (process (world_of seats history) p).local.fronts q ≤ g.jobs = (kept.lawful.lawful.sound p o).local.front q in
-          let high : q ≤ length seats = let z = kept.seated.size in let h = st.1.worker.high in omega arith in
-          let size : length (process (world_of seats history) q).row ≡ g.jobs + 1 = (kept.lawful.lawful.sound q st.1.worker).row_length in
-          subst (λ x. CanLoad seats (want_in (process (world_of seats history) p).local x)) (sym e)
-          (st.1.worker.low, high, omega arith, λ d. subst (λ (a : Process). numbered 0 (process (world_of seats history) p).local.fronts q + 1 ≤ length a.row) (seat_at seats q d st.1.worker.low high) (omega arith))
-      go (Claiming j) e = subst (λ x. CanLoad seats (want_in (process (world_of seats history) p).local x)) (sym e) tt
-      go (Holding j) e = subst (λ x. CanLoad seats (want_in (process (world_of seats history) p).local x)) (sym e) tt
-      go Over e = subst (λ x. CanLoad seats (want_in (process (world_of seats history) p).local x)) (sym e) tt
-      go LeftPhase e = subst (λ x. CanLoad seats (want_in (process (world_of seats history) p).local x)) (sym e) tt
-
-  -- what stands in a row is a job or 0, and in its last place 0
-  row_is : (q k : ℕ) → IsWorker g q → (numbered 0 (process (world_of seats history) q).row k ≤ g.jobs) × (k ≡ g.jobs + 1 → numbered 0 (process (world_of seats history) q).row k ≡ 0)
-  row_is q zero other = (omega arith, λ e. refl)
-  row_is q (suc k) other = (
-    subst (λ x. x ≤ g.jobs) (sym entry) (⊎_elim inside (λ (h : length (process (world_of seats history) q).local.dones ≤ k). let z = get_or_past (process (world_of seats history) q).local.dones k 0 h in omega arith) (cases_lt k (length (process (world_of seats history) q).local.dones))),
-    λ e. entry ∙ get_or_past (process (world_of seats history) q).local.dones k 0 (let f = few in omega arith),
-  )
-    where
-      there : IsSoundProcess g q (process (world_of seats history) q)
-      there = kept.lawful.lawful.sound q other
-
-      few : length (process (world_of seats history) q).local.dones ≤ g.jobs
-      few = row_room g (process (world_of seats history)) kept.lawful.lawful q other
-
-      entry : get_or (process (world_of seats history) q).row k 0 ≡ get_or (process (world_of seats history) q).local.dones k 0
-      entry = there.row k
-
-      inside : k < length (process (world_of seats history) q).local.dones → get_or (process (world_of seats history) q).local.dones k 0 ≤ g.jobs
-      inside h = (there.local.jobs (get_or (process (world_of seats history) q).local.dones k 0) (rw there.local.claims (rw has-append (ap (λ b. b || has (jobs_in_hand (process (world_of seats history) q).local.phase) (get_or (process (world_of seats history) q).local.dones k 0)) (has-get_or (process (world_of seats history) q).local.dones k h))))).high
-
-  pub may_load : MayLoad g (loaded_value (world_of seats history) (want (process (world_of seats history) p).local)) (want (process (world_of seats history) p).local)
-  may_load = go (process (world_of seats history) p).local.phase refl
-    where
-      stands : FitsPhase g p (process (world_of seats history) p).local (process (world_of seats history) p).local.phase
-      stands = (kept.lawful.lawful.sound p o).local.stands
-
-      go : (phase : Phase) → (process (world_of seats history) p).local.phase ≡ phase → MayLoad g (loaded_value (world_of seats history) (want_in (process (world_of seats history) p).local (process (world_of seats history) p).local.phase)) (want_in (process (world_of seats history) p).local (process (world_of seats history) p).local.phase)
-      go (Announcing j) e = subst (λ x. MayLoad g (loaded_value (world_of seats history) (want_in (process (world_of seats history) p).local x)) (want_in (process (world_of seats history) p).local x)) (sym e) tt
-      go (Trying j q) e =
-          let st : IsJob g j × IsOther g p q × (length (process (world_of seats history) p).local.tried ≤ others_before p q) = rw e at stands in
-          subst (λ x. MayLoad g (loaded_value (world_of seats history) (want_in (process (world_of seats history) p).local x)) (want_in (process (world_of seats history) p).local x)) (sym e) (kept.lawful.lawful.sound q st.1.worker).next
-      go (Reading j q) e =
-          let st : IsJob g j × IsOther g p q = rw e at stands in
-          subst (λ x. MayLoad g (loaded_value (world_of seats history) (want_in (process (world_of seats history) p).local x)) (want_in (process (world_of seats history) p).local x)) (sym e) (row_is q (numbered 0 (process (world_of seats history) p).local.fronts q + 1) st.1.worker)
-      go (Claiming j) e = subst (λ x. MayLoad g (loaded_value (world_of seats history) (want_in (process (world_of seats history) p).local x)) (want_in (process (world_of seats history) p).local x)) (sym e) tt
-      go (Holding j) e = subst (λ x. MayLoad g (loaded_value (world_of seats history) (want_in (process (world_of seats history) p).local x)) (want_in (process (world_of seats history) p).local x)) (sym e) tt
-      go Over e = subst (λ x. MayLoad g (loaded_value (world_of seats history) (want_in (process (world_of seats history) p).local x)) (want_in (process (world_of seats history) p).local x)) (sym e) tt
-      go LeftPhase e = subst (λ x. MayLoad g (loaded_value (world_of seats history) (want_in (process (world_of seats history) p).local x)) (want_in (process (world_of seats history) p).local x)) (sym e) tt
 
 module _ (g : Givens) (seats : List Seat) (history : List Event) (places room p : ℕ) (kept : IsKept g seats history places room) (o : IsWorker g p) (s : Seat) (is : s ≡ get_or seats (p - 1) s) where
   pub process_is : process (world_of seats history) p ≡ process_of s
@@ -189,10 +102,13 @@ module _ (g : Givens) (seats : List Seat) (history : List Event) (places room p 
   processes_are : (t : Seat) (a : Process) → process_of t ≡ a → map process_of (set seats (p - 1) t) ≡ put (map process_of seats) p a
   processes_are t a e = map-set process_of seats (p - 1) t ∙ ap (λ (x : Process). set (map process_of seats) (p - 1) x) e ∙ sym (put_before (map process_of seats) p a o.low)
 
+  pub row_size : length s.row.items ≡ g.jobs + 1
+  row_size = sound.row_length
+
   pub row_free : length s.local.state.dones < length s.row.items
   row_free =
       let few : length (process (world_of seats history) p).local.dones ≤ g.jobs = row_room g (process (world_of seats history)) kept.lawful.lawful p o in
-      let size : length s.row.items ≡ g.jobs + 1 = sound.row_length in
+      let size = row_size in
       subst (λ (a : Process). length a.local.dones < length s.row.items) process_is (omega arith)
 
   -- a machine of this worker says that it may leave
@@ -212,7 +128,7 @@ module _ (g : Givens) (seats : List Seat) (history : List Event) (places room p 
       loads_here = loads ∙ ap (λ (a : Process). loaded_value (world_of seats history) (want a.local)) process_is
 
       pub hears : MayLoad s.local.givens value (want s.local.state)
-      hears = subst (λ x. MayLoad x value (want s.local.state)) (sym own_givens) (subst (λ x. MayLoad g x (want s.local.state)) (sym loads_here) (subst (λ (a : Process). MayLoad g (loaded_value (world_of seats history) (want a.local)) (want a.local)) process_is (may_load g seats history places room p kept o)))
+      hears = subst (λ x. MayLoad x value (want s.local.state)) (sym own_givens) (subst (λ x. MayLoad g x (want s.local.state)) (sym loads_here) (subst (λ (a : Process). MayLoad g (loaded_value (world_of seats history) (want a.local)) (want a.local)) process_is (may_load g (world_of seats history) kept.lawful p o)))
 
       pub stores_zero : is_load (want s.local.state) ≡ false → value ≡ 0
       stores_zero h = loads_here ∙ store_zero (world_of seats history) (want s.local.state) h
@@ -240,8 +156,8 @@ module _ (g : Givens) (seats : List Seat) (history : List Event) (places room p 
             ∙ ap (λ (a : Process). world_after_step g (world_of seats history) p a) (sym process_is)
             ∙ sym (ap (λ b. if b then (world_of seats history) else world_after_step g (world_of seats history) p (process (world_of seats history) p)) here)
           where
-            events_are : events_of p x ≡ shown_events p s.local.state.phase (record_after g p (loaded_value (world_of seats history) (want s.local.state)) s.local.state).phase
-            events_are = ap (λ y. events_of p y) (answers ∙ ap (λ y. shown s.local.state.phase y) phase_is) ∙ shows g p (loaded_value (world_of seats history) (want s.local.state)) s.local.state going
+            events_are : events_of p x ≡ events_of p (shown s.local.state.phase (record_after g p (loaded_value (world_of seats history) (want s.local.state)) s.local.state).phase)
+            events_are = ap (λ y. events_of p y) (answers ∙ ap (λ y. shown s.local.state.phase y) phase_is)
 
         pub turn_room : length history + length (events_of p x) ≤ room
         turn_room = has_room t (events_of p x) (world_after_turn g (world_of seats history) p) (turn_lawful g (world_of seats history) p g.limits kept.lawful) (turn_runs g (world_of seats history) p g.limits kept.lawful kept.run) turn_is

@@ -18,7 +18,7 @@ use Rattle.amo_world.specs.declared.answer.Alone.TheVariants.{Claimed as Claimed
 use Rattle.amo_world.specs.declared.answer.Verdict.{Verdict}
 use Rattle.amo_world.specs.declared.answer.Verdict.TheVariants.{Lawful, FirstBad}
 
--- what an event shows, in the words of a turn
+-- what a step shows, in the words of a turn
 abbrev pub turned : Shown → Turned
 turned Quiet = Moved
 turned (Claimed j) = ClaimedTurn j
@@ -27,7 +27,7 @@ turned (DoneEnded j) = DoneEndedTurn j
 turned Ended = EndedTurn
 turned Left = Moved
 
--- what a turn of p answers: Idle where p is gone, else what its event shows
+-- what a turn of p answers: Idle where p is gone, else what its step shows
 abbrev pub turn_answer : Givens → World → ℕ → Turned
 turn_answer g w p = if (process w p).gone then Idle else turned (turn_shown g w p)
 

@@ -1,7 +1,7 @@
 -- How a worker that runs alone comes to rest.
-use Rattle.std.specs.Prelude.{◌≡◌, ℕ, suc, ◌+◌, ◌*◌, ◌<◌}
+use Rattle.std.specs.Prelude.{◌≡◌, ℕ, suc, ◌<◌}
 use Rattle.amo_kk.specs.World.{process}
-use Rattle.amo_kk.specs.Alone.{world_after_turns, IsFirstToClaimOrEnd, FitsThreeAttempts}
+use Rattle.amo_kk.specs.Alone.{lone_bound, world_after_turns, IsFirstToClaimOrEnd, FitsThreeAttempts}
 use Rattle.amo_kk.specs.declared.givens.Givens.{Givens}
 use Rattle.amo_kk.specs.declared.model.World.{World}
 use Rattle.amo_world.specs.declared.answer.Alone.{Alone}
@@ -11,7 +11,7 @@ use Rattle.amo_world.specs.Answer.{alone_answer}
 -- which. So many others come before it.
 pub record RunsAlone (g : Givens) (before : World) (p : ℕ) (after : World) (answer : Alone) : Type 0 where
   pub others : ℕ
-  pub soon : others < 6 * g.workers + g.jobs
+  pub soon : others < lone_bound g
   pub first : IsFirstToClaimOrEnd g before p others
   pub few : FitsThreeAttempts g before p others
   pub leads : after ≡ world_after_turns g before p (suc others)

@@ -1,11 +1,9 @@
 -- Seats as the processes that they are, and what holds of the fields of a world.
-use Rattle.std.specs.Prelude.{◌≡◌, ℕ, ◌<◌, ◌≤◌, ◌+◌, ◌-◌, ◌*◌, List, length, map, get_or, ⊤}
+use Rattle.std.specs.Prelude.{◌≡◌, ℕ, ◌<◌, ◌+◌, ◌*◌, List, length, map, get_or}
 use Rattle.std.specs.Vec.{vec_capacity}
 use Rattle.amo_kk.specs.Lawful.{IsLawful, HasRun}
 use Rattle.amo_kk.specs.declared.givens.Givens.{Givens}
 use Rattle.amo_kk.specs.declared.event.Event.{Event}
-use Rattle.amo_kk.specs.declared.phase.Want.{Want}
-use Rattle.amo_kk.specs.declared.phase.Want.TheVariants.{StoreNext, LoadNext, LoadDone, StoreClaim, StoreDone, Nothing}
 use Rattle.amo_kk.specs.declared.model.Process.{Process}
 use Rattle.amo_kk.specs.declared.model.World.{World}
 use Rattle.amo_world.specs.declared.seat.Seat.{Seat}
@@ -17,15 +15,6 @@ process_of s = record { local = s.local.state; next = s.next; claim = s.claim; r
 -- the world of these seats and this history
 abbrev pub world_of : List Seat → List Event → World
 world_of seats history = record { processes = map process_of seats; history = history }
-
--- what is to be loaded is there
-abbrev pub CanLoad : List Seat → Want → Type 0
-CanLoad seats (StoreNext j) = ⊤
-CanLoad seats (LoadNext q) = (1 ≤ q) × (q ≤ length seats)
-CanLoad seats (LoadDone q k) = (1 ≤ q) × (q ≤ length seats) × (1 ≤ k) × ((s : Seat) → k ≤ length (get_or seats (q - 1) s).row.items)
-CanLoad seats (StoreClaim c j) = ⊤
-CanLoad seats (StoreDone k j) = ⊤
-CanLoad seats Nothing = ⊤
 
 -- The seats are those of the workers 1..n in their order, each with a machine of these givens and with room for the
 -- row that such a worker can have, and no more.

@@ -4,12 +4,10 @@ ghost use Rattle.std.specs.Vec.{vec_capacity};
 ghost use Rattle.amo_kk.specs.declared.phase.Want.{Want};
 ghost use Rattle.amo_kk.specs.Givens.{IsWorker};
 ghost use Rattle.amo_kk.specs.Record.{wants_nothing, can_leave};
-ghost use Rattle.amo_kk.specs.Step.{want, is_load, record_after, record_after_leave, MayLoad};
-ghost use Rattle.amo_kk.specs.Answer.{shown};
+ghost use Rattle.amo_kk.specs.Step.{want, is_load, record_after, record_after_leave, shown, MayLoad};
 ghost use Rattle.amo_kk.specs.World.{process_after, first_process};
 ghost use Rattle.amo_world.specs.Seats.{process_of};
 
-use crate::phases::wants_nothing;
 use amo_kk::{Givens, Local, Shown, Want};
 use std::alloc::{AllocError, Global};
 
@@ -24,7 +22,7 @@ pub struct Seat {
 }
 
 impl Seat {
-    /// Worker p before its first event. Its room is made here.
+    /// Worker p before its first step. Its room is made here.
     pub fn new(alloc: Global, givens: Givens, p: u32) -> Result<Seat, AllocError>
         requires { IsWorker givens p }
         ensures process { IfOk result (λ s. process_of s ≡ first_process givens p) }
@@ -34,7 +32,7 @@ impl Seat {
     {
         let local = Local::new(alloc, givens, p)?;
         let row = zeros(alloc, givens.jobs as usize + 1)?;
-        let gone = wants_nothing(local.phase());
+        let gone = local.phase().wants_nothing();
         Ok(Seat {
             local,
             next: 0,
@@ -44,7 +42,7 @@ impl Seat {
         })
     }
 
-    /// The event of a load that gave this value.
+    /// The step of a load that gave this value.
     fn load(&mut self, value: u32) -> Shown
         requires load { is_load (want self.old.local.state) ≡ true }
         requires hears { MayLoad self.old.local.givens value (want self.old.local.state) }
@@ -55,7 +53,7 @@ impl Seat {
         ensures shown { result ≡ shown self.old.local.state.phase self.new.local.state.phase }
     {
         let shown = self.local.told(value as u64);
-        self.gone = wants_nothing(self.local.phase());
+        self.gone = self.local.phase().wants_nothing();
         shown
     }
 
@@ -70,7 +68,7 @@ impl Seat {
     {
         let shown = self.local.stored();
         self.next = j;
-        self.gone = wants_nothing(self.local.phase());
+        self.gone = self.local.phase().wants_nothing();
         shown
     }
 
@@ -85,7 +83,7 @@ impl Seat {
     {
         let shown = self.local.stored();
         self.claim = c;
-        self.gone = wants_nothing(self.local.phase());
+        self.gone = self.local.phase().wants_nothing();
         shown
     }
 
@@ -102,11 +100,11 @@ impl Seat {
     {
         let shown = self.local.stored();
         self.row[k as usize - 1] = j;
-        self.gone = wants_nothing(self.local.phase());
+        self.gone = self.local.phase().wants_nothing();
         shown
     }
 
-    /// The next event of the worker, where its load gave this value; 0 stands where it stores.
+    /// The next step of the worker, where its load gave this value; 0 stands where it stores.
     pub fn act(&mut self, value: u32) -> Shown
         requires going { wants_nothing self.old.local.state.phase ≡ false }
         requires hears { MayLoad self.old.local.givens value (want self.old.local.state) }

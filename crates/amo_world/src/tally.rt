@@ -19,30 +19,27 @@ pub fn has_claim(history: &[Event], j: u32) -> bool
     false
 }
 
-/// How many claims there are.
-pub fn claim_count(history: &[Event]) -> u32
-    requires { length history.now < 2 ^ 32 }
-    ensures { result ≡ length (claimed_jobs history.now) }
-{
-    let mut count = 0;
-    for event in history {
-        if let Event::Claimed(_, _) = *event {
-            count += 1;
-        }
-    }
-    count
+/// How many jobs were claimed, and how many performed.
+#[derive(Clone, Copy)]
+pub struct Tally {
+    pub claimed: u32,
+    pub performed: u32,
 }
 
-/// How many performances there are.
-pub fn done_count(history: &[Event]) -> u32
+/// Counts the claims and the performances.
+pub fn count(history: &[Event]) -> Tally
     requires { length history.now < 2 ^ 32 }
-    ensures { result ≡ length (done_jobs history.now) }
+    ensures claimed { result.claimed ≡ length (claimed_jobs history.now) }
+    ensures performed { result.performed ≡ length (done_jobs history.now) }
 {
-    let mut count = 0;
+    let mut claimed = 0;
+    let mut performed = 0;
     for event in history {
-        if let Event::Done(_, _) = *event {
-            count += 1;
+        match *event {
+            Event::Claimed(_, _) => claimed += 1,
+            Event::Done(_, _) => performed += 1,
+            Event::Ended(_) | Event::Halted(_) | Event::Left(_) => {}
         }
     }
-    count
+    Tally { claimed, performed }
 }

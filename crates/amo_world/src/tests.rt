@@ -1,7 +1,7 @@
 //! Worked schedules, judged lists, the largest world, and out of memory.
 use super::*;
 use amo_kk::{Givens, Leaving, Move};
-use std::alloc::Global;
+use std::alloc::{AllocError, Global};
 use std::process::Abort;
 use std::test::Fail;
 
@@ -45,7 +45,7 @@ fn leave(rt: &impl Abort, world: &mut World, p: u32) -> Leaving {
     world.leave(p)
 }
 
-/// How many events worker p has had.
+/// How many steps worker p has taken.
 fn turns_of(rt: &impl Abort, world: &World, p: u32) -> u64 {
     assert!(rt; 1 <= p && p <= world.givens().workers());
     world.turns_of(p)
@@ -63,15 +63,41 @@ fn expect_world(rt: &impl Abort, world: &World, history: &[Event], unclaimed: &[
     }
 }
 
+/// A part of a history.
+#[derive(Clone, Copy)]
+enum Part<'a> {
+    /// The worker claims and performs these jobs, one after the other.
+    Works(u32, &'a [u32]),
+    /// This one event.
+    Then(Event),
+}
+
+/// The events of these parts.
+fn events_of(alloc: Global, parts: &[Part]) -> Result<Vec<Event>, AllocError> {
+    let mut events = Vec::new(alloc);
+    for part in parts {
+        match *part {
+            Part::Works(p, jobs) => {
+                for j in jobs {
+                    events.push(Event::Claimed(p, *j))?;
+                    events.push(Event::Done(p, *j))?;
+                }
+            }
+            Part::Then(event) => events.push(event)?,
+        }
+    }
+    Ok(events)
+}
+
 /// A schedule, and the world that it leads to from the opening world of so many jobs, workers and that threshold.
 #[derive(Drop)]
 struct Row<'a> {
     givens: (u64, u64, u64),
     schedule: &'a [(Move, u32)],
-    history: &'a [Event],
+    history: &'a [Part<'a>],
     unclaimed: &'a [u32],
     performed: u32,
-    /// Workers, and how many events each has had.
+    /// Workers, and how many steps each has taken.
     turns: &'a [(u32, u64)],
 }
 
@@ -80,7 +106,8 @@ impl Row<'_> {
     fn holds(&self, alloc: Global, rt: &impl Abort) -> Result<(), Fail> {
         let mut world = opening(alloc, self.givens)?;
         make(rt, &mut world, self.schedule);
-        expect_world(rt, &world, self.history, self.unclaimed);
+        let history = events_of(alloc, self.history)?;
+        expect_world(rt, &world, &history, self.unclaimed);
         assert_eq!(rt; world.performed_len(), self.performed);
         for (p, turns) in self.turns {
             assert_eq!(rt; turns_of(rt, &world, *p), *turns, "worker {p}");

@@ -7,19 +7,19 @@ ghost use Rattle.amo_kk.specs.Givens.{bound, IsJob, IsWorker};
 ghost use Rattle.amo_kk.specs.Object.{first_object};
 ghost use Rattle.amo_kk.specs.Run.{IsRun, claimed_jobs, done_jobs, has_claimed};
 ghost use Rattle.amo_kk.specs.World.{process, loaded_value, first_process, opening_world, world_after_turn, world_after_halt, world_after_leave, worker_of, world_after_move, world_after_moves, are_in_range};
-ghost use Rattle.amo_kk.specs.Step.{want};
-ghost use Rattle.amo_kk.specs.Answer.{events_of, leave_answer};
+ghost use Rattle.amo_kk.specs.Fits.{WantFits};
+ghost use Rattle.amo_kk.specs.Step.{want, events_of};
+ghost use Rattle.amo_kk.specs.Answer.{leave_answer};
 ghost use Rattle.amo_kk.specs.Lawful.{IsLawful, Agrees, object_of};
 ghost use Rattle.amo_kk.specs.declared.event.Event.{Event};
-ghost use Rattle.amo_world.specs.Answer.{turn_answer};
+ghost use Rattle.amo_world.specs.Answer.{turned, turn_answer};
 ghost use Rattle.amo_world.specs.Resting.{RunsAlone};
 ghost use Rattle.amo_world.specs.Views.{WorldView};
-ghost use Rattle.amo_world.specs.Seats.{process_of, world_of, CanLoad, AreSeats};
+ghost use Rattle.amo_world.specs.Seats.{process_of, world_of, AreSeats};
 
 use crate::answer::{Alone, Turned};
-use crate::phases::{leaving, turned};
 use crate::seat::Seat;
-use crate::tally::{claim_count, done_count, has_claim};
+use crate::tally::{count, has_claim};
 use amo_kk::{Event, Givens, Leaving, Local, Move, Shown, Want};
 use std::alloc::{AllocError, Global};
 use std::marker::Model;
@@ -46,7 +46,7 @@ impl Model for World {
 }
 
 impl World {
-    /// The opening world of these givens: no worker has had an event. Where there are fewer jobs than the threshold
+    /// The opening world of these givens: no worker has taken a step. Where there are fewer jobs than the threshold
     /// each worker has ended, and the history begins with the ends of 1, 2, .. in this order; else it is empty.
     /// The room for all that can happen is made here, and the only error is that memory for it was refused.
     pub fn new(alloc: Global, givens: Givens) -> Result<World, AllocError>
@@ -61,7 +61,7 @@ impl World {
         })
     }
 
-    /// The next event of worker p, in 1..=workers, and what it was: `Idle`, and nothing changes, where p is gone.
+    /// The next step of worker p, in 1..=workers, and what it was: `Idle`, and nothing changes, where p is gone.
     /// The history gains the claim, the performance and the end that the answer names, in this order.
     pub fn turn(&mut self, p: u32) -> Turned
         requires { IsWorker self.old.givens p }
@@ -74,7 +74,7 @@ impl World {
         self.act(p)
     }
 
-    /// The next event of worker p, which isn't gone, and what it was.
+    /// The next step of worker p, which isn't gone, and what it was.
     // Apart from `turn`, so that a turn of a worker that is gone costs no more than the look at it.
     #[inline(never)]
     fn act(&mut self, p: u32) -> Turned
@@ -114,7 +114,7 @@ impl World {
         if self.is_gone(p) {
             return Leaving::Gone;
         }
-        let answer = leaving(self.local(p).phase());
+        let answer = self.local(p).phase().leaving();
         if self.local(p).can_leave() {
             self.seats[p as usize - 1].leave();
             add_event(&mut self.history, Event::Left(p));
@@ -123,13 +123,13 @@ impl World {
     }
 
     /// Turns of worker p, which isn't gone, and of nobody else, until one claims a job or ends p. There are at most
-    /// 6 * workers + jobs of them, in at most three attempts.
+    /// `lone_bound` of them, in at most three attempts.
     pub fn run_alone(&mut self, p: u32) -> Alone
         requires { (process self.old.world p).gone ≡ false }
         ensures givens { self.new.givens ≡ self.old.givens }
         ensures alone { RunsAlone self.old.givens self.old.world p self.new.world result }
     {
-        let mut left = 6 * self.givens.workers + self.givens.jobs;
+        let mut left = self.givens.lone_bound();
         loop {
             left -= 1;
             match self.turn(p) {
@@ -195,6 +195,7 @@ impl World {
         ensures process { process_of result.now ≡ process self.now.world p }
         ensures givens { result.now.local.givens ≡ self.now.givens }
         ensures number { result.now.local.number ≡ p }
+        ensures row { length result.now.row.items ≡ self.now.givens.jobs + 1 }
     {
         &self.seats[p as usize - 1]
     }
@@ -204,7 +205,21 @@ impl World {
         requires { IsWorker self.now.givens p }
         ensures { result ≡ loaded_value self.now.world (want (process self.now.world p).local) }
     {
-        loaded(&self.seats, self.seat(p).local.want())
+        self.loaded(self.seat(p).local.want())
+    }
+
+    /// What the load that some worker wants gives; 0 where a store is wanted.
+    fn loaded(&self, want: Want) -> u32
+        requires { (p : ℕ) × WantFits self.now.givens p want }
+        ensures { result ≡ loaded_value self.now.world want }
+    {
+        match want {
+            Want::LoadNext(q) => self.seat(q).next,
+            Want::LoadDone(q, k) => self.seat(q).row[k as usize - 1],
+            Want::StoreNext(_) | Want::StoreClaim(_, _) | Want::StoreDone(_, _) | Want::Nothing => {
+                0
+            }
+        }
     }
 
     /// Whether worker p, in 1..=workers, is gone: it has ended, was stopped or has left.
@@ -223,7 +238,7 @@ impl World {
         &self.seat(p).local
     }
 
-    /// How many events worker p, in 1..=workers, has had, its leaving among them. A turn that was `Idle` is none.
+    /// How many steps worker p, in 1..=workers, has taken, its leaving among them. A turn that was `Idle` is none.
     pub fn turns_of(&self, p: u32) -> u64
         requires { IsWorker self.now.givens p }
         ensures { result ≡ (process self.now.world p).local.steps }
@@ -263,14 +278,14 @@ impl World {
         ensures { result ≡ length (object_of self.now.givens self.now.world).unclaimed }
     {
         let jobs = self.givens.jobs;
-        jobs - claim_count(&self.history)
+        jobs - count(&self.history).claimed
     }
 
     /// How many jobs were performed.
     pub fn performed_len(&self) -> u32
         ensures { result ≡ length (object_of self.now.givens self.now.world).performed }
     {
-        done_count(&self.history)
+        count(&self.history).performed
     }
 }
 
@@ -283,7 +298,20 @@ fn worker_of(one: Move) -> u32
     }
 }
 
-/// The seats of all workers before their first events.
+/// What the step shows, in the words of a turn.
+fn turned(shown: Shown) -> Turned
+    ensures { result ≡ turned shown }
+{
+    match shown {
+        Shown::Quiet | Shown::Left => Turned::Moved,
+        Shown::Claimed(j) => Turned::Claimed(j),
+        Shown::Done(j) => Turned::Done(j),
+        Shown::DoneEnded(j) => Turned::DoneEnded(j),
+        Shown::Ended => Turned::Ended,
+    }
+}
+
+/// The seats of all workers before their first steps.
 fn first_seats(alloc: Global, givens: Givens) -> Result<Vec<Seat>, AllocError>
     ensures processes { IfOk result (λ v. map process_of v.items ≡ table givens.workers (first_process givens)) }
     ensures seated { IfOk result (λ v. AreSeats givens givens.workers v.items) }
@@ -311,18 +339,6 @@ fn first_history(alloc: Global, givens: Givens) -> Result<Vec<Event>, AllocError
     Ok(history)
 }
 
-/// What the wanted load gives; 0 where a store is wanted.
-fn loaded(seats: &[Seat], want: Want) -> u32
-    requires { CanLoad seats.now want }
-    ensures { result ≡ loaded_value (world_of seats.now []) want }
-{
-    match want {
-        Want::LoadNext(q) => seats[q as usize - 1].next,
-        Want::LoadDone(q, k) => seats[q as usize - 1].row[k as usize - 1],
-        Want::StoreNext(_) | Want::StoreClaim(_, _) | Want::StoreDone(_, _) | Want::Nothing => 0,
-    }
-}
-
 /// Adds an event where there is room.
 fn add_event(history: &mut Vec<Event>, event: Event)
     requires { length history.old.items < vec_capacity history.old }
@@ -332,7 +348,7 @@ fn add_event(history: &mut Vec<Event>, event: Event)
     history.push_reserved(event);
 }
 
-/// Adds what an event of worker p shows, where there is room.
+/// Adds what a step of worker p shows, where there is room.
 fn add_shown(history: &mut Vec<Event>, p: u32, shown: Shown)
     requires { length history.old.items + length (events_of p shown) ≤ vec_capacity history.old }
     ensures items { history.new.items ≡ history.old.items ++ events_of p shown }

@@ -2,24 +2,14 @@
 use super::*;
 use Event::{Claimed, Done, Ended, Halted, Left};
 use Move::{Halt, Leave, Turn};
+use Part::{Then, Works};
 
 #[test]
 fn the_job_of_a_worker_that_left_is_free_to_others(rt: HostRuntime) -> Result<(), Fail> {
     let row = Row {
         givens: (5, 2, 2),
         schedule: &[(Turn(2), 1), (Leave(2), 1), (Turn(1), 20)],
-        history: &[
-            Left(2),
-            Claimed(1, 1),
-            Done(1, 1),
-            Claimed(1, 2),
-            Done(1, 2),
-            Claimed(1, 3),
-            Done(1, 3),
-            Claimed(1, 4),
-            Done(1, 4),
-            Ended(1),
-        ],
+        history: &[Then(Left(2)), Works(1, &[1, 2, 3, 4]), Then(Ended(1))],
         unclaimed: &[5],
         performed: 4,
         turns: &[(1, 20), (2, 2)],

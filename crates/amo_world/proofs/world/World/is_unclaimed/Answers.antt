@@ -2,7 +2,7 @@ use Rattle.std.proofs.Common.{ap, ◌∙◌, not}
 use Rattle.amo_sets.specs.Sets.{has}
 use Rattle.amo_kk.specs.Run.{claimed_jobs}
 use Rattle.amo_world.specs.Views.{WorldView}
-use Rattle.amo_world.proofs.Tallies.{unclaimed_is}
+use Rattle.amo_kk.proofs.Counts.{unclaimed_is}
 use Rattle.amo_world.proofs.world.World.is_unclaimed.Goals as goal
 
 pub returns : goal.returns

@@ -1,13 +1,14 @@
-use Rattle.std.proofs.Common.{◌≡◌, ◌+◌, ◌-◌, ◌*◌, ◌≤◌}
+use Rattle.std.proofs.Common.{◌≡◌, ◌-◌, ◌≤◌}
+use Rattle.amo_kk.specs.Alone.{lone_bound}
 use Rattle.amo_world.proofs.Resting.{IsUnderWay}
 use Rattle.amo_world.proofs.world.World.run_alone.Given as goal
 
 abbrev pub invariant-loop-j : goal.invariant-loop-j
 invariant-loop-j l =
     record {
-      few : l.left ≤ 6 * l.fn.self.givens.workers + l.fn.self.givens.jobs;
+      few : l.left ≤ lone_bound l.fn.self.givens;
       givens : l.self.givens ≡ l.fn.self.givens;
-      way : IsUnderWay l.fn.self.givens l.fn.self.world l.p (6 * l.fn.self.givens.workers + l.fn.self.givens.jobs - l.left) l.self.world;
+      way : IsUnderWay l.fn.self.givens l.fn.self.world l.p (lone_bound l.fn.self.givens - l.left) l.self.world;
     }
 
 abbrev pub decreases-loop-j : goal.decreases-loop-j

@@ -1,4 +1,4 @@
-use Rattle.std.proofs.Common.{sym, ap, ◌∙◌, subst}
+use Rattle.std.proofs.Common.{◌+◌, sym, ap, ◌∙◌, subst}
 use Rattle.std.specs.Vec.{vec_capacity}
 use Rattle.amo_kk.specs.Givens.{IsWorker}
 use Rattle.amo_kk.specs.World.{process}
@@ -22,3 +22,8 @@ returns-clause-givens c =
 pub returns-clause-number : goal.returns-clause-number
 returns-clause-number c =
     turning.own_number c.self.inside.givens c.self.inside.seats.items c.self.inside.history.items (vec_capacity c.self.inside.seats) (vec_capacity c.self.inside.history) c.args.p c.self.invariant (worker c) c.index.result.now c.index.ensures
+
+pub returns-clause-row : goal.returns-clause-row
+returns-clause-row c =
+    turning.row_size c.self.inside.givens c.self.inside.seats.items c.self.inside.history.items (vec_capacity c.self.inside.seats) (vec_capacity c.self.inside.history) c.args.p c.self.invariant (worker c) c.index.result.now c.index.ensures
+    ∙ ap (λ (v : WorldView). v.givens.jobs + 1) c.self.view_is
