@@ -23,6 +23,27 @@ fn givens_are_refused_in_their_order(rt: HostRuntime) {
 }
 
 #[test]
+fn each_fault_tells_its_limit(rt: HostRuntime) -> Result<(), Fail> {
+    let texts = [
+        (GivensFault::TooManyJobs, "there are more than 4096 jobs"),
+        (GivensFault::NoWorkers, "there is no worker"),
+        (
+            GivensFault::TooManyWorkers,
+            "there are more than 16 workers",
+        ),
+        (
+            GivensFault::BetaLow,
+            "the threshold is below the number of workers",
+        ),
+        (GivensFault::BetaHigh, "the threshold is above 65535"),
+    ];
+    for (fault, text) in texts {
+        assert_eq!(rt; fault.to_string(rt.alloc())?.as_str(), text);
+    }
+    Ok(())
+}
+
+#[test]
 fn givens_at_their_limits_are_accepted(rt: HostRuntime) -> Result<(), Fail> {
     let bounds = [
         ((4096, 16, 16), 4066),
@@ -41,16 +62,16 @@ fn givens_at_their_limits_are_accepted(rt: HostRuntime) -> Result<(), Fail> {
     Ok(())
 }
 
-/// What worker p wants first, of so many jobs, workers and that threshold.
-fn first_want(
+/// Worker p of these givens, where there is one.
+fn machine(
     alloc: Global,
     rt: &impl Abort,
     numbers: (u64, u64, u64),
     p: u32,
-) -> Result<Want, Fail> {
+) -> Result<Local, Fail> {
     let givens = Givens::try_new(numbers.0, numbers.1, numbers.2)?;
     assert!(rt; 1 <= p && p <= givens.workers());
-    Ok(Local::new(alloc, givens, p)?.want())
+    Ok(Local::new(alloc, givens, p)?)
 }
 
 #[test]
@@ -60,6 +81,8 @@ fn first_choices_are_spread(rt: HostRuntime) -> Result<(), Fail> {
         ((100, 4, 4), 2, Want::StoreNext(25)),
         ((100, 4, 4), 3, Want::StoreNext(49)),
         ((100, 4, 4), 4, Want::StoreNext(73)),
+        ((4096, 16, 16), 1, Want::StoreNext(1)),
+        ((4096, 16, 16), 16, Want::StoreNext(3826)),
         ((4, 3, 3), 1, Want::StoreNext(1)),
         ((4, 3, 3), 2, Want::StoreNext(2)),
         ((4, 3, 3), 3, Want::StoreNext(3)),
@@ -68,7 +91,7 @@ fn first_choices_are_spread(rt: HostRuntime) -> Result<(), Fail> {
     ];
     for (numbers, p, want) in spread {
         assert!(rt;
-            first_want(rt.alloc(), &rt, numbers, p)? == want,
+            machine(rt.alloc(), &rt, numbers, p)?.want() == want,
             "worker {p}"
         );
     }
@@ -108,11 +131,29 @@ fn front(rt: &impl Abort, local: &Local, q: u32) -> u32 {
     local.read_of(q)
 }
 
+/// Whether the worker wants this, and its next event, in which a load gives v, shows that.
+fn makes(rt: &impl Abort, local: &mut Local, v: u64, want: Want, shown: Shown) -> bool {
+    local.want() == want && event(rt, local, v) == shown
+}
+
+/// Whether the worker has ended by itself.
+fn is_at_its_end(local: &Local) -> bool {
+    local.phase() == Phase::Over && local.want() == Want::Nothing && local.ended()
+}
+
+/// Whether the worker can't leave, nor has left.
+fn stays(local: &Local) -> bool {
+    !local.has_left() && !local.can_leave()
+}
+
+/// Whether the worker has claimed and done these jobs, in this order and so many events.
+fn has_performed(local: &Local, jobs: &[u32], steps: u64) -> bool {
+    local.claims() == jobs && local.dones() == jobs && local.steps() == steps
+}
+
 #[test]
 fn a_worker_alone_performs_all(rt: HostRuntime) -> Result<(), Fail> {
-    let givens = Givens::try_new(3, 1, 1)?;
-    assert_eq!(rt; givens.workers(), 1);
-    let mut local = Local::new(rt.alloc(), givens, 1)?;
+    let mut local = machine(rt.alloc(), &rt, (3, 1, 1), 1)?;
     let events = [
         (Want::StoreNext(1), Shown::Quiet, None),
         (Want::StoreClaim(1, 1), Shown::Claimed(1), Some(1)),
@@ -125,24 +166,17 @@ fn a_worker_alone_performs_all(rt: HostRuntime) -> Result<(), Fail> {
         (Want::StoreDone(3, 3), Shown::DoneEnded(3), None),
     ];
     for (i, (want, shown, in_hand)) in events.iter().enumerate() {
-        assert!(rt; local.want() == *want, "event {i}");
-        assert!(rt; event(&rt, &mut local, 0) == *shown, "event {i}");
-        assert!(rt; local.in_hand() == *in_hand, "event {i}");
+        let is_right = makes(&rt, &mut local, 0, *want, *shown) && local.in_hand() == *in_hand;
+        assert!(rt; is_right, "event {i}");
     }
-    assert!(rt; local.want() == Want::Nothing);
-    assert!(rt; local.phase() == Phase::Over);
-    assert!(rt; local.ended() && !local.has_left() && !local.can_leave());
-    assert_eq!(rt; local.claims(), [1, 2, 3].as_slice());
-    assert_eq!(rt; local.dones(), [1, 2, 3].as_slice());
-    assert_eq!(rt; local.steps(), 9);
+    let is_over = is_at_its_end(&local) && stays(&local);
+    assert!(rt; is_over && has_performed(&local, &[1, 2, 3], 9));
     Ok(())
 }
 
 #[test]
 fn a_known_job_is_not_announced_again(rt: HostRuntime) -> Result<(), Fail> {
-    let givens = Givens::try_new(5, 2, 2)?;
-    assert!(rt; givens.workers() == 2 && givens.jobs() == 5);
-    let mut local = Local::new(rt.alloc(), givens, 2)?;
+    let mut local = machine(rt.alloc(), &rt, (5, 2, 2), 2)?;
     let events = [
         (Want::StoreNext(3), 0),
         (Want::LoadNext(1), 0),
@@ -150,45 +184,52 @@ fn a_known_job_is_not_announced_again(rt: HostRuntime) -> Result<(), Fail> {
         (Want::LoadDone(1, 2), 0),
     ];
     for (i, (want, heard)) in events.iter().enumerate() {
-        assert!(rt; local.want() == *want, "event {i}");
-        assert!(rt; event(&rt, &mut local, *heard) == Shown::Quiet, "event {i}");
+        assert!(rt;
+            makes(&rt, &mut local, *heard, *want, Shown::Quiet),
+            "event {i}"
+        );
     }
-    assert_eq!(rt; local.steps(), 4);
-    assert!(rt; local.want() == Want::StoreNext(2));
-    assert!(rt; sight(&rt, &local, 3) == (true, false));
-    assert_eq!(rt; front(&rt, &local, 1), 1);
+    let knows = sight(&rt, &local, 3) == (true, false) && front(&rt, &local, 1) == 1;
+    assert!(rt; knows && local.steps() == 4 && local.want() == Want::StoreNext(2));
     Ok(())
 }
 
 #[test]
 fn a_job_seen_announced_is_not_claimed(rt: HostRuntime) -> Result<(), Fail> {
-    let givens = Givens::try_new(3, 2, 2)?;
-    assert!(rt; givens.workers() == 2 && givens.jobs() == 3);
-    let mut local = Local::new(rt.alloc(), givens, 2)?;
-    assert!(rt; local.want() == Want::StoreNext(2));
-    assert!(rt; event(&rt, &mut local, 0) == Shown::Quiet);
-    assert!(rt; event(&rt, &mut local, 2) == Shown::Quiet);
-    assert!(rt; sight(&rt, &local, 2) == (false, true));
-    assert!(rt; event(&rt, &mut local, 1) == Shown::Quiet);
-    assert!(rt; event(&rt, &mut local, 0) == Shown::Ended);
+    let mut local = machine(rt.alloc(), &rt, (3, 2, 2), 2)?;
+    let events = [
+        (Want::StoreNext(2), 0, Shown::Quiet, false),
+        (Want::LoadNext(1), 2, Shown::Quiet, true),
+        (Want::LoadDone(1, 1), 1, Shown::Quiet, true),
+        (Want::LoadDone(1, 2), 0, Shown::Ended, true),
+    ];
+    for (i, (want, heard, shown, tried)) in events.iter().enumerate() {
+        let is_right = makes(&rt, &mut local, *heard, *want, *shown);
+        assert!(rt;
+            is_right && sight(&rt, &local, 2) == (false, *tried),
+            "event {i}"
+        );
+    }
     assert_eq!(rt; local.steps(), 4);
     Ok(())
 }
 
 #[test]
 fn a_worker_leaves_with_nothing_in_hand(rt: HostRuntime) -> Result<(), Fail> {
-    let givens = Givens::try_new(3, 1, 1)?;
-    assert_eq!(rt; givens.workers(), 1);
-    let mut local = Local::new(rt.alloc(), givens, 1)?;
-    assert!(rt; event(&rt, &mut local, 0) == Shown::Quiet);
-    assert!(rt; event(&rt, &mut local, 0) == Shown::Claimed(1));
-    assert!(rt; !local.can_leave());
-    assert!(rt; event(&rt, &mut local, 0) == Shown::Done(1));
+    let mut local = machine(rt.alloc(), &rt, (3, 1, 1), 1)?;
+    let events = [
+        (Shown::Quiet, true),
+        (Shown::Claimed(1), false),
+        (Shown::Done(1), true),
+    ];
+    for (i, (shown, can_leave)) in events.iter().enumerate() {
+        let is_shown = event(&rt, &mut local, 0) == *shown;
+        assert!(rt; is_shown && local.can_leave() == *can_leave, "event {i}");
+    }
     assert!(rt; local.can_leave());
     assert!(rt; local.leave() == Shown::Left);
-    assert!(rt; local.has_left() && !local.ended() && !local.can_leave());
-    assert!(rt; local.want() == Want::Nothing);
-    assert_eq!(rt; local.steps(), 4);
+    let has_left = local.has_left() && !local.ended() && !local.can_leave();
+    assert!(rt; has_left && local.want() == Want::Nothing && local.steps() == 4);
     Ok(())
 }
 
@@ -201,4 +242,38 @@ fn refused_machine(rt: HostRuntime) {
             Err(AllocError) => {}
         }
     }
+}
+
+/// Whether the first worker of two on 4 jobs, with a last look and its leaving, does what it has to.
+fn performs_one_and_leaves(rt: &impl Abort, local: &mut Local) -> bool {
+    for heard in [0, 0, 3, 0, 0, 0] {
+        let _shown = event(rt, local, heard);
+    }
+    let knows = sight(rt, local, 3) == (true, false) && front(rt, local, 2) == 1;
+    let is_here = !is_at_its_end(local) && !stays(local) && local.in_hand() == None;
+    let has_done = has_performed(local, &[1], 6);
+    assert!(rt; local.can_leave());
+    knows && is_here && has_done && local.leave() == Shown::Left
+}
+
+/// Makes 100 workers, and takes so many of them through calls that take no memory.
+fn use_workers(rt: &impl Abort, alloc: Global, times: usize) -> Result<(), Fail> {
+    let mut workers = Vec::new(alloc);
+    for _ in 0..100 {
+        workers.push(machine(alloc, rt, (4, 2, 2), 1)?)?;
+    }
+    for worker in workers.iter_mut().take(times) {
+        assert!(rt; performs_one_and_leaves(rt, worker));
+    }
+    Ok(())
+}
+
+#[test]
+fn takes_no_memory_once(rt: HostRuntime) -> Result<(), Fail> {
+    use_workers(&rt, rt.alloc(), 1)
+}
+
+#[test]
+fn takes_no_memory_often(rt: HostRuntime) -> Result<(), Fail> {
+    use_workers(&rt, rt.alloc(), 100)
 }
