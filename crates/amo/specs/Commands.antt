@@ -1,5 +1,5 @@
 -- Which words are a command, and what it asks for.
-use Rattle.std.specs.Prelude.{◌≡◌, ◌≤◌, ℕ, List, [], ◌∷◌, Option, Some, None, Result, MatchResult, true, option_and_then, codes, if◌then◌else◌}
+use Rattle.std.specs.Prelude.{◌≡◌, ◌≤◌, ℕ, List, [], ◌∷◌, Option, Some, None, Result, MatchResult, true, option_and_then, codes, drop, if◌then◌else◌}
 use Rattle.std.specs.Str.{bytes_eq}
 use Rattle.clap.specs.Words.{App, Row, Rule, Text, new_app, new_rule, with_rule, with_subcommand, subcommand_of, fault_of, first_of}
 use Rattle.amo.specs.Numbers.{number_of, within}
@@ -75,6 +75,10 @@ request_of_line line = unless_any (fault_of amo_app line) (option_and_then (λ r
 -- what the words after the program's name ask for, or None where they are no command
 abbrev pub asked : List Text → Option Request
 asked words = request_of_line (codes "amo" ∷ words)
+
+-- what all words that the program is given ask for, its own name first
+abbrev pub asked_after_name : List Text → Option Request
+asked_after_name words = asked (drop 1 words)
 
 -- the result is this request, or NoCommand where there is none, or out of memory
 abbrev pub Answers : Option Request → Result Request RequestFault → Type 0

@@ -3,41 +3,23 @@
 //! what becomes of the plan where worker P stops after each of its first moves.
 #![tactic(auto)]
 
-ghost use Rattle.std.specs.Prelude.{◌≤◌, IfOk};
-
 mod commands;
 mod fault;
 mod numbers;
+mod program;
 mod request;
 mod working;
 
 use amo_report::Streamed;
-use std::io;
+use program::serve_words;
 use std::process::ExitCode;
-use working::work;
 
-/// The exit status of `work` on the words after the program's name and the standard streams. Its errors are that
-/// the words can't be had: memory for them is refused, or one is no text.
-fn run(rt: &HostRuntime) -> io::Result<u8>
-    ensures { IfOk result (λ status. status ≤ 4) }
-{
-    let alloc = rt.alloc();
-    let words: Vec<String> = std::env::args(rt)?.collect(alloc)?;
-    let mut texts = Vec::with_capacity(alloc, words.len())?;
-    for word in words.iter().skip(1) {
-        texts.push(word.as_str())?;
-    }
+fn main(rt: HostRuntime) -> ExitCode {
+    let words = std::env::args(&rt);
     let mut reader = Streamed::new(rt.stdin());
     let mut out = Streamed::new(rt.stdout());
     let mut err = Streamed::new(rt.stderr());
-    Ok(work(rt, alloc, &texts, &mut reader, &mut out, &mut err))
-}
-
-fn main(rt: HostRuntime) -> ExitCode {
-    match run(&rt) {
-        Ok(status) => ExitCode::from(status),
-        Err(_) => ExitCode::from(3),
-    }
+    serve_words(&rt, rt.alloc(), words, &mut reader, &mut out, &mut err)
 }
 
 #[cfg(test)]

@@ -45,7 +45,7 @@ fn say<E: Sink>(err: &mut E, line: &str)
 
 /// Tells of the fault, or of memory having run out where there is none for its line, and answers the status.
 #[tactic(auto, using(crate::proofs::Endings::told))]
-fn refuse<E: Sink>(alloc: Global, err: &mut E, fault: Fault) -> u8
+pub fn refuse<E: Sink>(alloc: Global, err: &mut E, fault: Fault) -> u8
     ensures { IsTold fault (change (E.contents err.old) (E.contents err.new) (E.failed err.new)) result }
 {
     match fault {
