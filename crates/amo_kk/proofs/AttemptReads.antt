@@ -1,12 +1,11 @@
 -- What an attempt has still to read, and how a turn of its worker takes from it.
-use Rattle.std.proofs.Common.{◌≡◌, ◌≢◌, ⊎_elim, ℕ, ◌+◌, ◌-◌, ◌≤◌, Bool, true, false, not, ◌&&◌, List, [], ◌∷◌, ◌++◌, length, refl, sym, ap, subst, arith}
+use Rattle.std.proofs.Common.{◌≡◌, ◌≢◌, ⊎_elim, ℕ, ◌+◌, ◌-◌, ◌≤◌, Bool, true, false, not, ◌&&◌, List, [], ◌∷◌, ◌++◌, refl, sym, ap, subst, arith}
 use Rattle.std.specs.Prelude.{if◌then◌else◌, ◌==◌, nat_le}
 use Rattle.std.proofs.lemmas.Bool.Decides.{nat_tests}
 use Rattle.std.proofs.lemmas.Bool.{cases_eq, ne_eqb}
 use Rattle.amo_sets.specs.Lists.{numbered, put}
 use Rattle.amo_sets.specs.Sets.{with_number}
-use Rattle.amo_kk.specs.Givens.{IsJob, IsWorker, IsOther, next_other, others_before}
-use Rattle.amo_kk.specs.Choice.{record_after_choice, record_after_check}
+use Rattle.amo_kk.specs.Givens.{next_other}
 use Rattle.amo_kk.specs.Step.{want_in, want, with_announced, record_at_row, record_at_announcement, record_after_phase}
 use Rattle.amo_kk.specs.World.{process, loaded_value}
 use Rattle.amo_kk.specs.Alone.{stores_announcement, reads_announcement, reads_zero, reads_entry, attempts_going_on}
@@ -19,9 +18,8 @@ use Rattle.amo_kk.specs.declared.model.Record.{Record}
 use Rattle.amo_kk.specs.declared.model.World.{World}
 use Rattle.amo_sets.proofs.Numbers.{numbered-put_same, numbered-put_other}
 use Rattle.amo_kk.proofs.Choice.{choice_cases, check_cases, to_row_cases, to_announcement_cases}
-use Rattle.amo_kk.proofs.Kept.{others_room, others_next}
 use Rattle.amo_kk.proofs.Worlds.{here_is_worker}
-use Rattle.amo_kk.proofs.OwnTurns.{next_record, stored, left_from}
+use Rattle.amo_kk.proofs.OwnTurns.{next_record, stored, left_from, one_fewer, heard, read_of}
 
 -- 1 where the entry at place e of the row of q is still to be read
 abbrev pub unread_in : (q e : ℕ) → List ℕ → ℕ
@@ -92,28 +90,6 @@ module _ (g : Givens) (p : ℕ) where
   to_read Over = 0
   to_read Left = 0
 
-  -- the next other has one fewer left
-  one_fewer : (q : ℕ) → IsWorker g p → IsOther g p q → 1 + left_from g p (next_other p q) ≤ left_from g p q
-  one_fewer q o other =
-      let room = others_room p q g.workers o.low o.high other.worker.low other.worker.high other.differs in
-      let more = others_next p q o.low other.worker.low other.differs in
-      omega arith
-
-  module _ (w : World) (law : IsLawful g w) (here : (process w p).gone ≡ false) where
-    abbrev now : Record
-    now = (process w p).local
-
-    is_worker : IsWorker g p
-    is_worker = here_is_worker g w p law.size here
-
-    -- the one whose announcement is read next
-    heard : (j q : ℕ) → now.phase ≡ Trying j q → IsOther g p q
-    heard j q is = let stands : IsJob g j × IsOther g p q × (length now.tried ≤ others_before p q) = rw is at (law.lawful.sound p is_worker).local.stands in stands.1
-
-    -- the one whose row is read next
-    read_of : (j q : ℕ) → now.phase ≡ Reading j q → IsOther g p q
-    read_of j q is = let stands : IsJob g j × IsOther g p q = rw is at (law.lawful.sound p is_worker).local.stands in stands.1
-
   pub announcements_paid : IsPaid (λ x v. reads_announcement x) (g.workers - 1) (λ r. to_hear r.phase)
   announcements_paid w law here = go r.phase refl
     where
@@ -127,7 +103,8 @@ module _ (g : Givens) (p : ℕ) where
       go (Announcing i) is = at_announcement g p (λ y. 0 + to_hear y.phase ≤ g.workers - 1) i (next_other p 0) r
           (record { over = omega arith; announcing = λ _. omega arith; claiming = λ _. omega arith }) (omega arith) (omega arith)
       go (Trying i q) is =
-          let fewer = one_fewer q (is_worker w law here) (heard w law here i q is) in
+          let o = here_is_worker g w p law.size here in
+          let fewer = one_fewer g p q o (heard g w p i q law o is) in
           at_announcement g p (λ y. 1 + to_hear y.phase ≤ left_from g p q) i (next_other p q) (record r { tried = with_announced v r.tried })
           (record { over = omega arith; announcing = λ _. omega arith; claiming = λ _. omega arith }) (omega arith) (omega arith)
       go (Reading i q) is = read (v == 0)
@@ -158,7 +135,8 @@ module _ (g : Givens) (p : ℕ) where
         where
           read : (b : Bool) → (if b then 1 else 0) + to_read (if b then record_at_row g p i (next_other p q) r else record r { known = with_number v r.known; fronts = put r.fronts q (numbered 0 r.fronts q + 1) }).phase ≤ left_from g p q
           read true =
-              let fewer = one_fewer q (is_worker w law here) (read_of w law here i q is) in
+              let o = here_is_worker g w p law.size here in
+              let fewer = one_fewer g p q o (read_of g w p i q law o is) in
               at_row g p (λ y. 1 + to_read y.phase ≤ left_from g p q) i (next_other p q) r (record { over = omega arith; announcing = λ _. omega arith; claiming = λ _. omega arith }) (omega arith)
           read false = let z = ap to_read is in omega arith
       go (Claiming i) is = omega arith
@@ -192,9 +170,10 @@ module _ (g : Givens) (p : ℕ) where
 
           put_here : numbered 0 (put r.fronts q0 (front + 1)) q0 ≡ front + 1
           put_here =
-              let other = read_of w law here i q0 is in
+              let o = here_is_worker g w p law.size here in
+              let other = read_of g w p i q0 law o is in
               let h = other.worker.high in
-              let size = (law.lawful.sound p (is_worker w law here)).local.fronts in
+              let size = (law.lawful.sound p o).local.fronts in
               numbered-put_same 0 (front + 1) r.fronts q0 other.worker.low (omega arith)
 
           read : (b : Bool) → (if (q0 == q) && ((front + 1 == e) && not b) then 1 else 0) + unread_in q e (if b then record_at_row g p i (next_other p q0) r else record r { known = with_number v r.known; fronts = put r.fronts q0 (front + 1) }).fronts ≤ unread_in q e r.fronts

@@ -5,8 +5,8 @@ use Rattle.std.proofs.lemmas.Bool.Decides.{nat_tests}
 use Rattle.std.proofs.lemmas.Bool.{cases_lt, true≢false, or_parts}
 use Rattle.amo_kk.specs.Givens.{AreGivens}
 use Rattle.amo_kk.specs.Step.{want_in, want, is_load}
-use Rattle.amo_kk.specs.World.{process, loaded_value, world_after_turn}
-use Rattle.amo_kk.specs.Alone.{is_claiming, claims_or_ends, world_after_turns, IsFirstToClaimOrEnd, want_at, value_at, stores_announcement, reads_announcement, reads_zero, reads_entry, turns_that, attempts_going_on, attempt_at, turns_of_attempt, FitsThreeAttempts}
+use Rattle.amo_kk.specs.World.{process, world_after_turn}
+use Rattle.amo_kk.specs.Alone.{is_claiming, claims_or_ends, world_after_turns, IsFirstToClaimOrEnd, want_at, value_at, stores_announcement, reads_announcement, reads_zero, reads_entry, turns_that, attempts_going_on, turns_of_attempt, FitsThreeAttempts}
 use Rattle.amo_kk.specs.Lawful.{IsLawful}
 use Rattle.amo_kk.specs.declared.givens.Givens.{Givens}
 use Rattle.amo_kk.specs.declared.phase.Phase.{Phase}
@@ -15,7 +15,7 @@ use Rattle.amo_kk.specs.declared.phase.Want.{Want}
 use Rattle.amo_kk.specs.declared.model.Record.{Record}
 use Rattle.amo_kk.specs.declared.model.World.{World}
 use Rattle.amo_kk.proofs.OwnTurns.{next_record, IsTurned, own_turn, stored, stored_within, to_begin, turns_that-suc}
-use Rattle.amo_kk.proofs.AttemptReads.{counted, IsPaid, IsSpent, to_hear, to_read, unread_in, announcements_paid, zeros_paid, entries_spent, attempt_begun}
+use Rattle.amo_kk.proofs.AttemptReads.{IsPaid, IsSpent, to_hear, to_read, unread_in, announcements_paid, zeros_paid, entries_spent, attempt_begun}
 use Rattle.amo_kk.proofs.Alone.{stores_few}
 
 -- what attempt a may still count, where n is the number of the attempt by now, which has so much left

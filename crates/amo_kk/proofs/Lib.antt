@@ -25,6 +25,8 @@ pub mod Alone
 pub mod Attempts
 -- These serve this crate alone.
 mod AttemptReads
+mod LoneTurns
 mod Limits
 mod OpenJobs
+mod RowSums
 mod Worked

@@ -1,8 +1,8 @@
 -- The turns of one worker: what a turn in which it goes on leaves, and how many of them store an announcement.
-use Rattle.std.proofs.Common.{◌≡◌, ◌≢◌, ℕ, zero, suc, ◌+◌, ◌-◌, Bool, false, refl, sym, ap, ◌∙◌, arith}
+use Rattle.std.proofs.Common.{◌≡◌, ◌≢◌, ℕ, zero, suc, ◌+◌, ◌-◌, ◌≤◌, Bool, false, length, refl, sym, ap, ◌∙◌, arith}
 use Rattle.std.specs.Prelude.{if◌then◌else◌}
 use Rattle.std.proofs.lemmas.Bool.{true≢false, false_from_ne_true}
-use Rattle.amo_kk.specs.Givens.{AreGivens, IsWorker, others_before}
+use Rattle.amo_kk.specs.Givens.{AreGivens, IsJob, IsWorker, IsOther, next_other, others_before}
 use Rattle.amo_kk.specs.Record.{is_over, wants_nothing}
 use Rattle.amo_kk.specs.Step.{want_in, want, record_after}
 use Rattle.amo_kk.specs.World.{nobody, process, loaded_value, process_after, world_after_step, world_after_turn}
@@ -16,6 +16,7 @@ use Rattle.amo_kk.specs.declared.model.Process.{Process}
 use Rattle.amo_kk.specs.declared.model.World.{World}
 use Rattle.amo_sets.proofs.Numbers.{numbered-put_other}
 use Rattle.amo_kk.proofs.Choice.{after_rests}
+use Rattle.amo_kk.proofs.Kept.{others_room, others_next}
 use Rattle.amo_kk.proofs.Worlds.{turn_lawful, here_is_worker, put_here}
 use Rattle.amo_kk.proofs.Runs.{stored_local, stored_gone}
 
@@ -106,3 +107,20 @@ to_begin Left = 0
 -- how many of the others are not before q
 abbrev pub left_from : Givens → ℕ → ℕ → ℕ
 left_from g p q = g.workers - 1 - others_before p q
+
+-- the next other has one fewer left
+pub one_fewer : (g : Givens) (p q : ℕ) → IsWorker g p → IsOther g p q → 1 + left_from g p (next_other p q) ≤ left_from g p q
+one_fewer g p q o other =
+    let room = others_room p q g.workers o.low o.high other.worker.low other.worker.high other.differs in
+    let more = others_next p q o.low other.worker.low other.differs in
+    omega arith
+
+-- the one whose announcement is read next is another worker
+pub heard : (g : Givens) (w : World) (p j q : ℕ) → IsLawful g w → IsWorker g p → (process w p).local.phase ≡ Trying j q → IsOther g p q
+heard g w p j q law o is =
+    let stands : IsJob g j × IsOther g p q × (length (process w p).local.tried ≤ others_before p q) = rw is at (law.lawful.sound p o).local.stands in
+    stands.1
+
+-- the one whose row is read next is another worker
+pub read_of : (g : Givens) (w : World) (p j q : ℕ) → IsLawful g w → IsWorker g p → (process w p).local.phase ≡ Reading j q → IsOther g p q
+read_of g w p j q law o is = let stands : IsJob g j × IsOther g p q = rw is at (law.lawful.sound p o).local.stands in stands.1

@@ -11,7 +11,7 @@ use Rattle.amo_kk.specs.Choice.{first_record}
 use Rattle.amo_kk.specs.World.{process, world_after_halt, world_after_leave, world_after_moves, opening_world}
 use Rattle.amo_kk.specs.Words.{words_of, done_word}
 use Rattle.amo_kk.specs.Answer.{turn_shown, leave_answer}
-use Rattle.amo_kk.specs.Alone.{claims_or_ends, world_after_turns, want_at, value_at, reads_announcement, reads_zero, reads_entry, turns_that, attempt_at}
+use Rattle.amo_kk.specs.Alone.{claims_or_ends, world_after_turns, want_at, value_at, reads_announcement, reads_zero, reads_entry, turns_that, attempt_at, turns_of_attempt}
 use Rattle.amo_kk.specs.declared.givens.Givens.{Givens}
 use Rattle.amo_kk.specs.declared.givens.GivensFault.TheVariants.{TooManyJobs, NoWorkers, TooManyWorkers, BetaLow, BetaHigh}
 use Rattle.amo_kk.specs.declared.phase.Phase.{Phase}
@@ -362,11 +362,17 @@ two_attempts = refl
 one_goes_on : attempt_at five_jobs (world_after_turns five_jobs both_on_2 1 1) 1 6 ≡ 2
 one_goes_on = refl
 
-two_announcements : turns_that (λ k. reads_announcement (want_at five_jobs both_on_2 1 k)) 7 ≡ 2
-two_announcements = refl
+first_hears_one : turns_of_attempt five_jobs both_on_2 1 1 (λ k. reads_announcement (want_at five_jobs both_on_2 1 k)) 7 ≡ 1
+first_hears_one = refl
 
-two_zeros : turns_that (λ k. reads_zero (want_at five_jobs both_on_2 1 k) (value_at five_jobs both_on_2 1 k)) 7 ≡ 2
-two_zeros = refl
+second_hears_one : turns_of_attempt five_jobs both_on_2 1 2 (λ k. reads_announcement (want_at five_jobs both_on_2 1 k)) 7 ≡ 1
+second_hears_one = refl
+
+first_zero : turns_of_attempt five_jobs both_on_2 1 1 (λ k. reads_zero (want_at five_jobs both_on_2 1 k) (value_at five_jobs both_on_2 1 k)) 7 ≡ 1
+first_zero = refl
+
+second_zero : turns_of_attempt five_jobs both_on_2 1 2 (λ k. reads_zero (want_at five_jobs both_on_2 1 k) (value_at five_jobs both_on_2 1 k)) 7 ≡ 1
+second_zero = refl
 
 entry_1_once : turns_that (λ k. reads_entry 2 1 (want_at five_jobs both_on_2 1 k) (value_at five_jobs both_on_2 1 k)) 7 ≡ 1
 entry_1_once = refl
