@@ -72,17 +72,21 @@ enum Part<'a> {
     Then(Event),
 }
 
+/// Adds that worker p claims and performs these jobs.
+fn add_work(events: &mut Vec<Event>, p: u32, jobs: &[u32]) -> Result<(), AllocError> {
+    for j in jobs {
+        events.push(Event::Claimed(p, *j))?;
+        events.push(Event::Done(p, *j))?;
+    }
+    Ok(())
+}
+
 /// The events of these parts.
 fn events_of(alloc: Global, parts: &[Part]) -> Result<Vec<Event>, AllocError> {
     let mut events = Vec::new(alloc);
     for part in parts {
         match *part {
-            Part::Works(p, jobs) => {
-                for j in jobs {
-                    events.push(Event::Claimed(p, *j))?;
-                    events.push(Event::Done(p, *j))?;
-                }
-            }
+            Part::Works(p, jobs) => add_work(&mut events, p, jobs)?,
             Part::Then(event) => events.push(event)?,
         }
     }
