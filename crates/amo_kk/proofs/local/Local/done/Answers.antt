@@ -1,4 +1,4 @@
-use Rattle.std.proofs.Common.{◌≡◌, false, ap, sym, refl, ◌∙◌, arith}
+use Rattle.std.proofs.Common.{◌≡◌, false, ap, sym, refl, ◌∙◌}
 use Rattle.std.specs.Vec.{vec_capacity}
 use Rattle.amo_sets.specs.Sets.{has, with_number}
 use Rattle.amo_kk.specs.Givens.{IsJob}

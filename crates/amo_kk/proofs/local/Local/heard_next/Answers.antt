@@ -1,4 +1,4 @@
-use Rattle.std.proofs.Common.{◌≡◌, ◌≤◌, ap, sym, refl, subst, ◌∙◌, arith}
+use Rattle.std.proofs.Common.{◌≡◌, ◌≤◌, ap, sym, refl, subst, ◌∙◌}
 use Rattle.std.specs.Vec.{vec_capacity}
 use Rattle.amo_kk.specs.Step.{want_in, with_announced, record_at_announcement, MayLoad}
 use Rattle.amo_kk.specs.declared.model.Record.{Record}
