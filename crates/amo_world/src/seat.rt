@@ -1,5 +1,5 @@
 //! One worker with the shared words that it alone writes.
-ghost use Rattle.std.specs.Prelude.{◌≡◌, ◌≤◌, ◌<◌, ◌+◌, length, true, false, ℕ, IfOk, replicate};
+ghost use Rattle.std.specs.Prelude.{◌≡◌, ◌≤◌, ◌<◌, ◌+◌, length, true, false, ℕ, IfOk};
 ghost use Rattle.std.specs.Vec.{vec_capacity};
 ghost use Rattle.amo_kk.specs.declared.phase.Want.{Want};
 ghost use Rattle.amo_kk.specs.Givens.{IsWorker};
@@ -9,6 +9,7 @@ ghost use Rattle.amo_kk.specs.World.{process_after, first_process};
 ghost use Rattle.amo_world.specs.Seats.{process_of};
 
 use amo_kk::{Givens, Local, Shown, Want};
+use amo_sets::filled;
 use std::alloc::{AllocError, Global};
 
 /// A worker's machine, its announcement, its count of claims and its row, and whether it is gone.
@@ -31,7 +32,7 @@ impl Seat {
         ensures room { IfOk result (λ s. vec_capacity s.row ≡ givens.jobs + 1) }
     {
         let local = Local::new(alloc, givens, p)?;
-        let row = zeros(alloc, givens.jobs as usize + 1)?;
+        let row = filled(alloc, givens.jobs as usize + 1, 0u32)?;
         let gone = local.phase().wants_nothing();
         Ok(Seat {
             local,
@@ -137,16 +138,4 @@ impl Seat {
         self.next = 0;
         self.gone = true;
     }
-}
-
-/// So many zeros, with room for no more.
-fn zeros(alloc: Global, size: usize) -> Result<Vec<u32>, AllocError>
-    ensures items { IfOk result (λ v. v.items ≡ replicate size 0) }
-    ensures room { IfOk result (λ v. vec_capacity v ≡ size) }
-{
-    let mut zeros = Vec::with_capacity(alloc, size)?;
-    for k in 0..size {
-        zeros.push_reserved(0);
-    }
-    Ok(zeros)
 }
