@@ -205,3 +205,64 @@ fn a_word_that_is_none_is_refused(rt: HostRuntime) -> Result<(), Fail> {
     schedules(HEADS).accepts(&rt, rt.alloc(), &WORDS)?;
     Ok(())
 }
+
+/// Each fault, and what is printed of it.
+const PRINTED: [(PlanFault, &str); 18] = [
+    (PlanFault::NotToml, "the text is no TOML"),
+    (PlanFault::UnknownKey(0), "unknown key in 0"),
+    (PlanFault::UnknownKey(3), "unknown key in 3"),
+    (PlanFault::MissingKey(2), "missing key in 2"),
+    (PlanFault::WrongKind(4), "value of another kind in 4"),
+    (
+        PlanFault::BadGivens(GivensFault::TooManyJobs),
+        "there are more than 4096 jobs",
+    ),
+    (
+        PlanFault::BadGivens(GivensFault::NoWorkers),
+        "there is no worker",
+    ),
+    (
+        PlanFault::BadGivens(GivensFault::TooManyWorkers),
+        "there are more than 16 workers",
+    ),
+    (
+        PlanFault::BadGivens(GivensFault::BetaLow),
+        "the threshold is below the number of workers",
+    ),
+    (
+        PlanFault::BadGivens(GivensFault::BetaHigh),
+        "the threshold is above 65535",
+    ),
+    (
+        PlanFault::TwoNames(2),
+        "job 2 has the name of an earlier one",
+    ),
+    (PlanFault::BadName(7), "job 7 has no proper name"),
+    (
+        PlanFault::SumTooLarge(1),
+        "the sum of job 1 has more than 64 bits",
+    ),
+    (
+        PlanFault::BadScheduleWord(5),
+        "word 5 of the schedule is none",
+    ),
+    (
+        PlanFault::NoSuchWorker(6),
+        "word 6 of the schedule names no worker",
+    ),
+    (
+        PlanFault::NoSuchWorker(u32::MAX),
+        "word 4294967295 of the schedule names no worker",
+    ),
+    (PlanFault::TooLong, "the plan is too long"),
+    (PlanFault::NoMemory, "out of memory"),
+];
+
+#[test]
+fn a_printed_fault_says_what_it_is(rt: HostRuntime) -> Result<(), Fail> {
+    for (fault, wanted) in PRINTED {
+        let printed = format!(in rt.alloc(); "{fault}")?;
+        assert_text(&rt, Some(printed.as_str()), Some(wanted));
+    }
+    Ok(())
+}

@@ -47,9 +47,19 @@ const NO_GIVENS: [(u32, &str, GivensFault); 6] = [
     ),
 ];
 
+/// The heads of a plan with the most workers, rounds and budgets that there may be.
+const GREATEST: &str = "version = 1
+workers = 16
+beta = 65535
+rounds = 10000
+budgets = [10000000, 10000000, 10000000, 10000000, 10000000, 10000000, 10000000, 10000000,
+    10000000, 10000000, 10000000, 10000000, 10000000, 10000000, 10000000, 10000000]
+";
+
 /// Numbers of jobs, and heads, that are givens.
-const GIVENS: [(u32, &str); 4] = [
+const GIVENS: [(u32, &str); 5] = [
     (4096, "version = 1\nworkers = 16\nbeta = 16\n"),
+    (4096, GREATEST),
     (5, "version = 1\nworkers = 2\nbeta = 2\n"),
     (5, "version = 1\nworkers = 2\nbeta = 65535\n"),
     (0, "version = 1\nworkers = 1\nbeta = 1\n"),
@@ -98,6 +108,16 @@ fn a_long_text_is_refused_whatever_it_holds(rt: HostRuntime) -> Result<(), Fail>
     }
     let text = vec![in rt.alloc(); b' '; 1_048_576]?;
     assert_refused(&rt, rt.alloc(), &text, PlanFault::MissingKey(0), "1048576");
+    Ok(())
+}
+
+#[test]
+fn a_plan_of_the_greatest_length_is_read(rt: HostRuntime) -> Result<(), Fail> {
+    let mut text = HEADS.as_bytes().to_vec(rt.alloc())?;
+    text.resize(1_048_576, b'#')?;
+    assert_accepted(&rt, rt.alloc(), &text, "1048576");
+    text.push(b'#')?;
+    assert_refused(&rt, rt.alloc(), &text, PlanFault::TooLong, "1048577");
     Ok(())
 }
 

@@ -98,7 +98,7 @@ fn assert_held(rt: &impl Abort, text: Text, held: &str) {
 }
 
 #[test]
-fn a_row_and_a_text_give_up_what_they_hold(rt: HostRuntime) -> Result<(), Fail> {
+fn items_and_a_text_give_up_what_they_hold(rt: HostRuntime) -> Result<(), Fail> {
     assert_items(&rt, as_items(rt.alloc(), &[3, 4])?, &[3, 4]);
     assert_held(&rt, Text::from_str(rt.alloc(), "held")?, "held");
     Ok(())
