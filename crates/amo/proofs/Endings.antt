@@ -1,10 +1,13 @@
 -- How a command ends, from the fault that came and what was told of it.
-use Rattle.std.proofs.Common.{◌≡◌, inl, inr, ℕ, Option, sym, subst, arith}
-use Rattle.amo_plan.specs.declared.fault.PlanFault.{PlanFault}
+use Rattle.std.proofs.Common.{◌≡◌, inl, inr, ℕ, Option, Some, Err, sym, subst}
+use Rattle.amo_report.specs.declared.replaying.ReplayFault.{ReplayFault}
+use Rattle.amo_report.specs.declared.replaying.ReplayFault.TheVariants as replay
+use Rattle.amo_report.specs.Replays.{Refuses, is_failed_read, is_failed_write}
 use Rattle.amo.specs.declared.request.Request.{Request}
 use Rattle.amo.specs.declared.fault.Fault.{Fault}
 use Rattle.amo.specs.declared.fault.Fault.TheVariants.{Plan, NoCommand, NoMemory, Read, Write}
-use Rattle.amo.specs.Faults.{line_of, status_of}
+use Rattle.amo.specs.Faults.{line_of, status_of, fault_of_replay}
+use Rattle.amo.specs.Wanted.{text_of}
 use Rattle.amo.specs.Statuses.{Change, Says, IsFault, Ends, Tells, IsTold}
 
 told_itself : (fault : Fault) (err : Change) (status : ℕ) → Tells fault err status → IsTold fault err status
@@ -18,65 +21,20 @@ told_itself Write err status h = h
 pub told : (given fault : Fault) (err : Change) (status : ℕ) → given ≡ fault → Says err (line_of fault) → status ≡ status_of fault → IsTold given err status
 told given fault err status e line same = subst (λ f. IsTold f err status) (sym e) (told_itself fault err status (line, same))
 
-module _ (wanted : Option Request) (reader out err : Change) (status : ℕ) where
-  -- ---- each fault with its status
+module _ (wanted : Option Request) (reader out : Change) where
+  -- what a text says of its fault is what the program says of it
+  pub of_text : (request : Request) (fault : ReplayFault) → wanted ≡ Some request → Refuses (text_of request) fault reader.before out.before out.after
+      → reader.failed ≡ is_failed_read {A = Unit {0}} (Err fault) → out.failed ≡ is_failed_write {A = Unit {0}} (Err fault) → IsFault (fault_of_replay fault) wanted reader out
+  of_text request (replay.Plan f) asked left source sink = record { left = record { request = request; asked = asked; left = left }; source = source; sink = sink }
+  of_text request replay.Read asked left source sink = record { left = record { request = request; asked = asked; left = left }; source = source; sink = sink }
+  of_text request replay.Write asked left source sink = record { left = record { request = request; asked = asked; left = left }; source = source; sink = sink }
+  of_text request replay.NoMemory asked left source sink = record { left = left; source = source; sink = sink }
 
-  ends_plan : (f : PlanFault) → IsFault (Plan f) wanted reader out → Says err (line_of (Plan f)) → status ≡ 1 → Ends wanted reader out err status
-  ends_plan f cause line same = record {
-    done = λ z. absurd (omega arith);
-    plan_refused = λ _. (f, (cause, line));
-    no_command = λ z. absurd (omega arith);
-    no_memory = λ z. absurd (omega arith);
-    failed = λ z. absurd (omega arith);
-    range = omega arith;
-  }
-
-  ends_words : IsFault NoCommand wanted reader out → Says err (line_of NoCommand) → status ≡ 2 → Ends wanted reader out err status
-  ends_words cause line same = record {
-    done = λ z. absurd (omega arith);
-    plan_refused = λ z. absurd (omega arith);
-    no_command = λ _. (cause, line);
-    no_memory = λ z. absurd (omega arith);
-    failed = λ z. absurd (omega arith);
-    range = omega arith;
-  }
-
-  ends_memory : IsFault NoMemory wanted reader out → Says err (line_of NoMemory) → status ≡ 3 → Ends wanted reader out err status
-  ends_memory cause line same = record {
-    done = λ z. absurd (omega arith);
-    plan_refused = λ z. absurd (omega arith);
-    no_command = λ z. absurd (omega arith);
-    no_memory = λ _. (cause, line);
-    failed = λ z. absurd (omega arith);
-    range = omega arith;
-  }
-
-  ends_read : IsFault Read wanted reader out → Says err (line_of Read) → status ≡ 4 → Ends wanted reader out err status
-  ends_read cause line same = record {
-    done = λ z. absurd (omega arith);
-    plan_refused = λ z. absurd (omega arith);
-    no_command = λ z. absurd (omega arith);
-    no_memory = λ z. absurd (omega arith);
-    failed = λ _. inl (cause, line);
-    range = omega arith;
-  }
-
-  ends_write : IsFault Write wanted reader out → Says err (line_of Write) → status ≡ 4 → Ends wanted reader out err status
-  ends_write cause line same = record {
-    done = λ z. absurd (omega arith);
-    plan_refused = λ z. absurd (omega arith);
-    no_command = λ z. absurd (omega arith);
-    no_memory = λ z. absurd (omega arith);
-    failed = λ _. inr (cause, line);
-    range = omega arith;
-  }
-
-  -- ---- the fault that came, and what was told
-
-  pub ends_by : (fault : Fault) → IsFault fault wanted reader out → IsTold fault err status → Ends wanted reader out err status
-  ends_by (Plan f) cause (inl told) = ends_plan f cause told.0 told.1
-  ends_by (Plan f) cause (inr told) = ends_memory cause.kept told.0 told.1
-  ends_by NoCommand cause told = ends_words cause told.0 told.1
-  ends_by NoMemory cause told = ends_memory cause told.0 told.1
-  ends_by Read cause told = ends_read cause told.0 told.1
-  ends_by Write cause told = ends_write cause told.0 told.1
+  -- the fault that came, and what was told
+  pub ends_by : (fault : Fault) (err : Change) (status : ℕ) → IsFault fault wanted reader out → IsTold fault err status → Ends wanted reader out err status
+  ends_by (Plan f) err status cause (inl line) = inr (Plan f, cause, line)
+  ends_by (Plan f) err status cause (inr line) = inr (NoMemory, record { left = cause.left.left.2; source = cause.source; sink = cause.sink }, line)
+  ends_by NoCommand err status cause line = inr (NoCommand, cause, line)
+  ends_by NoMemory err status cause line = inr (NoMemory, cause, line)
+  ends_by Read err status cause line = inr (Read, cause, line)
+  ends_by Write err status cause line = inr (Write, cause, line)

@@ -1,5 +1,5 @@
 -- The faults of the program: which come from a request or a replay, and the line and the status of each.
-use Rattle.std.specs.Prelude.{ℕ, List, codes}
+use Rattle.std.specs.Prelude.{ℕ, List, Bool, true, false, codes}
 use Rattle.amo.specs.declared.fault.Fault.{Fault}
 use Rattle.amo.specs.declared.fault.Fault.TheVariants.{Plan, NoCommand, NoMemory, Read, Write}
 use Rattle.amo.specs.declared.request.RequestFault.{RequestFault}
@@ -35,3 +35,19 @@ status_of NoCommand = 2
 status_of NoMemory = 3
 status_of Read = 4
 status_of Write = 4
+
+-- the reader has failed where this fault came
+abbrev pub is_of_reader : Fault → Bool
+is_of_reader (Plan f) = false
+is_of_reader NoCommand = false
+is_of_reader NoMemory = false
+is_of_reader Read = true
+is_of_reader Write = false
+
+-- the writer has failed where this fault came
+abbrev pub is_of_writer : Fault → Bool
+is_of_writer (Plan f) = false
+is_of_writer NoCommand = false
+is_of_writer NoMemory = false
+is_of_writer Read = false
+is_of_writer Write = true

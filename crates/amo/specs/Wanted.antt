@@ -1,8 +1,7 @@
 -- The text that a request wants of a plan.
 use Rattle.std.specs.Prelude.{ℕ, List, Result, Ok}
-use Rattle.amo_plan.specs.Plan.{PlanSeen, plan_of}
+use Rattle.amo_plan.specs.Plan.{PlanSeen}
 use Rattle.amo_plan.specs.declared.fault.PlanFault.{PlanFault}
-use Rattle.amo_plan.specs.Steps.{◌>>=◌}
 use Rattle.amo_report.specs.Check.{check_of}
 use Rattle.amo_report.specs.Explorer.{explore_of}
 use Rattle.amo_report.specs.Stops.{stops_in}
@@ -16,7 +15,3 @@ text_of Replay plan = Ok (report_of plan)
 text_of Check plan = Ok (check_of plan)
 text_of (Explore from count turns) plan = Ok (explore_of plan from count turns)
 text_of (Stops worker) plan = stops_in plan worker
-
--- the text that a request wants of the plan that these bytes are, or the first fault
-abbrev pub text_in : Request → List ℕ → Result (List ℕ) PlanFault
-text_in request bytes = plan_of bytes >>= text_of request

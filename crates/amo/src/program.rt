@@ -51,6 +51,7 @@ fn work_after_name<R, S: Source, W: Sink, E: Sink>(
         (change (S.remaining reader.old) (S.remaining reader.new) (S.failed reader.new))
         (change (W.contents out.old) (W.contents out.new) (W.failed out.new))
         (change (E.contents err.old) (E.contents err.new) (E.failed err.new)) result }
+    ensures passed { result ≡ 0 → W.waiting out.new ≡ false }
     ensures untouched { asked_after_name (map string_bytes words.now) ≡ None → (reader.new ≡ reader.old) × (out.new ≡ out.old) }
 {
     match texts_of(alloc, words) {
@@ -79,6 +80,7 @@ pub fn serve_words<R, S: Source, W: Sink, E: Sink>(
         (change (S.remaining reader.old) (S.remaining reader.new) (S.failed reader.new))
         (change (W.contents out.old) (W.contents out.new) (W.failed out.new))
         (change (E.contents err.old) (E.contents err.new) (E.failed err.new)) (exit_status result)) }
+    ensures passed { exit_status result ≡ 0 → W.waiting out.new ≡ false }
     ensures untouched { IfOk words (λ all. asked_after_name (map string_bytes (into_iter_items all)) ≡ None
         → (reader.new ≡ reader.old) × (out.new ≡ out.old)) }
     ensures no_words { OnErr words (Tells NoMemory (change (E.contents err.old) (E.contents err.new) (E.failed err.new)) (exit_status result)) }

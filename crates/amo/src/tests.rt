@@ -1,15 +1,12 @@
-//! Tests of the whole program, over sources and sinks of memory and of the tests' own.
-ghost use Rattle.std.specs.Prelude.{◌≡◌, false};
-
+//! Tests of the whole program, over sources and sinks of memory.
 mod explored;
 mod plans;
 mod schedules;
 mod stops;
-mod streams;
 mod words;
 
 use super::working::work;
-use amo_report::{Bytes, Room, Source};
+use amo_report::{Bytes, Room};
 use std::alloc::{AllocError, Global};
 use std::process::Abort;
 use std::test::Fail;
@@ -85,18 +82,12 @@ fn text_of(room: &Room) -> &str {
     std::str::from_utf8(room.as_slice()).unwrap_or("no text")
 }
 
-/// Runs the program on these words and this source, with so much room for its output.
-fn run_words<S: Source>(
-    alloc: Global,
-    words: &[&str],
-    reader: &mut S,
-    room: usize,
-) -> Result<Ran, AllocError>
-    requires { S.failed reader.old ≡ false }
-{
+/// Runs the program on these words and this plan, with so much room for its output.
+fn run_words(alloc: Global, words: &[&str], plan: &[u8], room: usize) -> Result<Ran, AllocError> {
+    let mut reader = Bytes::new(plan);
     let mut out = Room::new(alloc, room)?;
     let mut err = Room::new(alloc, 100)?;
-    let status = work(&(), alloc, words, reader, &mut out, &mut err);
+    let status = work(&(), alloc, words, &mut reader, &mut out, &mut err);
     Ok(Ran { status, out, err })
 }
 
@@ -128,7 +119,7 @@ fn assert_outcome(
     room: usize,
     wanted: Outcome<'_>,
 ) -> Result<(), Fail> {
-    let ran = run_words(alloc, words, &mut Bytes::new(plan.as_bytes()), room)?;
+    let ran = run_words(alloc, words, plan.as_bytes(), room)?;
     ran.outcome().assert_is(rt, wanted, words, plan);
     Ok(())
 }
@@ -142,7 +133,7 @@ fn assert_outcome_or_no_memory(
     room: usize,
     wanted: Outcome<'_>,
 ) {
-    if let Ok(ran) = run_words(alloc, words, &mut Bytes::new(plan.as_bytes()), room) {
+    if let Ok(ran) = run_words(alloc, words, plan.as_bytes(), room) {
         ran.outcome().assert_is_or_no_memory(rt, wanted);
     }
 }
@@ -157,7 +148,7 @@ fn assert_long_text(
     first: &str,
     last: &str,
 ) -> Result<(), Fail> {
-    let ran = run_words(alloc, words, &mut Bytes::new(plan.as_bytes()), 100_000)?;
+    let ran = run_words(alloc, words, plan.as_bytes(), 100_000)?;
     ran.outcome().assert_done_between(rt, first, last);
     Ok(())
 }

@@ -1,5 +1,5 @@
 //! The whole program, over any source and any two sinks.
-ghost use Rattle.std.specs.Prelude.{◌≡◌, false, None, map, OnOk, IfErr};
+ghost use Rattle.std.specs.Prelude.{◌≡◌, ◌≤◌, false, None, map, OnOk, IfErr};
 ghost use Rattle.amo.specs.Commands.{asked};
 ghost use Rattle.amo.specs.Statuses.{Says, IsTold, IsDone, IsFault, Ends, change};
 
@@ -10,6 +10,7 @@ use amo_report::{Sink, Source, check, explore_plan, fault_text, replay, stops_pl
 use std::alloc::{AllocError, Global};
 
 /// Does what the words ask for. Nothing is read or written where they are no command.
+#[tactic(auto, using(crate::proofs::Endings::of_text))]
 fn serve<S: Source, W: Sink>(
     alloc: Global,
     words: &[&str],
@@ -21,6 +22,7 @@ fn serve<S: Source, W: Sink>(
     ensures done { OnOk result (IsDone (asked (map (λ w. w.now) words.now))
         (change (S.remaining reader.old) (S.remaining reader.new) (S.failed reader.new))
         (change (W.contents out.old) (W.contents out.new) (W.failed out.new))) }
+    ensures passed { OnOk result (W.waiting out.new ≡ false) }
     ensures fault { IfErr result (λ fault. IsFault fault (asked (map (λ w. w.now) words.now))
         (change (S.remaining reader.old) (S.remaining reader.new) (S.failed reader.new))
         (change (W.contents out.old) (W.contents out.new) (W.failed out.new))) }
@@ -46,7 +48,8 @@ fn say<E: Sink>(err: &mut E, line: &str)
 /// Tells of the fault, or of memory having run out where there is none for its line, and answers the status.
 #[tactic(auto, using(crate::proofs::Endings::told))]
 pub fn refuse<E: Sink>(alloc: Global, err: &mut E, fault: Fault) -> u8
-    ensures { IsTold fault (change (E.contents err.old) (E.contents err.new) (E.failed err.new)) result }
+    ensures told { IsTold fault (change (E.contents err.old) (E.contents err.new) (E.failed err.new)) result }
+    ensures status { 1 ≤ result }
 {
     match fault {
         Fault::Plan(fault) => match fault_text(alloc, &fault) {
@@ -97,6 +100,7 @@ pub fn work<R, S: Source, W: Sink, E: Sink>(
         (change (S.remaining reader.old) (S.remaining reader.new) (S.failed reader.new))
         (change (W.contents out.old) (W.contents out.new) (W.failed out.new))
         (change (E.contents err.old) (E.contents err.new) (E.failed err.new)) result }
+    ensures passed { result ≡ 0 → W.waiting out.new ≡ false }
     ensures untouched { asked (map (λ w. w.now) words.now) ≡ None → (reader.new ≡ reader.old) × (out.new ≡ out.old) }
 {
     match serve(alloc, words, reader, out) {

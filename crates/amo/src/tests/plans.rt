@@ -3,7 +3,6 @@ use super::{
     Outcome, PLAN, REPORT, assert_outcome, assert_outcome_or_no_memory, assert_replay, done,
     refused, run_words,
 };
-use amo_report::Bytes;
 use std::alloc::{AllocError, Global};
 use std::test::Fail;
 
@@ -14,6 +13,16 @@ const NO_JOBS: &str =
 #[test]
 fn a_replay_writes_the_report_alone(rt: HostRuntime) -> Result<(), Fail> {
     assert_replay(&rt, rt.alloc(), PLAN, done(REPORT))
+}
+
+#[test]
+fn a_full_writer_gives_its_line(rt: HostRuntime) -> Result<(), Fail> {
+    let wanted = Outcome {
+        status: 4,
+        out: "jobs 3 wor",
+        err: "fault write\n",
+    };
+    assert_outcome(&rt, rt.alloc(), &["replay"], PLAN, 10, wanted)
 }
 
 /// The report, or out of memory with nothing written.
@@ -85,7 +94,7 @@ fn refused_line_of_a_fault(rt: HostRuntime) {
 
 /// Whether the replay of this plan writes a report alone or the line of a refused plan alone.
 fn is_replayed_or_refused(alloc: Global, plan: &[u8]) -> Result<bool, AllocError> {
-    let ran = run_words(alloc, &["replay"], &mut Bytes::new(plan), 1000)?;
+    let ran = run_words(alloc, &["replay"], plan, 1000)?;
     let Outcome { status, out, err } = ran.outcome();
     Ok(match status {
         0 => err.is_empty() && out.starts_with("jobs "),
