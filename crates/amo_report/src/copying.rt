@@ -1,5 +1,5 @@
 //! All of a source, and all of a text.
-ghost use Rattle.std.specs.Prelude.{◌≡◌, ◌<◌, ◌≤◌, ◌||◌, IfOk, IfErr, OnOk, OnErr, is_err, true, vec_len, length};
+ghost use Rattle.std.specs.Prelude.{◌≡◌, ◌<◌, ◌≤◌, ◌||◌, IfOk, IfErr, OnOk, OnErr, is_err, false, true, vec_len, length};
 ghost use Rattle.std.specs.Io.KnownBytes.{Appends, Consumes, IsAtEnd};
 ghost use Rattle.amo_report.specs.Streams.{AppendsFront};
 ghost use Rattle.amo_report.specs.ReadFaults.{is_failure};
@@ -52,6 +52,7 @@ pub fn read_all<R: Source>(alloc: Global, reader: &mut R) -> Result<Vec<u8>, Rea
 /// the bytes was taken.
 pub fn write_all<W: Sink>(writer: &mut W, bytes: &[u8]) -> Result<(), Failed>
     ensures ok { OnOk result (Appends (W.contents writer.old) (W.contents writer.new) bytes.now) }
+    ensures passed { OnOk result (W.waiting writer.new ≡ false) }
     ensures front { OnErr result (AppendsFront (W.contents writer.old) (W.contents writer.new) bytes.now) }
     ensures fails { W.failed writer.new ≡ (W.failed writer.old || is_err result) }
 {

@@ -69,6 +69,7 @@ pub fn read_source<R: Source>(alloc: Global, reader: &mut R) -> Result<Plan, Rep
 fn write_text<W: Sink>(writer: &mut W, text: &String) -> Result<(), ReplayFault>
     requires { W.failed writer.old ≡ false }
     ensures ok { OnOk result (Appends (W.contents writer.old) (W.contents writer.new) (string_bytes text.now)) }
+    ensures passed { OnOk result (W.waiting writer.new ≡ false) }
     ensures sink { W.failed writer.new ≡ is_failed_write result }
     ensures fault { IfErr result (λ e. e ≡ Write) }
     ensures front { OnErr result (AppendsFront (W.contents writer.old) (W.contents writer.new) (string_bytes text.now)) }
@@ -98,6 +99,7 @@ pub fn replay<R: Source, W: Sink>(
     requires writer { W.failed writer.old ≡ false }
     ensures end { OnOk result (IsAtEnd (R.remaining reader.new)) }
     ensures text { OnOk result (Writes (λ p. Ok (report_of p)) (R.remaining reader.old) (W.contents writer.old) (W.contents writer.new)) }
+    ensures passed { OnOk result (W.waiting writer.new ≡ false) }
     ensures source { R.failed reader.new ≡ is_failed_read result }
     ensures sink { W.failed writer.new ≡ is_failed_write result }
     ensures refused { IfErr result (λ e. Refuses (λ p. Ok (report_of p)) e (R.remaining reader.old) (W.contents writer.old) (W.contents writer.new)) }
@@ -118,6 +120,7 @@ pub fn check<R: Source, W: Sink>(
     requires writer { W.failed writer.old ≡ false }
     ensures end { OnOk result (IsAtEnd (R.remaining reader.new)) }
     ensures text { OnOk result (Writes (λ p. Ok (check_of p)) (R.remaining reader.old) (W.contents writer.old) (W.contents writer.new)) }
+    ensures passed { OnOk result (W.waiting writer.new ≡ false) }
     ensures source { R.failed reader.new ≡ is_failed_read result }
     ensures sink { W.failed writer.new ≡ is_failed_write result }
     ensures refused { IfErr result (λ e. Refuses (λ p. Ok (check_of p)) e (R.remaining reader.old) (W.contents writer.old) (W.contents writer.new)) }
@@ -145,6 +148,7 @@ pub fn explore_plan<R: Source, W: Sink>(
     requires short { length ≤ 10000 }
     ensures end { OnOk result (IsAtEnd (R.remaining reader.new)) }
     ensures text { OnOk result (Writes (λ p. Ok (explore_of p from count length)) (R.remaining reader.old) (W.contents writer.old) (W.contents writer.new)) }
+    ensures passed { OnOk result (W.waiting writer.new ≡ false) }
     ensures source { R.failed reader.new ≡ is_failed_read result }
     ensures sink { W.failed writer.new ≡ is_failed_write result }
     ensures refused { IfErr result (λ e. Refuses (λ p. Ok (explore_of p from count length)) e (R.remaining reader.old) (W.contents writer.old) (W.contents writer.new)) }
@@ -185,6 +189,7 @@ pub fn stops_plan<R: Source, W: Sink>(
     requires worker { 1 ≤ p }
     ensures end { OnOk result (IsAtEnd (R.remaining reader.new)) }
     ensures text { OnOk result (Writes (λ plan. stops_in plan p) (R.remaining reader.old) (W.contents writer.old) (W.contents writer.new)) }
+    ensures passed { OnOk result (W.waiting writer.new ≡ false) }
     ensures source { R.failed reader.new ≡ is_failed_read result }
     ensures sink { W.failed writer.new ≡ is_failed_write result }
     ensures refused { IfErr result (λ e. Refuses (λ plan. stops_in plan p) e (R.remaining reader.old) (W.contents writer.old) (W.contents writer.new)) }

@@ -52,6 +52,8 @@ impl Room {
 impl Sink for Room {
     ghost contents = { λ s. Some s.bytes };
 
+    ghost waiting = { λ _. false };
+
     ghost failed = { λ s. s.failed };
 
     /// Takes as many bytes as there is room for. It takes no memory, and fails just where it is full and is given

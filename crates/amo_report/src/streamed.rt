@@ -5,11 +5,13 @@ use super::streams::{Failed, Sink, Source};
 use std::io::{Read, Write};
 use std::marker::Model;
 
-/// A reader or a writer of std with a mark whether it has failed: any of its errors is a failure, as is a write
-/// that takes none of some bytes. Contracts see the reader or the writer, and the mark.
+/// A reader or a writer of std, with a mark whether bytes that were written wait for a flush, and one whether it has
+/// failed: any of its errors is a failure, as is a write that takes none of some bytes. Contracts see the reader or the
+/// writer, and the marks.
 #[derive(Drop)]
 pub struct Streamed<S> {
     inner: S,
+    waiting: bool,
     failed: bool,
 }
 
@@ -18,16 +20,17 @@ impl<S> Model for Streamed<S> {
 
     ghost Value = { StreamedSeen S };
 
-    ghost view = { λ s. record { inner = s.inner; failed = s.failed } };
+    ghost view = { λ s. record { inner = s.inner; waiting = s.waiting; failed = s.failed } };
 }
 
 impl<S> Streamed<S> {
-    /// The source or sink over this reader or writer. It has not failed.
+    /// The source or sink over this reader or writer. Nothing waits, and it has not failed.
     pub fn new(inner: S) -> Streamed<S>
-        ensures { result ≡ record { inner = inner; failed = false } }
+        ensures { result ≡ record { inner = inner; waiting = false; failed = false } }
     {
         Streamed {
             inner,
+            waiting: false,
             failed: false,
         }
     }
@@ -36,7 +39,11 @@ impl<S> Streamed<S> {
     pub fn into_inner(self) -> S
         ensures { result ≡ self.inner }
     {
-        let Streamed { inner, failed: _ } = self;
+        let Streamed {
+            inner,
+            waiting: _,
+            failed: _,
+        } = self;
         inner
     }
 }
@@ -60,11 +67,16 @@ impl<S: Read> Source for Streamed<S> {
 impl<S: Write> Sink for Streamed<S> {
     ghost contents = { λ s. S.contents s.inner };
 
+    ghost waiting = { λ s. s.waiting };
+
     ghost failed = { λ s. s.failed };
 
     fn write(&mut self, buf: &[u8]) -> Result<usize, Failed> {
         match self.inner.write(buf) {
-            Ok(count) if count > 0 || buf.is_empty() => Ok(count),
+            Ok(count) if count > 0 || buf.is_empty() => {
+                self.waiting = true;
+                Ok(count)
+            }
             _ => {
                 self.failed = true;
                 Err(Failed)
@@ -74,7 +86,10 @@ impl<S: Write> Sink for Streamed<S> {
 
     fn flush(&mut self) -> Result<(), Failed> {
         match self.inner.flush() {
-            Ok(()) => Ok(()),
+            Ok(()) => {
+                self.waiting = false;
+                Ok(())
+            }
             Err(_) => {
                 self.failed = true;
                 Err(Failed)

@@ -62,9 +62,11 @@ struct Sipping {
 }
 
 impl Sink for Sipping {
-    ghost use Rattle.std.specs.Prelude.{Some};
+    ghost use Rattle.std.specs.Prelude.{Some, false};
 
     ghost contents = { λ s. Some s.inner.bytes };
+
+    ghost waiting = { λ _. false };
 
     ghost failed = { λ s. s.inner.failed };
 
