@@ -1,7 +1,8 @@
 -- The text of stops: what becomes of a schedule that is cut off after each of its moves, a line for each.
-use Rattle.std.specs.Prelude.{ℕ, zero, suc, ◌+◌, max, List, ◌++◌, length, map, take, count_by, codes, nat_le, Result, Ok, if◌then◌else◌}
+use Rattle.std.specs.Prelude.{ℕ, zero, suc, ◌+◌, max, List, ◌++◌, length, map, take, codes, nat_le, Result, Ok, if◌then◌else◌}
 use Rattle.std.specs.Fmt.{decimal}
 use Rattle.std.specs.List.{flat_map}
+use Rattle.amo_kk.specs.Run.{done_jobs}
 use Rattle.amo_kk.specs.World.{process, opening_world, world_after_turn, world_after_halt, world_after_moves}
 use Rattle.amo_kk.specs.Alone.{claims_or_ends, world_after_turns, lone_bound}
 use Rattle.amo_kk.specs.declared.event.Event.{Event}
@@ -13,7 +14,6 @@ use Rattle.amo_plan.specs.declared.fault.PlanFault.{PlanFault}
 use Rattle.amo_plan.specs.declared.fault.PlanFault.TheVariants.{NoSuchWorker, TooLong}
 use Rattle.amo_plan.specs.Steps.{unless}
 use Rattle.amo_plan.specs.Plan.{PlanSeen}
-use Rattle.amo_report.specs.Happened.{is_done}
 use Rattle.amo_report.specs.Summary.{counts_part, verdict_part, numbers_from, least_of, least_line}
 
 -- how many turns p takes, alone, to claim a job or end, of so many at most
@@ -62,7 +62,7 @@ stopped_verdict plan p k = verdict plan.givens (stopped plan p k).world.history
 
 -- how many performances it has
 abbrev pub stopped_dones : PlanSeen → ℕ → ℕ → ℕ
-stopped_dones plan p k = count_by is_done (stopped plan p k).world.history
+stopped_dones plan p k = length (done_jobs (stopped plan p k).world.history)
 
 -- `stop K claimed C done D most T VERDICT`
 unfoldable pub stop_line : ℕ → List Event → ℕ → Verdict → List ℕ
