@@ -1,7 +1,8 @@
 //! A source or a sink over a reader or a writer of std.
-ghost use Rattle.std.specs.Prelude.{◌≡◌, false};
+ghost use Rattle.std.specs.Prelude.{◌≡◌, ◌||◌, false, Ok, IfOk, is_err};
 
 use super::streams::{Failed, Sink, Source};
+use std::io;
 use std::io::{Read, Write};
 use std::marker::Model;
 
@@ -46,6 +47,21 @@ impl<S> Streamed<S> {
         } = self;
         inner
     }
+
+    /// What the reader or the writer answered, as a source or sink tells it: it has failed just where that is an error.
+    fn told<T>(&mut self, answer: io::Result<T>) -> Result<T, Failed>
+        ensures value { IfOk result (λ x. answer ≡ Ok x) }
+        ensures fails { is_err result ≡ is_err answer }
+        ensures mark { self.new ≡ record self.old { failed = (self.old.failed || is_err answer) } }
+    {
+        match answer {
+            Ok(value) => Ok(value),
+            Err(_) => {
+                self.failed = true;
+                Err(Failed)
+            }
+        }
+    }
 }
 
 impl<S: Read> Source for Streamed<S> {
@@ -54,13 +70,8 @@ impl<S: Read> Source for Streamed<S> {
     ghost failed = { λ s. s.failed };
 
     fn read(&mut self, buf: &mut [u8]) -> Result<usize, Failed> {
-        match self.inner.read(buf) {
-            Ok(count) => Ok(count),
-            Err(_) => {
-                self.failed = true;
-                Err(Failed)
-            }
-        }
+        let answer = self.inner.read(buf);
+        self.told(answer)
     }
 }
 
@@ -72,28 +83,20 @@ impl<S: Write> Sink for Streamed<S> {
     ghost failed = { λ s. s.failed };
 
     fn write(&mut self, buf: &[u8]) -> Result<usize, Failed> {
-        match self.inner.write(buf) {
-            Ok(count) if count > 0 || buf.is_empty() => {
-                self.waiting = true;
-                Ok(count)
-            }
-            _ => {
-                self.failed = true;
-                Err(Failed)
-            }
+        let answer = self.inner.write(buf);
+        let count = self.told(answer)?;
+        if count == 0 && !buf.is_empty() {
+            self.failed = true;
+            return Err(Failed);
         }
+        self.waiting = true;
+        Ok(count)
     }
 
     fn flush(&mut self) -> Result<(), Failed> {
-        match self.inner.flush() {
-            Ok(()) => {
-                self.waiting = false;
-                Ok(())
-            }
-            Err(_) => {
-                self.failed = true;
-                Err(Failed)
-            }
-        }
+        let answer = self.inner.flush();
+        self.told(answer)?;
+        self.waiting = false;
+        Ok(())
     }
 }
