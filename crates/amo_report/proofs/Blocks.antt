@@ -6,7 +6,7 @@ use Rattle.amo_plan.specs.declared.task.Task.{Task}
 use Rattle.amo_plan.specs.Keeps.{all_fit}
 
 -- what holds of all holds of a beginning, and of an end
-pub list_all-take : {X : Type 0} (p : X → Bool) (n : ℕ) (xs : List X) → list_all p xs ≡ true → list_all p (take n xs) ≡ true
+list_all-take : {X : Type 0} (p : X → Bool) (n : ℕ) (xs : List X) → list_all p xs ≡ true → list_all p (take n xs) ≡ true
 list_all-take p zero xs h = refl
 list_all-take p (suc n) [] h = refl
 list_all-take p (suc n) (x ∷ xs) h = let parts = and_parts _ _ h in and_from _ _ parts.0 (list_all-take p n xs parts.1)

@@ -1,3 +1,4 @@
+pub mod Counted
 pub mod Marks
 pub mod Blocks
 pub mod Whole

@@ -1,30 +1,24 @@
 -- The moves of a plan, one part after the other.
-use Rattle.std.proofs.Common.{◌≡◌, ℕ, ◌+◌, true, ◌&&◌, List, [], ◌∷◌, ◌++◌, refl, sym, ap, ◌∙◌, add-one}
+use Rattle.std.proofs.Common.{◌≡◌, ℕ, zero, suc, ◌+◌, true, List, [], ◌∷◌, ◌++◌, take, refl, sym, ap, ◌∙◌, add-one}
+use Rattle.std.proofs.lemmas.Bool.{and_parts, and_from}
 use Rattle.amo_sets.specs.Lists.{table}
-use Rattle.amo_kk.specs.World.{world_after_move, world_after_moves, are_in_range}
+use Rattle.amo_kk.specs.World.{world_after_moves, are_in_range}
 use Rattle.amo_kk.specs.declared.givens.Givens.{Givens}
 use Rattle.amo_kk.specs.declared.event.Move.{Move}
-use Rattle.amo_kk.specs.declared.event.Move.TheVariants.{Turn, Halt, Leave}
 use Rattle.amo_kk.specs.declared.model.World.{World}
-use Rattle.amo_plan.specs.Keeps.{is_within, all_within}
+use Rattle.amo_kk.proofs.Moves.{world_after_moves-append}
 use Rattle.amo_world.specs.Views.{WorldView}
 use Rattle.amo_report.specs.Texts.{round, rounds}
 
--- the world after one list of moves and another
-pub world_after_moves-append : (g : Givens) (w : World) (xs ys : List Move) → world_after_moves g w (xs ++ ys) ≡ world_after_moves g (world_after_moves g w xs) ys
-world_after_moves-append g w [] ys = refl
-world_after_moves-append g w (m ∷ xs) ys = world_after_moves-append g (world_after_move g w m) xs ys
+-- moves that a plan keeps can be run, wherever it hands them
+pub range_of : (g h : Givens) (moves handed : List Move) → h ≡ g → handed ≡ moves → are_in_range g moves ≡ true → are_in_range h handed ≡ true
+range_of g h moves handed e f within = (λ i. are_in_range (e i) (f i)) ∙ within
 
--- moves of a plan's own workers are in range of its givens
-in_range-within : (g : Givens) (moves : List Move) → are_in_range g moves ≡ all_within g.workers moves
-in_range-within g [] = refl
-in_range-within g (Turn p ∷ moves) = ap (λ b. is_within g.workers (Turn p) && b) (in_range-within g moves)
-in_range-within g (Halt p ∷ moves) = ap (λ b. is_within g.workers (Halt p) && b) (in_range-within g moves)
-in_range-within g (Leave p ∷ moves) = ap (λ b. is_within g.workers (Leave p) && b) (in_range-within g moves)
-
--- so moves that a plan keeps can be run, wherever it hands them
-pub range_of : (g h : Givens) (moves handed : List Move) → h ≡ g → handed ≡ moves → all_within g.workers moves ≡ true → are_in_range h handed ≡ true
-range_of g h moves handed e f within = (λ i. are_in_range (e i) (f i)) ∙ in_range-within g moves ∙ within
+-- and so can the first of them
+pub in_range-take : (g : Givens) (n : ℕ) (moves : List Move) → are_in_range g moves ≡ true → are_in_range g (take n moves) ≡ true
+in_range-take g zero moves h = refl
+in_range-take g (suc n) [] h = refl
+in_range-take g (suc n) (m ∷ moves) h = let parts = and_parts _ _ h in and_from _ _ parts.0 (in_range-take g n moves parts.1)
 
 -- the world of a view after more moves
 pub moves_more : (g : Givens) (w : World) (moves all : List Move) (more : Givens → List Move) (old new : WorldView)

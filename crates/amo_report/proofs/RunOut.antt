@@ -1,32 +1,29 @@
 -- A worker that goes on alone is gone in the end: each time it ends, or has claimed one job more, and there are only so
 -- many.
-use Rattle.std.proofs.Common.{◌≡◌, ◌≢◌, ◌⊎◌, inl, inr, ⊎_elim, ℕ, zero, suc, ◌+◌, ◌≤◌, ◌<◌, length, length-append, Bool, true, false, [], ◌∷◌, ◌++◌, refl, sym, ap, ◌∙◌, subst, arith}
-use Rattle.std.specs.Prelude.{if◌then◌else◌, ◌==◌}
+use Rattle.std.proofs.Common.{◌≡◌, ◌≢◌, ◌⊎◌, inl, inr, ⊎_elim, ℕ, zero, suc, ◌+◌, ◌≤◌, ◌<◌, length, Bool, true, false, sym, ap, ◌∙◌, subst, refl, arith}
 use Rattle.std.proofs.lemmas.Bool.{true≢false, cases_eq, cases_lt, or_cases}
-use Rattle.amo_sets.specs.Lists.{numbered, put}
-use Rattle.amo_sets.specs.Sets.{has, with_number}
+use Rattle.amo_sets.specs.Sets.{has}
 use Rattle.amo_sets.proofs.Numbers.{numbered-put_other, length_distinct, count_le_all}
 use Rattle.amo_sets.proofs.Tables.{numbered_past}
-use Rattle.amo_kk.specs.Givens.{IsWorker, next_other}
-use Rattle.amo_kk.specs.Record.{is_over, wants_nothing}
-use Rattle.amo_kk.specs.Choice.{record_after_choice, record_after_check}
-use Rattle.amo_kk.specs.Step.{want, with_announced, record_at_row, record_at_announcement, record_after_phase, record_after}
-use Rattle.amo_kk.specs.World.{nobody, process, loaded_value, process_after, world_after_step, world_after_turn}
-use Rattle.amo_kk.specs.Alone.{is_claiming, claims_or_ends, world_after_turns, IsFirstToClaimOrEnd}
+use Rattle.amo_kk.specs.Givens.{IsWorker}
+use Rattle.amo_kk.specs.Record.{is_over}
+use Rattle.amo_kk.specs.Step.{want, record_after}
+use Rattle.amo_kk.specs.World.{nobody, process, loaded_value, world_after_turn}
+use Rattle.amo_kk.specs.Alone.{is_claiming, claims_or_ends, world_after_turns, IsFirstToClaimOrEnd, lone_bound}
 use Rattle.amo_kk.specs.Lawful.{IsLawful}
 use Rattle.amo_kk.specs.declared.givens.Givens.{Givens}
-use Rattle.amo_kk.specs.declared.phase.Phase.{Phase}
-use Rattle.amo_kk.specs.declared.phase.Phase.TheVariants.{Announcing, Trying, Reading, Claiming, Holding, Over, Left}
+use Rattle.amo_kk.specs.declared.event.Move.TheVariants.{Turn}
 use Rattle.amo_kk.specs.declared.model.Process.{Process}
 use Rattle.amo_kk.specs.declared.model.Record.{Record}
 use Rattle.amo_kk.specs.declared.model.World.{World}
-use Rattle.amo_kk.proofs.Choice.{choice_cases, check_cases, to_row_cases, to_announcement_cases}
-use Rattle.amo_kk.proofs.Worlds.{here_is_worker, put_here, turn_lawful}
-use Rattle.amo_kk.proofs.Runs.{stored_local, stored_gone}
+use Rattle.amo_kk.proofs.Worlds.{turn_lawful}
+use Rattle.amo_kk.proofs.Runs.{stored_gone}
+use Rattle.amo_kk.proofs.Moves.{turned_process, turned_local, move_cases}
+use Rattle.amo_kk.proofs.Growth.{keeps_claims, claims_more, over_wants}
 use Rattle.amo_kk.proofs.Alone.{claims_or_ends_soon}
 use Rattle.amo_world.proofs.Resting.{here_next}
 use Rattle.amo_plan.specs.Plan.{PlanSeen}
-use Rattle.amo_report.specs.Stops.{lone_turns, enough_turns, LoneRun, after_lone_run, after_lone_runs, run_out, all_run_out, stopped_world, stopped}
+use Rattle.amo_report.specs.Stops.{lone_turns, LoneRun, after_lone_run, after_lone_runs, run_out, all_run_out, stopped_world, stopped}
 use Rattle.amo_report.proofs.ReachedWorlds.{reached_lawful}
 use Rattle.amo_report.proofs.Stopped.{turns_are, after_lone_run_here, after_lone_run_gone, IsUnderLimit, often_under, run_out_under, all_under, stopped_reached}
 
@@ -34,81 +31,22 @@ use Rattle.amo_report.proofs.Stopped.{turns_are, after_lone_run_here, after_lone
 abbrev claims : World → ℕ → ℕ
 claims w p = length (process w p).local.claimed
 
--- an event takes back no claim
-keeps_claims : (g : Givens) (p v : ℕ) (r : Record) (phase : Phase) → length r.claimed ≤ length (record_after_phase g p v r phase).claimed
-keeps_claims g p v r phase = go phase
-  where
-    P : Record → Type 0
-    P x = length r.claimed ≤ length x.claimed
-
-    choose : (x : Record) → P x → P (record_after_choice g p x)
-    choose x h = choice_cases g p x (λ y. length r.claimed ≤ length y.claimed) (λ _. h) (λ _. h)
-
-    look : (j : ℕ) (x : Record) → P x → P (record_after_check g p j x)
-    look j x h = check_cases g p j x (λ y. length r.claimed ≤ length y.claimed) (λ _ _. h) (choose x h)
-
-    row : (j q : ℕ) (x : Record) → P x → P (record_at_row g p j q x)
-    row j q x h = to_row_cases g p j q x (λ y. length r.claimed ≤ length y.claimed) (λ _. h) (λ _. look j x h)
-
-    ann : (j q : ℕ) (x : Record) → P x → P (record_at_announcement g p j q x)
-    ann j q x h = to_announcement_cases g p j q x (λ y. length r.claimed ≤ length y.claimed) (λ _. h) (λ _. row j (next_other p 0) x h)
-
-    go : (phase : Phase) → P (record_after_phase g p v r phase)
-    go (Announcing j) = ann j (next_other p 0) r (omega arith)
-    go (Trying j q) = ann j (next_other p q) (record r { tried = with_announced v r.tried }) (omega arith)
-    go (Reading j q) = read (v == 0)
-      where
-        read : (b : Bool) → P (if b then record_at_row g p j (next_other p q) r else record r { known = with_number v r.known; fronts = put r.fronts q (numbered 0 r.fronts q + 1) })
-        read true = row j (next_other p q) r (omega arith)
-        read false = omega arith
-    go (Claiming j) = let e = length-append r.claimed (j ∷ []) in omega arith
-    go (Holding j) = choose (record r { dones = r.dones ++ j ∷ []; known = with_number j r.known }) (omega arith)
-    go Over = omega arith
-    go Left = omega arith
-
--- a claim is one more
-claims_more : (g : Givens) (p v : ℕ) (r : Record) (phase : Phase) → is_claiming phase ≡ true → suc (length r.claimed) ≤ length (record_after_phase g p v r phase).claimed
-claims_more g p v r (Announcing j) h = absurd (true≢false (sym h))
-claims_more g p v r (Trying j q) h = absurd (true≢false (sym h))
-claims_more g p v r (Reading j q) h = absurd (true≢false (sym h))
-claims_more g p v r (Claiming j) h = let e = length-append r.claimed (j ∷ []) in omega arith
-claims_more g p v r (Holding j) h = absurd (true≢false (sym h))
-claims_more g p v r Over h = absurd (true≢false (sym h))
-claims_more g p v r Left h = absurd (true≢false (sym h))
-
-over_wants : (phase : Phase) → is_over phase ≡ true → wants_nothing phase ≡ true
-over_wants (Announcing j) h = h
-over_wants (Trying j q) h = h
-over_wants (Reading j q) h = h
-over_wants (Claiming j) h = h
-over_wants (Holding j) h = h
-over_wants Over h = h
-over_wants Left h = absurd (true≢false (sym h))
-
 -- a turn of p, which isn't gone
 module _ (g : Givens) (w : World) (p : ℕ) (law : IsLawful g w) (here : (process w p).gone ≡ false) where
   abbrev r : Record
   r = (process w p).local
 
-  abbrev x : Record
-  x = record_after g p (loaded_value w (want (process w p).local)) (process w p).local
-
-  turned : process (world_after_turn g w p) p ≡ process_after (want r) (process w p) x
-  turned =
-      ap (λ b. process (if b then w else world_after_step g w p (process w p)) p) here
-      ∙ put_here g w p (process_after (want r) (process w p) x) law.size (here_is_worker g w p law.size here)
-
-  claimed_now : claims (world_after_turn g w p) p ≡ length x.claimed
-  claimed_now = ap (λ (a : Process). length a.local.claimed) turned ∙ ap (λ (y : Record). length y.claimed) (stored_local (want r) (process w p) x)
+  claimed_now : claims (world_after_turn g w p) p ≡ length (record_after g p (loaded_value w (want r)) r).claimed
+  claimed_now = ap (λ (y : Record). length y.claimed) (turned_local g w p law here)
 
   turn_keeps : claims w p ≤ claims (world_after_turn g w p) p
-  turn_keeps = let now = claimed_now in let kept = keeps_claims g p (loaded_value w (want r)) r r.phase in omega arith
+  turn_keeps = let now = claimed_now in let kept = keeps_claims g p (loaded_value w (want r)) r in omega arith
 
   turn_ends : claims_or_ends g w p ≡ true → ((process (world_after_turn g w p) p).gone ≡ true) ⊎ (suc (claims w p) ≤ claims (world_after_turn g w p) p)
   turn_ends h = ⊎_elim
-      (λ c. inr (let now = claimed_now in let more = claims_more g p (loaded_value w (want r)) r r.phase c in omega arith))
-      (λ e. inl (ap (λ (a : Process). a.gone) turned ∙ stored_gone (want r) (process w p) x ∙ over_wants x.phase e))
-      (or_cases (is_claiming r.phase) (is_over x.phase) h)
+      (λ c. inr (let now = claimed_now in let more = claims_more g p (loaded_value w (want r)) r c in omega arith))
+      (λ e. inl (ap (λ (a : Process). a.gone) (turned_process g w p law here) ∙ stored_gone (want r) (process w p) _ ∙ over_wants _ e))
+      (or_cases (is_claiming r.phase) (is_over (record_after g p (loaded_value w (want r)) r).phase) h)
 
 -- a worker that has come to rest is gone, or has claimed one job more
 rests : (g : Givens) (i : ℕ) (w : World) (p : ℕ) → IsLawful g w → (process w p).gone ≡ false → IsFirstToClaimOrEnd g w p i
@@ -138,7 +76,7 @@ out_or_claims g p moves (suc times) start under = go (process before.world p).go
     go true e h = inl (ap (λ (y : LoneRun). (process y.world p).gone) (after_lone_run_gone g p before e) ∙ e)
     go false e h =
         let soon = claims_or_ends_soon g before.world p g.limits law e in
-        let after : (after_lone_run g p before).world ≡ world_after_turns g before.world p (suc soon.0) = ap (λ (y : LoneRun). y.world) (after_lone_run_here g p before e) ∙ ap (λ n. world_after_turns g before.world p n) (turns_are g soon.0 (enough_turns g) before.world p soon.1 soon.2) in
+        let after : (after_lone_run g p before).world ≡ world_after_turns g before.world p (suc soon.0) = ap (λ (y : LoneRun). y.world) (after_lone_run_here g p before e) ∙ ap (λ n. world_after_turns g before.world p n) (turns_are g soon.0 (lone_bound g) before.world p soon.1 soon.2) in
         subst (λ y. ((process y p).gone ≡ true) ⊎ (suc times ≤ claims y p)) (sym after)
         (⊎_elim (λ gone. inl gone) (λ more. inr (⊎_elim (λ t. absurd (true≢false (sym t ∙ e))) (λ many. omega arith) h)) (rests g soon.0 before.world p law e soon.2))
 
@@ -158,14 +96,9 @@ is_out g p moves start o under = ⊎_elim (λ gone. gone)
 
 -- whoever is gone stays gone, whoever goes on
 turn_stays : (g : Givens) (w : World) (p q : ℕ) → (process w q).gone ≡ true → (process (world_after_turn g w p) q).gone ≡ true
-turn_stays g w p q gone = go (process w p).gone refl
-  where
-    a : Process
-    a = process_after (want (process w p).local) (process w p) (record_after g p (loaded_value w (want (process w p).local)) (process w p).local)
-
-    go : (b : Bool) → (process w p).gone ≡ b → (process (if b then w else world_after_step g w p (process w p)) q).gone ≡ true
-    go true e = gone
-    go false e = ap (λ (y : Process). y.gone) (numbered-put_other nobody a w.processes p q (λ (same : q ≡ p). true≢false (sym gone ∙ ap (λ k. (process w k).gone) same ∙ e))) ∙ gone
+turn_stays g w p q gone =
+    move_cases g w (Turn p) (λ v. (process v q).gone ≡ true) gone
+    (λ a events e moved. ap (λ (y : Process). y.gone) (numbered-put_other nobody a w.processes p q (λ (same : q ≡ p). true≢false (sym gone ∙ ap (λ k. (process w k).gone) same ∙ e))) ∙ gone)
 
 turns_stay : (g : Givens) (n : ℕ) (w : World) (p q : ℕ) → (process w q).gone ≡ true → (process (world_after_turns g w p n) q).gone ≡ true
 turns_stay g zero w p q gone = gone
@@ -180,7 +113,7 @@ often_stays g p q (suc times) start gone = go (process before.world p).gone refl
 
     go : (b : Bool) → (process before.world p).gone ≡ b → (process before.world q).gone ≡ true → (process (after_lone_run g p before).world q).gone ≡ true
     go true e h = ap (λ (y : LoneRun). (process y.world q).gone) (after_lone_run_gone g p before e) ∙ h
-    go false e h = ap (λ (y : LoneRun). (process y.world q).gone) (after_lone_run_here g p before e) ∙ turns_stay g (lone_turns g p (enough_turns g) before.world) before.world p q h
+    go false e h = ap (λ (y : LoneRun). (process y.world q).gone) (after_lone_run_here g p before e) ∙ turns_stay g (lone_turns g p (lone_bound g) before.world) before.world p q h
 
 -- the first so many workers are gone
 all_out : (g : Givens) (n moves : ℕ) (start : LoneRun) → IsUnderLimit g moves start → n ≤ g.workers → (q : ℕ) → 1 ≤ q → q ≤ n → (process (all_run_out g n start).world q).gone ≡ true

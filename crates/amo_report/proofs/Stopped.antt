@@ -1,39 +1,28 @@
 -- Workers that go on alone: how many turns they take, and what holds of the worlds that they leave.
 use Rattle.std.proofs.Common.{◌≡◌, ℕ, zero, suc, ◌+◌, ◌-◌, ◌*◌, ◌≤◌, ◌<◌, ◌^◌, min, max, length, take, length-take, Bool, true, false, refl, sym, ap, ◌∙◌, subst, arith, add-one}
 use Rattle.std.specs.Prelude.{if◌then◌else◌}
-use Rattle.amo_kk.specs.Step.{want, record_after}
-use Rattle.amo_kk.specs.World.{process, loaded_value, process_after, world_after_step, world_after_turn}
-use Rattle.amo_kk.specs.Alone.{claims_or_ends, world_after_turns, IsFirstToClaimOrEnd}
+use Rattle.amo_kk.specs.World.{process, world_after_turn}
+use Rattle.amo_kk.specs.Alone.{claims_or_ends, world_after_turns, IsFirstToClaimOrEnd, lone_bound}
 use Rattle.amo_kk.specs.Lawful.{IsLawful}
 use Rattle.amo_kk.specs.declared.givens.Givens.{Givens}
-use Rattle.amo_kk.specs.declared.model.Process.{Process}
 use Rattle.amo_kk.specs.declared.model.Record.{Record}
 use Rattle.amo_kk.specs.declared.model.World.{World}
-use Rattle.amo_kk.proofs.Worlds.{here_is_worker, put_here, turn_lawful}
-use Rattle.amo_kk.proofs.Runs.{stored_local}
+use Rattle.amo_kk.proofs.Worlds.{turn_lawful}
+use Rattle.amo_kk.proofs.Moves.{turned_local}
 use Rattle.amo_world.specs.Resting.{RunsAlone}
 use Rattle.amo_world.specs.Views.{WorldView}
 use Rattle.amo_world.specs.declared.answer.Alone.{Alone}
 use Rattle.amo_world.proofs.Resting.{here_next}
 use Rattle.amo_report.specs.Reached.{IsReached}
 use Rattle.amo_plan.specs.Plan.{PlanSeen}
-use Rattle.amo_report.specs.Stops.{stopped_world, stopped, lone_turns, enough_turns, LoneRun, after_lone_run, after_lone_runs, run_out, all_run_out}
+use Rattle.amo_report.specs.Stops.{stopped_world, stopped, lone_turns, LoneRun, after_lone_run, after_lone_runs, run_out, all_run_out}
 use Rattle.amo_report.proofs.ReachedWorlds.{reached_lawful, reached_steps, reached_later, reached_turns, reached_halt, reached_first}
 
--- a turn of a worker that isn't gone is one event more
+-- a turn of a worker that isn't gone is one step more
 turn_steps : (g : Givens) (w : World) (p : ℕ) → IsLawful g w → (process w p).gone ≡ false → (process (world_after_turn g w p) p).local.steps ≡ min ((process w p).local.steps + 1) (2 ^ 64 - 1)
-turn_steps g w p law here =
-    ap (λ b. (process (if b then w else world_after_step g w p (process w p)) p).local.steps) here
-    ∙ ap (λ (x : Process). x.local.steps) (put_here g w p (process_after (want a.local) a r) law.size (here_is_worker g w p law.size here))
-    ∙ ap (λ (x : Record). x.steps) (stored_local (want a.local) a r)
-  where
-    a : Process
-    a = process w p
+turn_steps g w p law here = ap (λ (r : Record). r.steps) (turned_local g w p law here)
 
-    r : Record
-    r = record_after g p (loaded_value w (want (process w p).local)) (process w p).local
-
--- and so the events tell the turns up to the one that claims or ends
+-- and so the steps tell the turns up to the one that claims or ends
 pub settling_steps : (g : Givens) (i : ℕ) (w : World) (p : ℕ) → IsLawful g w → (process w p).gone ≡ false → ((k : ℕ) → k < i → claims_or_ends g (world_after_turns g w p k) p ≡ false)
     → (process w p).local.steps + suc i < 2 ^ 64 → (process (world_after_turns g w p (suc i)) p).local.steps ≡ (process w p).local.steps + suc i
 settling_steps g zero w p law here none room = let one = turn_steps g w p law here in omega arith
@@ -60,14 +49,14 @@ turns_few g p (suc most) w = go (claims_or_ends g w p) _ (turns_few g p most (wo
     go true rest l = omega arith
     go false rest l = omega arith
 
--- where p has come to rest: how many events it has had, and in which world
+-- where p has come to rest: how many steps it has had, and in which world
 pub record RunsLone (g : Givens) (w : World) (p : ℕ) (v : World) : Type 0 where
-  pub steps : (process v p).local.steps ≡ (process w p).local.steps + lone_turns g p (enough_turns g) w
-  pub leads : v ≡ world_after_turns g w p (lone_turns g p (enough_turns g) w)
+  pub steps : (process v p).local.steps ≡ (process w p).local.steps + lone_turns g p (lone_bound g) w
+  pub leads : v ≡ world_after_turns g w p (lone_turns g p (lone_bound g) w)
 
 pub runs_lone : (g : Givens) (w v : World) (p : ℕ) (answer : Alone) → IsReached g 1000000000 w → (process w p).gone ≡ false → RunsAlone g w p v answer → RunsLone g w p v
 runs_lone g w v p answer way here runs =
-    let turns = turns_are g runs.others (enough_turns g) w p runs.soon runs.first in
+    let turns = turns_are g runs.others (lone_bound g) w p runs.soon runs.first in
     let before = reached_steps g 1000000000 w p way in
     let soon = runs.soon in
     let jobs = g.limits.few_jobs in
@@ -80,29 +69,29 @@ runs_lone g w v p answer way here runs =
     }
 
 -- a worker that isn't gone, and one that is
-pub after_lone_run_here : (g : Givens) (p : ℕ) (r : LoneRun) → (process r.world p).gone ≡ false → after_lone_run g p r ≡ record { world = world_after_turns g r.world p (lone_turns g p (enough_turns g) r.world); most = max r.most (lone_turns g p (enough_turns g) r.world) }
+pub after_lone_run_here : (g : Givens) (p : ℕ) (r : LoneRun) → (process r.world p).gone ≡ false → after_lone_run g p r ≡ record { world = world_after_turns g r.world p (lone_turns g p (lone_bound g) r.world); most = max r.most (lone_turns g p (lone_bound g) r.world) }
 unfolding after_lone_run
-after_lone_run_here g p r here = ap (λ b. let x : LoneRun = if b then r else record { world = world_after_turns g r.world p (lone_turns g p (enough_turns g) r.world); most = max r.most (lone_turns g p (enough_turns g) r.world) } in x) here
+after_lone_run_here g p r here = ap (λ b. let x : LoneRun = if b then r else record { world = world_after_turns g r.world p (lone_turns g p (lone_bound g) r.world); most = max r.most (lone_turns g p (lone_bound g) r.world) } in x) here
 
 pub after_lone_run_gone : (g : Givens) (p : ℕ) (r : LoneRun) → (process r.world p).gone ≡ true → after_lone_run g p r ≡ r
 unfolding after_lone_run
-after_lone_run_gone g p r gone = ap (λ b. let x : LoneRun = if b then r else record { world = world_after_turns g r.world p (lone_turns g p (enough_turns g) r.world); most = max r.most (lone_turns g p (enough_turns g) r.world) } in x) gone
+after_lone_run_gone g p r gone = ap (λ b. let x : LoneRun = if b then r else record { world = world_after_turns g r.world p (lone_turns g p (lone_bound g) r.world); most = max r.most (lone_turns g p (lone_bound g) r.world) } in x) gone
 
 -- what holds of a run all along: its world is reached by so many moves, and no go took more turns than are enough
 pub record IsUnderLimit (g : Givens) (moves : ℕ) (r : LoneRun) : Type 0 where
   pub reached : IsReached g moves r.world
-  pub most : r.most ≤ enough_turns g
+  pub most : r.most ≤ lone_bound g
 
 lone_run_under : (g : Givens) (p moves : ℕ) (r : LoneRun) → IsUnderLimit g moves r → IsUnderLimit g (moves + 4192) (after_lone_run g p r)
 lone_run_under g p moves r under = go (process r.world p).gone refl
   where
     turns : ℕ
-    turns = lone_turns g p (enough_turns g) r.world
+    turns = lone_turns g p (lone_bound g) r.world
 
     go : (b : Bool) → (process r.world p).gone ≡ b → IsUnderLimit g (moves + 4192) (after_lone_run g p r)
     go true e = subst (IsUnderLimit g (moves + 4192)) (sym (after_lone_run_gone g p r e)) (record { reached = reached_later g moves (moves + 4192) r.world (omega arith) under.reached; most = under.most })
     go false e =
-        let few : turns ≤ enough_turns g = turns_few g p (enough_turns g) r.world in
+        let few : turns ≤ lone_bound g = turns_few g p (lone_bound g) r.world in
         let jobs = g.limits.few_jobs in
         let workers = g.limits.few_workers in
         let most = under.most in
@@ -129,6 +118,10 @@ all_under g (suc before) moves r under =
     let last = run_out_under g (suc before) (moves + before * 17174624) (all_run_out g before r) (all_under g before moves r under) in
     record { reached = reached_later g (moves + before * 17174624 + 17174624) (moves + suc before * 17174624) _ (omega arith) last.reached; most = last.most }
 
+-- the same where nobody has gone on alone before
+pub first_under : (g : Givens) (before moves : ℕ) (w : World) → IsReached g moves w → IsUnderLimit g (moves + before * 17174624) (all_run_out g before (record { world = w; most = 0 }))
+first_under g before moves w way = all_under g before moves _ (record { reached = way; most = omega arith })
+
 -- A view and a number show a run: its world, and the most turns so far.
 pub record Shows (g : Givens) (r : LoneRun) (v : WorldView) (turns : ℕ) : Type 0 where
   pub world : v ≡ record { givens = g; world = r.world }
@@ -138,7 +131,7 @@ one_time_more : (g : Givens) (p n : ℕ) (start : LoneRun) → after_lone_run g 
 one_time_more g p n start = ap (λ k. after_lone_runs g p k start) (sym (add-one n))
 
 pub goes_on : (g : Givens) (p n : ℕ) (start : LoneRun) (old new : WorldView) (most turns : ℕ) → Shows g (after_lone_runs g p n start) old most → (process old.world p).gone ≡ false
-    → turns ≡ lone_turns old.givens p (enough_turns old.givens) old.world → new ≡ record { givens = old.givens; world = world_after_turns old.givens old.world p turns }
+    → turns ≡ lone_turns old.givens p (lone_bound old.givens) old.world → new ≡ record { givens = old.givens; world = world_after_turns old.givens old.world p turns }
     → Shows g (after_lone_runs g p (n + 1) start) new (max most turns)
 goes_on g p n start old new most turns is here taken made =
     record {
@@ -150,10 +143,10 @@ goes_on g p n start old new most turns is here taken made =
     r : LoneRun
     r = after_lone_runs g p n start
 
-    so : turns ≡ lone_turns g p (enough_turns g) r.world
-    so = taken ∙ (λ i. lone_turns (is.world i).givens p (enough_turns (is.world i).givens) (is.world i).world)
+    so : turns ≡ lone_turns g p (lone_bound g) r.world
+    so = taken ∙ (λ i. lone_turns (is.world i).givens p (lone_bound (is.world i).givens) (is.world i).world)
 
-    next : (let x : LoneRun = record { world = world_after_turns g r.world p (lone_turns g p (enough_turns g) r.world); most = max r.most (lone_turns g p (enough_turns g) r.world) } in x) ≡ after_lone_runs g p (n + 1) start
+    next : (let x : LoneRun = record { world = world_after_turns g r.world p (lone_turns g p (lone_bound g) r.world); most = max r.most (lone_turns g p (lone_bound g) r.world) } in x) ≡ after_lone_runs g p (n + 1) start
     next = sym (after_lone_run_here g p r (sym (ap (λ (v : WorldView). (process v.world p).gone) is.world) ∙ here)) ∙ one_time_more g p n start
 
 pub stays : (g : Givens) (p n : ℕ) (start : LoneRun) (old : WorldView) (most : ℕ) → Shows g (after_lone_runs g p n start) old most → (process old.world p).gone ≡ true → Shows g (after_lone_runs g p (n + 1) start) old most
@@ -161,21 +154,6 @@ stays g p n start old most is gone = subst (λ r. Shows g r old most) same is
   where
     same : after_lone_runs g p n start ≡ after_lone_runs g p (n + 1) start
     same = sym (after_lone_run_gone g p (after_lone_runs g p n start) (sym (ap (λ (v : WorldView). (process v.world p).gone) is.world) ∙ gone)) ∙ one_time_more g p n start
-
--- and after one worker more
-pub one_more_out : (g : Givens) (n : ℕ) (start : LoneRun) (old new : WorldView) (most result : ℕ) → Shows g (all_run_out g n start) old most
-    → new ≡ record { givens = old.givens; world = (run_out old.givens (n + 1) (record { world = old.world; most = most })).world }
-    → result ≡ (run_out old.givens (n + 1) (record { world = old.world; most = most })).most
-    → Shows g (all_run_out g (n + 1) start) new result
-one_more_out g n start old new most result is made counted =
-    record {
-      world = made ∙ (λ i. let v : WorldView = record { givens = (is.world i).givens; world = (run_out (is.world i).givens (n + 1) (record { world = (is.world i).world; most = is.most i })).world } in v)
-          ∙ ap (λ (x : LoneRun). let v : WorldView = record { givens = g; world = x.world } in v) next;
-      most = counted ∙ (λ i. (run_out (is.world i).givens (n + 1) (record { world = (is.world i).world; most = is.most i })).most) ∙ ap (λ (x : LoneRun). x.most) next;
-    }
-  where
-    next : run_out g (n + 1) (all_run_out g n start) ≡ all_run_out g (n + 1) start
-    next = ap (λ k. run_out g k (all_run_out g n start)) (add-one n) ∙ ap (λ k. all_run_out g k start) (sym (add-one n))
 
 -- a view of a world that is reached shows one
 pub seen_reached : (g : Givens) (most : ℕ) (w : World) (v : WorldView) → v ≡ record { givens = g; world = w } → IsReached g most w → IsReached v.givens most v.world
@@ -187,4 +165,4 @@ stopped_reached plan p k few =
     reached_halt plan.givens 1000 _ p (reached_first plan.givens 1000 (take k plan.moves) (let l = length-take k plan.moves in omega arith))
 
 pub stopped_under : (plan : PlanSeen) (p k : ℕ) → length plan.moves ≤ 1000 → IsUnderLimit plan.givens (1001 + plan.givens.workers * 17174624) (stopped plan p k)
-stopped_under plan p k few = all_under plan.givens plan.givens.workers 1001 _ (record { reached = stopped_reached plan p k few; most = omega arith })
+stopped_under plan p k few = first_under plan.givens plan.givens.workers 1001 _ (stopped_reached plan p k few)

@@ -1,7 +1,8 @@
 -- The text of the explorer: what numbered schedules of one length lead to, a line for each.
-use Rattle.std.specs.Prelude.{ℕ, zero, suc, ◌+◌, ◌/◌, ◌%◌, ◌^◌, List, [], ◌∷◌, ◌++◌, map, count_by, codes}
+use Rattle.std.specs.Prelude.{ℕ, zero, suc, ◌+◌, ◌/◌, ◌%◌, ◌^◌, List, [], ◌∷◌, ◌++◌, length, map, count_by, codes}
 use Rattle.std.specs.Fmt.{decimal}
 use Rattle.std.specs.List.{flat_map}
+use Rattle.amo_kk.specs.Run.{done_jobs}
 use Rattle.amo_kk.specs.World.{opening_world, world_after_moves}
 use Rattle.amo_kk.specs.declared.event.Event.{Event}
 use Rattle.amo_kk.specs.declared.event.Move.{Move}
@@ -10,7 +11,7 @@ use Rattle.amo_kk.specs.declared.model.World.{World}
 use Rattle.amo_world.specs.Answer.{verdict}
 use Rattle.amo_world.specs.declared.answer.Verdict.{Verdict}
 use Rattle.amo_plan.specs.Plan.{PlanSeen}
-use Rattle.amo_report.specs.Happened.{is_done, is_end}
+use Rattle.amo_report.specs.Happened.{is_end}
 use Rattle.amo_report.specs.Texts.{rounds}
 use Rattle.amo_report.specs.Summary.{counts_part, verdict_part, numbers_from, least_of, least_line}
 
@@ -23,19 +24,19 @@ abbrev pub schedule : ℕ → ℕ → ℕ → List Move
 schedule m s zero = []
 schedule m s (suc i) = schedule m s i ++ Turn (worker_at m s i) ∷ []
 
--- the world after schedule s of this length and the rounds of a plan, from the opening world; the plan's own
+-- the world after schedule s of so many turns and the rounds of a plan, from the opening world; the plan's own
 -- schedule has no part in it
 abbrev pub explored_world : PlanSeen → ℕ → ℕ → World
-explored_world p length s =
-    world_after_moves p.givens (opening_world p.givens) (schedule p.givens.workers s length ++ rounds p.givens.workers p.rounds)
+explored_world p turns s =
+    world_after_moves p.givens (opening_world p.givens) (schedule p.givens.workers s turns ++ rounds p.givens.workers p.rounds)
 
 -- what the judge says of its history
 abbrev pub explored_verdict : PlanSeen → ℕ → ℕ → Verdict
-explored_verdict p length s = verdict p.givens (explored_world p length s).history
+explored_verdict p turns s = verdict p.givens (explored_world p turns s).history
 
 -- how many performances it has
 abbrev pub explored_dones : PlanSeen → ℕ → ℕ → ℕ
-explored_dones p length s = count_by is_done (explored_world p length s).history
+explored_dones p turns s = length (done_jobs (explored_world p turns s).history)
 
 -- `schedule S claimed C done D ended E VERDICT`
 unfoldable pub schedule_line : ℕ → List Event → Verdict → List ℕ
@@ -44,9 +45,9 @@ schedule_line s history judged =
 
 -- this of schedule s
 abbrev pub explored_line : PlanSeen → ℕ → ℕ → List ℕ
-explored_line p length s = schedule_line s (explored_world p length s).history (explored_verdict p length s)
+explored_line p turns s = schedule_line s (explored_world p turns s).history (explored_verdict p turns s)
 
--- a line for each of so many schedules of one length, from the first on, and the least number of performances
+-- a line for each of so many schedules of so many turns, from the first on, and the least number of performances
 abbrev pub explore_of : PlanSeen → ℕ → ℕ → ℕ → List ℕ
-explore_of p first count length =
-    flat_map (explored_line p length) (numbers_from first count) ++ least_line (least_of (map (explored_dones p length) (numbers_from first count)))
+explore_of p first count turns =
+    flat_map (explored_line p turns) (numbers_from first count) ++ least_line (least_of (map (explored_dones p turns) (numbers_from first count)))

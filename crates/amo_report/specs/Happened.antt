@@ -21,14 +21,6 @@ is_done_of p (Ended q) = false
 is_done_of p (Halted q) = false
 is_done_of p (Left q) = false
 
--- a claim
-abbrev pub is_claim : Event → Bool
-is_claim (Claimed q j) = true
-is_claim (Done q j) = false
-is_claim (Ended q) = false
-is_claim (Halted q) = false
-is_claim (Left q) = false
-
 -- an end
 abbrev pub is_end : Event → Bool
 is_end (Claimed q j) = false
@@ -36,14 +28,6 @@ is_end (Done q j) = false
 is_end (Ended q) = true
 is_end (Halted q) = false
 is_end (Left q) = false
-
--- a performance
-abbrev pub is_done : Event → Bool
-is_done (Claimed q j) = false
-is_done (Done q j) = true
-is_done (Ended q) = false
-is_done (Halted q) = false
-is_done (Left q) = false
 
 -- how worker p went, by the first event in which it did, or `running`
 abbrev pub state_of : ℕ → List Event → List ℕ

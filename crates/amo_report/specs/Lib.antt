@@ -18,4 +18,3 @@ pub mod Summary
 pub mod Explorer
 pub mod Reached
 pub mod Stops
-pub mod StopsTold

@@ -1,5 +1,6 @@
 -- The lines of a report: a function of the plan, the history and each worker's number of turns.
 use Rattle.std.specs.Prelude.{ℕ, List, ◌++◌, length}
+use Rattle.amo_kk.specs.Run.{done_jobs}
 use Rattle.amo_kk.specs.declared.event.Event.{Event}
 use Rattle.amo_plan.specs.Plan.{PlanSeen}
 use Rattle.amo_report.specs.Numbers.{first_line}
@@ -15,7 +16,7 @@ happened_lines history turns = event_lines 1 history ++ worker_lines history 1 t
 unfoldable pub outcome_lines : PlanSeen → List Event → List ℕ
 outcome_lines p history =
     done_results p.block p.names p.tasks history
-    ++ performed_line p.version p.block (length p.names) history
+    ++ performed_line p.version p.block (length p.names) (done_jobs history)
     ++ unclaimed_line p.givens.jobs history
 
 -- the first line, what happened, and what came of it

@@ -1,9 +1,10 @@
 -- The text of stops: what becomes of a schedule that is cut off after each of its moves, a line for each.
-use Rattle.std.specs.Prelude.{ℕ, zero, suc, ◌+◌, ◌*◌, max, List, ◌++◌, length, map, take, count_by, codes, nat_le, Result, Ok, if◌then◌else◌}
+use Rattle.std.specs.Prelude.{ℕ, zero, suc, ◌+◌, max, List, ◌++◌, length, map, take, codes, nat_le, Result, Ok, if◌then◌else◌}
 use Rattle.std.specs.Fmt.{decimal}
 use Rattle.std.specs.List.{flat_map}
+use Rattle.amo_kk.specs.Run.{done_jobs}
 use Rattle.amo_kk.specs.World.{process, opening_world, world_after_turn, world_after_halt, world_after_moves}
-use Rattle.amo_kk.specs.Alone.{claims_or_ends, world_after_turns}
+use Rattle.amo_kk.specs.Alone.{claims_or_ends, world_after_turns, lone_bound}
 use Rattle.amo_kk.specs.declared.event.Event.{Event}
 use Rattle.amo_kk.specs.declared.givens.Givens.{Givens}
 use Rattle.amo_kk.specs.declared.model.World.{World}
@@ -13,17 +14,12 @@ use Rattle.amo_plan.specs.declared.fault.PlanFault.{PlanFault}
 use Rattle.amo_plan.specs.declared.fault.PlanFault.TheVariants.{NoSuchWorker, TooLong}
 use Rattle.amo_plan.specs.Steps.{unless}
 use Rattle.amo_plan.specs.Plan.{PlanSeen}
-use Rattle.amo_report.specs.Happened.{is_done}
 use Rattle.amo_report.specs.Summary.{counts_part, verdict_part, numbers_from, least_of, least_line}
 
 -- how many turns p takes, alone, to claim a job or end, of so many at most
 abbrev pub lone_turns : Givens → ℕ → ℕ → World → ℕ
 lone_turns g p zero w = 0
 lone_turns g p (suc most) w = if claims_or_ends g w p then 1 else suc (lone_turns g p most (world_after_turn g w p))
-
--- so many are enough for a worker that isn't gone
-abbrev pub enough_turns : Givens → ℕ
-enough_turns g = 6 * g.workers + g.jobs
 
 -- a world, and the most turns that a worker has taken in one go to claim a job or end
 pub record LoneRun : Type 0 where
@@ -33,7 +29,7 @@ pub record LoneRun : Type 0 where
 -- p, if it isn't gone, goes on alone until it claims a job or ends
 unfoldable pub after_lone_run : Givens → ℕ → LoneRun → LoneRun
 after_lone_run g p r =
-    let turns = lone_turns g p (enough_turns g) r.world in
+    let turns = lone_turns g p (lone_bound g) r.world in
     if (process r.world p).gone
     then r
     else (let after : LoneRun = record { world = world_after_turns g r.world p turns; most = max r.most turns } in after)
@@ -66,7 +62,7 @@ stopped_verdict plan p k = verdict plan.givens (stopped plan p k).world.history
 
 -- how many performances it has
 abbrev pub stopped_dones : PlanSeen → ℕ → ℕ → ℕ
-stopped_dones plan p k = count_by is_done (stopped plan p k).world.history
+stopped_dones plan p k = length (done_jobs (stopped plan p k).world.history)
 
 -- `stop K claimed C done D most T VERDICT`
 unfoldable pub stop_line : ℕ → List Event → ℕ → Verdict → List ℕ

@@ -1,14 +1,14 @@
 -- What a line says of a whole run, and what is the least over many runs.
-use Rattle.std.specs.Prelude.{ℕ, zero, suc, ◌+◌, min, List, [], ◌∷◌, ◌++◌, Option, Some, None, count_by, codes}
+use Rattle.std.specs.Prelude.{ℕ, zero, suc, ◌+◌, min, List, [], ◌∷◌, ◌++◌, Option, Some, None, length, codes}
 use Rattle.std.specs.Fmt.{decimal}
+use Rattle.amo_kk.specs.Run.{claimed_jobs, done_jobs}
 use Rattle.amo_kk.specs.declared.event.Event.{Event}
 use Rattle.amo_world.specs.declared.answer.Verdict.{Verdict}
 use Rattle.amo_world.specs.declared.answer.Verdict.TheVariants.{Lawful, FirstBad}
-use Rattle.amo_report.specs.Happened.{is_claim, is_done}
 
 -- ` claimed C done D`
 unfoldable pub counts_part : List Event → List ℕ
-counts_part history = codes " claimed " ++ decimal (count_by is_claim history) ++ codes " done " ++ decimal (count_by is_done history)
+counts_part history = codes " claimed " ++ decimal (length (claimed_jobs history)) ++ codes " done " ++ decimal (length (done_jobs history))
 
 -- ` lawful` or ` bad I`
 unfoldable pub verdict_part : Verdict → List ℕ

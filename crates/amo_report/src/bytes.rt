@@ -1,5 +1,5 @@
 //! A source over memory.
-ghost use Rattle.std.specs.Prelude.{◌≡◌, false, Some, is_err};
+ghost use Rattle.std.specs.Prelude.{◌≡◌, false, Some, Ok, min, length};
 ghost use Rattle.std.specs.Io.{ReadsAtMost};
 ghost use Rattle.std.specs.Io.KnownBytes.{ReadConsumes};
 
@@ -38,7 +38,7 @@ impl Source for Bytes<'_> {
     fn read(&mut self, buf: &mut [u8]) -> Result<usize, Failed>
         ensures bound { ReadsAtMost result buf.new }
         ensures bytes { ReadConsumes (Some self.old) (Some self.new) result buf.new }
-        ensures succeeds { is_err result ≡ false }
+        ensures count { result ≡ Ok (min (length buf.new) (length self.old)) }
     {
         let count = buf.len().min(self.rest.len());
         let (front, rest) = self.rest.split_at(count);

@@ -14,9 +14,8 @@ fn push_check(out: &mut String, heads: &Heads) -> Result<(), AllocError>
 {
     let moves = heads.moves.as_slice().len();
     let rounds = heads.rounds;
-    let jobs = heads.names.as_slice().len();
     out.push_str("ok ")?;
-    push_numbers(out, heads.version, heads.block, jobs, heads.givens)?;
+    push_numbers(out, heads)?;
     writeln!(out, " moves {moves} rounds {rounds}")
 }
 

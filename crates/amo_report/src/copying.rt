@@ -1,5 +1,5 @@
 //! All of a source, and all of a text.
-ghost use Rattle.std.specs.Prelude.{◌≡◌, ◌<◌, ◌≤◌, ◌||◌, IfOk, IfErr, OnOk, OnErr, true, vec_len, length};
+ghost use Rattle.std.specs.Prelude.{◌≡◌, ◌<◌, ◌≤◌, ◌||◌, IfOk, IfErr, OnOk, OnErr, is_err, false, true, vec_len, length};
 ghost use Rattle.std.specs.Io.KnownBytes.{Appends, Consumes, IsAtEnd};
 ghost use Rattle.amo_report.specs.Streams.{AppendsFront};
 ghost use Rattle.amo_report.specs.ReadFaults.{is_failure};
@@ -23,8 +23,8 @@ pub const MOST_READ: usize = 1_048_577;
 /// taken from what remains.
 pub fn read_all<R: Source>(alloc: Global, reader: &mut R) -> Result<Vec<u8>, ReadFault>
     ensures ok { IfOk result (λ v. Consumes (R.remaining reader.old) (R.remaining reader.new) v.items) }
-    ensures most { IfOk result (λ v. vec_len v ≤ MOST_READ) }
-    ensures end { IfOk result (λ v. vec_len v < MOST_READ → IsAtEnd (R.remaining reader.new)) }
+    ensures most { IfOk result (λ v. vec_len v ≤ 1048577) }
+    ensures end { IfOk result (λ v. vec_len v < 1048577 → IsAtEnd (R.remaining reader.new)) }
     ensures calm { OnOk result (R.failed reader.new ≡ R.failed reader.old) }
     ensures fails { IfErr result (λ e. R.failed reader.new ≡ (R.failed reader.old || is_failure e)) }
 {
@@ -52,9 +52,9 @@ pub fn read_all<R: Source>(alloc: Global, reader: &mut R) -> Result<Vec<u8>, Rea
 /// the bytes was taken.
 pub fn write_all<W: Sink>(writer: &mut W, bytes: &[u8]) -> Result<(), Failed>
     ensures ok { OnOk result (Appends (W.contents writer.old) (W.contents writer.new) bytes.now) }
-    ensures calm { OnOk result (W.failed writer.new ≡ W.failed writer.old) }
+    ensures passed { OnOk result (W.waiting writer.new ≡ false) }
     ensures front { OnErr result (AppendsFront (W.contents writer.old) (W.contents writer.new) bytes.now) }
-    ensures fails { OnErr result (W.failed writer.new ≡ true) }
+    ensures fails { W.failed writer.new ≡ (W.failed writer.old || is_err result) }
 {
     let mut at = 0;
     'writing: while at < bytes.len() {

@@ -15,6 +15,9 @@ use amo_plan::Plan;
 use amo_world::{Verdict, World, judge};
 use std::alloc::{AllocError, Global};
 
+/// The greatest number of a schedule with which the explorer begins.
+pub const MOST_FIRST: u64 = 1_000_000_000_000;
+
 /// The turns of a numbered schedule of this length.
 fn run_schedule(world: &mut World, number: u64, length: u32)
     ensures { world.new ≡ record { givens = world.old.givens; world = world_after_moves world.old.givens world.old.world (schedule world.old.givens.workers number length) } }

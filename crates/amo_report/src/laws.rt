@@ -1,7 +1,7 @@
 //! The theorems over the definitions of the explorer and of stops. Nothing here runs: each function's contract is a
 //! law.
 ghost use Rattle.std.specs.Prelude.{◌≡◌, ◌≤◌, ◌+◌, ◌*◌, ℕ, suc, true, false, List, length};
-ghost use Rattle.amo_kk.specs.Alone.{IsFirstToClaimOrEnd};
+ghost use Rattle.amo_kk.specs.Alone.{IsFirstToClaimOrEnd, lone_bound};
 ghost use Rattle.amo_kk.specs.Lawful.{IsLawful};
 ghost use Rattle.amo_kk.specs.World.{process, opening_world, world_after_moves};
 ghost use Rattle.amo_kk.specs.declared.event.Move.{Move};
@@ -10,7 +10,7 @@ ghost use Rattle.amo_kk.specs.declared.model.World.{World};
 ghost use Rattle.amo_world.specs.Answer.{verdict};
 ghost use Rattle.amo_world.specs.declared.answer.Verdict.TheVariants.{Lawful};
 ghost use Rattle.amo_plan.specs.Plan.{PlanSeen};
-ghost use Rattle.amo_report.specs.Stops.{lone_turns, enough_turns, stopped, stopped_verdict};
+ghost use Rattle.amo_report.specs.Stops.{lone_turns, stopped, stopped_verdict};
 
 use amo_kk::laws::{first_bad_is_the_first, history_is_a_run};
 
@@ -26,7 +26,7 @@ pub fn histories_are_lawful()
 /// job or ends it.
 pub fn lone_turns_are_counted()
     ensures { (g : Givens) (w : World) (p : ℕ) → IsLawful g w → (process w p).gone ≡ false
-        → (i : ℕ) × IsFirstToClaimOrEnd g w p i × (lone_turns g p (enough_turns g) w ≡ suc i) }
+        → (i : ℕ) × IsFirstToClaimOrEnd g w p i × (lone_turns g p (lone_bound g) w ≡ suc i) }
 {}
 
 /// Wherever a schedule of at most 1000 moves is cut off: no worker takes more than 6 * workers + jobs turns in one go,

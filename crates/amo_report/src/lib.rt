@@ -26,7 +26,7 @@ mod unclaimed;
 pub use bytes::Bytes;
 pub use checking::check_text;
 pub use copying::{MOST_READ, ReadFault, read_all, write_all};
-pub use explorer::explore;
+pub use explorer::{MOST_FIRST, explore};
 pub use faults::fault_text;
 pub use replaying::{ReplayFault, check, explore_plan, read_source, replay, stops_plan};
 pub use report::report_text;

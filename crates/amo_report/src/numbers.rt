@@ -1,8 +1,9 @@
 //! Writes the numbers with which a text begins.
-ghost use Rattle.std.specs.Prelude.{◌≡◌, ◌++◌, OnOk, string_bytes};
+ghost use Rattle.std.specs.Prelude.{◌≡◌, ◌++◌, OnOk, string_bytes, length};
 ghost use Rattle.amo_report.specs.Numbers.{block_part, numbers_part, first_line};
 
 use amo_kk::Givens;
+use amo_plan::Heads;
 use std::alloc::AllocError;
 
 /// Appends what a text says of blocks: nothing in version 1.
@@ -19,34 +20,25 @@ fn push_block(out: &mut String, version: u32, block: u32, givens: Givens) -> Res
 
 /// Appends the numbers of jobs and workers and the threshold.
 #[tactic(auto, unfolding(crate::specs::Numbers::numbers_part))]
-pub fn push_numbers(
-    out: &mut String,
-    version: u32,
-    block: u32,
-    jobs: usize,
-    givens: Givens,
-) -> Result<(), AllocError>
-    ensures { OnOk result (string_bytes out.new ≡ string_bytes out.old ++ numbers_part version block jobs givens) }
+pub fn push_numbers(out: &mut String, heads: &Heads) -> Result<(), AllocError>
+    ensures { OnOk result (string_bytes out.new ≡ string_bytes out.old
+        ++ numbers_part heads.now.version heads.now.block (length heads.now.names) heads.now.givens) }
 {
-    let workers = givens.workers;
-    let beta = givens.beta;
+    let jobs = heads.names.as_slice().len();
+    let workers = heads.givens.workers;
+    let beta = heads.givens.beta;
     write!(out, "jobs {jobs}")?;
-    push_block(out, version, block, givens)?;
+    push_block(out, heads.version, heads.block, heads.givens)?;
     write!(out, " workers {workers} beta {beta}")
 }
 
 /// Appends the first line of a report: these numbers and the bound.
 #[tactic(auto, unfolding(crate::specs::Numbers::first_line))]
-pub fn push_first_line(
-    out: &mut String,
-    version: u32,
-    block: u32,
-    jobs: usize,
-    givens: Givens,
-) -> Result<(), AllocError>
-    ensures { OnOk result (string_bytes out.new ≡ string_bytes out.old ++ first_line version block jobs givens) }
+pub fn push_first_line(out: &mut String, heads: &Heads) -> Result<(), AllocError>
+    ensures { OnOk result (string_bytes out.new ≡ string_bytes out.old
+        ++ first_line heads.now.version heads.now.block (length heads.now.names) heads.now.givens) }
 {
-    let bound = givens.bound();
-    push_numbers(out, version, block, jobs, givens)?;
+    let bound = heads.givens.bound();
+    push_numbers(out, heads)?;
     writeln!(out, " bound {bound}")
 }

@@ -7,8 +7,7 @@ ghost use Rattle.amo_report.specs.Check.{check_of};
 ghost use Rattle.amo_report.specs.Texts.{report_of};
 ghost use Rattle.amo_report.specs.Explorer.{explore_of};
 ghost use Rattle.amo_report.specs.Stops.{stops_in};
-ghost use Rattle.amo_report.specs.StopsTold.{IsNoText, WritesStops, RefusesStops};
-ghost use Rattle.amo_report.specs.Replays.{IsNoPlan, Refuses, Writes};
+ghost use Rattle.amo_report.specs.Replays.{IsNotMade, IsNoPlan, Refuses, Writes, is_failed_read, is_failed_write};
 ghost use Rattle.amo_report.specs.Streams.{AppendsFront};
 ghost use Rattle.amo_report.specs.declared.replaying.ReplayFault.TheVariants.{Write, NoMemory};
 
@@ -44,13 +43,14 @@ impl From<AllocError> for ReplayFault {
 }
 
 /// Reads a plan from all bytes of a source that has not failed. `Plan(f)` comes just where the bytes give the fault
-/// f, memory aside; `Read` only where the source has failed; `Write` never.
+/// f, memory aside; `Read` just where the source has failed; `Write` never.
 #[tactic(auto, using(crate::proofs::Whole::whole, crate::proofs::Whole::at_end))]
 pub fn read_source<R: Source>(alloc: Global, reader: &mut R) -> Result<Plan, ReplayFault>
     requires { R.failed reader.old ≡ false }
     ensures plan { IfOk result (λ p. IfSome (R.remaining reader.old) (λ bytes. plan_of bytes ≡ Ok (plan_seen p))) }
     ensures end { OnOk result (IsAtEnd (R.remaining reader.new)) }
-    ensures refused { IfErr result (λ e. IsNoPlan e (R.remaining reader.old) (R.failed reader.new)) }
+    ensures source { R.failed reader.new ≡ is_failed_read result }
+    ensures refused { IfErr result (λ e. IsNoPlan e (R.remaining reader.old)) }
 {
     let bytes = match read_all(alloc, reader) {
         Ok(bytes) => bytes,
@@ -64,13 +64,15 @@ pub fn read_source<R: Source>(alloc: Global, reader: &mut R) -> Result<Plan, Rep
     }
 }
 
-/// Writes a text and flushes the sink. `Write`, the only fault, comes only where the sink has failed; then a beginning of
+/// Writes a text and flushes the sink. `Write`, the only fault, comes just where the sink has failed; then a beginning of
 /// the text was written.
 fn write_text<W: Sink>(writer: &mut W, text: &String) -> Result<(), ReplayFault>
+    requires { W.failed writer.old ≡ false }
     ensures ok { OnOk result (Appends (W.contents writer.old) (W.contents writer.new) (string_bytes text.now)) }
+    ensures passed { OnOk result (W.waiting writer.new ≡ false) }
+    ensures sink { W.failed writer.new ≡ is_failed_write result }
     ensures fault { IfErr result (λ e. e ≡ Write) }
     ensures front { OnErr result (AppendsFront (W.contents writer.old) (W.contents writer.new) (string_bytes text.now)) }
-    ensures failed { OnErr result (W.failed writer.new ≡ true) }
 {
     match write_all(writer, text.as_bytes()) {
         Ok(()) => Ok(()),
@@ -96,9 +98,11 @@ pub fn replay<R: Source, W: Sink>(
     requires reader { R.failed reader.old ≡ false }
     requires writer { W.failed writer.old ≡ false }
     ensures end { OnOk result (IsAtEnd (R.remaining reader.new)) }
-    ensures text { OnOk result (Writes report_of (R.remaining reader.old) (W.contents writer.old) (W.contents writer.new)) }
-    ensures refused { IfErr result (λ e. Refuses report_of e (R.remaining reader.old) (R.failed reader.new)
-        (W.contents writer.old) (W.contents writer.new) (W.failed writer.new)) }
+    ensures text { OnOk result (Writes (λ p. Ok (report_of p)) (R.remaining reader.old) (W.contents writer.old) (W.contents writer.new)) }
+    ensures passed { OnOk result (W.waiting writer.new ≡ false) }
+    ensures source { R.failed reader.new ≡ is_failed_read result }
+    ensures sink { W.failed writer.new ≡ is_failed_write result }
+    ensures refused { IfErr result (λ e. Refuses (λ p. Ok (report_of p)) e (R.remaining reader.old) (W.contents writer.old) (W.contents writer.new)) }
 {
     let plan = read_source(alloc, reader)?;
     let text = plan_report(alloc, &plan)?;
@@ -115,9 +119,11 @@ pub fn check<R: Source, W: Sink>(
     requires reader { R.failed reader.old ≡ false }
     requires writer { W.failed writer.old ≡ false }
     ensures end { OnOk result (IsAtEnd (R.remaining reader.new)) }
-    ensures text { OnOk result (Writes check_of (R.remaining reader.old) (W.contents writer.old) (W.contents writer.new)) }
-    ensures refused { IfErr result (λ e. Refuses check_of e (R.remaining reader.old) (R.failed reader.new)
-        (W.contents writer.old) (W.contents writer.new) (W.failed writer.new)) }
+    ensures text { OnOk result (Writes (λ p. Ok (check_of p)) (R.remaining reader.old) (W.contents writer.old) (W.contents writer.new)) }
+    ensures passed { OnOk result (W.waiting writer.new ≡ false) }
+    ensures source { R.failed reader.new ≡ is_failed_read result }
+    ensures sink { W.failed writer.new ≡ is_failed_write result }
+    ensures refused { IfErr result (λ e. Refuses (λ p. Ok (check_of p)) e (R.remaining reader.old) (W.contents writer.old) (W.contents writer.new)) }
 {
     let plan = read_source(alloc, reader)?;
     let text = check_text(alloc, &plan.heads)?;
@@ -141,9 +147,11 @@ pub fn explore_plan<R: Source, W: Sink>(
     requires few { count ≤ 1000 }
     requires short { length ≤ 10000 }
     ensures end { OnOk result (IsAtEnd (R.remaining reader.new)) }
-    ensures text { OnOk result (Writes (λ p. explore_of p from count length) (R.remaining reader.old) (W.contents writer.old) (W.contents writer.new)) }
-    ensures refused { IfErr result (λ e. Refuses (λ p. explore_of p from count length) e (R.remaining reader.old) (R.failed reader.new)
-        (W.contents writer.old) (W.contents writer.new) (W.failed writer.new)) }
+    ensures text { OnOk result (Writes (λ p. Ok (explore_of p from count length)) (R.remaining reader.old) (W.contents writer.old) (W.contents writer.new)) }
+    ensures passed { OnOk result (W.waiting writer.new ≡ false) }
+    ensures source { R.failed reader.new ≡ is_failed_read result }
+    ensures sink { W.failed writer.new ≡ is_failed_write result }
+    ensures refused { IfErr result (λ e. Refuses (λ p. Ok (explore_of p from count length)) e (R.remaining reader.old) (W.contents writer.old) (W.contents writer.new)) }
 {
     let plan = read_source(alloc, reader)?;
     let text = explore(alloc, &plan, from, count, length)?;
@@ -156,7 +164,7 @@ pub fn explore_plan<R: Source, W: Sink>(
 fn plan_stops(alloc: Global, plan: &Plan, p: u32) -> Result<String, ReplayFault>
     requires { 1 ≤ p }
     ensures text { IfOk result (λ s. stops_in (plan_seen plan.now) p ≡ Ok (string_bytes s)) }
-    ensures refused { IfErr result (λ e. IsNoText e (stops_in (plan_seen plan.now) p)) }
+    ensures refused { IfErr result (λ e. IsNotMade e (stops_in (plan_seen plan.now) p)) }
 {
     if p > plan.heads.givens.workers {
         return Err(ReplayFault::Plan(PlanFault::NoSuchWorker(0)));
@@ -180,9 +188,11 @@ pub fn stops_plan<R: Source, W: Sink>(
     requires writer { W.failed writer.old ≡ false }
     requires worker { 1 ≤ p }
     ensures end { OnOk result (IsAtEnd (R.remaining reader.new)) }
-    ensures text { OnOk result (WritesStops p (R.remaining reader.old) (W.contents writer.old) (W.contents writer.new)) }
-    ensures refused { IfErr result (λ e. RefusesStops p e (R.remaining reader.old) (R.failed reader.new)
-        (W.contents writer.old) (W.contents writer.new) (W.failed writer.new)) }
+    ensures text { OnOk result (Writes (λ plan. stops_in plan p) (R.remaining reader.old) (W.contents writer.old) (W.contents writer.new)) }
+    ensures passed { OnOk result (W.waiting writer.new ≡ false) }
+    ensures source { R.failed reader.new ≡ is_failed_read result }
+    ensures sink { W.failed writer.new ≡ is_failed_write result }
+    ensures refused { IfErr result (λ e. Refuses (λ plan. stops_in plan p) e (R.remaining reader.old) (W.contents writer.old) (W.contents writer.new)) }
 {
     let plan = read_source(alloc, reader)?;
     let text = plan_stops(alloc, &plan, p)?;

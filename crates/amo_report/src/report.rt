@@ -62,9 +62,7 @@ fn history_report(
     ensures { IfOk result (λ s. string_bytes s ≡ report_lines (plan_seen plan.now) history.now turns.now) }
 {
     let mut out = String::new(alloc);
-    let heads = &plan.heads;
-    let jobs = heads.names.as_slice().len();
-    push_first_line(&mut out, heads.version, heads.block, jobs, heads.givens)?;
+    push_first_line(&mut out, &plan.heads)?;
     push_happened(&mut out, history, turns)?;
     push_outcome(alloc, &mut out, plan, history)?;
     Ok(out)

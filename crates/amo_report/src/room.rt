@@ -1,5 +1,5 @@
 //! A sink over memory.
-ghost use Rattle.std.specs.Prelude.{◌≡◌, ◌<◌, ◌||◌, ◌↔◌, [], false, Some, IfOk, OnErr, OnOk, IsErr, IsOk, is_err, length};
+ghost use Rattle.std.specs.Prelude.{◌≡◌, ◌<◌, ◌-◌, ◌||◌, ◌↔◌, min, [], false, Some, IfOk, OnErr, OnOk, IsErr, IsOk, is_err, length};
 ghost use Rattle.std.specs.Io.{WritesAtMost};
 ghost use Rattle.std.specs.Io.KnownBytes.{WriteAppends};
 ghost use Rattle.amo_report.specs.RoomSeen.{HasNoRoomFor};
@@ -52,6 +52,8 @@ impl Room {
 impl Sink for Room {
     ghost contents = { λ s. Some s.bytes };
 
+    ghost waiting = { λ _. false };
+
     ghost failed = { λ s. s.failed };
 
     /// Takes as many bytes as there is room for. It takes no memory, and fails just where it is full and is given
@@ -60,6 +62,7 @@ impl Sink for Room {
         ensures bound { WritesAtMost result buf.now }
         ensures some { IfOk result (λ n. 0 < length buf.now → 0 < n) }
         ensures bytes { WriteAppends (Some self.old.bytes) (Some self.new.bytes) result buf.now }
+        ensures count { IfOk result (λ n. n ≡ min (length buf.now) (self.old.room - length self.old.bytes)) }
         ensures room { self.new.room ≡ self.old.room }
         ensures fails { self.new.failed ≡ (self.old.failed || is_err result) }
         ensures full { IsErr result ↔ HasNoRoomFor self.old buf.now }

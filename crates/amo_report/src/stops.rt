@@ -2,11 +2,11 @@
 ghost use Rattle.std.specs.Prelude.{◌≡◌, ◌≤◌, ◌+◌, ◌*◌, ◌++◌, ℕ, true, false, length, OnOk, IfOk, string_bytes};
 ghost use Rattle.amo_kk.specs.Givens.{IsWorker};
 ghost use Rattle.amo_kk.specs.World.{process};
-ghost use Rattle.amo_kk.specs.Alone.{world_after_turns};
+ghost use Rattle.amo_kk.specs.Alone.{world_after_turns, lone_bound};
 ghost use Rattle.amo_world.specs.declared.answer.Verdict.TheVariants.{Lawful};
 ghost use Rattle.amo_plan.specs.PlanSeen.{plan_seen};
 ghost use Rattle.amo_report.specs.Reached.{IsReached};
-ghost use Rattle.amo_report.specs.Stops.{lone_turns, enough_turns, run_out, all_run_out, stopped_world, stopped, stopped_verdict, stopped_dones, stop_line, stopped_line, stops_of};
+ghost use Rattle.amo_report.specs.Stops.{lone_turns, run_out, all_run_out, stopped_world, stopped, stopped_verdict, stopped_dones, stop_line, stopped_line, stops_of};
 
 use super::laws::stops_run_out;
 use super::summary::{count_performances, lesser, push_counts, push_least, push_verdict};
@@ -20,7 +20,7 @@ use std::alloc::{AllocError, Global};
 fn lone_run(world: &mut World, p: u32) -> u64
     requires here { (process world.old.world p).gone ≡ false }
     requires reached { IsReached world.old.givens 1000000000 world.old.world }
-    ensures turns { result ≡ lone_turns world.old.givens p (enough_turns world.old.givens) world.old.world }
+    ensures turns { result ≡ lone_turns world.old.givens p (lone_bound world.old.givens) world.old.world }
     ensures world { world.new ≡ record { givens = world.old.givens; world = world_after_turns world.old.givens world.old.world p result } }
 {
     let before = world.turns_of(p);
@@ -32,7 +32,7 @@ fn lone_run(world: &mut World, p: u32) -> u64
 fn run_out(world: &mut World, p: u32, mut most: u64) -> u64
     requires worker { IsWorker world.old.givens p }
     requires reached { IsReached world.old.givens 900000000 world.old.world }
-    requires most { most ≤ enough_turns world.old.givens }
+    requires most { most ≤ lone_bound world.old.givens }
     ensures world { world.new ≡ record { givens = world.old.givens; world = (run_out world.old.givens p (record { world = world.old.world; most = most })).world } }
     ensures most { result ≡ (run_out world.old.givens p (record { world = world.old.world; most = most })).most }
 {

@@ -1,15 +1,18 @@
 //! A source or a sink over a reader or a writer of std.
-ghost use Rattle.std.specs.Prelude.{◌≡◌, false};
+ghost use Rattle.std.specs.Prelude.{◌≡◌, ◌||◌, false, Ok, IfOk, is_err};
 
 use super::streams::{Failed, Sink, Source};
+use std::io;
 use std::io::{Read, Write};
 use std::marker::Model;
 
-/// A reader or a writer of std with a mark whether it has failed: any of its errors is a failure, as is a write
-/// that takes none of some bytes. Contracts see the reader or the writer, and the mark.
+/// A reader or a writer of std, with a mark whether bytes that were written wait for a flush, and one whether it has
+/// failed: any of its errors is a failure, as is a write that takes none of some bytes. Contracts see the reader or the
+/// writer, and the marks.
 #[derive(Drop)]
 pub struct Streamed<S> {
     inner: S,
+    waiting: bool,
     failed: bool,
 }
 
@@ -18,16 +21,17 @@ impl<S> Model for Streamed<S> {
 
     ghost Value = { StreamedSeen S };
 
-    ghost view = { λ s. record { inner = s.inner; failed = s.failed } };
+    ghost view = { λ s. record { inner = s.inner; waiting = s.waiting; failed = s.failed } };
 }
 
 impl<S> Streamed<S> {
-    /// The source or sink over this reader or writer. It has not failed.
+    /// The source or sink over this reader or writer. Nothing waits, and it has not failed.
     pub fn new(inner: S) -> Streamed<S>
-        ensures { result ≡ record { inner = inner; failed = false } }
+        ensures { result ≡ record { inner = inner; waiting = false; failed = false } }
     {
         Streamed {
             inner,
+            waiting: false,
             failed: false,
         }
     }
@@ -36,8 +40,27 @@ impl<S> Streamed<S> {
     pub fn into_inner(self) -> S
         ensures { result ≡ self.inner }
     {
-        let Streamed { inner, failed: _ } = self;
+        let Streamed {
+            inner,
+            waiting: _,
+            failed: _,
+        } = self;
         inner
+    }
+
+    /// What the reader or the writer answered, as a source or sink tells it: it has failed just where that is an error.
+    fn told<T>(&mut self, answer: io::Result<T>) -> Result<T, Failed>
+        ensures value { IfOk result (λ x. answer ≡ Ok x) }
+        ensures fails { is_err result ≡ is_err answer }
+        ensures mark { self.new ≡ record self.old { failed = (self.old.failed || is_err answer) } }
+    {
+        match answer {
+            Ok(value) => Ok(value),
+            Err(_) => {
+                self.failed = true;
+                Err(Failed)
+            }
+        }
     }
 }
 
@@ -47,38 +70,33 @@ impl<S: Read> Source for Streamed<S> {
     ghost failed = { λ s. s.failed };
 
     fn read(&mut self, buf: &mut [u8]) -> Result<usize, Failed> {
-        match self.inner.read(buf) {
-            Ok(count) => Ok(count),
-            Err(_) => {
-                self.failed = true;
-                Err(Failed)
-            }
-        }
+        let answer = self.inner.read(buf);
+        self.told(answer)
     }
 }
 
 impl<S: Write> Sink for Streamed<S> {
     ghost contents = { λ s. S.contents s.inner };
 
+    ghost waiting = { λ s. s.waiting };
+
     ghost failed = { λ s. s.failed };
 
     fn write(&mut self, buf: &[u8]) -> Result<usize, Failed> {
-        match self.inner.write(buf) {
-            Ok(count) if count > 0 || buf.is_empty() => Ok(count),
-            _ => {
-                self.failed = true;
-                Err(Failed)
-            }
+        let answer = self.inner.write(buf);
+        let count = self.told(answer)?;
+        if count == 0 && !buf.is_empty() {
+            self.failed = true;
+            return Err(Failed);
         }
+        self.waiting = true;
+        Ok(count)
     }
 
     fn flush(&mut self) -> Result<(), Failed> {
-        match self.inner.flush() {
-            Ok(()) => Ok(()),
-            Err(_) => {
-                self.failed = true;
-                Err(Failed)
-            }
-        }
+        let answer = self.inner.flush();
+        self.told(answer)?;
+        self.waiting = false;
+        Ok(())
     }
 }

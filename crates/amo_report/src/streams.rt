@@ -1,5 +1,5 @@
 //! What gives bytes and what takes them.
-ghost use Rattle.std.specs.Prelude.{◌≡◌, ◌<◌, ◌||◌, ℕ, List, Option, Bool, IfOk, is_err, length};
+ghost use Rattle.std.specs.Prelude.{◌≡◌, ◌<◌, ◌||◌, ℕ, List, Option, Bool, false, IfOk, OnOk, is_err, length};
 ghost use Rattle.std.specs.Io.{ReadsAtMost, WritesAtMost};
 ghost use Rattle.std.specs.Io.KnownBytes.{Keeps, ReadConsumes, WriteAppends};
 
@@ -28,6 +28,9 @@ pub trait Sink {
     /// The bytes that it holds, where they are known.
     ghost contents: { Self → Option (List ℕ) };
 
+    /// Whether some of what it took waits for a flush.
+    ghost waiting: { Self → Bool };
+
     /// Whether a write or a flush has failed.
     ghost failed: { Self → Bool };
 
@@ -42,5 +45,6 @@ pub trait Sink {
     /// Passes on what was taken. What it holds stays, also where that fails.
     fn flush(&mut self) -> Result<(), Failed>
         ensures bytes { Keeps (contents self.old) (contents self.new) }
+        ensures passed { OnOk result (waiting self.new ≡ false) }
         ensures fails { failed self.new ≡ (failed self.old || is_err result) };
 }

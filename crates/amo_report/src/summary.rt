@@ -1,7 +1,7 @@
 //! What a line says of a whole run, and what is the least over many runs.
-ghost use Rattle.std.specs.Prelude.{◌≡◌, ◌++◌, Some, OnOk, string_bytes, count_by};
-ghost use Rattle.amo_kk.specs.Run.{IsRun};
-ghost use Rattle.amo_report.specs.Happened.{is_claim, is_done, is_end};
+ghost use Rattle.std.specs.Prelude.{◌≡◌, ◌++◌, Some, OnOk, string_bytes, length, count_by};
+ghost use Rattle.amo_kk.specs.Run.{claimed_jobs, done_jobs};
+ghost use Rattle.amo_report.specs.Happened.{is_end};
 ghost use Rattle.amo_report.specs.Summary.{counts_part, verdict_part, lesser, least_line};
 
 use amo_kk::Event;
@@ -9,8 +9,9 @@ use amo_world::Verdict;
 use std::alloc::AllocError;
 
 /// How many claims the history has.
+#[tactic(auto, using(crate::proofs::Counted::claims_counted))]
 fn count_claims(history: &[Event]) -> usize
-    ensures { result ≡ count_by is_claim history.now }
+    ensures { result ≡ length (claimed_jobs history.now) }
 {
     history
         .iter()
@@ -19,8 +20,9 @@ fn count_claims(history: &[Event]) -> usize
 }
 
 /// How many performances the history has.
+#[tactic(auto, using(crate::proofs::Counted::dones_counted))]
 pub fn count_performances(history: &[Event]) -> usize
-    ensures { result ≡ count_by is_done history.now }
+    ensures { result ≡ length (done_jobs history.now) }
 {
     history
         .iter()

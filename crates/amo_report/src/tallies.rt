@@ -34,7 +34,7 @@ fn count_jobs(block: u32, jobs: usize, history: &[Event]) -> u64
 /// Appends how many jobs were performed.
 #[tactic(auto, unfolding(crate::specs::Tallies::performed_jobs))]
 fn push_performed_jobs(out: &mut String, history: &[Event]) -> Result<(), AllocError>
-    ensures { OnOk result (string_bytes out.new ≡ string_bytes out.old ++ performed_jobs history.now) }
+    ensures { OnOk result (string_bytes out.new ≡ string_bytes out.old ++ performed_jobs (done_jobs history.now)) }
 {
     let dones = count_performances(history);
     writeln!(out, "performed {dones}")
@@ -56,7 +56,7 @@ fn push_performed_blocks(
     history: &[Event],
 ) -> Result<(), AllocError>
     requires { length history.now < 2 ^ 32 }
-    ensures { OnOk result (string_bytes out.new ≡ string_bytes out.old ++ performed_blocks block jobs history.now) }
+    ensures { OnOk result (string_bytes out.new ≡ string_bytes out.old ++ performed_blocks block jobs (done_jobs history.now)) }
 {
     let dones = count_performances(history);
     let done_jobs = count_jobs(block, jobs, history);
@@ -73,7 +73,7 @@ pub fn push_performed(
     history: &[Event],
 ) -> Result<(), AllocError>
     requires { length history.now < 2 ^ 32 }
-    ensures { OnOk result (string_bytes out.new ≡ string_bytes out.old ++ performed_line version block jobs history.now) }
+    ensures { OnOk result (string_bytes out.new ≡ string_bytes out.old ++ performed_line version block jobs (done_jobs history.now)) }
 {
     if version == 1 {
         push_performed_jobs(out, history)

@@ -23,7 +23,7 @@ struct Explored<'a> {
 impl Explored<'_> {
     /// Asserts that the explorer makes this text.
     fn holds(&self, rt: &impl Abort, alloc: Global) {
-        assert!(rt; self.from <= 1_000_000_000_000);
+        assert!(rt; self.from <= MOST_FIRST);
         assert!(rt; 1 <= self.count && self.count <= 1000);
         assert!(rt; self.length <= 10_000);
         let plan = plan_of(rt, alloc, self.heads, self.jobs);

@@ -62,9 +62,11 @@ struct Sipping {
 }
 
 impl Sink for Sipping {
-    ghost use Rattle.std.specs.Prelude.{Some};
+    ghost use Rattle.std.specs.Prelude.{Some, false};
 
     ghost contents = { λ s. Some s.inner.bytes };
+
+    ghost waiting = { λ _. false };
 
     ghost failed = { λ s. s.inner.failed };
 
@@ -221,6 +223,21 @@ fn streams_of_std_give_the_same_report(rt: HostRuntime) {
         Ok(()),
         ONE_WORKER_REPORT,
     );
+}
+
+/// A result of 70,000 bytes, more than a pipe takes at once.
+#[test]
+fn a_long_report_is_cut_short(rt: HostRuntime) {
+    let many = vec![in rt.alloc(); b'a'; 70_000].expect(&rt, "no memory");
+    let said = text_in(&many);
+    let plan = format!(in rt.alloc(); "version = 1\nworkers = 1\nbeta = 1\nschedule = \"1*3\"\njob = [{{name = \"a\", say = \"{said}\"}}]\n")
+        .expect(&rt, "no memory");
+    let report = format!(in rt.alloc(); "jobs 1 workers 1 beta 1 bound 1\n1 claimed 1 1\n2 done 1 1\n3 ended 1\nworker 1 ended turns 3 claimed 1 done 1\nresult 1 a {said}\nperformed 1\nunclaimed\n")
+        .expect(&rt, "no memory");
+    let mut writer = Streamed::new(Vec::new(rt.alloc()));
+    let answer = replay(rt.alloc(), &mut Bytes::new(plan.as_bytes()), &mut writer);
+    assert!(rt; answer == Ok(()));
+    assert!(rt; text_in(&writer.into_inner()) == report.as_str());
 }
 
 #[test]

@@ -7,10 +7,10 @@ use Rattle.amo_report.proofs.replaying.read_source.Goals as goal
 pub returns-in-Ok-read_plan-clause-plan : goal.returns-in-Ok-read_plan-clause-plan
 returns-in-Ok-read_plan-clause-plan g c =
     let v = c.in-Ok.bytes in
-    whole _ _ v.items _ c.in-Ok.ensures.ok (λ short. c.in-Ok.ensures.end (omega (arith, v.ok.0))) (rw c.deref.ensures.value at c.in-Ok-read_plan.ensures)
+    whole _ _ v.items _ c.in-Ok.ensures.ok (λ short. c.in-Ok.ensures.end (omega (arith, v.ok.0))) (rw c.deref.ensures.value at c.in-Ok-read_plan.ensures.plan)
 
 pub returns-clause-refused : goal.returns-clause-refused
 returns-clause-refused g c =
     let v = c.in-Ok.bytes in
     let other : c.in-Err.fault ≡ NoMemory → ⊥ = λ e. false≢true (sym c.if-is_memory.false ∙ c.is_memory.ensures.1 e) in
-    (whole _ _ v.items (Err c.in-Err.fault) c.in-Ok.ensures.ok (λ short. c.in-Ok.ensures.end (omega (arith, v.ok.0))) (rw c.deref.ensures.value at (c.in-Err.ensures other)), other)
+    (whole _ _ v.items (Err c.in-Err.fault) c.in-Ok.ensures.ok (λ short. c.in-Ok.ensures.end (omega (arith, v.ok.0))) (rw c.deref.ensures.value at (c.in-Err.ensures.plan other)), other)

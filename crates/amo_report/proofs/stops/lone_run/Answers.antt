@@ -1,9 +1,9 @@
 use Rattle.std.proofs.Common.{◌≡◌, ◌-◌, ap, sym, subst, ◌∙◌, arith}
 use Rattle.amo_kk.specs.Givens.{IsWorker}
-use Rattle.amo_kk.specs.Alone.{world_after_turns}
+use Rattle.amo_kk.specs.Alone.{world_after_turns, lone_bound}
 use Rattle.amo_kk.specs.declared.givens.Givens.{Givens}
 use Rattle.amo_kk.proofs.Worlds.{here_is_worker}
-use Rattle.amo_report.specs.Stops.{lone_turns, enough_turns}
+use Rattle.amo_report.specs.Stops.{lone_turns}
 use Rattle.amo_report.proofs.ReachedWorlds.{reached_lawful}
 use Rattle.amo_report.proofs.Stopped.{runs_lone}
 use Rattle.amo_report.proofs.stops.lone_run.Goals as goal
@@ -38,5 +38,5 @@ returns-clause-world c =
     let v = c.args.world.now in
     let rest = runs_lone v.givens v.world c.run_alone-alone.new.self.world c.args.p _ c.requires.reached c.requires.here c.run_alone-alone.ensures.alone in
     let steps = rest.steps in
-    let turns : lone_turns v.givens c.args.p (enough_turns v.givens) v.world ≡ c.turns_of.result - c.turns_of-before.result = omega arith in
+    let turns : lone_turns v.givens c.args.p (lone_bound v.givens) v.world ≡ c.turns_of.result - c.turns_of-before.result = omega arith in
     λ i. record { givens = c.run_alone-alone.ensures.givens i; world = (rest.leads ∙ ap (λ n. world_after_turns v.givens v.world c.args.p n) turns) i }
