@@ -1,6 +1,7 @@
 //! Tests of the whole program, over sources and sinks of memory.
 mod explored;
 mod plans;
+mod program;
 mod schedules;
 mod stops;
 mod words;
