@@ -1,5 +1,6 @@
 -- The events that are counted, one by one, are those that the lists of jobs name.
-use Rattle.std.proofs.Common.{◌≡◌, suc, Bool, true, false, List, [], ◌∷◌, length, count_by, refl, ap}
+use Rattle.std.proofs.Common.{◌≡◌, ℕ, suc, ◌+◌, Bool, true, false, cond, List, [], ◌∷◌, length, count_by, refl, arith}
+use Rattle.std.proofs.lemmas.List.Recursion.{is_count_by}
 use Rattle.amo_kk.specs.Run.{claimed_jobs, done_jobs}
 use Rattle.amo_kk.specs.declared.event.Event.{Event}
 use Rattle.amo_kk.specs.declared.event.Event.TheVariants.{Claimed, Done, Ended, Halted, Left}
@@ -20,18 +21,22 @@ is_done (Ended p) = false
 is_done (Halted p) = false
 is_done (Left p) = false
 
-pub claims_counted : (es : List Event) → count_by is_claim es ≡ length (claimed_jobs es)
-claims_counted [] = refl
-claims_counted (Claimed p j ∷ es) = ap (λ n. suc n) (claims_counted es)
-claims_counted (Done p j ∷ es) = claims_counted es
-claims_counted (Ended p ∷ es) = claims_counted es
-claims_counted (Halted p ∷ es) = claims_counted es
-claims_counted (Left p ∷ es) = claims_counted es
+pub claims_counted : (es : List Event) → length (claimed_jobs es) ≡ count_by is_claim es
+claims_counted = is_count_by (λ es. length (claimed_jobs es)) is_claim refl one
+  where
+    one : (e : Event) (es : List Event) → length (claimed_jobs (e ∷ es)) ≡ cond (is_claim e) (1 + length (claimed_jobs es)) (length (claimed_jobs es))
+    one (Claimed p j) es = omega arith
+    one (Done p j) es = refl
+    one (Ended p) es = refl
+    one (Halted p) es = refl
+    one (Left p) es = refl
 
-pub dones_counted : (es : List Event) → count_by is_done es ≡ length (done_jobs es)
-dones_counted [] = refl
-dones_counted (Claimed p j ∷ es) = dones_counted es
-dones_counted (Done p j ∷ es) = ap (λ n. suc n) (dones_counted es)
-dones_counted (Ended p ∷ es) = dones_counted es
-dones_counted (Halted p ∷ es) = dones_counted es
-dones_counted (Left p ∷ es) = dones_counted es
+pub dones_counted : (es : List Event) → length (done_jobs es) ≡ count_by is_done es
+dones_counted = is_count_by (λ es. length (done_jobs es)) is_done refl one
+  where
+    one : (e : Event) (es : List Event) → length (done_jobs (e ∷ es)) ≡ cond (is_done e) (1 + length (done_jobs es)) (length (done_jobs es))
+    one (Claimed p j) es = refl
+    one (Done p j) es = omega arith
+    one (Ended p) es = refl
+    one (Halted p) es = refl
+    one (Left p) es = refl
