@@ -1,3 +1,3 @@
-pub mod Digits
+pub mod Numbers
 pub mod Endings
 pub mod Lines

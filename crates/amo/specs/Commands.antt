@@ -2,7 +2,7 @@
 use Rattle.std.specs.Prelude.{◌≡◌, ◌≤◌, ℕ, List, [], ◌∷◌, Option, Some, None, Result, MatchResult, true, option_and_then, codes, drop, if◌then◌else◌}
 use Rattle.std.specs.Str.{bytes_eq}
 use Rattle.clap.specs.Words.{App, Row, Rule, Text, new_app, new_rule, with_rule, with_subcommand, subcommand_of, fault_of, first_of}
-use Rattle.amo.specs.Numbers.{number_of, within}
+use Rattle.amo_plan.specs.Digits.{number_in, within}
 use Rattle.amo.specs.declared.request.Request.{Request}
 use Rattle.amo.specs.declared.request.Request.TheVariants.{Replay, Check, Explore, Stops}
 use Rattle.amo.specs.declared.request.RequestFault.{RequestFault}
@@ -38,7 +38,7 @@ amo_app = with_subcommand (with_subcommand (with_subcommand (with_subcommand (wa
 
 -- the number of the text at this id, where it is one and is within this range
 abbrev pub number_at : ℕ → ℕ → Text → List Row → Option ℕ
-number_at low high id rows = within low high (option_and_then number_of (first_of id rows))
+number_at low high id rows = within low high (option_and_then number_in (first_of id rows))
 
 -- `explore` with these numbers
 abbrev pub explore_with : Option ℕ → Option ℕ → Option ℕ → Option Request

@@ -1,4 +1,3 @@
-pub mod Numbers
 pub mod Commands
 pub mod Faults
 pub mod Wanted

@@ -1,10 +1,11 @@
 //! Reads the words of a command line.
-ghost use Rattle.std.specs.Prelude.{◌≡◌, ◌≤◌, false, IfOk, IfSome, map, option_copied};
+ghost use Rattle.std.specs.Prelude.{◌≡◌, ◌≤◌, ◌↔◌, ℕ, Some, false, IfOk, IfSome, map, option_copied};
+ghost use Rattle.std.specs.Fmt.{decimal};
 ghost use Rattle.clap.specs.Words.{app_of, new_app, with_subcommand, rule_of, rows_of, found_of, first_of};
 ghost use Rattle.amo.specs.Commands.{Answers, IsWithinRanges, amo_app, explore_app, stops_app, required, number_at, explore_of_rows, stops_of_rows, request_of_row, request_of_line, asked};
 
-use super::numbers::number;
 use super::request::{Request, RequestFault};
+use amo_plan::number_within;
 use clap::error::ErrorKind;
 use clap::{Arg, ArgMatches, Command};
 use std::alloc::{AllocError, Global};
@@ -65,13 +66,15 @@ fn text_at<'a>(id: &str, matches: &ArgMatches<'a>) -> Option<&'a str>
     matches.get_str(id)
 }
 
-/// The number at an id, where its text is one and is within a range.
+/// The number at an id: the number whose decimal digits the text there is, where there is one within the range.
+#[tactic(auto, using(crate::proofs::Numbers::at_is_decimal))]
 fn number_at(low: u64, high: u64, id: &str, matches: &ArgMatches<'_>) -> Option<u64>
     requires { high ≤ 1000000000000 }
     ensures value { result ≡ number_at low high id.now (rows_of (found_of matches.now)) }
+    ensures decimal { (k : ℕ) → result ≡ Some k ↔ (first_of id.now (rows_of (found_of matches.now)) ≡ Some (decimal k)) × (low ≤ k) × (k ≤ high) }
     ensures range { IfSome result (λ n. (low ≤ n) × (n ≤ high)) }
 {
-    number(low, high, text_at(id, matches)?.as_bytes())
+    number_within(low, high, text_at(id, matches)?.as_bytes())
 }
 
 /// What the texts of `explore` ask for.

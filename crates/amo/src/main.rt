@@ -5,7 +5,6 @@
 
 mod commands;
 mod fault;
-mod numbers;
 mod program;
 mod request;
 mod working;
