@@ -230,10 +230,12 @@ fn streams_of_std_give_the_same_report(rt: HostRuntime) {
 fn a_long_report_is_cut_short(rt: HostRuntime) {
     let many = vec![in rt.alloc(); b'a'; 70_000].expect(&rt, "no memory");
     let said = text_in(&many);
-    let plan = format!(in rt.alloc(); "version = 1\nworkers = 1\nbeta = 1\nschedule = \"1*3\"\njob = [{{name = \"a\", say = \"{said}\"}}]\n")
-        .expect(&rt, "no memory");
-    let report = format!(in rt.alloc(); "jobs 1 workers 1 beta 1 bound 1\n1 claimed 1 1\n2 done 1 1\n3 ended 1\nworker 1 ended turns 3 claimed 1 done 1\nresult 1 a {said}\nperformed 1\nunclaimed\n")
-        .expect(&rt, "no memory");
+    let plan = format!(in rt.alloc();
+        "version = 1\nworkers = 1\nbeta = 1\nschedule = \"1*3\"\njob = [{{name = \"a\", say = \"{said}\"}}]\n"
+    ).expect(&rt, "no memory");
+    let report = format!(in rt.alloc();
+        "jobs 1 workers 1 beta 1 bound 1\n1 claimed 1 1\n2 done 1 1\n3 ended 1\nworker 1 ended turns 3 claimed 1 done 1\nresult 1 a {said}\nperformed 1\nunclaimed\n"
+    ).expect(&rt, "no memory");
     let mut writer = Streamed::new(Vec::new(rt.alloc()));
     let answer = replay(rt.alloc(), &mut Bytes::new(plan.as_bytes()), &mut writer);
     assert!(rt; answer == Ok(()));
