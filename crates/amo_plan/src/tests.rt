@@ -48,6 +48,15 @@ pub fn assert_accepted(rt: &impl Abort, alloc: Global, text: &[u8], name: &str) 
     }
 }
 
+/// These texts, one after the other.
+fn joined(alloc: Global, parts: &[&str]) -> Result<String, AllocError> {
+    let mut text = String::new(alloc);
+    for part in parts {
+        text.push_str(part)?;
+    }
+    Ok(text)
+}
+
 /// Texts that differ in one place alone.
 #[derive(Drop)]
 pub struct Frame<'a> {
@@ -62,7 +71,7 @@ pub struct Frame<'a> {
 impl Frame<'_> {
     /// The text with this in the place.
     pub fn text(&self, alloc: Global, inner: &str) -> Result<String, AllocError> {
-        format!(in alloc; "{}{}{inner}{}", self.heads, self.front, self.back)
+        joined(alloc, &[self.heads, self.front, inner, self.back])
     }
 
     /// Each of these is refused in the place, with its fault.
@@ -128,6 +137,16 @@ pub fn with_jobs(alloc: Global, heads: &str, job: &Frame, jobs: u32) -> Result<S
 /// Items that are these numbers.
 pub fn as_items(alloc: Global, numbers: &[u64]) -> Result<Items<u64>, AllocError> {
     Ok(Items::new(numbers.to_vec(alloc)?))
+}
+
+/// The task that says this text.
+pub fn say(alloc: Global, text: &str) -> Result<Task, AllocError> {
+    Ok(Task::Say(Text::from_str(alloc, text)?))
+}
+
+/// The task that adds these numbers up.
+pub fn add(alloc: Global, numbers: &[u64]) -> Result<Task, AllocError> {
+    Ok(Task::Add(as_items(alloc, numbers)?))
 }
 
 /// This is the text, if there is one.

@@ -1,5 +1,5 @@
 //! All of a source, and all of a text.
-ghost use Rattle.std.specs.Prelude.{◌≡◌, ◌<◌, ◌≤◌, ◌||◌, IfOk, IfErr, OnOk, OnErr, is_err, false, true, vec_len, length};
+ghost use Rattle.std.specs.Prelude.{◌≡◌, ◌<◌, ◌≤◌, ◌||◌, IfOk, IfErr, OnOk, OnErr, is_err, false, vec_len, length};
 ghost use Rattle.std.specs.Io.KnownBytes.{Appends, Consumes, IsAtEnd};
 ghost use Rattle.amo_report.specs.Streams.{AppendsFront};
 ghost use Rattle.amo_report.specs.ReadFaults.{is_failure};

@@ -1,5 +1,5 @@
 //! From the bytes of a plan to the bytes of its text.
-ghost use Rattle.std.specs.Prelude.{◌≡◌, ◌≤◌, true, false, Ok, OnOk, OnErr, IfOk, IfErr, IfSome, string_bytes};
+ghost use Rattle.std.specs.Prelude.{◌≡◌, ◌≤◌, false, Ok, OnOk, OnErr, IfOk, IfErr, IfSome, string_bytes};
 ghost use Rattle.std.specs.Io.KnownBytes.{Appends, IsAtEnd};
 ghost use Rattle.amo_plan.specs.Plan.{plan_of};
 ghost use Rattle.amo_plan.specs.PlanSeen.{plan_seen};

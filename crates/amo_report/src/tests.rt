@@ -97,9 +97,7 @@ fn assert_made_end(rt: &impl Abort, alloc: Global, made: Made, plan: &str, mark:
     let mut out = Room::new(alloc, 2000).expect(rt, "no memory");
     let answer = made.write(alloc, plan, &mut out);
     assert!(rt; answer == Ok(()));
-    let found = text_of(&out)
-        .split_once(mark)
-        .map_or("no mark", |halves| halves.1);
+    let (_, found) = text_of(&out).split_once(mark).unwrap_or(("", "no mark"));
     assert_eq!(rt; found, end);
 }
 

@@ -2,16 +2,6 @@
 use super::*;
 use std::test::Fail;
 
-/// The task that says this text.
-fn say(alloc: Global, text: &str) -> Result<Task, PlanFault> {
-    Ok(Task::Say(Text::from_str(alloc, text)?))
-}
-
-/// The task that adds these numbers up.
-fn add(alloc: Global, numbers: &[u64]) -> Result<Task, PlanFault> {
-    Ok(Task::Add(as_items(alloc, numbers)?))
-}
-
 /// Five tasks: three texts, a sum, and one that doesn't fit.
 fn five(alloc: Global) -> Result<Vec<Task>, PlanFault> {
     let mut tasks = Vec::new(alloc);
@@ -108,18 +98,20 @@ fn answers_of_five(alloc: Global) -> Result<Vec<Answer>, PlanFault> {
     Ok(answers)
 }
 
+/// The answers of the five tasks, each a text or a number.
+const ANSWERS: [(Option<&str>, Option<u64>); 5] = [
+    (Some("one"), None),
+    (Some("two"), None),
+    (Some("three"), None),
+    (None, Some(42)),
+    (None, Some(18446744073709551615)),
+];
+
 #[test]
 fn a_block_answers_each_of_its_tasks(rt: HostRuntime) -> Result<(), Fail> {
-    let wanted = [
-        (Some("one"), None),
-        (Some("two"), None),
-        (Some("three"), None),
-        (None, Some(42)),
-        (None, Some(18446744073709551615)),
-    ];
     let answers = answers_of_five(rt.alloc())?;
     assert_eq!(rt; answers.len(), 5);
-    for (answer, (text, number)) in answers.iter().zip(wanted) {
+    for (answer, (text, number)) in answers.iter().zip(ANSWERS) {
         assert_answer(&rt, answer, text, number);
     }
     Ok(())

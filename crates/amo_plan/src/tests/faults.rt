@@ -94,6 +94,34 @@ fn a_fault_is_told_at_its_place(rt: HostRuntime) -> Result<(), Fail> {
     Ok(())
 }
 
+/// Second jobs with one fault, and the fault.
+const FAULTY_JOBS: [(&str, PlanFault); 15] = [
+    ("{}", PlanFault::MissingKey(2)),
+    ("{say = \"\"}", PlanFault::MissingKey(2)),
+    ("{name = \"a\"}", PlanFault::MissingKey(2)),
+    (
+        "{name = \"a\", say = \"\", color = 1}",
+        PlanFault::UnknownKey(2),
+    ),
+    ("{name = \"a\", say = 3}", PlanFault::WrongKind(2)),
+    ("{name = 3, say = \"\"}", PlanFault::WrongKind(2)),
+    (
+        "{name = \"a\", say = \"\", add = []}",
+        PlanFault::WrongKind(2),
+    ),
+    ("{name = \"a\", add = 3}", PlanFault::WrongKind(2)),
+    ("{name = \"a\", add = [1, -1]}", PlanFault::WrongKind(2)),
+    ("{name = \"a\", add = [1, 1.0]}", PlanFault::WrongKind(2)),
+    ("{name = \"a b\", say = \"\"}", PlanFault::BadName(2)),
+    ("{name = \"\", say = \"\"}", PlanFault::BadName(2)),
+    ("{name = \"ä\", say = \"\"}", PlanFault::BadName(2)),
+    ("{name = \"z\", say = \"other\"}", PlanFault::TwoNames(2)),
+    (
+        "{name = \"a\", add = [9223372036854775807, 9223372036854775807, 2]}",
+        PlanFault::SumTooLarge(2),
+    ),
+];
+
 #[test]
 fn a_fault_of_a_job_has_its_number(rt: HostRuntime) -> Result<(), Fail> {
     let frame = Frame {
@@ -101,76 +129,52 @@ fn a_fault_of_a_job_has_its_number(rt: HostRuntime) -> Result<(), Fail> {
         front: "job = [{name = \"z\", say = \"\"}, ",
         back: "]\n",
     };
-    let cases = [
-        ("{}", PlanFault::MissingKey(2)),
-        ("{say = \"\"}", PlanFault::MissingKey(2)),
-        ("{name = \"a\"}", PlanFault::MissingKey(2)),
-        (
-            "{name = \"a\", say = \"\", color = 1}",
-            PlanFault::UnknownKey(2),
-        ),
-        ("{name = \"a\", say = 3}", PlanFault::WrongKind(2)),
-        ("{name = 3, say = \"\"}", PlanFault::WrongKind(2)),
-        (
-            "{name = \"a\", say = \"\", add = []}",
-            PlanFault::WrongKind(2),
-        ),
-        ("{name = \"a\", add = 3}", PlanFault::WrongKind(2)),
-        ("{name = \"a\", add = [1, -1]}", PlanFault::WrongKind(2)),
-        ("{name = \"a\", add = [1, 1.0]}", PlanFault::WrongKind(2)),
-        ("{name = \"a b\", say = \"\"}", PlanFault::BadName(2)),
-        ("{name = \"\", say = \"\"}", PlanFault::BadName(2)),
-        ("{name = \"ä\", say = \"\"}", PlanFault::BadName(2)),
-        ("{name = \"z\", say = \"other\"}", PlanFault::TwoNames(2)),
-        (
-            "{name = \"a\", add = [9223372036854775807, 9223372036854775807, 2]}",
-            PlanFault::SumTooLarge(2),
-        ),
-    ];
-    frame.refuses(&rt, rt.alloc(), &cases)?;
+    frame.refuses(&rt, rt.alloc(), &FAULTY_JOBS)?;
     Ok(())
 }
 
+/// Texts with more than one fault, and the first of them.
+const TWO_FAULTS: [(&str, PlanFault); 11] = [
+    ("color = 1\nsay = \"hel", PlanFault::NotToml),
+    ("color = 1\n", PlanFault::UnknownKey(0)),
+    ("workers = \"\"\nbeta = 1\n", PlanFault::MissingKey(0)),
+    (
+        "version = 3\nworkers = 1\nbeta = 1\njob = [{color = 1}]\n",
+        PlanFault::WrongKind(0),
+    ),
+    (
+        "version = 1\nworkers = 0\nbeta = 1\njob = [{name = 1, say = 1, color = 1}]\n",
+        PlanFault::UnknownKey(1),
+    ),
+    (
+        "version = 1\nworkers = 0\nbeta = 1\njob = [{name = 1}]\n",
+        PlanFault::MissingKey(1),
+    ),
+    (
+        "version = 1\nworkers = 0\nbeta = 1\njob = [{name = 1, say = 1}, {color = 1}]\n",
+        PlanFault::WrongKind(1),
+    ),
+    (
+        "version = 1\nworkers = 0\nbeta = 1\njob = [{name = \"\", say = \"\"}]\n",
+        PlanFault::BadGivens(GivensFault::NoWorkers),
+    ),
+    (
+        "version = 1\nworkers = 1\nbeta = 1\nschedule = \"0\"\njob = [{name = \"\", say = \"\"}]\n",
+        PlanFault::BadName(1),
+    ),
+    (
+        "version = 1\nworkers = 1\nbeta = 1\njob = [{name = \"a\", say = \"\"}, {name = \"a\", say = \"\"}, {name = \"\", say = \"\"}]\n",
+        PlanFault::TwoNames(2),
+    ),
+    (
+        "version = 1\nworkers = 1\nbeta = 1\nrounds = 10001\nschedule = \"1*100000 1 2\"\n",
+        PlanFault::NoSuchWorker(3),
+    ),
+];
+
 #[test]
 fn the_earlier_of_two_tests_wins(rt: HostRuntime) -> Result<(), Fail> {
-    let cases = [
-        ("color = 1\nsay = \"hel", PlanFault::NotToml),
-        ("color = 1\n", PlanFault::UnknownKey(0)),
-        ("workers = \"\"\nbeta = 1\n", PlanFault::MissingKey(0)),
-        (
-            "version = 3\nworkers = 1\nbeta = 1\njob = [{color = 1}]\n",
-            PlanFault::WrongKind(0),
-        ),
-        (
-            "version = 1\nworkers = 0\nbeta = 1\njob = [{name = 1, say = 1, color = 1}]\n",
-            PlanFault::UnknownKey(1),
-        ),
-        (
-            "version = 1\nworkers = 0\nbeta = 1\njob = [{name = 1}]\n",
-            PlanFault::MissingKey(1),
-        ),
-        (
-            "version = 1\nworkers = 0\nbeta = 1\njob = [{name = 1, say = 1}, {color = 1}]\n",
-            PlanFault::WrongKind(1),
-        ),
-        (
-            "version = 1\nworkers = 0\nbeta = 1\njob = [{name = \"\", say = \"\"}]\n",
-            PlanFault::BadGivens(GivensFault::NoWorkers),
-        ),
-        (
-            "version = 1\nworkers = 1\nbeta = 1\nschedule = \"0\"\njob = [{name = \"\", say = \"\"}]\n",
-            PlanFault::BadName(1),
-        ),
-        (
-            "version = 1\nworkers = 1\nbeta = 1\njob = [{name = \"a\", say = \"\"}, {name = \"a\", say = \"\"}, {name = \"\", say = \"\"}]\n",
-            PlanFault::TwoNames(2),
-        ),
-        (
-            "version = 1\nworkers = 1\nbeta = 1\nrounds = 10001\nschedule = \"1*100000 1 2\"\n",
-            PlanFault::NoSuchWorker(3),
-        ),
-    ];
-    assert_each_refused(&rt, rt.alloc(), &cases);
+    assert_each_refused(&rt, rt.alloc(), &TWO_FAULTS);
     Ok(())
 }
 

@@ -4,7 +4,7 @@ use amo_kk::Move;
 use std::test::Fail;
 
 /// What a plan of version 1 is to say.
-#[derive(Drop)]
+#[derive(Clone, Copy)]
 struct Wanted<'a> {
     workers: u32,
     beta: u32,
@@ -54,45 +54,33 @@ impl Wanted<'_> {
     }
 }
 
-/// The plan of three jobs says what its text does.
-fn assert_three(rt: &impl Abort, plan: &Plan) {
-    let wanted = Wanted {
-        workers: 1,
-        beta: 1,
-        moves: &[Move::Turn(1); 9],
-        rounds: 0,
-        budgets: &[1_000_000],
-        jobs: &[("a", Some("one")), ("b", Some("two")), ("c", Some("three"))],
-    };
-    wanted.holds(rt, plan);
-}
-
-#[test]
-fn three_jobs_are_read(rt: HostRuntime) -> Result<(), Fail> {
-    assert_three(&rt, &read_plan(rt.alloc(), THREE.as_bytes())?);
+/// The text is a plan that says this.
+fn assert_read(
+    rt: &impl Abort,
+    alloc: Global,
+    text: &str,
+    wanted: &Wanted,
+) -> Result<(), PlanFault> {
+    wanted.holds(rt, &read_plan(alloc, text.as_bytes())?);
     Ok(())
 }
 
-/// The text with lines that end with CR LF.
-fn with_cr_lf(alloc: Global, text: &str) -> Result<String, AllocError> {
-    let mut ended = String::new(alloc);
-    for line in text.lines() {
-        ended.push_str(line)?;
-        ended.push_str("\r\n")?;
-    }
-    Ok(ended)
-}
+/// What the plan of three jobs is to say.
+const THREE_SAID: Wanted<'static> = Wanted {
+    workers: 1,
+    beta: 1,
+    moves: &[Move::Turn(1); 9],
+    rounds: 0,
+    budgets: &[1_000_000],
+    jobs: &[("a", Some("one")), ("b", Some("two")), ("c", Some("three"))],
+};
 
-#[test]
-fn lines_that_end_with_cr_lf_give_the_same_plan(rt: HostRuntime) -> Result<(), Fail> {
-    let text = with_cr_lf(rt.alloc(), THREE)?;
-    assert_three(&rt, &read_plan(rt.alloc(), text.as_bytes())?);
-    Ok(())
-}
+/// The plan of three jobs, with lines that end with CR LF.
+const THREE_CR_LF: &str =
+    "version = 1\r\nworkers = 1\r\nbeta = 1\r\nschedule = \"1*9\"\r\n\r\n[[job]]\r\nname = \"a\"\r\nsay = \"one\"\r\n\r\n[[job]]\r\nname = \"b\"\r\nsay = \"two\"\r\n\r\n[[job]]\r\nname = \"c\"\r\nsay = \"three\"\r\n";
 
-#[test]
-fn the_spelling_makes_no_difference(rt: HostRuntime) -> Result<(), Fail> {
-    let text = "\"version\" = +1 # one
+/// The plan of three jobs in another spelling.
+const THREE_SPELLED: &str = "\"version\" = +1 # one
 workers = 0x1
 'beta' = 0b1
 schedule = '''
@@ -100,35 +88,52 @@ schedule = '''
 \t1*5'''
 job = [{name = 'a', say = \"\\u006fne\"}, {\"name\" = \"b\", say = 'two'}, {say = \"three\", name = \"c\"}]
 ";
-    assert_three(&rt, &read_plan(rt.alloc(), text.as_bytes())?);
+
+#[test]
+fn three_jobs_are_read_whatever_their_spelling(rt: HostRuntime) -> Result<(), Fail> {
+    for text in [THREE, THREE_CR_LF, THREE_SPELLED] {
+        assert_read(&rt, rt.alloc(), text, &THREE_SAID)?;
+    }
     Ok(())
 }
 
-/// The plan says what its lines of moves, rounds and budgets do, and has no tasks.
-fn assert_lines(rt: &impl Abort, plan: &Plan) {
-    let moves = [Move::Turn(2), Move::Turn(2), Move::Halt(1), Move::Turn(1)];
-    assert_moves(rt, plan.heads.moves.as_slice(), &moves);
-    assert_counts(rt, &[plan.heads.rounds], &[7]);
-    assert_numbers(rt, plan.heads.budgets.as_slice(), &[5, 0]);
-    assert_length(rt, plan.tasks.as_slice().len(), 0);
-}
+/// The heads of a plan of one worker, and its moves.
+const CUT: &str = "version = 1\nworkers = 1\nbeta = 1\nschedule = \"1*9\"\n";
+
+/// Plans of two workers or one without jobs, and their workers, moves, rounds and budgets. Absent budgets are a million
+/// for each worker, and what is left of a plan that is cut between its lines is a plan.
+const WITHOUT_JOBS: [(&str, u32, &[Move], u32, &[u64]); 4] = [
+    (
+        "version = 1\nworkers = 2\nbeta = 2\nschedule = \"2*2 x1 1\"\nrounds = 7\nbudgets = [5, 0]\n",
+        2,
+        &[Move::Turn(2), Move::Turn(2), Move::Halt(1), Move::Turn(1)],
+        7,
+        &[5, 0],
+    ),
+    (HEADS, 2, &[], 0, &[1_000_000, 1_000_000]),
+    (
+        "version = 1\nworkers = 1\nbeta = 1\n",
+        1,
+        &[],
+        0,
+        &[1_000_000],
+    ),
+    (CUT, 1, &[Move::Turn(1); 9], 0, &[1_000_000]),
+];
 
 #[test]
 fn moves_rounds_and_budgets_are_read(rt: HostRuntime) -> Result<(), Fail> {
-    let text = "version = 1\nworkers = 2\nbeta = 2
-schedule = \"2*2 x1 1\"\nrounds = 7\nbudgets = [5, 0]\n";
-    assert_lines(&rt, &read_plan(rt.alloc(), text.as_bytes())?);
-    Ok(())
-}
-
-/// The budgets of two workers are those that stand for absent ones.
-fn assert_absent(rt: &impl Abort, plan: &Plan) {
-    assert_numbers(rt, plan.heads.budgets.as_slice(), &[1_000_000, 1_000_000]);
-}
-
-#[test]
-fn absent_budgets_are_a_million_for_each_worker(rt: HostRuntime) -> Result<(), Fail> {
-    assert_absent(&rt, &read_plan(rt.alloc(), HEADS.as_bytes())?);
+    for (text, workers, moves, rounds, budgets) in WITHOUT_JOBS {
+        let wanted = Wanted {
+            workers,
+            beta: workers,
+            moves,
+            rounds,
+            budgets,
+            jobs: &[],
+        };
+        assert_read(&rt, rt.alloc(), text, &wanted)?;
+    }
     Ok(())
 }
 
@@ -144,20 +149,10 @@ fn every_beginning_of_a_plan_is_accepted_or_refused(rt: HostRuntime) -> Result<(
     Ok(())
 }
 
-/// The plan has no jobs.
-fn assert_no_jobs(rt: &impl Abort, plan: &Plan) {
-    assert_counts(rt, &[plan.heads.givens.jobs()], &[0]);
-}
-
 #[test]
-fn a_cut_between_lines_is_told_by_what_is_left(rt: HostRuntime) -> Result<(), Fail> {
-    let heads = "version = 1\nworkers = 1\nbeta = 1\n";
-    let schedule = "version = 1\nworkers = 1\nbeta = 1\nschedule = \"1*9\"\n";
-    for text in [heads, schedule] {
-        assert_no_jobs(&rt, &read_plan(rt.alloc(), text.as_bytes())?);
-    }
+fn a_cut_in_a_job_is_told_by_what_is_left(rt: HostRuntime) -> Result<(), Fail> {
     let cut = Frame {
-        heads: schedule,
+        heads: CUT,
         front: "\n",
         back: "",
     };
@@ -169,26 +164,22 @@ fn a_cut_between_lines_is_told_by_what_is_left(rt: HostRuntime) -> Result<(), Fa
     Ok(())
 }
 
-/// The plan of a text and a sum says what its text does.
-fn assert_two(rt: &impl Abort, plan: &Plan) {
-    let wanted = Wanted {
-        workers: 1,
-        beta: 1,
-        moves: &[Move::Turn(1)],
-        rounds: 0,
-        budgets: &[7],
-        jobs: &[("a", Some("one")), ("b", None)],
-    };
-    wanted.holds(rt, plan);
-}
+/// What the plan of a text and a sum is to say.
+const TWO_SAID: Wanted<'static> = Wanted {
+    workers: 1,
+    beta: 1,
+    moves: &[Move::Turn(1)],
+    rounds: 0,
+    budgets: &[7],
+    jobs: &[("a", Some("one")), ("b", None)],
+};
 
 #[test]
-fn refused_read_plan(rt: HostRuntime) -> Result<(), Fail> {
+fn refused_read_plan(rt: HostRuntime) {
     let text = "version = 1\nworkers = 1\nbeta = 1\nschedule = \"1\"\nbudgets = [7]
 job = [{name = \"a\", say = \"one\"}, {name = \"b\", add = [2]}]\n";
     match read_plan(rt.alloc(), text.as_bytes()) {
-        Ok(plan) => assert_two(&rt, &plan),
+        Ok(plan) => TWO_SAID.holds(&rt, &plan),
         Err(fault) => assert!(rt; fault.is_memory()),
     }
-    Ok(())
 }

@@ -2,16 +2,6 @@
 use super::*;
 use std::test::Fail;
 
-/// The plan of these jobs.
-fn plan_of(alloc: Global, jobs: &str) -> Result<Plan, PlanFault> {
-    let frame = Frame {
-        heads: HEADS,
-        front: "job = [",
-        back: "]\n",
-    };
-    read_plan(alloc, frame.text(alloc, jobs)?.as_bytes())
-}
-
 /// The result of a task, which is empty where the task doesn't fit.
 fn result(alloc: Global, task: &Task) -> Result<String, AllocError> {
     if task.fits() {
@@ -30,58 +20,38 @@ fn assert_result(
 ) -> Result<(), AllocError> {
     assert!(rt; task.fits());
     let found = result(alloc, task)?;
-    assert_eq!(rt; found.as_str(), wanted);
+    assert_text(rt, Some(found.as_str()), Some(wanted));
     Ok(())
 }
 
-/// The plan of this one job has this result.
-fn assert_result_of(
-    rt: &impl Abort,
-    alloc: Global,
-    job: &str,
-    wanted: &str,
-) -> Result<(), PlanFault> {
-    let plan = plan_of(alloc, job)?;
-    match plan.tasks.as_slice() {
-        [task] => assert_result(rt, alloc, task, wanted)?,
-        _ => assert!(rt; false, "at {job}"),
-    }
-    Ok(())
-}
+/// Six jobs, which say texts or add numbers up.
+const SIX: &str = "version = 1
+workers = 2
+beta = 2
+job = [{name = \"a\", say = \"hi\"}, {name = \"b\", say = \"\"}, {name = \"c\", say = \"a\\t\\\\\"}, {name = \"d\", add = [2, 40]}, {name = \"e\", add = []}, {name = \"f\", add = [9223372036854775807, 9223372036854775807, 1]}]
+";
+
+/// Their results.
+const SIX_RESULTS: [&str; 6] = ["hi", "", "a\t\\", "42", "0", "18446744073709551615"];
 
 #[test]
 fn a_result_is_the_text_or_the_sum(rt: HostRuntime) -> Result<(), Fail> {
-    for (job, result) in [
-        ("{name = \"a\", say = \"hi\"}", "hi"),
-        ("{name = \"a\", say = \"\"}", ""),
-        ("{name = \"a\", say = \"a\\t\\\\\"}", "a\t\\"),
-        ("{name = \"b\", add = [2, 40]}", "42"),
-        ("{name = \"b\", add = []}", "0"),
-        (
-            "{name = \"b\", add = [9223372036854775807, 9223372036854775807, 1]}",
-            "18446744073709551615",
-        ),
-    ] {
-        assert_result_of(&rt, rt.alloc(), job, result)?;
+    let plan = read_plan(rt.alloc(), SIX.as_bytes())?;
+    assert_length(&rt, plan.tasks.as_slice().len(), 6);
+    for (task, wanted) in plan.tasks.as_slice().iter().zip(SIX_RESULTS) {
+        assert_result(&rt, rt.alloc(), task, wanted)?;
     }
     Ok(())
-}
-
-/// The sum of these numbers fits.
-fn sum_fits(alloc: Global, numbers: &[u64]) -> Result<bool, AllocError> {
-    Ok(Task::Add(as_items(alloc, numbers)?).fits())
-}
-
-/// This text fits.
-fn text_fits(alloc: Global, text: &str) -> Result<bool, AllocError> {
-    Ok(Task::Say(Text::from_str(alloc, text)?).fits())
 }
 
 #[test]
 fn a_sum_of_more_than_64_bits_does_not_fit(rt: HostRuntime) -> Result<(), Fail> {
-    assert!(rt; sum_fits(rt.alloc(), &[u64::MAX - 1, 1])?);
-    assert!(rt; !sum_fits(rt.alloc(), &[u64::MAX, 1])?);
-    assert!(rt; text_fits(rt.alloc(), "any")?);
+    for (numbers, fits) in [([u64::MAX - 1, 1], true), ([u64::MAX, 1], false)] {
+        let task = add(rt.alloc(), &numbers)?;
+        assert!(rt; task.fits() == fits);
+    }
+    let text = say(rt.alloc(), "any")?;
+    assert!(rt; text.fits());
     Ok(())
 }
 
@@ -112,23 +82,22 @@ fn refused_text(rt: HostRuntime) -> Result<(), Fail> {
     Ok(())
 }
 
-/// The result of a sum, or out of memory.
-fn sum_result(alloc: Global) -> Result<String, AllocError> {
-    result(alloc, &Task::Add(as_items(alloc, &[2, 40])?))
-}
-
-/// The result of a text, or out of memory.
-fn text_result(alloc: Global) -> Result<String, AllocError> {
-    result(alloc, &Task::Say(Text::from_str(alloc, "hi")?))
+/// The result of this task, which is so if there is one, or out of memory.
+fn assert_result_or_no_memory(
+    rt: &impl Abort,
+    alloc: Global,
+    task: Result<Task, AllocError>,
+    wanted: &str,
+) {
+    if let Ok(task) = task {
+        if let Ok(found) = result(alloc, &task) {
+            assert_text(rt, Some(found.as_str()), Some(wanted));
+        }
+    }
 }
 
 #[test]
-fn refused_result(rt: HostRuntime) -> Result<(), Fail> {
-    if let Ok(found) = sum_result(rt.alloc()) {
-        assert_eq!(rt; found.len(), 2);
-    }
-    if let Ok(found) = text_result(rt.alloc()) {
-        assert_eq!(rt; found.as_str(), "hi");
-    }
-    Ok(())
+fn refused_result(rt: HostRuntime) {
+    assert_result_or_no_memory(&rt, rt.alloc(), add(rt.alloc(), &[2, 40]), "42");
+    assert_result_or_no_memory(&rt, rt.alloc(), say(rt.alloc(), "hi"), "hi");
 }
