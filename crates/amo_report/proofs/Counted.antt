@@ -1,5 +1,5 @@
 -- The events that are counted, one by one, are those that the lists of jobs name.
-use Rattle.std.proofs.Common.{◌≡◌, ℕ, suc, ◌+◌, Bool, true, false, cond, List, [], ◌∷◌, length, count_by, refl, arith}
+use Rattle.std.proofs.Common.{◌≡◌, ◌+◌, Bool, true, false, cond, List, ◌∷◌, length, count_by, refl, arith}
 use Rattle.std.proofs.lemmas.List.Recursion.{is_count_by}
 use Rattle.amo_kk.specs.Run.{claimed_jobs, done_jobs}
 use Rattle.amo_kk.specs.declared.event.Event.{Event}
