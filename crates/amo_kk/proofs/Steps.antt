@@ -160,8 +160,8 @@ module _ (g : Givens) (at : ℕ → Process) (s : Object) (agrees : Agrees g at 
   agrees_gone claims dones held leaves =
       agrees_but_gone claims dones held (put s.gone p true) (length-put true s.gone p ∙ agrees.gone_size)
       (each (λ q x. IsWorker g q → numbered true (put s.gone p true) q ≡ x.gone)
-          (λ w. numbered-put_same true true s.gone p o.low (let l = agrees.gone_size in let h = o.high in omega arith) ∙ sym leaves)
-          (λ q m w. numbered-put_other true true s.gone p q m ∙ agrees.gone q w))
+      (λ w. numbered-put_same true true s.gone p o.low (let l = agrees.gone_size in let h = o.high in omega arith) ∙ sym leaves)
+      (λ q m w. numbered-put_other true true s.gone p q m ∙ agrees.gone q w))
 
   -- the same workers are gone
   pub agrees_same : a.local.claimed ≡ (at p).local.claimed → a.local.dones ≡ (at p).local.dones → job_in_hand a.local.phase ≡ job_in_hand (at p).local.phase → a.gone ≡ (at p).gone
