@@ -6,6 +6,7 @@ ghost use Rattle.amo.specs.Commands.{Answers, IsWithinRanges, amo_app, explore_a
 
 use super::request::{Request, RequestFault};
 use amo_plan::number_within;
+use amo_report::MOST_FIRST;
 use clap::error::ErrorKind;
 use clap::{Arg, ArgMatches, Command};
 use std::alloc::{AllocError, Global};
@@ -83,7 +84,7 @@ fn explore_of_matches(matches: &ArgMatches<'_>) -> Option<Request>
     ensures request { result ≡ explore_of_rows (rows_of (found_of matches.now)) }
     ensures ranges { IfSome result IsWithinRanges }
 {
-    let from = number_at(0, 1_000_000_000_000, "FROM", matches)?;
+    let from = number_at(0, MOST_FIRST, "FROM", matches)?;
     let count = number_at(1, 1000, "COUNT", matches)? as u32;
     let turns = number_at(0, 10_000, "LENGTH", matches)? as u32;
     Some(Request::Explore { from, count, turns })

@@ -1,5 +1,5 @@
 //! The program on what the system gives it: all its words and three streams.
-ghost use Rattle.std.specs.Prelude.{◌≡◌, false, None, map, OnErr, IfOk, string_bytes};
+ghost use Rattle.std.specs.Prelude.{◌≡◌, ◌≤◌, false, None, map, OnErr, IfOk, string_bytes};
 ghost use Rattle.std.specs.Process.{exit_status};
 ghost use Rattle.std.specs.Vec.Iter.{into_iter_items};
 ghost use Rattle.amo.specs.Commands.{asked_after_name};
@@ -52,6 +52,7 @@ fn work_after_name<R, S: Source, W: Sink, E: Sink>(
         (change (W.contents out.old) (W.contents out.new) (W.failed out.new))
         (change (E.contents err.old) (E.contents err.new) (E.failed err.new)) result }
     ensures passed { result ≡ 0 → W.waiting out.new ≡ false }
+    ensures heard { 1 ≤ result → E.failed err.new ≡ false → E.waiting err.new ≡ false }
     ensures untouched { asked_after_name (map string_bytes words.now) ≡ None → (reader.new ≡ reader.old) × (out.new ≡ out.old) }
 {
     match texts_of(alloc, words) {
@@ -81,6 +82,7 @@ pub fn serve_words<R, S: Source, W: Sink, E: Sink>(
         (change (W.contents out.old) (W.contents out.new) (W.failed out.new))
         (change (E.contents err.old) (E.contents err.new) (E.failed err.new)) (exit_status result)) }
     ensures passed { exit_status result ≡ 0 → W.waiting out.new ≡ false }
+    ensures heard { 1 ≤ exit_status result → E.failed err.new ≡ false → E.waiting err.new ≡ false }
     ensures untouched { IfOk words (λ all. asked_after_name (map string_bytes (into_iter_items all)) ≡ None
         → (reader.new ≡ reader.old) × (out.new ≡ out.old)) }
     ensures no_words { OnErr words (Tells NoMemory (change (E.contents err.old) (E.contents err.new) (E.failed err.new)) (exit_status result)) }

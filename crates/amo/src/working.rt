@@ -40,7 +40,8 @@ fn serve<S: Source, W: Sink>(
 
 /// Gives a line to the sink. That this fails changes nothing.
 fn say<E: Sink>(err: &mut E, line: &str)
-    ensures { Says (change (E.contents err.old) (E.contents err.new) (E.failed err.new)) line.now }
+    ensures says { Says (change (E.contents err.old) (E.contents err.new) (E.failed err.new)) line.now }
+    ensures heard { E.failed err.new ≡ false → E.waiting err.new ≡ false }
 {
     let _ = write_all(err, line.as_bytes());
 }
@@ -50,6 +51,7 @@ fn say<E: Sink>(err: &mut E, line: &str)
 pub fn refuse<E: Sink>(alloc: Global, err: &mut E, fault: Fault) -> u8
     ensures told { IsTold fault (change (E.contents err.old) (E.contents err.new) (E.failed err.new)) result }
     ensures status { 1 ≤ result }
+    ensures heard { E.failed err.new ≡ false → E.waiting err.new ≡ false }
 {
     match fault {
         Fault::Plan(fault) => match fault_text(alloc, &fault) {
@@ -83,8 +85,8 @@ pub fn refuse<E: Sink>(alloc: Global, err: &mut E, fault: Fault) -> u8
 
 /// Does what the words ask for, and answers the exit status of the program: 0 where it was done, 1 where the
 /// plan was refused, 2 where the words are no command, 3 where memory was refused, 4 where a read or a write
-/// failed. With each but 0 one line is written to `err`; that this fails changes nothing. Where the words are no
-/// command nothing is read or written to `out`.
+/// failed. With each but 0 one line is written to `err` and passed on; that this fails changes nothing. Where the
+/// words are no command nothing is read or written to `out`.
 #[tactic(auto, using(crate::proofs::Endings::ends_by))]
 pub fn work<R, S: Source, W: Sink, E: Sink>(
     _rt: &R,
@@ -101,6 +103,7 @@ pub fn work<R, S: Source, W: Sink, E: Sink>(
         (change (W.contents out.old) (W.contents out.new) (W.failed out.new))
         (change (E.contents err.old) (E.contents err.new) (E.failed err.new)) result }
     ensures passed { result ≡ 0 → W.waiting out.new ≡ false }
+    ensures heard { 1 ≤ result → E.failed err.new ≡ false → E.waiting err.new ≡ false }
     ensures untouched { asked (map (λ w. w.now) words.now) ≡ None → (reader.new ≡ reader.old) × (out.new ≡ out.old) }
 {
     match serve(alloc, words, reader, out) {

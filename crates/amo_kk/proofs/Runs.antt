@@ -337,15 +337,6 @@ halt_goes g s w p law agrees = go (process w p).gone refl
         now_q : (q : ℕ) → q ≢ p → process v q ≡ process w q
         now_q q n = numbered-put_other nobody a w.processes p q n
 
-is_hand : (phase : Phase) → jobs_in_hand phase ≡ [] → job_in_hand phase ≡ 0
-is_hand (Announcing j) h = refl
-is_hand (Trying j q) h = refl
-is_hand (Reading j q) h = refl
-is_hand (Claiming j) h = refl
-is_hand (Holding j) h = absurd (cc)
-is_hand Over h = refl
-is_hand Left h = refl
-
 leave_goes : (g : Givens) (s : Object) (w : World) (p : ℕ) → IsLawful g w → Agrees g (process w) s → GoesOn g s w (world_after_leave w p)
 leave_goes g s w p law agrees = go (process w p).gone (can_leave (process w p).local.phase) refl refl
   where
@@ -376,7 +367,7 @@ leave_goes g s w p law agrees = go (process w p).gone (can_leave (process w p).l
         now_q q n = numbered-put_other nobody a w.processes p q n
 
         empty : job_in_hand (process w p).local.phase ≡ 0
-        empty = is_hand (process w p).local.phase (leaves_empty (process w p).local.phase f)
+        empty = ap (λ l. numbered 0 l 1) (leaves_empty (process w p).local.phase f)
 
 pub move_goes : (g : Givens) (s : Object) (w : World) (m : Move) → AreGivens g → IsLawful g w → Agrees g (process w) s → GoesOn g s w (world_after_move g w m)
 move_goes g s w (Turn p) ok law agrees = turn_goes g s w p ok law agrees

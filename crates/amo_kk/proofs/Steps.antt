@@ -136,40 +136,36 @@ module _ (g : Givens) (at : ℕ → Process) (s : Object) (agrees : Agrees g at 
     },
   )
 
-  -- the same workers, but that p is gone
+  -- the same workers, but for who is gone
+  agrees_but_gone : a.local.claimed ≡ (at p).local.claimed → a.local.dones ≡ (at p).local.dones → job_in_hand a.local.phase ≡ job_in_hand (at p).local.phase
+      → (gone : List Bool) → length gone ≡ g.workers → ((q : ℕ) → IsWorker g q → numbered true gone q ≡ (now q).gone) → Agrees g now (record s { gone = gone })
+  agrees_but_gone claims dones held gone size is =
+      record {
+        unclaimed = λ i is_job all. agrees.unclaimed i is_job (λ q w. ⊎_elim
+            (λ (e : q ≡ p). subst (λ x. has (at x).local.claimed i ≡ false) (sym e) (sym (ap (λ (x : Process). has x.local.claimed i) is_now ∙ ap (λ l. has l i) claims) ∙ all p o))
+            (λ m. sym (ap (λ (x : Process). has x.local.claimed i) (others q m)) ∙ all q w)
+            (cases_eq q p));
+        only_unclaimed = λ i h. let was = agrees.only_unclaimed i h in
+            (was.0, each (λ q x. IsWorker g q → has x.local.claimed i ≡ false) (λ w. ap (λ l. has l i) claims ∙ was.1 p w) (λ q m w. was.1 q w));
+        in_hand_size = agrees.in_hand_size;
+        in_hand = each (λ q x. IsWorker g q → numbered 0 s.in_hand q ≡ job_in_hand x.local.phase) (λ w. agrees.in_hand p w ∙ sym held) (λ q m w. agrees.in_hand q w);
+        performed = each (λ q x. jobs_of s.performed q ≡ x.local.dones) (agrees.performed p ∙ sym dones) (λ q m. agrees.performed q);
+        gone_size = size;
+        gone = is;
+      }
+
+  -- p is gone now
   pub agrees_gone : a.local.claimed ≡ (at p).local.claimed → a.local.dones ≡ (at p).local.dones → job_in_hand a.local.phase ≡ job_in_hand (at p).local.phase → a.gone ≡ true
       → Agrees g now (record s { gone = put s.gone p true })
   agrees_gone claims dones held leaves =
-      record {
-        unclaimed = λ i is_job all. agrees.unclaimed i is_job (λ q w. ⊎_elim
-            (λ (e : q ≡ p). subst (λ x. has (at x).local.claimed i ≡ false) (sym e) (sym (ap (λ (x : Process). has x.local.claimed i) is_now ∙ ap (λ l. has l i) claims) ∙ all p o))
-            (λ m. sym (ap (λ (x : Process). has x.local.claimed i) (others q m)) ∙ all q w)
-            (cases_eq q p));
-        only_unclaimed = λ i h. let was = agrees.only_unclaimed i h in
-            (was.0, each (λ q x. IsWorker g q → has x.local.claimed i ≡ false) (λ w. ap (λ l. has l i) claims ∙ was.1 p w) (λ q m w. was.1 q w));
-        in_hand_size = agrees.in_hand_size;
-        in_hand = each (λ q x. IsWorker g q → numbered 0 s.in_hand q ≡ job_in_hand x.local.phase) (λ w. agrees.in_hand p w ∙ sym held) (λ q m w. agrees.in_hand q w);
-        performed = each (λ q x. jobs_of s.performed q ≡ x.local.dones) (agrees.performed p ∙ sym dones) (λ q m. agrees.performed q);
-        gone_size = length-put true s.gone p ∙ agrees.gone_size;
-        gone = each (λ q x. IsWorker g q → numbered true (put s.gone p true) q ≡ x.gone)
-            (λ w. numbered-put_same true true s.gone p o.low (let l = agrees.gone_size in let h = o.high in omega arith) ∙ sym leaves)
-            (λ q m w. numbered-put_other true true s.gone p q m ∙ agrees.gone q w);
-      }
+      agrees_but_gone claims dones held (put s.gone p true) (length-put true s.gone p ∙ agrees.gone_size)
+      (each (λ q x. IsWorker g q → numbered true (put s.gone p true) q ≡ x.gone)
+      (λ w. numbered-put_same true true s.gone p o.low (let l = agrees.gone_size in let h = o.high in omega arith) ∙ sym leaves)
+      (λ q m w. numbered-put_other true true s.gone p q m ∙ agrees.gone q w))
 
-  -- the same workers
+  -- the same workers are gone
   pub agrees_same : a.local.claimed ≡ (at p).local.claimed → a.local.dones ≡ (at p).local.dones → job_in_hand a.local.phase ≡ job_in_hand (at p).local.phase → a.gone ≡ (at p).gone
       → Agrees g now s
   agrees_same claims dones held stays =
-      record {
-        unclaimed = λ i is_job all. agrees.unclaimed i is_job (λ q w. ⊎_elim
-            (λ (e : q ≡ p). subst (λ x. has (at x).local.claimed i ≡ false) (sym e) (sym (ap (λ (x : Process). has x.local.claimed i) is_now ∙ ap (λ l. has l i) claims) ∙ all p o))
-            (λ m. sym (ap (λ (x : Process). has x.local.claimed i) (others q m)) ∙ all q w)
-            (cases_eq q p));
-        only_unclaimed = λ i h. let was = agrees.only_unclaimed i h in
-            (was.0, each (λ q x. IsWorker g q → has x.local.claimed i ≡ false) (λ w. ap (λ l. has l i) claims ∙ was.1 p w) (λ q m w. was.1 q w));
-        in_hand_size = agrees.in_hand_size;
-        in_hand = each (λ q x. IsWorker g q → numbered 0 s.in_hand q ≡ job_in_hand x.local.phase) (λ w. agrees.in_hand p w ∙ sym held) (λ q m w. agrees.in_hand q w);
-        performed = each (λ q x. jobs_of s.performed q ≡ x.local.dones) (agrees.performed p ∙ sym dones) (λ q m. agrees.performed q);
-        gone_size = agrees.gone_size;
-        gone = each (λ q x. IsWorker g q → numbered true s.gone q ≡ x.gone) (λ w. agrees.gone p w ∙ sym stays) (λ q m w. agrees.gone q w);
-      }
+      agrees_but_gone claims dones held s.gone agrees.gone_size
+      (each (λ q x. IsWorker g q → numbered true s.gone q ≡ x.gone) (λ w. agrees.gone p w ∙ sym stays) (λ q m w. agrees.gone q w))

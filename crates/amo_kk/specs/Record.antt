@@ -1,6 +1,6 @@
 -- The record of a worker: what its phase and its sets say.
 use Rattle.std.specs.Prelude.{◌≡◌, ℕ, ◌<◌, Bool, true, false, not, ◌&&◌, List, [], ◌∷◌, ⊤}
-use Rattle.amo_sets.specs.Lists.{table}
+use Rattle.amo_sets.specs.Lists.{numbered, table}
 use Rattle.amo_sets.specs.Sets.{has}
 use Rattle.amo_kk.specs.declared.givens.Givens.{Givens}
 use Rattle.amo_kk.specs.declared.phase.Phase.{Phase}
@@ -49,17 +49,7 @@ can_leave (Holding j) = false
 can_leave Over = false
 can_leave Left = false
 
--- the job in its hand, or 0
-abbrev pub job_in_hand : Phase → ℕ
-job_in_hand (Announcing j) = 0
-job_in_hand (Trying j q) = 0
-job_in_hand (Reading j q) = 0
-job_in_hand (Claiming j) = 0
-job_in_hand (Holding j) = j
-job_in_hand Over = 0
-job_in_hand Left = 0
-
--- the same as a list, which has one job or none
+-- the job in its hand, as a list of one job or none
 abbrev pub jobs_in_hand : Phase → List ℕ
 jobs_in_hand (Announcing j) = []
 jobs_in_hand (Trying j q) = []
@@ -68,6 +58,10 @@ jobs_in_hand (Claiming j) = []
 jobs_in_hand (Holding j) = j ∷ []
 jobs_in_hand Over = []
 jobs_in_hand Left = []
+
+-- the same, or 0 where there is none
+abbrev pub job_in_hand : Phase → ℕ
+job_in_hand phase = numbered 0 (jobs_in_hand phase) 1
 
 -- in an attempt on j, the announcement of q was read
 abbrev pub IsPast : Phase → ℕ → ℕ → Type 0

@@ -1,5 +1,7 @@
 //! A source or a sink over a reader or a writer of std.
-ghost use Rattle.std.specs.Prelude.{◌≡◌, ◌||◌, false, Ok, IfOk, is_err};
+ghost use Rattle.std.specs.Prelude.{◌≡◌, ◌<◌, ◌||◌, false, Ok, IfOk, OnOk, OnErr, is_ok, is_err, length};
+ghost use Rattle.std.specs.Io.{WritesAtMost};
+ghost use Rattle.std.specs.Io.KnownBytes.{Keeps, WriteAppends};
 
 use super::streams::{Failed, Sink, Source};
 use std::io;
@@ -82,7 +84,14 @@ impl<S: Write> Sink for Streamed<S> {
 
     ghost failed = { λ s. s.failed };
 
-    fn write(&mut self, buf: &[u8]) -> Result<usize, Failed> {
+    /// After a write that doesn't fail, something waits for a flush.
+    fn write(&mut self, buf: &[u8]) -> Result<usize, Failed>
+        ensures bound { WritesAtMost result buf.now }
+        ensures some { IfOk result (λ n. 0 < length buf.now → 0 < n) }
+        ensures bytes { WriteAppends (S.contents self.old.inner) (S.contents self.new.inner) result buf.now }
+        ensures waits { self.new.waiting ≡ (self.old.waiting || is_ok result) }
+        ensures fails { self.new.failed ≡ (self.old.failed || is_err result) }
+    {
         let answer = self.inner.write(buf);
         let count = self.told(answer)?;
         if count == 0 && !buf.is_empty() {
@@ -93,7 +102,13 @@ impl<S: Write> Sink for Streamed<S> {
         Ok(count)
     }
 
-    fn flush(&mut self) -> Result<(), Failed> {
+    /// Nothing waits any more, unless the flush fails: then what waited still does.
+    fn flush(&mut self) -> Result<(), Failed>
+        ensures bytes { Keeps (S.contents self.old.inner) (S.contents self.new.inner) }
+        ensures passed { OnOk result (self.new.waiting ≡ false) }
+        ensures waits { OnErr result (self.new.waiting ≡ self.old.waiting) }
+        ensures fails { self.new.failed ≡ (self.old.failed || is_err result) }
+    {
         let answer = self.inner.flush();
         self.told(answer)?;
         self.waiting = false;

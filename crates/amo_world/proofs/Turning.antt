@@ -28,7 +28,7 @@ use Rattle.amo_kk.proofs.Room.{run_is_short}
 use Rattle.amo_kk.proofs.Loads.{store_zero, may_load}
 use Rattle.amo_world.specs.declared.seat.Seat.{Seat}
 use Rattle.amo_world.specs.Views.{WorldView}
-use Rattle.amo_world.specs.Seats.{process_of, world_of, AreSeats, IsKept}
+use Rattle.amo_world.specs.Seats.{process_of, process_after_step, world_of, AreSeats, IsKept, StaysSeated}
 use Rattle.amo_world.proofs.Places.{seat_at}
 
 -- the worker of a call on a world that is seen as v, its fields as x
@@ -40,21 +40,21 @@ pub still_here : (x v : WorldView) (p : ℕ) (answer : Bool) → x ≡ v → ans
 still_here x v p answer same is e = ap (λ (y : WorldView). (process y.world p).gone) same ∙ sym is ∙ e
 
 -- a seat in place of another of the same givens and number
-seated_after : (g : Givens) (seats : List Seat) (k : ℕ) (t s : Seat) → AreSeats g g.workers seats → k < length seats → s ≡ get_or seats k s → t.local.givens ≡ s.local.givens → t.local.number ≡ s.local.number → vec_capacity t.row ≡ vec_capacity s.row
+seated_after : (g : Givens) (seats : List Seat) (k : ℕ) (t s : Seat) → AreSeats g g.workers seats → k < length seats → s ≡ get_or seats k s → StaysSeated s t
     → AreSeats g g.workers (set seats k t)
-seated_after g seats k t s seated h is same_givens same_number same_room =
+seated_after g seats k t s seated h is same =
     record {
       size = length-set seats k t ∙ seated.size;
       givens = λ i d l. ⊎_elim
-          (λ (e : i ≡ k). ap (λ (y : Seat). y.local.givens) (here i d e) ∙ same_givens ∙ ap (λ (y : Seat). y.local.givens) is ∙ seated.givens k s h)
+          (λ (e : i ≡ k). ap (λ (y : Seat). y.local.givens) (here i d e) ∙ same.givens ∙ ap (λ (y : Seat). y.local.givens) is ∙ seated.givens k s h)
           (λ n. ap (λ (y : Seat). y.local.givens) (get_or-set_other seats k i t d n) ∙ seated.givens i d (let z = length-set seats k t in omega arith))
           (cases_eq i k);
       number = λ i d l. ⊎_elim
-          (λ (e : i ≡ k). ap (λ (y : Seat). y.local.number) (here i d e) ∙ same_number ∙ ap (λ (y : Seat). y.local.number) is ∙ seated.number k s h ∙ omega arith)
+          (λ (e : i ≡ k). ap (λ (y : Seat). y.local.number) (here i d e) ∙ same.number ∙ ap (λ (y : Seat). y.local.number) is ∙ seated.number k s h ∙ omega arith)
           (λ n. ap (λ (y : Seat). y.local.number) (get_or-set_other seats k i t d n) ∙ seated.number i d (let z = length-set seats k t in omega arith))
           (cases_eq i k);
       room = λ i d l. ⊎_elim
-          (λ (e : i ≡ k). ap (λ (y : Seat). vec_capacity y.row) (here i d e) ∙ same_room ∙ ap (λ (y : Seat). vec_capacity y.row) is ∙ seated.room k s h)
+          (λ (e : i ≡ k). ap (λ (y : Seat). vec_capacity y.row) (here i d e) ∙ same.room ∙ ap (λ (y : Seat). vec_capacity y.row) is ∙ seated.room k s h)
           (λ n. ap (λ (y : Seat). vec_capacity y.row) (get_or-set_other seats k i t d n) ∙ seated.room i d (let z = length-set seats k t in omega arith))
           (cases_eq i k);
     }
@@ -89,10 +89,10 @@ module _ (g : Givens) (seats : List Seat) (history : List Event) (places room p 
         let r = kept.history_fits in
         omega arith
 
-    kept_after : (more : ℕ) → t.local.givens ≡ s.local.givens → t.local.number ≡ s.local.number → vec_capacity t.row ≡ vec_capacity s.row → more ≡ room → IsKept g (set seats (p - 1) t) (history ++ events) places more
-    kept_after more same_givens same_number same_room same =
+    kept_after : (more : ℕ) → StaysSeated s t → more ≡ room → IsKept g (set seats (p - 1) t) (history ++ events) places more
+    kept_after more stays same =
         record {
-          seated = seated_after g seats (p - 1) t s kept.seated place is same_givens same_number same_room;
+          seated = seated_after g seats (p - 1) t s kept.seated place is stays;
           lawful = subst (λ (u : World). IsLawful g u) (sym makes) law;
           run = subst (λ (u : World). HasRun g u) (sym makes) runs;
           seats_fit = kept.seats_fit;
@@ -134,7 +134,7 @@ module _ (g : Givens) (seats : List Seat) (history : List Event) (places room p 
       stores_zero h = loads_here ∙ store_zero (world_of seats history) (want s.local.state) h
 
       module _ (t : Seat) (x : Shown)
-          (makes : process_of t ≡ process_after (want s.local.state) (process_of s) (record_after s.local.givens s.local.number value s.local.state))
+          (makes : process_of t ≡ process_after_step s value)
           (answers : x ≡ shown s.local.state.phase t.local.state.phase) where
         record_is : record_after s.local.givens s.local.number value s.local.state ≡ record_after g p (loaded_value (world_of seats history) (want s.local.state)) s.local.state
         record_is = λ i. record_after (own_givens i) (own_number i) (loads_here i) s.local.state
@@ -162,7 +162,7 @@ module _ (g : Givens) (seats : List Seat) (history : List Event) (places room p 
         pub turn_room : length history + length (events_of p x) ≤ room
         turn_room = has_room t (events_of p x) (world_after_turn g (world_of seats history) p) (turn_lawful g (world_of seats history) p g.limits kept.lawful) (turn_runs g (world_of seats history) p g.limits kept.lawful kept.run) turn_is
 
-        pub turn_kept : (more : ℕ) → t.local.givens ≡ s.local.givens → t.local.number ≡ s.local.number → vec_capacity t.row ≡ vec_capacity s.row → more ≡ room → IsKept g (set seats (p - 1) t) (history ++ events_of p x) places more
+        pub turn_kept : (more : ℕ) → StaysSeated s t → more ≡ room → IsKept g (set seats (p - 1) t) (history ++ events_of p x) places more
         turn_kept more = kept_after t (events_of p x) (world_after_turn g (world_of seats history) p) (turn_lawful g (world_of seats history) p g.limits kept.lawful) (turn_runs g (world_of seats history) p g.limits kept.lawful kept.run) turn_is more
 
     -- a stop
@@ -176,7 +176,7 @@ module _ (g : Givens) (seats : List Seat) (history : List Event) (places room p 
       pub halt_room : length history + 1 ≤ room
       halt_room = has_room t (Halted p ∷ []) (world_after_halt (world_of seats history) p) (halt_lawful g (world_of seats history) p kept.lawful) (halt_runs g (world_of seats history) p kept.lawful kept.run) halt_is
 
-      pub halt_kept : (more : ℕ) → t.local.givens ≡ s.local.givens → t.local.number ≡ s.local.number → vec_capacity t.row ≡ vec_capacity s.row → more ≡ room → IsKept g (set seats (p - 1) t) (history ++ Halted p ∷ []) places more
+      pub halt_kept : (more : ℕ) → StaysSeated s t → more ≡ room → IsKept g (set seats (p - 1) t) (history ++ Halted p ∷ []) places more
       halt_kept more = kept_after t (Halted p ∷ []) (world_after_halt (world_of seats history) p) (halt_lawful g (world_of seats history) p kept.lawful) (halt_runs g (world_of seats history) p kept.lawful kept.run) halt_is more
 
     -- a leaving
@@ -194,5 +194,5 @@ module _ (g : Givens) (seats : List Seat) (history : List Event) (places room p 
       pub leave_room : length history + 1 ≤ room
       leave_room = has_room t (LeftEvent p ∷ []) (world_after_leave (world_of seats history) p) (leave_lawful g (world_of seats history) p kept.lawful) (leave_runs g (world_of seats history) p kept.lawful kept.run) leave_is
 
-      pub leave_kept : (more : ℕ) → t.local.givens ≡ s.local.givens → t.local.number ≡ s.local.number → vec_capacity t.row ≡ vec_capacity s.row → more ≡ room → IsKept g (set seats (p - 1) t) (history ++ LeftEvent p ∷ []) places more
+      pub leave_kept : (more : ℕ) → StaysSeated s t → more ≡ room → IsKept g (set seats (p - 1) t) (history ++ LeftEvent p ∷ []) places more
       leave_kept more = kept_after t (LeftEvent p ∷ []) (world_after_leave (world_of seats history) p) (leave_lawful g (world_of seats history) p kept.lawful) (leave_runs g (world_of seats history) p kept.lawful kept.run) leave_is more

@@ -2,6 +2,8 @@
 use Rattle.std.specs.Prelude.{◌≡◌, ℕ, ◌<◌, ◌+◌, ◌*◌, List, length, map, get_or}
 use Rattle.std.specs.Vec.{vec_capacity}
 use Rattle.amo_kk.specs.Lawful.{IsLawful, HasRun}
+use Rattle.amo_kk.specs.Step.{want, record_after}
+use Rattle.amo_kk.specs.World.{process_after}
 use Rattle.amo_kk.specs.declared.givens.Givens.{Givens}
 use Rattle.amo_kk.specs.declared.event.Event.{Event}
 use Rattle.amo_kk.specs.declared.model.Process.{Process}
@@ -11,6 +13,16 @@ use Rattle.amo_world.specs.declared.seat.Seat.{Seat}
 -- the process of a seat: the record and the words of its worker
 abbrev pub process_of : Seat → Process
 process_of s = record { local = s.local.state; next = s.next; claim = s.claim; row = s.row.items; gone = s.gone }
+
+-- the process of a seat after the step of its worker, where the wanted load gives this value
+abbrev pub process_after_step : Seat → ℕ → Process
+process_after_step s value = process_after (want s.local.state) (process_of s) (record_after s.local.givens s.local.number value s.local.state)
+
+-- The second seat is of the same worker as the first, and has the same room.
+pub record StaysSeated (before after : Seat) : Type 0 where
+  pub givens : after.local.givens ≡ before.local.givens
+  pub number : after.local.number ≡ before.local.number
+  pub room : vec_capacity after.row ≡ vec_capacity before.row
 
 -- the world of these seats and this history
 abbrev pub world_of : List Seat → List Event → World

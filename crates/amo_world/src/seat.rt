@@ -4,9 +4,9 @@ ghost use Rattle.std.specs.Vec.{vec_capacity};
 ghost use Rattle.amo_kk.specs.declared.phase.Want.{Want};
 ghost use Rattle.amo_kk.specs.Givens.{IsWorker};
 ghost use Rattle.amo_kk.specs.Record.{wants_nothing, can_leave};
-ghost use Rattle.amo_kk.specs.Step.{want, is_load, record_after, record_after_leave, shown, MayLoad};
+ghost use Rattle.amo_kk.specs.Step.{want, is_load, record_after_leave, shown, MayLoad};
 ghost use Rattle.amo_kk.specs.World.{process_after, first_process};
-ghost use Rattle.amo_world.specs.Seats.{process_of};
+ghost use Rattle.amo_world.specs.Seats.{process_of, process_after_step, StaysSeated};
 
 use amo_kk::{Givens, Local, Shown, Want};
 use amo_sets::filled;
@@ -47,10 +47,8 @@ impl Seat {
     fn load(&mut self, value: u32) -> Shown
         requires load { is_load (want self.old.local.state) ≡ true }
         requires hears { MayLoad self.old.local.givens value (want self.old.local.state) }
-        ensures process { process_of self.new ≡ process_after (want self.old.local.state) (process_of self.old) (record_after self.old.local.givens self.old.local.number value self.old.local.state) }
-        ensures givens { self.new.local.givens ≡ self.old.local.givens }
-        ensures number { self.new.local.number ≡ self.old.local.number }
-        ensures room { vec_capacity self.new.row ≡ vec_capacity self.old.row }
+        ensures process { process_of self.new ≡ process_after_step self.old value }
+        ensures seated { StaysSeated self.old self.new }
         ensures shown { result ≡ shown self.old.local.state.phase self.new.local.state.phase }
     {
         let shown = self.local.told(value as u64);
@@ -61,10 +59,8 @@ impl Seat {
     /// The announcement of j is stored.
     fn store_next(&mut self, j: u32) -> Shown
         requires { want self.old.local.state ≡ Want.StoreNext j }
-        ensures process { process_of self.new ≡ process_after (want self.old.local.state) (process_of self.old) (record_after self.old.local.givens self.old.local.number 0 self.old.local.state) }
-        ensures givens { self.new.local.givens ≡ self.old.local.givens }
-        ensures number { self.new.local.number ≡ self.old.local.number }
-        ensures room { vec_capacity self.new.row ≡ vec_capacity self.old.row }
+        ensures process { process_of self.new ≡ process_after_step self.old 0 }
+        ensures seated { StaysSeated self.old self.new }
         ensures shown { result ≡ shown self.old.local.state.phase self.new.local.state.phase }
     {
         let shown = self.local.stored();
@@ -76,10 +72,8 @@ impl Seat {
     /// The claim of j is stored, as the worker's c-th.
     fn store_claim(&mut self, c: u32, j: u32) -> Shown
         requires { want self.old.local.state ≡ Want.StoreClaim c j }
-        ensures process { process_of self.new ≡ process_after (want self.old.local.state) (process_of self.old) (record_after self.old.local.givens self.old.local.number 0 self.old.local.state) }
-        ensures givens { self.new.local.givens ≡ self.old.local.givens }
-        ensures number { self.new.local.number ≡ self.old.local.number }
-        ensures room { vec_capacity self.new.row ≡ vec_capacity self.old.row }
+        ensures process { process_of self.new ≡ process_after_step self.old 0 }
+        ensures seated { StaysSeated self.old self.new }
         ensures shown { result ≡ shown self.old.local.state.phase self.new.local.state.phase }
     {
         let shown = self.local.stored();
@@ -93,10 +87,8 @@ impl Seat {
         requires want { want self.old.local.state ≡ Want.StoreDone k j }
         requires low { 1 ≤ k }
         requires high { k ≤ length self.old.row.items }
-        ensures process { process_of self.new ≡ process_after (want self.old.local.state) (process_of self.old) (record_after self.old.local.givens self.old.local.number 0 self.old.local.state) }
-        ensures givens { self.new.local.givens ≡ self.old.local.givens }
-        ensures number { self.new.local.number ≡ self.old.local.number }
-        ensures room { vec_capacity self.new.row ≡ vec_capacity self.old.row }
+        ensures process { process_of self.new ≡ process_after_step self.old 0 }
+        ensures seated { StaysSeated self.old self.new }
         ensures shown { result ≡ shown self.old.local.state.phase self.new.local.state.phase }
     {
         let shown = self.local.stored();
@@ -111,10 +103,8 @@ impl Seat {
         requires hears { MayLoad self.old.local.givens value (want self.old.local.state) }
         requires stores { is_load (want self.old.local.state) ≡ false → value ≡ 0 }
         requires row { length self.old.local.state.dones < length self.old.row.items }
-        ensures process { process_of self.new ≡ process_after (want self.old.local.state) (process_of self.old) (record_after self.old.local.givens self.old.local.number value self.old.local.state) }
-        ensures givens { self.new.local.givens ≡ self.old.local.givens }
-        ensures number { self.new.local.number ≡ self.old.local.number }
-        ensures room { vec_capacity self.new.row ≡ vec_capacity self.old.row }
+        ensures process { process_of self.new ≡ process_after_step self.old value }
+        ensures seated { StaysSeated self.old self.new }
         ensures shown { result ≡ shown self.old.local.state.phase self.new.local.state.phase }
     {
         match self.local.want() {
@@ -130,9 +120,7 @@ impl Seat {
     pub fn leave(&mut self)
         requires { can_leave self.old.local.state.phase ≡ true }
         ensures process { process_of self.new ≡ process_after (Want.StoreNext 0) (process_of self.old) (record_after_leave self.old.local.state) }
-        ensures givens { self.new.local.givens ≡ self.old.local.givens }
-        ensures number { self.new.local.number ≡ self.old.local.number }
-        ensures room { vec_capacity self.new.row ≡ vec_capacity self.old.row }
+        ensures seated { StaysSeated self.old self.new }
     {
         let _shown = self.local.leave();
         self.next = 0;

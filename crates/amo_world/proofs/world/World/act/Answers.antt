@@ -51,7 +51,7 @@ invariant_of-self c =
     let here : (process (world_of c.self.inside.seats.items c.self.inside.history.items) c.args.p).gone ≡ false = ap (λ (v : WorldView). (process v.world c.args.p).gone) c.self.view_is ∙ c.requires.here in
     let loads : c.heard-value.result ≡ loaded_value (world_of c.self.inside.seats.items c.self.inside.history.items) (want (process (world_of c.self.inside.seats.items c.self.inside.history.items) c.args.p).local) = c.heard-value.ensures ∙ ap (λ (v : WorldView). loaded_value v.world (want (process v.world c.args.p).local)) (sym c.self.view_is) in
     subst (λ (l : List Event). IsKept c.self.inside.givens (set c.self.inside.seats.items (c.args.p - 1) c.act-shown.new.self) l (vec_capacity c.self.inside.seats) (vec_capacity c.add_shown.new.history)) (sym c.add_shown.ensures.items)
-    (turn_kept _ _ _ _ _ _ c.self.invariant o c.index_mut.result.now c.index_mut.ensures.value here c.heard-value.result loads c.act-shown.new.self c.act-shown.result c.act-shown.ensures.process c.act-shown.ensures.shown (vec_capacity c.add_shown.new.history) c.act-shown.ensures.givens c.act-shown.ensures.number c.act-shown.ensures.room c.add_shown.ensures.room)
+    (turn_kept _ _ _ _ _ _ c.self.invariant o c.index_mut.result.now c.index_mut.ensures.value here c.heard-value.result loads c.act-shown.new.self c.act-shown.result c.act-shown.ensures.process c.act-shown.ensures.shown (vec_capacity c.add_shown.new.history) c.act-shown.ensures.seated c.add_shown.ensures.room)
 
 pub returns-clause-answer : goal.returns-clause-answer
 returns-clause-answer c =

@@ -20,7 +20,7 @@ invariant_of-self c =
     let o : IsWorker c.self.inside.givens c.args.p = worker_here _ _ _ c.self.view_is c.requires in
     let here : (process (world_of c.self.inside.seats.items c.self.inside.history.items) c.args.p).gone ≡ false = still_here _ _ _ _ c.self.view_is c.is_gone.ensures c.if-is_gone.false in
     subst (λ (l : List Event). IsKept c.self.inside.givens (set c.self.inside.seats.items (c.args.p - 1) (record c.index_mut.result.now { gone = true })) l (vec_capacity c.self.inside.seats) (vec_capacity c.add_event.new.history)) (sym c.add_event.ensures.items)
-    (halt_kept _ _ _ _ _ _ c.self.invariant o c.index_mut.result.now c.index_mut.ensures.value here (record c.index_mut.result.now { gone = true }) refl (vec_capacity c.add_event.new.history) refl refl refl c.add_event.ensures.room)
+    (halt_kept _ _ _ _ _ _ c.self.invariant o c.index_mut.result.now c.index_mut.ensures.value here (record c.index_mut.result.now { gone = true }) refl (vec_capacity c.add_event.new.history) (record { givens = refl; number = refl; room = refl }) c.add_event.ensures.room)
 
 pub returns-clause-world : goal.returns-clause-world
 returns-clause-world c =

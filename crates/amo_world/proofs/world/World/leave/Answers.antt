@@ -28,7 +28,7 @@ invariant_of-self c =
     let here : (process (world_of c.self.inside.seats.items c.self.inside.history.items) c.args.p).gone ≡ false = still_here _ _ _ _ c.self.view_is c.is_gone.ensures c.if-is_gone.false in
     let may : can_leave c.index_mut.result.now.local.state.phase ≡ true = may_leave _ _ _ _ _ _ c.self.invariant o c.index_mut.result.now c.index_mut.ensures.value _ _ _ c.self.view_is c.local-2.ensures c.can_leave.ensures c.if-can_leave.true in
     subst (λ (l : List Event). IsKept c.self.inside.givens (set c.self.inside.seats.items (c.args.p - 1) c.leave.new.self) l (vec_capacity c.self.inside.seats) (vec_capacity c.add_event.new.history)) (sym c.add_event.ensures.items)
-    (leave_kept _ _ _ _ _ _ c.self.invariant o c.index_mut.result.now c.index_mut.ensures.value here c.leave.new.self may c.leave.ensures.process (vec_capacity c.add_event.new.history) c.leave.ensures.givens c.leave.ensures.number c.leave.ensures.room c.add_event.ensures.room)
+    (leave_kept _ _ _ _ _ _ c.self.invariant o c.index_mut.result.now c.index_mut.ensures.value here c.leave.new.self may c.leave.ensures.process (vec_capacity c.add_event.new.history) c.leave.ensures.seated c.add_event.ensures.room)
 
 pub returns-then-can_leave-clause-world : goal.returns-then-can_leave-clause-world
 returns-then-can_leave-clause-world c =
