@@ -1,0 +1,265 @@
+//! What a worker does.
+ghost use Rattle.std.specs.Prelude.{◌≡◌, ◌↔◌, ◌≤◌, ◌+◌, ◌-◌, ◌<◌, [], ◌∷◌, ℕ, List, true, false, Option, Some, slice_get};
+ghost use Rattle.atomic_table.specs.Table.{rest};
+ghost use Rattle.std.specs.Option.{option_to_list};
+ghost use Rattle.amo_kk.specs.Givens.{IsWorker};
+ghost use Rattle.amo_kk.specs.Record.{is_over, can_leave, jobs_in_hand};
+ghost use Rattle.amo_kk.specs.Step.{want, is_load, shown};
+ghost use Rattle.amo_kk.specs.Words.{next_word, claim_word, done_word, loaded_word};
+ghost use Rattle.amo_kk.specs.Answer.{leaving};
+ghost use Rattle.amo_kk.specs.declared.phase.Phase.{Phase};
+ghost use Rattle.amo_kk.specs.declared.phase.Want.{Want as Wanted};
+ghost use Rattle.amo_words.specs.Plays.{HasTurned, HasLeft};
+ghost use Rattle.amo_words.specs.Faces.{machine};
+ghost use Rattle.amo_words.specs.Answers.{quiet_step, Stepped, filed, LeftIf};
+
+use super::{Floor, Worker};
+use crate::plays::{Claim, Load, Store, TakeBack};
+use crate::rule::{TableSeat, Words};
+use crate::slots::exchange;
+use amo_kk::{Givens, Leaving, Shown, Want};
+
+/// What a step came to.
+#[derive(Drop)]
+pub enum Step<P> {
+    /// The worker goes on.
+    Moved,
+    /// It has claimed this job, whose payload it hands over.
+    Claimed(u32, P),
+    /// It has ended.
+    Ended,
+    /// It had ended or left before, and nothing changed.
+    Idle,
+}
+
+/// What a filing came to.
+#[derive(Clone, Copy, Debug, PartialEq, Eq)]
+pub enum Filed {
+    /// The worker goes on.
+    More,
+    /// It has ended.
+    Ended,
+}
+
+/// The place of the announcement of p.
+pub(super) fn next_word(p: u32) -> usize
+    ensures { result ≡ next_word p }
+{
+    p as usize
+}
+
+/// The place of the count of p's claims.
+pub(super) fn claim_word(givens: Givens, p: u32) -> usize
+    requires { IsWorker givens p }
+    ensures { result ≡ claim_word givens p }
+{
+    (givens.workers() + p) as usize
+}
+
+/// The place of the k-th entry of p's row.
+pub(super) fn done_word(givens: Givens, p: u32, k: u32) -> usize
+    requires worker { IsWorker givens p }
+    requires place { k ≤ givens.jobs + 1 }
+    ensures { result ≡ done_word givens p k }
+{
+    (2 * givens.workers() + (p - 1) * (givens.jobs() + 1) + k) as usize
+}
+
+/// Takes the payload of j out of its slot, which the seat has taken last.
+fn take_out<P>(words: &Words<P>, place: &mut TableSeat<P>, j: u32) -> P
+    requires table { place.old.table_id ≡ words.now.table_id }
+    requires job { 1 ≤ j }
+    requires full { (x : P) × (place.old.me.1 ≡ (j - 1, Some x) ∷ rest place.old.me.1) }
+    ensures place { (place.new.table_id ≡ place.old.table_id) × (place.new.me.0 ≡ place.old.me.0) }
+    ensures payload { (out : List (ℕ × Option P)) (x : P) → place.old.me.1 ≡ (j - 1, Some x) ∷ out → x ≡ result }
+{
+    let Some(payload) = exchange(words, place, j as usize - 1, None) else {
+        unreachable!()
+    };
+    payload
+}
+
+/// A step that claims nothing, in its caller's words.
+fn moved<P>(shown: Shown) -> Step<P>
+    ensures { result ≡ quiet_step shown }
+{
+    match shown {
+        Shown::Ended => Step::Ended,
+        Shown::Quiet | Shown::Claimed(_) | Shown::Done(_) | Shown::DoneEnded(_) | Shown::Left => {
+            Step::Moved
+        }
+    }
+}
+
+impl<P> Worker<P> {
+    /// The worker's number, from 1.
+    pub fn number(&self) -> u32
+        ensures { result ≡ (machine self.now).number }
+    {
+        self.local.number()
+    }
+
+    /// How many steps it has taken.
+    pub fn steps(&self) -> u64
+        ensures { result ≡ (machine self.now).state.steps }
+    {
+        self.local.steps()
+    }
+
+    /// The job in its hand.
+    pub fn in_hand(&self) -> Option<u32>
+        ensures { option_to_list result ≡ jobs_in_hand (machine self.now).state.phase }
+    {
+        self.local.in_hand()
+    }
+
+    /// Whether it has left.
+    pub fn has_left(&self) -> bool
+        ensures { result ≡ true ↔ (machine self.now).state.phase ≡ Phase.Left }
+    {
+        self.local.has_left()
+    }
+
+    /// Whether it has ended by its own choice.
+    pub fn ended(&self) -> bool
+        ensures { result ≡ is_over (machine self.now).state.phase }
+    {
+        self.local.ended()
+    }
+
+    /// The claimed jobs, in their order.
+    pub fn claims(&self) -> &[u32]
+        ensures { result.now ≡ (machine self.now).state.claimed }
+    {
+        self.local.claims()
+    }
+
+    /// The done jobs, in their order.
+    pub fn dones(&self) -> &[u32]
+        ensures { result.now ≡ (machine self.now).state.dones }
+    {
+        self.local.dones()
+    }
+
+    /// The announcement of j is stored.
+    fn announce(&mut self, words: &Words<P>, j: u32) -> Shown
+        requires table { self.old.table_id ≡ words.now.table_id }
+        requires wants { want (machine self.old).state ≡ Wanted.StoreNext j }
+        ensures table { self.new.table_id ≡ self.old.table_id }
+        ensures turn { HasTurned self.old.view (machine self.old) 0 self.new.view }
+        ensures shows { result ≡ shown (machine self.old).state.phase (machine self.new).state.phase }
+    {
+        let word = next_word(self.local.number());
+        words.store::<Store>(&mut self.place, word, j as u64);
+        self.local.stored()
+    }
+
+    /// The wanted word is loaded.
+    fn hear(&mut self, words: &Words<P>, word: usize) -> Shown
+        requires table { self.old.table_id ≡ words.now.table_id }
+        requires inside { word < words.now.table_id.words }
+        requires wants { is_load (want (machine self.old).state) ≡ true }
+        requires word { word ≡ loaded_word (machine self.old).givens (want (machine self.old).state) }
+        ensures table { self.new.table_id ≡ self.old.table_id }
+        ensures turn { (n : ℕ) × HasTurned self.old.view (machine self.old) n self.new.view }
+        ensures shows { result ≡ shown (machine self.old).state.phase (machine self.new).state.phase }
+    {
+        let found = words.load::<Load>(&mut self.place, word);
+        self.local.told(found)
+    }
+
+    /// The count of claims is stored, and the payload of the job is taken out of its slot.
+    fn claim(&mut self, words: &Words<P>, count: u32, j: u32) -> P
+        requires table { self.old.table_id ≡ words.now.table_id }
+        requires wants { want (machine self.old).state ≡ Wanted.StoreClaim count j }
+        ensures table { self.new.table_id ≡ self.old.table_id }
+        ensures turn { HasTurned self.old.view (machine self.old) 0 self.new.view }
+        ensures payload { slice_get self.old.view.payloads (j - 1) ≡ Some result }
+    {
+        let word = claim_word(self.local.givens(), self.local.number());
+        words.store::<Claim>(&mut self.place, word, count as u64);
+        self.local.stored();
+        take_out(words, &mut self.place, j)
+    }
+
+    /// The performance of j is stored, as the k-th of its row.
+    fn perform(&mut self, words: &Words<P>, k: u32, j: u32) -> Shown
+        requires table { self.old.table_id ≡ words.now.table_id }
+        requires wants { want (machine self.old).state ≡ Wanted.StoreDone k j }
+        ensures table { self.new.table_id ≡ self.old.table_id }
+        ensures turn { HasTurned self.old.view (machine self.old) 0 self.new.view }
+        ensures shows { result ≡ shown (machine self.old).state.phase (machine self.new).state.phase }
+    {
+        let word = done_word(self.local.givens(), self.local.number(), k);
+        words.store::<Store>(&mut self.place, word, j as u64);
+        self.local.stored()
+    }
+
+    /// The announcement is taken back.
+    fn take_back(&mut self, words: &Words<P>)
+        requires table { self.old.table_id ≡ words.now.table_id }
+        requires may { can_leave (machine self.old).state.phase ≡ true }
+        ensures table { self.new.table_id ≡ self.old.table_id }
+        ensures left { HasLeft self.old.view (machine self.old) self.new.view }
+    {
+        let word = next_word(self.local.number());
+        words.store::<TakeBack>(&mut self.place, word, 0);
+        self.local.leave();
+    }
+}
+
+impl<P: Drop> Worker<P> {
+    /// One turn of the worker: the load or the store that its record wants.
+    pub fn step(&mut self, floor: &Floor<P>) -> Step<P>
+        requires table { self.old.table_id ≡ floor.now.table_id }
+        requires empty { jobs_in_hand (machine self.old).state.phase ≡ [] }
+        ensures table { self.new.table_id ≡ self.old.table_id }
+        ensures stepped { Stepped self.old.view (machine self.old) result self.new.view }
+    {
+        let words = &floor.board.shared;
+        match self.local.want() {
+            Want::StoreNext(j) => moved(self.announce(words, j)),
+            Want::LoadNext(q) => moved(self.hear(words, next_word(q))),
+            Want::LoadDone(q, k) => {
+                let word = done_word(self.local.givens(), q, k);
+                moved(self.hear(words, word))
+            }
+            Want::StoreClaim(count, j) => Step::Claimed(j, self.claim(words, count, j)),
+            Want::StoreDone(_, _) | Want::Nothing => Step::Idle,
+        }
+    }
+
+    /// The performance of the job in hand is stored.
+    pub fn file(&mut self, floor: &Floor<P>) -> Filed
+        requires table { self.old.table_id ≡ floor.now.table_id }
+        requires in_hand { (j : ℕ) × (jobs_in_hand (machine self.old).state.phase ≡ j ∷ []) }
+        ensures table { self.new.table_id ≡ self.old.table_id }
+        ensures turn { HasTurned self.old.view (machine self.old) 0 self.new.view }
+        ensures answers { result ≡ filed (shown (machine self.old).state.phase (machine self.new).state.phase) }
+    {
+        let Want::StoreDone(k, j) = self.local.want() else {
+            unreachable!()
+        };
+        match self.perform(&floor.board.shared, k, j) {
+            Shown::DoneEnded(_) | Shown::Ended | Shown::Left => Filed::Ended,
+            Shown::Quiet | Shown::Claimed(_) | Shown::Done(_) => Filed::More,
+        }
+    }
+
+    /// The worker takes back its announcement and goes, where it has nothing in its hand.
+    pub fn leave(&mut self, floor: &Floor<P>) -> Leaving
+        requires table { self.old.table_id ≡ floor.now.table_id }
+        ensures table { self.new.table_id ≡ self.old.table_id }
+        ensures answers { result ≡ leaving (machine self.old).state.phase }
+        ensures left { LeftIf result self.old.view (machine self.old) self.new.view }
+    {
+        if let Some(j) = self.local.in_hand() {
+            return Leaving::InHand(j);
+        }
+        if !self.local.can_leave() {
+            return Leaving::Gone;
+        }
+        self.take_back(&floor.board.shared);
+        Leaving::Left
+    }
+}
