@@ -14,12 +14,12 @@ use Rattle.amo_words.specs.declared.rule.Spot.{Spot}
 use Rattle.amo_words.specs.declared.rule.Spot.TheVariants.{Home}
 use Rattle.amo_words.specs.declared.rule.View.{View}
 use Rattle.amo_words.specs.declared.rule.Key.{Key}
-use Rattle.amo_words.specs.Rule.{IsKept}
-use Rattle.amo_words.specs.Plays.{told_by_store, told_by_load, told_by_claim, told_by_leave, told_by_meeting, book_left, worker_right, shed_left, shed_right, both_views, spent_view}
+use Rattle.amo_words.specs.Rule.{IsKept, spent_view}
+use Rattle.amo_words.specs.Plays.{told_by_store, told_by_load, told_by_claim, told_by_leave, told_by_meeting, book_left, worker_right, shed_left, shed_right, both_views}
 use Rattle.amo_words.proofs.Lifts.{is_placing, lift_allows, lift_splits, lift_joins}
 use Rattle.amo_words.proofs.Steps as steps
 use Rattle.amo_words.proofs.Seats as seats
-use Rattle.amo_words.proofs.Steps.{is_claim}
+use Rattle.amo_kk.proofs.Wants.{is_claim}
 
 module _ {P : Type 0} (k : Key P) (slots id : ℕ) (me : Me (Option P) (View P)) (l : LocalView) (is : me.0.role ≡ Working l) where
   pub stores : (i new : ℕ) (x : Want) → want l.state ≡ x → is_store x ≡ true → is_claim x ≡ false → ((words : List ℕ) → set words i new ≡ words_after l.givens l.number x words)

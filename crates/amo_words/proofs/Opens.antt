@@ -30,9 +30,9 @@ use Rattle.amo_words.specs.declared.rule.Spot.TheVariants.{Home}
 use Rattle.amo_words.specs.declared.rule.View.{View}
 use Rattle.amo_words.specs.declared.rule.Key.{Key}
 use Rattle.amo_words.specs.Logs.{word_count, world_after, machine_after, first_machine, is_claimed}
-use Rattle.amo_words.specs.Rule.{Stands, IsSeated, Fits, IsOf, IsOpen, IsPlacing, IsKept, open_view, placing_view, placed_home, first_view, home_of}
+use Rattle.amo_words.specs.Rule.{Stands, AllStand, IsSeated, Fits, IsOf, IsOpen, IsPlacing, IsKept, open_view, placing_view, placed_home, first_view, home_of}
 use Rattle.amo_words.specs.Plays.{next_role, PickedBy, PlacedBy, told_by_picking, told_by_placing}
-use Rattle.amo_words.proofs.Worlds.{world_opens, unclaimed_by}
+use Rattle.amo_words.proofs.Worlds.{unclaimed_by, own_none}
 use Rattle.amo_words.proofs.Turns.{inside_of, some_at}
 use Rattle.amo_words.proofs.Lifts.{only}
 
@@ -63,8 +63,8 @@ flat_table f h size rows zero = let e : 0 ≡ 0 * size = omega arith in ap (λ k
 flat_table f h size rows (suc n) = flat_more f (table n h) (h (suc n) ∷ []) ∙ (λ i. flat_table f h size rows n i ++ (rows (suc n) i ++ [])) ∙ ap (λ l. replicate (n * size) 0 ++ l) (append-nil (replicate size 0)) ∙ replicate-append-replicate (n * size) size 0 ∙ (let e : n * size + size ≡ suc n * size = sym (suc-mul n size) in ap (λ k. replicate k 0) e)
 
 pub opening_words : (g : Givens) → words_of (world_after g []).processes ≡ replicate (word_count g) 0
-opening_words g = ap (λ (w : World). words_of w.processes) (world_opens g)
-    ∙ (λ i. 0 ∷ map_table (λ (a : Process). a.next) (first_process g) (λ k. refl) g.workers i ++ (map_table (λ (a : Process). a.claim) (first_process g) (λ k. refl) g.workers i ++ flat_table (λ (a : Process). a.row) (first_process g) (g.jobs + 1) (λ k. refl) g.workers i))
+opening_words g =
+    (λ i. 0 ∷ map_table (λ (a : Process). a.next) (first_process g) (λ k. refl) g.workers i ++ (map_table (λ (a : Process). a.claim) (first_process g) (λ k. refl) g.workers i ++ flat_table (λ (a : Process). a.row) (first_process g) (g.jobs + 1) (λ k. refl) g.workers i))
     ∙ ap (λ l. 0 ∷ replicate g.workers 0 ++ l) (replicate-append-replicate g.workers (g.workers * (g.jobs + 1)) 0)
     ∙ ap (λ l. 0 ∷ l) (replicate-append-replicate g.workers (g.workers + g.workers * (g.jobs + 1)) 0)
     ∙ ap (λ k. replicate k 0) (all g.workers g.jobs)
@@ -73,7 +73,7 @@ opening_words g = ap (λ (w : World). words_of w.processes) (world_opens g)
     all m n = grind arith
 
 opening_process : (g : Givens) (p : ℕ) → IsWorker g p → process (world_after g []) p ≡ first_process g p
-opening_process g p o = ap (λ (w : World). process w p) (world_opens g) ∙ numbered-table nobody (first_process g) g.workers p o.low o.high
+opening_process g p o = numbered-table nobody (first_process g) g.workers p o.low o.high
 
 pub opening_machine : (g : Givens) (p : ℕ) → IsWorker g p → first_machine g p ≡ machine_after g [] p
 opening_machine g p o = ap (λ (a : Process). let x : LocalView = record { givens = g; number = p; state = a.local } in x) (sym (opening_process g p o))
@@ -82,9 +82,19 @@ first_claims : (g : Givens) (p : ℕ) → (first_record g p).claimed ≡ []
 first_claims g p = choice_cases g p (empty_record g) (λ r. r.claimed ≡ []) (λ few. refl) (λ many. refl)
 
 pub opening_claims : (g : Givens) (j : ℕ) → is_claimed (world_after g []).processes j ≡ false
-opening_claims g j = ap (λ (w : World). is_claimed w.processes j) (world_opens g)
-    ∙ unclaimed_by j (opening_world g).processes (λ p low high. let size = length-table (first_process g) g.workers in
+opening_claims g j =
+    unclaimed_by j (opening_world g).processes (λ p low high. let size = length-table (first_process g) g.workers in
     ap (λ (a : Process). has a.local.claimed j) (numbered-table nobody (first_process g) g.workers p low (omega (arith, high, size))) ∙ ap (λ l. has l j) (first_claims g p))
+
+-- all workers are at home
+pub home_stand : (g : Givens) → AllStand g [] (replicate g.workers Home)
+home_stand g = (
+  length-replicate g.workers Home,
+  λ p x low here.
+      let within = inside_of (replicate g.workers Home) (p - 1) x here in
+      let size = length-replicate {A = Spot} g.workers Home in
+      subst (Stands g [] p) (one_of_same g.workers (p - 1) Home x here) (opening_machine g p (record { low = low; high = omega (arith, within, size, low) }), refl),
+)
 
 module _ {P : Type 0} (k : Key P) where
   abbrev St : Type 0
@@ -99,7 +109,7 @@ module _ {P : Type 0} (k : Key P) where
   opened s blank alone deep size full = let g = k.givens in record {
     log = [];
     seat = λ _. 0;
-    own = tt;
+    own = own_none k.givens;
     count = deep;
     words = blank ∙ sym (opening_words g);
     slots = (size, λ j x at. full j x at ∙ ap (λ b. some (home_of b x)) (sym (opening_claims g (j + 1))));
@@ -108,11 +118,7 @@ module _ {P : Type 0} (k : Key P) where
     views = λ j e at. let o = only j (open_view k) e (ap (λ vs. get_elem? vs j) (sym alone) ∙ at) in subst (λ (z : ℕ × View P). Fits g xs [] (λ _. 0) z.0 z.1) (λ c. (sym o.0 c, o.1 c)) (
       (refl, refl, ([], refl), ([], refl)),
       (
-        (
-          length-replicate g.workers Home,
-          λ p x low here. let within = inside_of (replicate g.workers Home) (p - 1) x here in let size = length-replicate {A = Spot} g.workers Home in
-              subst (Stands g [] p) (one_of_same g.workers (p - 1) Home x here) (opening_machine g p (record { low = low; high = omega (arith, within, size, low) }), refl),
-        ),
+        home_stand g,
         λ p x low here. subst (IsSeated (λ _. 0) 0 p) (one_of_same g.workers (p - 1) Home x here) refl,
       ),
     );

@@ -9,7 +9,7 @@ use Rattle.amo_kk.specs.Alone.{is_claiming}
 use Rattle.amo_kk.specs.Givens.{IsJob, IsWorker}
 use Rattle.amo_kk.specs.Record.{wants_nothing, can_leave}
 use Rattle.amo_kk.specs.Step.{want, want_in, is_load, is_store, MayLoad}
-use Rattle.amo_kk.specs.World.{process, loaded_value, world_after_turn, world_after_leave}
+use Rattle.amo_kk.specs.World.{process, loaded_value, world_after_turn, world_after_leave, opening_world}
 use Rattle.amo_kk.specs.Words.{words_of, next_word, loaded_word, words_after}
 use Rattle.amo_kk.specs.Lawful.{IsLawful}
 use Rattle.amo_kk.specs.Machine.{LocalView}
@@ -29,112 +29,22 @@ use Rattle.amo_words.specs.declared.rule.Key.{Key}
 use Rattle.amo_words.specs.Logs.{world_after, machine_in, machine_after, is_claimed, AreOwn}
 use Rattle.amo_words.specs.Rule.{IsOpen, home_of}
 use Rattle.amo_words.specs.Plays.{machine_turned, machine_left, view_after, TurnedBy, MayLoadBy, LeftBy, TakesIn, TakenBy, told_by_store, told_by_load, told_by_claim, told_by_leave}
-use Rattle.amo_words.proofs.Worlds.{world_more, lawful, gone_is, turned_machine, left_machine, quiet_claims, left_claims, claim_new, claim_else, claim_free, claim_job, may_load, store_zero}
+use Rattle.amo_kk.proofs.Loads.{may_load, store_zero}
+use Rattle.amo_kk.proofs.Moves.{world_more, gone_is, turned_local, left_process}
+use Rattle.amo_kk.proofs.Wants.{is_claim, is_nothing, claiming_is, nothing_is, claiming_job, leave_goes, load_writes, load_quiet, load_goes, store_goes, store_loads}
+use Rattle.amo_words.proofs.Worlds.{lawful, quiet_claims, left_claims, claim_new, claim_else, claim_free, claim_job}
 use Rattle.amo_words.proofs.Turns as turns
 use Rattle.amo_words.proofs.Turns.{slots_as, slot_goes, some_at}
 
--- what is wanted tells the kind of the phase
+-- what a worker's own move does to its machine
 
-abbrev pub is_claim : Want → Bool
-is_claim (StoreNext j) = false
-is_claim (LoadNext q) = false
-is_claim (LoadDone q k) = false
-is_claim (StoreClaim c j) = true
-is_claim (StoreDone k j) = false
-is_claim Nothing = false
+turned_machine : (g : Givens) (w : World) (p : ℕ) → IsLawful g w → (process w p).gone ≡ false
+    → machine_in g (world_after_turn g w p) p ≡ machine_turned (machine_in g w p) (loaded_value w (want (process w p).local))
+turned_machine g w p law here = λ i. record { givens = g; number = p; state = turned_local g w p law here i }
 
-abbrev pub is_nothing : Want → Bool
-is_nothing (StoreNext j) = false
-is_nothing (LoadNext q) = false
-is_nothing (LoadDone q k) = false
-is_nothing (StoreClaim c j) = false
-is_nothing (StoreDone k j) = false
-is_nothing Nothing = true
-
-abbrev claimed_job : Want → ℕ
-claimed_job (StoreNext j) = 0
-claimed_job (LoadNext q) = 0
-claimed_job (LoadDone q k) = 0
-claimed_job (StoreClaim c j) = j
-claimed_job (StoreDone k j) = 0
-claimed_job Nothing = 0
-
-claiming_is : (r : Record) (phase : Phase) → is_claiming phase ≡ is_claim (want_in r phase)
-claiming_is r (Announcing j) = refl
-claiming_is r (Trying j q) = refl
-claiming_is r (Reading j q) = refl
-claiming_is r (Claiming j) = refl
-claiming_is r (Holding j) = refl
-claiming_is r Over = refl
-claiming_is r Left = refl
-
-pub nothing_is : (r : Record) (phase : Phase) → wants_nothing phase ≡ is_nothing (want_in r phase)
-nothing_is r (Announcing j) = refl
-nothing_is r (Trying j q) = refl
-nothing_is r (Reading j q) = refl
-nothing_is r (Claiming j) = refl
-nothing_is r (Holding j) = refl
-nothing_is r Over = refl
-nothing_is r Left = refl
-
-pub claiming_job : (r : Record) (phase : Phase) (c j : ℕ) → want_in r phase ≡ StoreClaim c j → phase ≡ Claiming j
-claiming_job r (Announcing i) c j e = absurd (true≢false (sym (ap is_claim e)))
-claiming_job r (Trying i q) c j e = absurd (true≢false (sym (ap is_claim e)))
-claiming_job r (Reading i q) c j e = absurd (true≢false (sym (ap is_claim e)))
-claiming_job r (Claiming i) c j e = ap Claiming (ap claimed_job e)
-claiming_job r (Holding i) c j e = absurd (true≢false (sym (ap is_claim e)))
-claiming_job r Over c j e = absurd (true≢false (sym (ap is_claim e)))
-claiming_job r Left c j e = absurd (true≢false (sym (ap is_claim e)))
-
-leave_goes : (phase : Phase) → can_leave phase ≡ true → wants_nothing phase ≡ false
-leave_goes (Announcing j) h = refl
-leave_goes (Trying j q) h = refl
-leave_goes (Reading j q) h = refl
-leave_goes (Claiming j) h = refl
-leave_goes (Holding j) h = absurd (true≢false (sym h))
-leave_goes Over h = absurd (true≢false (sym h))
-leave_goes Left h = absurd (true≢false (sym h))
-
--- a load writes nothing
-load_writes : (g : Givens) (p : ℕ) (x : Want) (words : List ℕ) → is_load x ≡ true → words_after g p x words ≡ words
-load_writes g p (StoreNext j) words h = absurd (true≢false (sym h))
-load_writes g p (LoadNext q) words h = refl
-load_writes g p (LoadDone q k) words h = refl
-load_writes g p (StoreClaim c j) words h = absurd (true≢false (sym h))
-load_writes g p (StoreDone k j) words h = absurd (true≢false (sym h))
-load_writes g p Nothing words h = absurd (true≢false (sym h))
-
-load_quiet : (x : Want) → is_load x ≡ true → is_claim x ≡ false
-load_quiet (StoreNext j) h = refl
-load_quiet (LoadNext q) h = refl
-load_quiet (LoadDone q k) h = refl
-load_quiet (StoreClaim c j) h = absurd (true≢false (sym h))
-load_quiet (StoreDone k j) h = refl
-load_quiet Nothing h = refl
-
-load_goes : (x : Want) → is_load x ≡ true → is_nothing x ≡ false
-load_goes (StoreNext j) h = refl
-load_goes (LoadNext q) h = refl
-load_goes (LoadDone q k) h = refl
-load_goes (StoreClaim c j) h = refl
-load_goes (StoreDone k j) h = refl
-load_goes Nothing h = absurd (true≢false (sym h))
-
-store_goes : (x : Want) → is_store x ≡ true → is_nothing x ≡ false
-store_goes (StoreNext j) h = refl
-store_goes (LoadNext q) h = refl
-store_goes (LoadDone q k) h = refl
-store_goes (StoreClaim c j) h = refl
-store_goes (StoreDone k j) h = refl
-store_goes Nothing h = absurd (true≢false (sym h))
-
-store_loads : (x : Want) → is_store x ≡ true → is_load x ≡ false
-store_loads (StoreNext j) h = refl
-store_loads (LoadNext q) h = absurd (true≢false (sym h))
-store_loads (LoadDone q k) h = absurd (true≢false (sym h))
-store_loads (StoreClaim c j) h = refl
-store_loads (StoreDone k j) h = refl
-store_loads Nothing h = refl
+left_machine : (g : Givens) (w : World) (p : ℕ) → IsLawful g w → (process w p).gone ≡ false → can_leave (process w p).local.phase ≡ true
+    → machine_in g (world_after_leave w p) p ≡ machine_left (machine_in g w p)
+left_machine g w p law here may = λ i. record { givens = g; number = p; state = (left_process g w p law here may i).local }
 
 module _ {P : Type 0} (k : Key P) (slots id : ℕ) (me : Me (Option P) (View P)) (l : LocalView) (is : me.0.role ≡ Working l) where
   abbrev St : Type 0
@@ -176,15 +86,15 @@ module _ {P : Type 0} (k : Key P) (slots id : ℕ) (me : Me (Option P) (View P))
     phase_is = ap (λ (m : LocalView). m.state.phase) machine
 
     here : wants_nothing l.state.phase ≡ false → (process w0 p).gone ≡ false
-    here goes = gone_is g h.log h.own p ∙ ap wants_nothing (sym phase_is) ∙ goes
+    here goes = gone_is g h.log h.own.no_stop p ∙ ap wants_nothing (sym phase_is) ∙ goes
 
     -- a turn that loads x, or 0
     now : (x : ℕ) → x ≡ loaded_value w0 (want l.state) → wants_nothing l.state.phase ≡ false → machine_after g (h.log ++ Turn p ∷ []) p ≡ machine_turned l x
-    now x saw goes = ap (λ (w : World). machine_in g w p) (world_more g h.log (Turn p)) ∙ turned_machine g w0 p law (here goes)
+    now x saw goes = ap (λ (w : World). machine_in g w p) (world_more g (opening_world g) h.log (Turn p)) ∙ turned_machine g w0 p law (here goes)
         ∙ (λ c. machine_turned (sym machine c) (loaded_value w0 (want (sym machine c).state))) ∙ ap (machine_turned l) (sym saw)
 
     words_now : wants_nothing l.state.phase ≡ false → words_of (world_after g (h.log ++ Turn p ∷ [])).processes ≡ words_after l.givens p (want l.state) s.words
-    words_now goes = ap (λ (w : World). words_of w.processes) (world_more g h.log (Turn p)) ∙ turn_writes g w0 law p (here goes)
+    words_now goes = ap (λ (w : World). words_of w.processes) (world_more g (opening_world g) h.log (Turn p)) ∙ turn_writes g w0 law p (here goes)
         ∙ (λ c. words_after (sym machine c).givens (sym machine c).number (want (sym machine c).state) (sym h.words c))
 
     turned_by : (x : ℕ) → x ≡ loaded_value w0 (want l.state) → TurnedBy me.0 me.0.role x (view_after me.0 b (Turn p) (machine_turned l x))
@@ -192,7 +102,7 @@ module _ {P : Type 0} (k : Key P) (slots id : ℕ) (me : Me (Option P) (View P))
         (record { between = b; others = turns.others_only g xs s h id me.0 l at is; own = seen_own; loads = saw ∙ ap (λ w. loaded_value w (want l.state)) (sym met); leads = refl })
 
     still : is_claiming l.state.phase ≡ false → wants_nothing l.state.phase ≡ false → (j : ℕ) → is_claimed (world_after g (h.log ++ Turn p ∷ [])).processes j ≡ is_claimed w0.processes j
-    still quiet goes j = ap (λ (w : World). is_claimed w.processes j) (world_more g h.log (Turn p)) ∙ quiet_claims g w0 p law (here goes) (ap is_claiming (sym phase_is) ∙ quiet) j
+    still quiet goes j = ap (λ (w : World). is_claimed w.processes j) (world_more g (opening_world g) h.log (Turn p)) ∙ quiet_claims g w0 p law (here goes) (ap is_claiming (sym phase_is) ∙ quiet) j
 
   -- an announcement or a performance is stored
   pub stores : (i new : ℕ) (x : Want) → want l.state ≡ x → is_store x ≡ true → is_claim x ≡ false → ((words : List ℕ) → set words i new ≡ words_after l.givens p x words)
@@ -244,8 +154,8 @@ module _ {P : Type 0} (k : Key P) (slots id : ℕ) (me : Me (Option P) (View P))
       let y = some_at xs (j - 1) (omega arith) in
       let back : j - 1 + 1 ≡ j = omega arith in
       let mine = turns.mine g xs s h id me.0 l at is in
-      let free : is_claimed w.processes j ≡ false = claim_free g w p (lawful g h.log) still_here j there g.limits in
-      let more : world_after g (h.log ++ Turn p ∷ []) ≡ world_after_turn g w p = world_more g h.log (Turn p) in (
+      let free : is_claimed w.processes j ≡ false = claim_free g w p (lawful g h.log) still_here j there in
+      let more : world_after g (h.log ++ Turn p ∷ []) ≡ world_after_turn g w p = world_more g (opening_world g) h.log (Turn p) in (
         view_after me.0 (b s h at) (Turn p) (machine_turned l 0),
         takes (j - 1) (Some y.0),
         h.slots.1 (j - 1) y.0 y.1 ∙ ap (λ b. some (home_of b y.0)) (ap (is_claimed w.processes) back ∙ free),
@@ -265,7 +175,7 @@ module _ {P : Type 0} (k : Key P) (slots id : ℕ) (me : Me (Option P) (View P))
       let w : World = world_after g h.log in
       let there : (process w p).gone ≡ false = here s h at (leave_goes l.state.phase may) in
       let can : can_leave (process w p).local.phase ≡ true = ap can_leave (sym (phase_is s h at)) ∙ may in
-      let more : world_after g (h.log ++ Leave p ∷ []) ≡ world_after_leave w p = world_more g h.log (Leave p) in
+      let more : world_after g (h.log ++ Leave p ∷ []) ≡ world_after_leave w p = world_more g (opening_world g) h.log (Leave p) in
       let m : l ≡ machine_after g h.log p = machine s h at in (
         view_after me.0 (b s h at) (Leave p) (machine_left l),
         keeps,

@@ -9,7 +9,7 @@ use lib.ListN.{get_elem?}
 use Rattle.atomic_table.specs.Table.{State}
 use Rattle.atomic_table.proofs.Lists.{at_set, set_here, set_else}
 use Rattle.amo_kk.specs.Givens.{IsWorker}
-use Rattle.amo_kk.specs.World.{worker_of}
+use Rattle.amo_kk.specs.World.{worker_of, is_halt, opening_world}
 use Rattle.amo_kk.specs.Words.{words_of}
 use Rattle.amo_kk.specs.Machine.{LocalView}
 use Rattle.amo_kk.specs.declared.givens.Givens.{Givens}
@@ -21,10 +21,11 @@ use Rattle.amo_words.specs.declared.rule.Role.TheVariants.{Opening, Keeping, Wor
 use Rattle.amo_words.specs.declared.rule.Spot.{Spot}
 use Rattle.amo_words.specs.declared.rule.Spot.TheVariants.{Home, Out, Back}
 use Rattle.amo_words.specs.declared.rule.View.{View}
-use Rattle.amo_words.specs.Logs.{world_after, machine_in, machine_after, moves_of, is_stop, AreOwn, StartsWith, is_claimed}
+use Rattle.amo_words.specs.Logs.{world_after, machine_in, machine_after, moves_of, AreOwn, StartsWith, is_claimed}
 use Rattle.amo_words.specs.Rule.{Stands, IsSeated, HoldsAll, Has, Found, IsOf, Fits, SlotsFit, IsShown, home_of}
 use Rattle.amo_words.specs.Plays.{view_after}
-use Rattle.amo_words.proofs.Worlds.{moves_append, moves_other, world_more, move_other}
+use Rattle.amo_kk.proofs.Moves.{move_other, world_more}
+use Rattle.amo_words.proofs.Worlds.{moves_append, moves_other, own_more}
 
 pub starts_more : (log seen more : List Move) → StartsWith log seen → StartsWith (log ++ more) seen
 starts_more log seen more s = (s.0 ++ more, ap (λ l. l ++ more) s.1 ∙ append_assoc seen s.0 more)
@@ -33,10 +34,6 @@ pub inside_of : {A : Type 0} (l : List A) (j : ℕ) (a : A) → get_elem? l j �
 inside_of [] j a e = absurd (some-ne-none a (sym e))
 inside_of (x ∷ xs) zero a e = omega arith
 inside_of (x ∷ xs) (suc j) a e = let h = inside_of xs j a e in omega arith
-
-own_more : (g : Givens) (log : List Move) (m : Move) → AreOwn g log → IsWorker g (worker_of m) → is_stop m ≡ false → AreOwn g (log ++ m ∷ [])
-own_more g [] m h o own = (o, own, tt)
-own_more g (n ∷ log) m h o own = (h.0, h.1, own_more g log m h.2 o own)
 
 pub some_at : {A : Type 0} (l : List A) (i : ℕ) → i < length l → (y : A) × (get_elem? l i ≡ some y)
 some_at [] i h = absurd (omega arith)
@@ -93,12 +90,12 @@ module _ {P : Type 0} (g : Givens) (payloads : List P) where
     here_at w e same = some-injective w v (sym e ∙ ap (get_elem? s.views) same ∙ at)
 
     -- its move m, after which its machine is l'
-    module _ (m : Move) (of_it : worker_of m ≡ l.number) (own : is_stop m ≡ false) (l' : LocalView) (now : machine_after g (h.log ++ m ∷ []) l.number ≡ l') (number : l'.number ≡ l.number) where
+    module _ (m : Move) (of_it : worker_of m ≡ l.number) (own : is_halt m ≡ false) (l' : LocalView) (now : machine_after g (h.log ++ m ∷ []) l.number ≡ l') (number : l'.number ≡ l.number) where
       abbrev pub behind : World
       behind = world_after g (h.log ++ m ∷ [])
 
       others_after : (q : ℕ) → q ≢ worker_of m → machine_after g (h.log ++ m ∷ []) q ≡ machine_after g h.log q
-      others_after q apart = ap (λ (w : World). machine_in g w q) (world_more g h.log m) ∙ ap (λ (a : Process). let x : LocalView = record { givens = g; number = q; state = a.local } in x) (move_other g before m q apart)
+      others_after q apart = ap (λ (w : World). machine_in g w q) (world_more g (opening_world g) h.log m) ∙ ap (λ (a : Process). let x : LocalView = record { givens = g; number = q; state = a.local } in x) (move_other g before m q apart)
 
       found_kept : (w : View P) → w.role ≡ Working l' → Found g (h.log ++ m ∷ []) h.seat (set s.views id w)
       found_kept w role q o = dite (ℕ_discrete q l.number)

@@ -1,7 +1,9 @@
 -- The free jobs one at a time, what the closed table shows, and how many jobs are done where a worker has ended.
 use Rattle.std.proofs.Common.{◌≡◌, ⊎_elim, ℕ, zero, suc, ◌+◌, ◌-◌, ◌<◌, ◌≤◌, ◌==◌, Bool, true, false, ◌||◌, List, [], ◌∷◌, ◌++◌, length, get_or, set, take, drop, map, refl, sym, ap, ◌∙◌, subst, arith, eq-eqb, ne_eqb, Option, Some, append_assoc, length-append, Vec, Global}
 use Rattle.std.specs.Prelude.{if◌then◌else◌}
-use Rattle.std.specs.List.{flat_map}
+use Rattle.std.specs.List.{sum_by}
+use Rattle.std.proofs.lemmas.List.Sums.{sum_by-cons}
+use Rattle.amo_kk.proofs.Ends.{enough_done}
 use Rattle.std.proofs.lemmas.Bool.{cases_Bool, true≢false, or_right}
 use Rattle.std.proofs.lemmas.List.{take_more, get_or-set_same, get_or-set_other, map-append}
 use mathlib.Core.Logic.{dite}
@@ -35,7 +37,7 @@ use Rattle.amo_words.specs.declared.rule.Key.{Key}
 use Rattle.amo_words.specs.Logs.{world_after, is_claimed}
 use Rattle.amo_words.specs.Rule.{AllStand, HoldsAll, IsOf, IsKept, home_of}
 use Rattle.amo_words.specs.Looking.{IsBack}
-use Rattle.amo_words.specs.Settling.{AreShown, HasFree, AreMarked, IsClosed, any_has, claims_of, dones_of, free_of, job_count}
+use Rattle.amo_words.specs.Settling.{AreShown, HasFree, AreMarked, IsClosed, any_has, claims_of, dones_of, free_of, job_count, book_view}
 use Rattle.amo_words.proofs.Worlds.{lawful}
 use Rattle.amo_words.proofs.Turns.{inside_of, some_at}
 use Rattle.amo_words.proofs.Lifts.{is_placing, lift_final}
@@ -77,64 +79,37 @@ all_shown g log words is = let law : IsLawful g (world_after g log) = lawful g l
 
 module _ {P : Type 0} (k : Key P) where
   -- the closed table, where the book's view was v
-  pub settles : (id : ℕ) (v : View P) (spots : List Spot) (words : List ℕ) (slots : List (Option P)) → v.role ≡ Keeping spots → Final (Seen (IsKept k) id v) words slots
-      → (v.givens ≡ k.givens) × IsClosed v.givens v.payloads v.seen spots words slots
-  settles id v spots words slots is f' = let f = lift_final k id v words slots (ap is_placing is) f' in let s = f.0 in let h = f.1.0 in let g = k.givens in let xs = k.payloads.value.items in
+  pub settles : (id : ℕ) (v : View P) (spots : List Spot) (words : List ℕ) (slots : List (Option P)) → v.role ≡ Keeping spots → v.told ≡ [] → Final (Seen (IsKept k) id v) words slots
+      → (v.givens ≡ k.givens) × IsClosed v.givens v.payloads v.seen spots words slots × Final (Seen (IsKept k) id (book_view v.givens v.payloads v.seen spots)) words slots
+  settles id v spots words slots is none f' = let f = lift_final k id v words slots (ap is_placing is) f' in let s = f.0 in let h = f.1.0 in let g = k.givens in let xs = k.payloads.value.items in
       let b = subst (λ ro. IsOf g xs h.log v ro × HoldsAll g h.log v.seen h.seat id ro) is (h.views id v f.1.1) in (
         b.0.0,
         subst (λ (z : Givens × List P). IsClosed z.0 z.1 v.seen spots words slots) (λ c. (sym b.0.0 c, sym b.0.1 c))
             (record {
               log = h.log;
-              own = h.own;
+              turns = h.own;
               begins = b.0.2;
               stand = b.1.0;
               shown = all_shown g h.log words (sym f.2 ∙ h.words);
               free = (h.count, λ j x at free. f.4 j (Some x) (h.slots.1 j x at ∙ ap (λ q. some (home_of q x)) free));
             }),
+        subst (λ (u : View P). Final (Seen (IsKept k) id u) words slots) (λ c. record v { told = none c; role = is c }) f',
       )
 
 -- enough jobs are done where a worker has ended
 
-all_dones : List Process → List ℕ
-all_dones all = flat_map (λ (a : Process). a.local.dones) all
-
-has_all : (all : List Process) (q j : ℕ) → has (numbered nobody all q).local.dones j ≡ true → has (all_dones all) j ≡ true
-unfolding all_dones
-has_all all zero j h = absurd (true≢false (sym h))
-has_all [] (suc k) j h = absurd (true≢false (sym h))
-has_all (a ∷ all) (suc zero) j h = has-append a.local.dones (flat_map (λ (b : Process). b.local.dones) all) j ∙ ap (λ b. b || has (flat_map (λ (b : Process). b.local.dones) all) j) h
-has_all (a ∷ all) (suc (suc k)) j h = has-append a.local.dones (flat_map (λ (b : Process). b.local.dones) all) j ∙ or_right (has a.local.dones j) (has (flat_map (λ (b : Process). b.local.dones) all) j) (has_all all (suc k) j h)
-
-count_all : (all : List Process) → length (all_dones all) ≡ job_count (dones_of all)
-unfolding all_dones
+count_all : (all : List Process) → sum_by (λ (a : Process). length a.local.dones) all ≡ job_count (dones_of all)
 count_all [] = refl
-count_all (a ∷ all) = length-append a.local.dones (flat_map (λ (b : Process). b.local.dones) all) ∙ ap (λ n. length a.local.dones + n) (count_all all)
-
-over_few : (g : Givens) (p : ℕ) (r : Record) (phase : Phase) → is_over phase ≡ true → FitsPhase g p r phase → count g.jobs (is_open r) < g.beta
-over_few g p r (Announcing j) h st = absurd (true≢false (sym h))
-over_few g p r (Trying j q) h st = absurd (true≢false (sym h))
-over_few g p r (Reading j q) h st = absurd (true≢false (sym h))
-over_few g p r (Claiming j) h st = absurd (true≢false (sym h))
-over_few g p r (Holding j) h st = absurd (true≢false (sym h))
-over_few g p r Over h st = st
-over_few g p r Left h st = absurd (true≢false (sym h))
-
-enough_done : (g : Givens) (w : World) (p : ℕ) → IsLawful g w → IsWorker g p → is_over (process w p).local.phase ≡ true → bound g ≤ job_count (dones_of w.processes)
-enough_done g w p law o ended =
-    let r : Record = (process w p).local in let sound = (law.lawful.sound p o).local in
-    let few = over_few g p r r.phase ended sound.stands in let tried = sound.tried_few in
-    let all = count_neither (has r.known) (has r.tried) g.jobs in
-    let seen = count_has r.tried g.jobs in
-    let done = count_le (has r.known) (has (all_dones w.processes)) (λ j h. let d = law.lawful.known p j o h in has_all w.processes d.0 j d.2) g.jobs in
-    let size = count_has (all_dones w.processes) g.jobs in
-    let total = count_all w.processes in
-    omega (arith, few, tried, all, seen, done, size, total)
+count_all (a ∷ all) =
+    sum_by-cons (λ (b : Process). length b.local.dones) a all
+    ∙ ap (λ n. length a.local.dones + n) (count_all all)
+    ∙ sym (sum_by-cons (λ (xs : List ℕ). length xs) a.local.dones (dones_of all))
 
 -- a worker that came back has ended in the world of the log
 pub enough : (g : Givens) (log : List Move) (spots : List Spot) → AllStand g log spots → (p : ℕ) (l : LocalView) → IsBack spots p l → is_over l.state.phase ≡ true → bound g ≤ job_count (dones_of (world_after g log).processes)
 enough g log spots stand p l back ended = let low = back.0 in let at = at_from_get spots (p - 1) (Back l) back.1 in let inside = inside_of spots (p - 1) (Back l) at in let wide = stand.0 in
-    enough_done g (world_after g log) p (lawful g log) (record { low = low; high = omega (arith, inside, wide, low) })
-    (ap (λ (m : LocalView). is_over m.state.phase) (sym (stand.1 p (Back l) low at)) ∙ ended)
+    subst (λ n. bound g ≤ n) (count_all (world_after g log).processes) (enough_done g (world_after g log) p (lawful g log) (record { low = low; high = omega (arith, inside, wide, low) })
+    (ap (λ (m : LocalView). is_over m.state.phase) (sym (stand.1 p (Back l) low at)) ∙ ended))
 
 -- marks
 

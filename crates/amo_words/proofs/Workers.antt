@@ -11,15 +11,17 @@ use Rattle.amo_kk.specs.Step.{want, want_in, MayLoad}
 use Rattle.amo_kk.specs.Words.{claim_word, done_word}
 use Rattle.amo_kk.specs.Machine.{LocalView}
 use Rattle.amo_kk.specs.declared.givens.Givens.{Givens}
-use Rattle.amo_kk.proofs.Fit.{after_fit, left_fit, claims_fit}
+use Rattle.amo_kk.specs.Fits.{WantFits}
+use Rattle.amo_kk.proofs.Wants.{want_fits}
+use Rattle.amo_kk.proofs.Fit.{after_fit, left_fit}
 use Rattle.amo_kk.proofs.Worlds.{leaves_empty}
 use Rattle.amo_words.specs.declared.rule.View.{View}
 use Rattle.amo_words.specs.Logs.{word_count}
 use Rattle.amo_words.specs.Plays.{machine_turned, machine_left, HasTurned, TurnedBy, HasLeft, LeftBy}
 use Rattle.amo_words.specs.Faces.{Seated, machine_of, machine, spots_of, spots, IsBook, IsWorking}
 use Rattle.amo_words.specs.declared.rule.Spot.{Spot}
-use Rattle.amo_words.proofs.Steps.{claiming_job}
-use Rattle.amo_kk.specs.Lawful.{IsSoundRecord, FitsPhase}
+use Rattle.amo_kk.specs.Lawful.{IsSoundRecord}
+use Rattle.amo_words.specs.declared.rule.Role.TheVariants.{Working}
 use Rattle.amo_sets.specs.Lists.{numbered}
 use Rattle.std.proofs.lemmas.Bool.{true≢false}
 use Rattle.std.proofs.Math.Nat.{mul-div_cancel}
@@ -37,26 +39,49 @@ next_within g p o = let high = o.high in let wide = word_room g in omega arith
     word_room : (g : Givens) → g.workers ≤ g.workers * (g.jobs + 3)
     word_room g = grind arith
 
+-- what holds of a worker's fields v, id and l holds of those after its step
 module _ {P : Type 0} (v w : View P) (id id' : TableId) (l l' : LocalView) (is : IsWorking v id l) (same : id' ≡ id) where
   pub turned : (n : ℕ) → TurnedBy v v.role n w → HasTurned v l n w
-  turned n h = subst (λ ro. TurnedBy v ro n w) is.0 h
+  turned n h = subst (λ ro. TurnedBy v ro n w) is.role h
+
+  pub left : LeftBy v v.role w → HasLeft v l w
+  left h = subst (λ ro. LeftBy v ro w) is.role h
+
+  -- where just the record of l changes, and stays sound
+  stays : (r : Record) → w.role ≡ Working (record l { state = r }) → w.givens ≡ v.givens → IsSoundRecord l.givens l.number r → l' ≡ record l { state = r } → IsWorking w id' l'
+  stays r role givens sound now = subst (IsWorking w id') (sym now) (record {
+    role = role;
+    givens = givens ∙ is.givens;
+    words = ap (λ t. t.words) same ∙ is.words;
+    slots = ap (λ t. t.slots) same ∙ is.slots;
+    worker = is.worker;
+    sound = sound;
+  })
 
   -- after a turn
   pub working_after : (n : ℕ) → TurnedBy v v.role n w → MayLoad l.givens n (want l.state) → l' ≡ machine_turned l n → IsWorking w id' l'
-  working_after n h may now = let t = turned n h in
-      subst (IsWorking w id') (sym now) (ap (λ (u : View P). u.role) t.leads, ap (λ (u : View P). u.givens) t.leads ∙ is.1, ap (λ t. t.words) same ∙ is.2, is.3, after_fit l.givens l.givens.limits l.number is.3 l.state n is.4 may, ap (λ t. t.slots) same ∙ is.5)
-
-  pub left : LeftBy v v.role w → HasLeft v l w
-  left h = subst (λ ro. LeftBy v ro w) is.0 h
+  working_after n h may now =
+      let t = turned n h in
+      stays (machine_turned l n).state (ap (λ (u : View P). u.role) t.leads) (ap (λ (u : View P). u.givens) t.leads)
+      (after_fit l.givens l.givens.limits l.number is.worker l.state n is.sound may) now
 
   -- after leaving
   pub working_left : LeftBy v v.role w → can_leave l.state.phase ≡ true → l' ≡ machine_left l → IsWorking w id' l'
-  working_left h may now = let t = left h in
-      subst (IsWorking w id') (sym now) (ap (λ (u : View P). u.role) t.leads, ap (λ (u : View P). u.givens) t.leads ∙ is.1, ap (λ t. t.words) same ∙ is.2, is.3, left_fit l.givens l.givens.limits l.number is.3 l.state (leaves_empty l.state.phase may) is.4, ap (λ t. t.slots) same ∙ is.5)
+  working_left h may now =
+      let t = left h in
+      stays (machine_left l).state (ap (λ (u : View P). u.role) t.leads) (ap (λ (u : View P). u.givens) t.leads)
+      (left_fit l.givens l.givens.limits l.number is.worker l.state (leaves_empty l.state.phase may) is.sound) now
 
--- the machine of a worker with these fields
-pub machine_is : {P : Type 0} (id : TableId) (v : View P) (l : LocalView) (x : Seated P) → IsWorking v id l → (let y : Seated P = record { table_id = id; view = v } in y) ≡ x → machine x ≡ l
-machine_is id v l x is e = ap machine (sym e) ∙ ap (machine_of v.givens) is.0
+module _ {P : Type 0} (id : TableId) (seat : ℕ) (v : View P) (l : LocalView) (x : Seated P) (is : IsWorking v id l) (seen : (let y : Seated P = record { table_id = id; id = seat; view = v } in y) ≡ x) where
+  -- the machine of a worker with these fields
+  pub machine_is : machine x ≡ l
+  machine_is = ap machine (sym seen) ∙ ap (machine_of v.givens) is.role
+
+  -- what is wanted fits
+  pub fits : (y : Want) → want (machine x).state ≡ y → (want l.state ≡ y) × WantFits l.givens l.number y
+  fits y wants =
+      let same : want l.state ≡ y = ap (λ (m : LocalView). want m.state) (sym machine_is) ∙ wants in
+      (same, subst (WantFits l.givens l.number) same (want_fits l.givens l.number l.state l.givens.limits is.worker is.sound))
 
 pub claim_within : (g : Givens) (p : ℕ) → IsWorker g p → claim_word g p < word_count g
 claim_within g p o = let high = o.high in let wide = word_room g in omega arith
@@ -74,31 +99,6 @@ pub done_within : (g : Givens) (p k : ℕ) → IsWorker g p → k ≤ g.jobs + 1
 done_within g p k o few = let low = o.low in let high = o.high in
     let rows = rows_within (p - 1) (g.jobs + 1) g.workers (omega arith) in let split = spread g.workers g.jobs in omega (arith, rows, split, few)
 
--- the job that is about to be claimed
-pub claimed_is_job : (g : Givens) (p c j : ℕ) (r : Record) → IsSoundRecord g p r → want r ≡ StoreClaim c j → IsJob g j
-claimed_is_job g p c j r fit wants = let stands : IsJob g j × (has r.known j ≡ false) × (has r.tried j ≡ false) = rw (claiming_job r r.phase c j wants) at fit.stands in stands.0
-
--- a performance fits in its row
-pub place_few : (g : Givens) (p k j : ℕ) (r : Record) → IsSoundRecord g p r → want r ≡ StoreDone k j → k ≤ g.jobs + 1
-place_few g p k j r fit wants = let few = (claims_fit g p r fit).1 in let e = done_place r r.phase k j wants in omega arith
-  where
-    place_of : Want → ℕ
-    place_of (StoreNext j) = 0
-    place_of (LoadNext q) = 0
-    place_of (LoadDone q k) = 0
-    place_of (StoreClaim c j) = 0
-    place_of (StoreDone k j) = k
-    place_of Nothing = 0
-
-    done_place : (r : Record) (phase : Phase) (k j : ℕ) → want_in r phase ≡ StoreDone k j → k ≤ length r.dones + 1
-    done_place r (Announcing i) k j e = let n : 0 ≡ k = ap place_of e in omega arith
-    done_place r (Trying i q) k j e = let n : 0 ≡ k = ap place_of e in omega arith
-    done_place r (Reading i q) k j e = let n : 0 ≡ k = ap place_of e in omega arith
-    done_place r (Claiming i) k j e = let n : 0 ≡ k = ap place_of e in omega arith
-    done_place r (Holding i) k j e = let n : length r.dones + 1 ≡ k = ap place_of e in omega arith
-    done_place r Over k j e = let n : 0 ≡ k = ap place_of e in omega arith
-    done_place r Left k j e = let n : 0 ≡ k = ap place_of e in omega arith
-
 -- lists
 
 pub get_from_at : {A : Type 0} (l : List A) (i : ℕ) (a : A) → get_elem? l i ≡ some a → slice_get l i ≡ Some a
@@ -108,44 +108,6 @@ get_from_at (x ∷ xs) (suc i) a e = get_from_at xs i a e
 
 pub with_rest : {A : Type 0} (l : List (ℕ × A)) (x : ℕ × A) (xs : List (ℕ × A)) → l ≡ x ∷ xs → l ≡ x ∷ rest l
 with_rest l x xs e = e ∙ ap (λ z. x ∷ z) (sym (ap rest e))
-
--- the entry that is about to be loaded is one of another worker's row
-module _ (g : Givens) (p : ℕ) (r : Record) (fit : IsSoundRecord g p r) where
-  abbrev row_of : Want → ℕ
-  row_of (StoreNext j) = 0
-  row_of (LoadNext q) = 0
-  row_of (LoadDone q k) = q
-  row_of (StoreClaim c j) = 0
-  row_of (StoreDone k j) = 0
-  row_of Nothing = 0
-
-  abbrev entry_of : Want → ℕ
-  entry_of (StoreNext j) = 0
-  entry_of (LoadNext q) = 0
-  entry_of (LoadDone q k) = k
-  entry_of (StoreClaim c j) = 0
-  entry_of (StoreDone k j) = 0
-  entry_of Nothing = 0
-
-  abbrev is_entry : Want → Bool
-  is_entry (StoreNext j) = false
-  is_entry (LoadNext q) = false
-  is_entry (LoadDone q k) = true
-  is_entry (StoreClaim c j) = false
-  is_entry (StoreDone k j) = false
-  is_entry Nothing = false
-
-  loads_entry : (phase : Phase) → FitsPhase g p r phase → (q k : ℕ) → want_in r phase ≡ LoadDone q k → IsWorker g q × (k ≤ g.jobs + 1)
-  loads_entry (Announcing j) st q k e = absurd (true≢false (sym (ap is_entry e)))
-  loads_entry (Trying j i) st q k e = absurd (true≢false (sym (ap is_entry e)))
-  loads_entry (Reading j i) st q k e = let front = fit.front i in let n : numbered 0 r.fronts i + 1 ≡ k = ap entry_of e in (subst (λ x. IsWorker g x) (ap row_of e) st.1.worker, omega arith)
-  loads_entry (Claiming j) st q k e = absurd (true≢false (sym (ap is_entry e)))
-  loads_entry (Holding j) st q k e = absurd (true≢false (sym (ap is_entry e)))
-  loads_entry Over st q k e = absurd (true≢false (sym (ap is_entry e)))
-  loads_entry Left st q k e = absurd (true≢false (sym (ap is_entry e)))
-
-  pub loaded_entry : (q k : ℕ) → want r ≡ LoadDone q k → IsWorker g q × (k ≤ g.jobs + 1)
-  loaded_entry q k e = loads_entry r.phase fit.stands q k e
 
 -- floors of one table have the same number of workers
 pub same_workers : (g h : Givens) → word_count g ≡ word_count h → g.jobs ≡ h.jobs → g.workers ≡ h.workers
@@ -157,8 +119,9 @@ pub some_words : (id id' : TableId) (g : Givens) → id.words ≡ word_count g �
 some_words id id' g words same = let a = ap (λ t. t.words) same in omega (arith, words, a)
 
 -- the spots of a book with these fields
-pub spots_are : {P : Type 0} (id : TableId) (v : View P) (g : Givens) (l : List Spot) (x : Seated P) → IsBook v id g l → (let y : Seated P = record { table_id = id; view = v } in y) ≡ x → spots x ≡ l
-spots_are id v g l x is e = ap spots (sym e) ∙ ap spots_of is.0
+pub spots_are : {P : Type 0} (id : TableId) (seat : ℕ) (v : View P) (g : Givens) (l : List Spot) (room : ℕ) (x : Seated P) → IsBook v id g l room
+    → (let y : Seated P = record { table_id = id; id = seat; view = v } in y) ≡ x → spots x ≡ l
+spots_are id seat v g l room x is e = ap spots (sym e) ∙ ap spots_of is.role
 
 pub at_from_get : {A : Type 0} (l : List A) (i : ℕ) (a : A) → slice_get l i ≡ Some a → get_elem? l i ≡ some a
 at_from_get {A} [] i a e = cc

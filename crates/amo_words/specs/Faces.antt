@@ -1,5 +1,5 @@
--- Floor, book and worker as contracts see them.
-use Rattle.std.specs.Prelude.{◌≡◌, List, [], length}
+-- Floor, book and worker as contracts see them, and what holds of their fields.
+use Rattle.std.specs.Prelude.{◌≡◌, ℕ, List, []}
 use Rattle.atomic_table.specs.Seated.{TableId}
 use Rattle.amo_kk.specs.Givens.{IsWorker}
 use Rattle.amo_kk.specs.World.{nobody}
@@ -10,11 +10,13 @@ use Rattle.amo_words.specs.declared.rule.Role.{Role}
 use Rattle.amo_words.specs.declared.rule.Role.TheVariants.{Opening, Keeping, Working, Spent}
 use Rattle.amo_words.specs.declared.rule.Spot.{Spot}
 use Rattle.amo_words.specs.declared.rule.View.{View}
-use Rattle.amo_words.specs.Logs.{word_count}
+use Rattle.amo_words.specs.Logs.{word_count, AreOwn}
+use Rattle.amo_words.specs.Rule.{AllStand}
 
--- A worker or a book: its table, and what it knows.
+-- A worker or a book: its table, the number of its seat there, and what it knows.
 pub record Seated (P : Type 0) : Type 0 where
   pub table_id : TableId
+  pub id : ℕ
   pub view : View P
 
 -- A floor: its table, and the givens.
@@ -22,12 +24,16 @@ pub record FloorView : Type 0 where
   pub table_id : TableId
   pub givens : Givens
 
+-- what stands for the machine of a seat that is no worker's
+abbrev pub no_machine : Givens → LocalView
+no_machine g = record { givens = g; number = 0; state = nobody.local }
+
 -- the machine of the worker with this role
 abbrev pub machine_of : Givens → Role → LocalView
 machine_of g (Working l) = l
-machine_of g (Keeping spots) = record { givens = g; number = 0; state = nobody.local }
-machine_of g Spent = record { givens = g; number = 0; state = nobody.local }
-machine_of g (Opening n b) = record { givens = g; number = 0; state = nobody.local }
+machine_of g (Keeping spots) = no_machine g
+machine_of g Spent = no_machine g
+machine_of g (Opening n b) = no_machine g
 
 -- the spots of a book with this role
 abbrev pub spots_of : Role → List Spot
@@ -45,9 +51,22 @@ abbrev pub spots : {P : Type 0} → Seated P → List Spot
 spots b = spots_of b.view.role
 
 -- What holds of a worker's fields: its seat's view, its table, and its machine.
-abbrev pub IsWorking : {P : Type 0} → View P → TableId → LocalView → Type 0
-IsWorking v id l = (v.role ≡ Working l) × (v.givens ≡ l.givens) × (id.words ≡ word_count l.givens) × IsWorker l.givens l.number × IsSoundRecord l.givens l.number l.state × (id.slots ≡ l.givens.jobs)
+pub record IsWorking {P : Type 0} (v : View P) (id : TableId) (l : LocalView) : Type 0 where
+  pub role : v.role ≡ Working l
+  pub givens : v.givens ≡ l.givens
+  pub words : id.words ≡ word_count l.givens
+  pub slots : id.slots ≡ l.givens.jobs
+  pub worker : IsWorker l.givens l.number
+  pub sound : IsSoundRecord l.givens l.number l.state
 
--- What holds of a book's fields: its seat's view, its table, the givens, and the spots.
-abbrev pub IsBook : {P : Type 0} → View P → TableId → Givens → List Spot → Type 0
-IsBook v id g spots = (v.role ≡ Keeping spots) × (v.givens ≡ g) × (id.words ≡ word_count g) × (length spots ≡ g.workers) × (id.slots ≡ g.jobs) × (v.told ≡ [])
+-- What holds of a book's fields: its seat's view, its table, the givens, and the spots, whose list has just the room that
+-- it needs. The book's records stand after what it has seen.
+pub record IsBook {P : Type 0} (v : View P) (id : TableId) (g : Givens) (spots : List Spot) (room : ℕ) : Type 0 where
+  pub role : v.role ≡ Keeping spots
+  pub givens : v.givens ≡ g
+  pub words : id.words ≡ word_count g
+  pub slots : id.slots ≡ g.jobs
+  pub told : v.told ≡ []
+  pub turns : AreOwn g v.seen
+  pub stand : AllStand g v.seen spots
+  pub exact : room ≡ g.workers

@@ -1,9 +1,8 @@
 -- What each kind of step tells its seat.
-use Rattle.std.specs.Prelude.{◌≡◌, ℕ, ◌+◌, ◌-◌, List, [], ◌∷◌, ◌++◌, slice_set, nat_lt, if◌then◌else◌, true, false, Option, Some, None, replicate, refl, ⊤}
+use Rattle.std.specs.Prelude.{◌≡◌, ℕ, ◌+◌, ◌-◌, List, [], ◌∷◌, ◌++◌, slice_set, nat_lt, if◌then◌else◌, true, false, Option, Some, None, replicate, ⊤}
 use mathlib.Core.Option.{some}
 use lib.ListN.{get_elem?}
 use Rattle.atomic_table.specs.Table.{Step, Me, rest}
-use Rattle.amo_kk.specs.Limits.{within_limits}
 use Rattle.amo_kk.specs.Step.{want, record_after, record_after_leave, MayLoad}
 use Rattle.amo_kk.specs.World.{loaded_value}
 use Rattle.amo_kk.specs.Machine.{LocalView}
@@ -18,7 +17,7 @@ use Rattle.amo_words.specs.declared.rule.Spot.{Spot}
 use Rattle.amo_words.specs.declared.rule.Spot.TheVariants.{Home, Out, Back}
 use Rattle.amo_words.specs.declared.rule.View.{View}
 use Rattle.amo_words.specs.Logs.{world_after, moves_of, first_machine, AreOwn, StartsWith}
-use Rattle.amo_words.specs.Rule.{AllStand}
+use Rattle.amo_words.specs.Rule.{AllStand, spent_view}
 
 -- a worker's steps
 
@@ -130,10 +129,6 @@ book_left p v = record v { role = without_hired p v.role }
 
 abbrev pub worker_right : {P : Type 0} → ℕ → View P → View P
 worker_right p v = record v { told = []; role = role_of_hired v.givens p v.role }
-
--- the one view that a seat is left with whose records another has
-abbrev pub spent_view : {P : Type 0} → View P
-spent_view = record { givens = record { jobs = 0; workers = 1; beta = 1; limits = within_limits 0 1 1 refl }; payloads = []; seen = []; told = []; role = Spent }
 
 -- a seat that has taken slots can't be joined, so its view goes to a new one
 abbrev pub shed_left : {P : Type 0} → View P → View P

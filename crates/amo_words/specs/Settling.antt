@@ -3,6 +3,8 @@ use Rattle.std.specs.Prelude.{◌≡◌, ℕ, suc, ◌+◌, ◌<◌, ◌≤◌, 
 use Rattle.std.proofs.Common.{Vec, Global}
 use mathlib.Core.Option.{some}
 use lib.ListN.{get_elem?}
+use Rattle.std.specs.List.{sum_by}
+use Rattle.atomic_table.specs.Table.{Final, Seen}
 use Rattle.amo_sets.specs.Lists.{numbered}
 use Rattle.amo_sets.specs.Sets.{has}
 use Rattle.amo_kk.specs.Givens.{IsWorker, bound}
@@ -19,7 +21,10 @@ use Rattle.amo_words.specs.declared.floor.settling.WorkerEnd.{WorkerEnd}
 use Rattle.amo_words.specs.declared.floor.settling.WorkerEnd.TheVariants.{NeverHired, Ended, Stopped, Lost}
 use Rattle.amo_words.specs.declared.floor.settling.Settlement.{Settlement}
 use Rattle.amo_words.specs.Logs.{world_after, AreOwn, StartsWith, is_claimed}
-use Rattle.amo_words.specs.Rule.{AllStand}
+use Rattle.amo_words.specs.declared.rule.Role.TheVariants.{Keeping}
+use Rattle.amo_words.specs.declared.rule.View.{View}
+use Rattle.amo_words.specs.declared.rule.Key.{Key}
+use Rattle.amo_words.specs.Rule.{AllStand, IsKept}
 use Rattle.amo_words.specs.Looking.{IsBack}
 use Rattle.amo_kk.specs.Machine.{LocalView}
 
@@ -67,7 +72,7 @@ AreMarked g all marks = (k : ℕ) → k < g.jobs → get_or marks k false ≡ is
 -- The closed words and slots show a world after a list of turns and leavings that begins with what the book had seen.
 pub record IsClosed {P : Type 0} (g : Givens) (payloads : List P) (seen : List Move) (spots : List Spot) (words : List ℕ) (slots : List (Option P)) : Type 0 where
   pub log : List Move
-  pub own : AreOwn g log
+  pub turns : AreOwn g log
   pub begins : StartsWith log seen
   pub stand : AllStand g log spots
   pub shown : AreShown g (world_after g log).processes words
@@ -75,15 +80,25 @@ pub record IsClosed {P : Type 0} (g : Givens) (payloads : List P) (seen : List M
 
 -- how many jobs are in these lists
 abbrev pub job_count : List (List ℕ) → ℕ
-job_count [] = 0
-job_count (xs ∷ rest) = length xs + job_count rest
+job_count lists = sum_by (λ xs. length xs) lists
 
--- The settlement is whole: a list of turns and leavings that begins with what the book had seen leads to a world in
--- which the book's records stand, and whose lists and free jobs these are.
+-- what a book's seat knows between two calls
+abbrev pub book_view : {P : Type 0} → Givens → List P → List Move → List Spot → View P
+book_view g payloads seen spots = record { givens = g; payloads = payloads; seen = seen; told = []; role = Keeping spots }
+
+-- The settlement is whole. The table was closed with some words and slots, where the book's seat knew what the book knew.
+-- A list of turns and leavings that begins with what the book had seen leads to a world that has these words, and in which
+-- the book's records stand. The lists, the ends and the free jobs are those of that world.
 pub record IsWhole {P : Type 0} (g : Givens) (payloads : List P) (seen : List Move) (spots : List Spot) (s : Settlement P) : Type 0 where
+  pub key : Key P
+  pub seat : ℕ
+  pub words : List ℕ
+  pub slots : List (Option P)
+  pub closed : Final (Seen (IsKept key) seat (book_view g payloads seen spots)) words slots
   pub log : List Move
-  pub own : AreOwn g log
+  pub turns : AreOwn g log
   pub begins : StartsWith log seen
+  pub shown : words ≡ words_of (world_after g log).processes
   pub stand : AllStand g log spots
   pub claims : map (λ (v : Vec ℕ Global). v.items) s.claims.items ≡ claims_of (world_after g log).processes
   pub dones : map (λ (v : Vec ℕ Global). v.items) s.dones.items ≡ dones_of (world_after g log).processes

@@ -6,7 +6,7 @@ ghost use Rattle.amo_kk.specs.Machine.{LocalView};
 ghost use Rattle.amo_words.specs.declared.rule.Spot.{Spot};
 ghost use Rattle.amo_words.specs.declared.rule.Spot.TheVariants.{Back};
 ghost use Rattle.amo_words.specs.Faces.{spots};
-ghost use Rattle.amo_words.specs.Looking.{where_is, IsBack};
+ghost use Rattle.amo_words.specs.Looking.{where_is, HasSpotOf, IsBack};
 
 use super::Book;
 use crate::rule::Spot;
@@ -38,7 +38,7 @@ impl<P> Book<P> {
     /// Where worker p is.
     pub fn place_of(&self, p: u32) -> Place
         requires { IsWorker self.now.view.givens p }
-        ensures { (x : Spot) → slice_get (spots self.now) (p - 1) ≡ Some x → result ≡ where_is x }
+        ensures { (x : Spot) × HasSpotOf (spots self.now) p x × (result ≡ where_is x) }
     {
         match &self.spots[p as usize - 1] {
             Spot::Home => Place::Home,

@@ -7,6 +7,7 @@ ghost use Rattle.amo_kk.specs.Record.{is_over, can_leave, jobs_in_hand};
 ghost use Rattle.amo_kk.specs.Step.{want, is_load, shown};
 ghost use Rattle.amo_kk.specs.Words.{next_word, claim_word, done_word, loaded_word};
 ghost use Rattle.amo_kk.specs.Answer.{leaving};
+ghost use Rattle.amo_kk.specs.Lawful.{IsSoundRecord};
 ghost use Rattle.amo_kk.specs.declared.phase.Phase.{Phase};
 ghost use Rattle.amo_kk.specs.declared.phase.Want.{Want as Wanted};
 ghost use Rattle.amo_words.specs.Plays.{HasTurned, HasLeft};
@@ -70,7 +71,7 @@ fn take_out<P>(words: &Words<P>, place: &mut TableSeat<P>, j: u32) -> P
     requires table { place.old.table_id ≡ words.now.table_id }
     requires job { 1 ≤ j }
     requires full { (x : P) × (place.old.me.1 ≡ (j - 1, Some x) ∷ rest place.old.me.1) }
-    ensures place { (place.new.table_id ≡ place.old.table_id) × (place.new.me.0 ≡ place.old.me.0) }
+    ensures place { (place.new.table_id ≡ place.old.table_id) × (place.new.id ≡ place.old.id) × (place.new.me.0 ≡ place.old.me.0) }
     ensures payload { (out : List (ℕ × Option P)) (x : P) → place.old.me.1 ≡ (j - 1, Some x) ∷ out → x ≡ result }
 {
     let Some(payload) = exchange(words, place, j as usize - 1, None) else {
@@ -94,7 +95,10 @@ fn moved<P>(shown: Shown) -> Step<P>
 impl<P> Worker<P> {
     /// The worker's number, from 1.
     pub fn number(&self) -> u32
-        ensures { result ≡ (machine self.now).number }
+        ensures number { result ≡ (machine self.now).number }
+        ensures worker { IsWorker self.now.view.givens result }
+        ensures givens { (machine self.now).givens ≡ self.now.view.givens }
+        ensures sound { IsSoundRecord self.now.view.givens result (machine self.now).state }
     {
         self.local.number()
     }
@@ -146,6 +150,7 @@ impl<P> Worker<P> {
         requires table { self.old.table_id ≡ words.now.table_id }
         requires wants { want (machine self.old).state ≡ Wanted.StoreNext j }
         ensures table { self.new.table_id ≡ self.old.table_id }
+        ensures seat { self.new.id ≡ self.old.id }
         ensures turn { HasTurned self.old.view (machine self.old) 0 self.new.view }
         ensures shows { result ≡ shown (machine self.old).state.phase (machine self.new).state.phase }
     {
@@ -161,6 +166,7 @@ impl<P> Worker<P> {
         requires wants { is_load (want (machine self.old).state) ≡ true }
         requires word { word ≡ loaded_word (machine self.old).givens (want (machine self.old).state) }
         ensures table { self.new.table_id ≡ self.old.table_id }
+        ensures seat { self.new.id ≡ self.old.id }
         ensures turn { (n : ℕ) × HasTurned self.old.view (machine self.old) n self.new.view }
         ensures shows { result ≡ shown (machine self.old).state.phase (machine self.new).state.phase }
     {
@@ -173,6 +179,7 @@ impl<P> Worker<P> {
         requires table { self.old.table_id ≡ words.now.table_id }
         requires wants { want (machine self.old).state ≡ Wanted.StoreClaim count j }
         ensures table { self.new.table_id ≡ self.old.table_id }
+        ensures seat { self.new.id ≡ self.old.id }
         ensures turn { HasTurned self.old.view (machine self.old) 0 self.new.view }
         ensures payload { slice_get self.old.view.payloads (j - 1) ≡ Some result }
     {
@@ -187,6 +194,7 @@ impl<P> Worker<P> {
         requires table { self.old.table_id ≡ words.now.table_id }
         requires wants { want (machine self.old).state ≡ Wanted.StoreDone k j }
         ensures table { self.new.table_id ≡ self.old.table_id }
+        ensures seat { self.new.id ≡ self.old.id }
         ensures turn { HasTurned self.old.view (machine self.old) 0 self.new.view }
         ensures shows { result ≡ shown (machine self.old).state.phase (machine self.new).state.phase }
     {
@@ -200,6 +208,7 @@ impl<P> Worker<P> {
         requires table { self.old.table_id ≡ words.now.table_id }
         requires may { can_leave (machine self.old).state.phase ≡ true }
         ensures table { self.new.table_id ≡ self.old.table_id }
+        ensures seat { self.new.id ≡ self.old.id }
         ensures left { HasLeft self.old.view (machine self.old) self.new.view }
     {
         let word = next_word(self.local.number());
@@ -214,6 +223,7 @@ impl<P: Drop> Worker<P> {
         requires table { self.old.table_id ≡ floor.now.table_id }
         requires empty { jobs_in_hand (machine self.old).state.phase ≡ [] }
         ensures table { self.new.table_id ≡ self.old.table_id }
+        ensures seat { self.new.id ≡ self.old.id }
         ensures stepped { Stepped self.old.view (machine self.old) result self.new.view }
     {
         let words = &floor.board.shared;
@@ -234,6 +244,7 @@ impl<P: Drop> Worker<P> {
         requires table { self.old.table_id ≡ floor.now.table_id }
         requires in_hand { (j : ℕ) × (jobs_in_hand (machine self.old).state.phase ≡ j ∷ []) }
         ensures table { self.new.table_id ≡ self.old.table_id }
+        ensures seat { self.new.id ≡ self.old.id }
         ensures turn { HasTurned self.old.view (machine self.old) 0 self.new.view }
         ensures answers { result ≡ filed (shown (machine self.old).state.phase (machine self.new).state.phase) }
     {
@@ -250,6 +261,7 @@ impl<P: Drop> Worker<P> {
     pub fn leave(&mut self, floor: &Floor<P>) -> Leaving
         requires table { self.old.table_id ≡ floor.now.table_id }
         ensures table { self.new.table_id ≡ self.old.table_id }
+        ensures seat { self.new.id ≡ self.old.id }
         ensures answers { result ≡ leaving (machine self.old).state.phase }
         ensures left { LeftIf result self.old.view (machine self.old) self.new.view }
     {
