@@ -36,7 +36,7 @@ front_distinct [] ys d = tt
 front_distinct (x ∷ xs) ys d = (false_from_ne_true (has xs x) (λ t. true≢false (sym (has-append xs ys x ∙ or_left (has xs x) (has ys x) t) ∙ d.0)), front_distinct xs ys d.1)
 
 -- one of the workers 1..k has done j
-abbrev someone : (ℕ → Process) → ℕ → ℕ → Bool
+abbrev pub someone : (ℕ → Process) → ℕ → ℕ → Bool
 someone at zero j = false
 someone at (suc k) j = someone at k j || has (at (suc k)).local.dones j
 

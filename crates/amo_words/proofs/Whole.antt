@@ -3,7 +3,6 @@ use Rattle.std.proofs.Common.{◌≡◌, ⊎_elim, ℕ, zero, suc, ◌+◌, ◌-
 use Rattle.std.specs.Prelude.{if◌then◌else◌}
 use Rattle.std.specs.List.{sum_by}
 use Rattle.std.proofs.lemmas.List.Sums.{sum_by-cons}
-use Rattle.amo_kk.proofs.Ends.{enough_done}
 use Rattle.std.proofs.lemmas.Bool.{cases_Bool, true≢false, or_right}
 use Rattle.std.proofs.lemmas.List.{take_more, get_or-set_same, get_or-set_other, map-append}
 use mathlib.Core.Logic.{dite}
@@ -38,6 +37,7 @@ use Rattle.amo_words.specs.Logs.{world_after, is_claimed}
 use Rattle.amo_words.specs.Rule.{AllStand, HoldsAll, IsOf, IsKept, home_of}
 use Rattle.amo_words.specs.Looking.{IsBack}
 use Rattle.amo_words.specs.Settling.{AreShown, HasFree, AreMarked, IsClosed, any_has, claims_of, dones_of, free_of, job_count, book_view}
+use Rattle.amo_words.proofs.Meetings.{late_back}
 use Rattle.amo_words.proofs.Worlds.{lawful}
 use Rattle.amo_words.proofs.Turns.{inside_of, some_at}
 use Rattle.amo_words.proofs.Lifts.{is_placing, lift_final}
@@ -105,11 +105,9 @@ count_all (a ∷ all) =
     ∙ ap (λ n. length a.local.dones + n) (count_all all)
     ∙ sym (sum_by-cons (λ (xs : List ℕ). length xs) a.local.dones (dones_of all))
 
--- a worker that came back has ended in the world of the log
+-- where a worker that came back has ended
 pub enough : (g : Givens) (log : List Move) (spots : List Spot) → AllStand g log spots → (p : ℕ) (l : LocalView) → IsBack spots p l → is_over l.state.phase ≡ true → bound g ≤ job_count (dones_of (world_after g log).processes)
-enough g log spots stand p l back ended = let low = back.0 in let at = at_from_get spots (p - 1) (Back l) back.1 in let inside = inside_of spots (p - 1) (Back l) at in let wide = stand.0 in
-    subst (λ n. bound g ≤ n) (count_all (world_after g log).processes) (enough_done g (world_after g log) p (lawful g log) (record { low = low; high = omega (arith, inside, wide, low) })
-    (ap (λ (m : LocalView). is_over m.state.phase) (sym (stand.1 p (Back l) low at)) ∙ ended))
+enough g log spots stand p l back ended = subst (λ n. bound g ≤ n) (count_all (world_after g log).processes) (late_back g log spots stand p l back ended)
 
 -- marks
 
