@@ -20,7 +20,8 @@ use Rattle.amo_words.specs.declared.rule.Spot.{Spot}
 use Rattle.amo_words.specs.declared.rule.Spot.TheVariants.{Home, Out, Back}
 use Rattle.amo_words.specs.Logs.{world_after, machine_after}
 use Rattle.amo_words.specs.Rule.{AllStand, Stands}
-use Rattle.amo_words.specs.Looking.{IsBack, done_in, back_count}
+use Rattle.amo_words.specs.declared.floor.looking.Place.TheVariants.{Back as CameBack}
+use Rattle.amo_words.specs.Looking.{where_is, HasSpotOf, IsBack, done_in, back_count}
 use Rattle.amo_words.proofs.Worlds.{lawful}
 use Rattle.amo_words.proofs.Turns.{inside_of, some_at}
 use Rattle.amo_words.proofs.Workers.{at_from_get}
@@ -80,3 +81,9 @@ module _ (g : Givens) (log : List Move) (spots : List Spot) (stand : AllStand g 
       let fit = rows_fit g (world_after g log) (lawful g log) (length spots) (omega arith) in
       let all = count_le_all (someone (process (world_after g log)) (length spots)) g.jobs in
       omega (arith, sums, fit, all)
+
+-- a worker whose place is said to be Back has a machine in the book
+pub back_from : (spots : List Spot) (p : ℕ) (x : Spot) → HasSpotOf spots p x → where_is x ≡ CameBack → (l : LocalView) × IsBack spots p l
+back_from spots p Home h is = absurd cc
+back_from spots p Out h is = absurd cc
+back_from spots p (Back l) h is = (l, h)

@@ -5,7 +5,7 @@ ghost use Rattle.std.specs.Option.{option_to_list};
 ghost use Rattle.amo_kk.specs.Givens.{IsWorker};
 ghost use Rattle.amo_kk.specs.Record.{is_over, can_leave, jobs_in_hand};
 ghost use Rattle.amo_kk.specs.Step.{want, is_load, shown};
-ghost use Rattle.amo_kk.specs.Words.{next_word, claim_word, done_word, loaded_word};
+ghost use Rattle.amo_kk.specs.Words.{loaded_word};
 ghost use Rattle.amo_kk.specs.Answer.{leaving};
 ghost use Rattle.amo_kk.specs.Lawful.{IsSoundRecord};
 ghost use Rattle.amo_kk.specs.declared.phase.Phase.{Phase};
@@ -15,10 +15,11 @@ ghost use Rattle.amo_words.specs.Faces.{machine};
 ghost use Rattle.amo_words.specs.Answers.{quiet_step, Stepped, filed, LeftIf};
 
 use super::{Floor, Worker};
+use crate::layout::{claim_word, done_word, next_word};
 use crate::plays::{Claim, Load, Store, TakeBack};
 use crate::rule::{TableSeat, Words};
 use crate::slots::exchange;
-use amo_kk::{Givens, Leaving, Shown, Want};
+use amo_kk::{Leaving, Shown, Want};
 
 /// What a step came to.
 #[derive(Drop)]
@@ -40,30 +41,6 @@ pub enum Filed {
     More,
     /// It has ended.
     Ended,
-}
-
-/// The place of the announcement of p.
-pub(super) fn next_word(p: u32) -> usize
-    ensures { result ≡ next_word p }
-{
-    p as usize
-}
-
-/// The place of the count of p's claims.
-pub(super) fn claim_word(givens: Givens, p: u32) -> usize
-    requires { IsWorker givens p }
-    ensures { result ≡ claim_word givens p }
-{
-    (givens.workers() + p) as usize
-}
-
-/// The place of the k-th entry of p's row.
-pub(super) fn done_word(givens: Givens, p: u32, k: u32) -> usize
-    requires worker { IsWorker givens p }
-    requires place { k ≤ givens.jobs + 1 }
-    ensures { result ≡ done_word givens p k }
-{
-    (2 * givens.workers() + (p - 1) * (givens.jobs() + 1) + k) as usize
 }
 
 /// Takes the payload of j out of its slot, which the seat has taken last.
