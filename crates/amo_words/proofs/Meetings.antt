@@ -69,9 +69,9 @@ module _ (g : Givens) (log : List Move) (spots : List Spot) (stand : AllStand g 
       let before = first_few k (omega arith) in
       let next : suc k ≡ k + 1 = omega arith in
       let grown : sum_by done_in (take (suc k) spots) ≡ sum_by done_in (take k spots) + (done_in x + 0) =
-          ap (λ i. sum_by done_in (take i spots)) next ∙ ap (sum_by done_in) (take_more spots k x (omega arith))
-          ∙ sum_by-append done_in (take k spots) (get_or spots k x ∷ []) ∙ ap (λ n. sum_by done_in (take k spots) + n) (sum_by-cons done_in (get_or spots k x) [])
-          ∙ ap (λ y. sum_by done_in (take k spots) + (done_in y + 0)) (sym (get_or_at spots k x x at.1)) in
+      ap (λ i. sum_by done_in (take i spots)) next ∙ ap (sum_by done_in) (take_more spots k x (omega arith))
+      ∙ sum_by-append done_in (take k spots) (get_or spots k x ∷ []) ∙ ap (λ n. sum_by done_in (take k spots) + n) (sum_by-cons done_in (get_or spots k x) [])
+      ∙ ap (λ y. sum_by done_in (take k spots) + (done_in y + 0)) (sym (get_or_at spots k x x at.1)) in
       omega (arith, here, before, grown)
 
   pub back_few : back_count spots ≤ g.jobs

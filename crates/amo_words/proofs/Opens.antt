@@ -152,7 +152,8 @@ module _ {P : Type 0} (k : Key P) where
   placing : (s : St) → IsKept k s → (id : ℕ) (v : View P) (n : ℕ) (b : Bool) → get_elem? s.views id ≡ some v → v.role ≡ Opening n b → (h : IsPlacing k s) × (id ≡ 0) × (v ≡ placing_view k n b) × (h.placed ≡ n) × (h.out ≡ b)
   placing s (inl h) id v n b at is = absurd (subst (λ ro. IsOf k.givens xs h.log v ro) is (h.views id v at).0)
   placing s (inr h) id v n b at is = let o = only id (placing_view k h.placed h.out) v (ap (λ vs. get_elem? vs id) (sym h.views) ∙ at) in
-      let n' : h.placed ≡ n = ap (λ (z : View P). place_of z.role) o.1 ∙ ap place_of is in let b' : h.out ≡ b = ap (λ (z : View P). out_of z.role) o.1 ∙ ap out_of is in
+      let n' : h.placed ≡ n = ap (λ (z : View P). place_of z.role) o.1 ∙ ap place_of is in
+      let b' : h.out ≡ b = ap (λ (z : View P). out_of z.role) o.1 ∙ ap out_of is in
       (h, o.0, sym o.1 ∙ (λ c. placing_view k (n' c) (b' c)), n', b')
 
   pub picks : (slots id : ℕ) (me : Me (Option P) (View P)) (n : ℕ) → me.0.role ≡ Opening n false → Allows (IsKept k) slots id me 0 (λ m. m) (told_by_picking (step slots 0 0 0 none) me)

@@ -111,7 +111,11 @@ module _ {P : Type 0} (g : Givens) (payloads : List P) where
       pub move_kept : (words' : List ℕ) → words' ≡ words_of behind.processes → (homes' : List (maybe.Option (Option P))) → SlotsFit behind payloads homes'
           → IsShown g payloads record { words = words'; homes = homes'; views = set s.views id (view_after v between m l') }
       move_kept words' words homes' slots =
-          let L' : List Move = h.log ++ m ∷ [] in let v' : View P = view_after v between m l' in let seen' : (v.seen ++ between) ++ m ∷ [] ≡ L' = ap (λ z. z ++ m ∷ []) (sym split) in let t = mine in record {
+          let L' : List Move = h.log ++ m ∷ [] in
+          let v' : View P = view_after v between m l' in
+          let seen' : (v.seen ++ between) ++ m ∷ [] ≡ L' = ap (λ z. z ++ m ∷ []) (sym split) in
+          let t = mine in
+          record {
             log = L';
             seat = h.seat;
             own = own_more g h.log m h.own (subst (IsWorker g) (sym of_it) t.1.0) own;

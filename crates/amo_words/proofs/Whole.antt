@@ -56,7 +56,9 @@ module _ {P : Type 0} (all : List Process) where
       → (is_claimed all (i + 1) ≡ true → acc' ≡ acc) → (is_claimed all (i + 1) ≡ false → acc' ≡ acc ++ (i + 1, x) ∷ [])
       → acc ++ free_of all (i + 1) (drop i payloads) ≡ whole → acc' ++ free_of all (i + 1 + 1) (drop (i + 1) payloads) ≡ whole
   one_more i acc acc' payloads x whole at taken free h =
-      let next : suc (i + 1) ≡ i + 1 + 1 = omega arith in let step : suc i ≡ i + 1 = omega arith in let rest : List (ℕ × P) = free_of all (i + 1 + 1) (drop (i + 1) payloads) in
+      let next : suc (i + 1) ≡ i + 1 + 1 = omega arith in
+      let step : suc i ≡ i + 1 = omega arith in
+      let rest : List (ℕ × P) = free_of all (i + 1 + 1) (drop (i + 1) payloads) in
       let opened : free_of all (i + 1) (drop i payloads) ≡ (if is_claimed all (i + 1) then rest else (i + 1, x) ∷ rest) =
       ap (free_of all (i + 1)) (drop_at payloads i x at) ∙ (λ c. if is_claimed all (i + 1) then free_of all (next c) (drop (step c) payloads) else (i + 1, x) ∷ free_of all (next c) (drop (step c) payloads)) in
       choose (is_claimed all (i + 1)) acc acc' (i + 1) x rest taken free ∙ ap (λ l. acc ++ l) (sym opened) ∙ h
@@ -143,7 +145,8 @@ any_who (a ∷ all) j h = ⊎_elim
 
 pub any_job : (g : Givens) (all : List Process) (words : List ℕ) → AreShown g all words → (j : ℕ) → any_has (claims_of all) j ≡ true → (1 ≤ j) × (j ≤ g.jobs)
 any_job g all words h j claimed = let w = any_who all j claimed in let size = h.size in let low = w.1 in let high = w.2 in
-    let job = (h.sound w.0 (record { low = w.1; high = omega (arith, high, size) })).local.jobs j w.3 in (job.low, job.high)
+    let job = (h.sound w.0 (record { low = w.1; high = omega (arith, high, size) })).local.jobs j w.3 in
+    (job.low, job.high)
 
 any_append : (xs ys : List (List ℕ)) (j : ℕ) → any_has (xs ++ ys) j ≡ (any_has xs j || any_has ys j)
 any_append [] ys j = refl

@@ -97,7 +97,9 @@ spread m n = grind arith
 
 pub done_within : (g : Givens) (p k : ℕ) → IsWorker g p → k ≤ g.jobs + 1 → done_word g p k < word_count g
 done_within g p k o few = let low = o.low in let high = o.high in
-    let rows = rows_within (p - 1) (g.jobs + 1) g.workers (omega arith) in let split = spread g.workers g.jobs in omega (arith, rows, split, few)
+    let rows = rows_within (p - 1) (g.jobs + 1) g.workers (omega arith) in
+    let split = spread g.workers g.jobs in
+    omega (arith, rows, split, few)
 
 -- lists
 

@@ -1,4 +1,4 @@
-//! What the book shows.
+//! What the book shows. None of these takes memory.
 ghost use Rattle.std.specs.Prelude.{◌≡◌, ◌-◌, ◌<◌, slice_get, Some};
 ghost use Rattle.amo_kk.specs.Givens.{IsWorker};
 ghost use Rattle.amo_kk.specs.Record.{is_over};
@@ -12,14 +12,14 @@ use super::Book;
 use crate::rule::Spot;
 use amo_kk::Local;
 
-/// Where a worker is.
+/// Where a worker of the book is.
 #[derive(Clone, Copy, Debug, PartialEq, Eq)]
 pub enum Place {
     /// It was never hired.
     Home,
-    /// It was hired, and not collected.
+    /// It was hired, and not collected: it runs, or was dropped.
     Out,
-    /// It was collected.
+    /// It was collected, and the book has its record.
     Back,
 }
 
@@ -35,7 +35,7 @@ impl<P> Book<P> {
         }
     }
 
-    /// Where worker p is.
+    /// Where worker p of 1..m is. It is Back just where the other questions may be asked of it.
     pub fn place_of(&self, p: u32) -> Place
         requires { IsWorker self.now.view.givens p }
         ensures { (x : Spot) × HasSpotOf (spots self.now) p x × (result ≡ where_is x) }
@@ -47,7 +47,7 @@ impl<P> Book<P> {
         }
     }
 
-    /// How many steps worker p has taken, which is back.
+    /// How many steps worker p has taken, which is Back.
     pub fn steps_of(&self, p: u32) -> u64
         requires { (l : LocalView) × IsBack (spots self.now) p l }
         ensures { (l : LocalView) → IsBack (spots self.now) p l → result ≡ l.state.steps }
@@ -55,7 +55,7 @@ impl<P> Book<P> {
         self.back(p).steps()
     }
 
-    /// Whether worker p, which is back, has ended by its own choice.
+    /// Whether worker p, which is Back, has ended by its own choice.
     pub fn ended_of(&self, p: u32) -> bool
         requires { (l : LocalView) × IsBack (spots self.now) p l }
         ensures { (l : LocalView) → IsBack (spots self.now) p l → result ≡ is_over l.state.phase }
@@ -63,7 +63,7 @@ impl<P> Book<P> {
         self.back(p).ended()
     }
 
-    /// What worker p has claimed, which is back, in its order.
+    /// The jobs that worker p has claimed, which is Back, in their order.
     pub fn claims_of(&self, p: u32) -> &[u32]
         requires { (l : LocalView) × IsBack (spots self.now) p l }
         ensures { (l : LocalView) → IsBack (spots self.now) p l → result.now ≡ l.state.claimed }
@@ -71,7 +71,7 @@ impl<P> Book<P> {
         self.back(p).claims()
     }
 
-    /// What worker p has done, which is back, in its order.
+    /// The jobs that worker p has done, which is Back, in their order.
     pub fn dones_of(&self, p: u32) -> &[u32]
         requires { (l : LocalView) × IsBack (spots self.now) p l }
         ensures { (l : LocalView) → IsBack (spots self.now) p l → result.now ≡ l.state.dones }

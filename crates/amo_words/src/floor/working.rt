@@ -1,14 +1,10 @@
-//! What a worker does.
-ghost use Rattle.std.specs.Prelude.{◌≡◌, ◌↔◌, ◌≤◌, ◌+◌, ◌-◌, ◌<◌, [], ◌∷◌, ℕ, List, true, false, Option, Some, slice_get};
+//! What a worker does: one load or store a call.
+ghost use Rattle.std.specs.Prelude.{◌≡◌, ◌≤◌, ◌-◌, ◌<◌, [], ◌∷◌, ℕ, List, true, false, Option, Some, slice_get};
 ghost use Rattle.atomic_table.specs.Table.{rest};
-ghost use Rattle.std.specs.Option.{option_to_list};
-ghost use Rattle.amo_kk.specs.Givens.{IsWorker};
-ghost use Rattle.amo_kk.specs.Record.{is_over, can_leave, jobs_in_hand};
+ghost use Rattle.amo_kk.specs.Record.{can_leave, jobs_in_hand};
 ghost use Rattle.amo_kk.specs.Step.{want, is_load, shown};
 ghost use Rattle.amo_kk.specs.Words.{loaded_word};
 ghost use Rattle.amo_kk.specs.Answer.{leaving};
-ghost use Rattle.amo_kk.specs.Lawful.{IsSoundRecord};
-ghost use Rattle.amo_kk.specs.declared.phase.Phase.{Phase};
 ghost use Rattle.amo_kk.specs.declared.phase.Want.{Want as Wanted};
 ghost use Rattle.amo_words.specs.Plays.{HasTurned, HasLeft};
 ghost use Rattle.amo_words.specs.Faces.{machine};
@@ -21,25 +17,25 @@ use crate::rule::{TableSeat, Words};
 use crate::slots::exchange;
 use amo_kk::{Leaving, Shown, Want};
 
-/// What a step came to.
+/// What a step of a worker came to.
 #[derive(Drop)]
 pub enum Step<P> {
-    /// The worker goes on.
+    /// The worker has made its load or store, and goes on.
     Moved,
-    /// It has claimed this job, whose payload it hands over.
+    /// It has claimed the job, and hands over its payload as it was put in. The job is in its hand until it is filed.
     Claimed(u32, P),
-    /// It has ended.
+    /// With this step it has ended by its own choice.
     Ended,
     /// It had ended or left before, and nothing changed.
     Idle,
 }
 
-/// What a filing came to.
+/// What filing a job came to.
 #[derive(Clone, Copy, Debug, PartialEq, Eq)]
 pub enum Filed {
     /// The worker goes on.
     More,
-    /// It has ended.
+    /// With this step it has ended by its own choice.
     Ended,
 }
 
@@ -70,59 +66,7 @@ fn moved<P>(shown: Shown) -> Step<P>
 }
 
 impl<P> Worker<P> {
-    /// The worker's number, from 1.
-    pub fn number(&self) -> u32
-        ensures number { result ≡ (machine self.now).number }
-        ensures worker { IsWorker self.now.view.givens result }
-        ensures givens { (machine self.now).givens ≡ self.now.view.givens }
-        ensures sound { IsSoundRecord self.now.view.givens result (machine self.now).state }
-    {
-        self.local.number()
-    }
-
-    /// How many steps it has taken.
-    pub fn steps(&self) -> u64
-        ensures { result ≡ (machine self.now).state.steps }
-    {
-        self.local.steps()
-    }
-
-    /// The job in its hand.
-    pub fn in_hand(&self) -> Option<u32>
-        ensures { option_to_list result ≡ jobs_in_hand (machine self.now).state.phase }
-    {
-        self.local.in_hand()
-    }
-
-    /// Whether it has left.
-    pub fn has_left(&self) -> bool
-        ensures { result ≡ true ↔ (machine self.now).state.phase ≡ Phase.Left }
-    {
-        self.local.has_left()
-    }
-
-    /// Whether it has ended by its own choice.
-    pub fn ended(&self) -> bool
-        ensures { result ≡ is_over (machine self.now).state.phase }
-    {
-        self.local.ended()
-    }
-
-    /// The claimed jobs, in their order.
-    pub fn claims(&self) -> &[u32]
-        ensures { result.now ≡ (machine self.now).state.claimed }
-    {
-        self.local.claims()
-    }
-
-    /// The done jobs, in their order.
-    pub fn dones(&self) -> &[u32]
-        ensures { result.now ≡ (machine self.now).state.dones }
-    {
-        self.local.dones()
-    }
-
-    /// The announcement of j is stored.
+    /// Stores the announcement of j.
     fn announce(&mut self, words: &Words<P>, j: u32) -> Shown
         requires table { self.old.table_id ≡ words.now.table_id }
         requires wants { want (machine self.old).state ≡ Wanted.StoreNext j }
@@ -136,7 +80,7 @@ impl<P> Worker<P> {
         self.local.stored()
     }
 
-    /// The wanted word is loaded.
+    /// Loads the word that is wanted.
     fn hear(&mut self, words: &Words<P>, word: usize) -> Shown
         requires table { self.old.table_id ≡ words.now.table_id }
         requires inside { word < words.now.table_id.words }
@@ -151,7 +95,8 @@ impl<P> Worker<P> {
         self.local.told(found)
     }
 
-    /// The count of claims is stored, and the payload of the job is taken out of its slot.
+    /// Stores the count of claims, which takes the slot of j, and takes the payload out of it. No other worker can have taken
+    /// it: after this store the world is lawful, and in such a world no job is claimed by two.
     fn claim(&mut self, words: &Words<P>, count: u32, j: u32) -> P
         requires table { self.old.table_id ≡ words.now.table_id }
         requires wants { want (machine self.old).state ≡ Wanted.StoreClaim count j }
@@ -166,7 +111,7 @@ impl<P> Worker<P> {
         take_out(words, &mut self.place, j)
     }
 
-    /// The performance of j is stored, as the k-th of its row.
+    /// Stores the performance of j, as the k-th of the worker's row.
     fn perform(&mut self, words: &Words<P>, k: u32, j: u32) -> Shown
         requires table { self.old.table_id ≡ words.now.table_id }
         requires wants { want (machine self.old).state ≡ Wanted.StoreDone k j }
@@ -180,7 +125,7 @@ impl<P> Worker<P> {
         self.local.stored()
     }
 
-    /// The announcement is taken back.
+    /// Stores 0 to the announcement.
     fn take_back(&mut self, words: &Words<P>)
         requires table { self.old.table_id ≡ words.now.table_id }
         requires may { can_leave (machine self.old).state.phase ≡ true }
@@ -195,7 +140,8 @@ impl<P> Worker<P> {
 }
 
 impl<P: Drop> Worker<P> {
-    /// One turn of the worker: the load or the store that its record wants.
+    /// One turn of the worker, which has nothing in its hand: the one load or store that its record wants. Threads may share
+    /// the floor, which has to be the worker's own. Waits for nobody, and takes no memory.
     pub fn step(&mut self, floor: &Floor<P>) -> Step<P>
         requires table { self.old.table_id ≡ floor.now.table_id }
         requires empty { jobs_in_hand (machine self.old).state.phase ≡ [] }
@@ -216,7 +162,8 @@ impl<P: Drop> Worker<P> {
         }
     }
 
-    /// The performance of the job in hand is stored.
+    /// Files the job in the worker's hand as performed, by one store: its caller has performed it. Waits for nobody, and
+    /// takes no memory. The floor has to be the worker's own.
     pub fn file(&mut self, floor: &Floor<P>) -> Filed
         requires table { self.old.table_id ≡ floor.now.table_id }
         requires in_hand { (j : ℕ) × (jobs_in_hand (machine self.old).state.phase ≡ j ∷ []) }
@@ -234,7 +181,9 @@ impl<P: Drop> Worker<P> {
         }
     }
 
-    /// The worker takes back its announcement and goes, where it has nothing in its hand.
+    /// The worker takes back its announcement by one store and goes, so that the job which it had announced is free to
+    /// others. Where a job is in its hand it stays (`InHand`), and where it had ended or left before it is `Gone`: then there
+    /// is no access and nothing changes. Takes no memory. The floor has to be the worker's own.
     pub fn leave(&mut self, floor: &Floor<P>) -> Leaving
         requires table { self.old.table_id ≡ floor.now.table_id }
         ensures table { self.new.table_id ≡ self.old.table_id }

@@ -38,7 +38,10 @@ fn run_both(
 fn mark(rt: &impl Abort, marks: &mut [bool], list: &[u32]) {
     for job in list {
         let job = *job as usize;
-        assert!(rt; job < marks.len() && !marks[job], "job {job} is claimed twice");
+        assert!(rt;
+            job < marks.len() && !marks[job],
+            "job {job} is claimed twice"
+        );
         marks[job] = true;
     }
 }
