@@ -1,11 +1,10 @@
 -- What holds of the fields of a book: once the table is open, and after a hire.
-use Rattle.std.proofs.Common.{◌≡◌, ℕ, ◌-◌, ◌<◌, List, [], Bool, true, false, set, refl, sym, ap, ◌∙◌, subst, ⊎_elim, arith, replicate, length-set}
+use Rattle.std.proofs.Common.{◌≡◌, ℕ, ◌-◌, ◌<◌, List, Bool, true, false, set, refl, sym, ap, ◌∙◌, subst, ⊎_elim, replicate, length-set}
 use Rattle.std.specs.Prelude.{if◌then◌else◌, nat_lt}
 use Rattle.atomic_table.specs.Seated.{TableId}
 use Rattle.atomic_table.proofs.Lists.{at_set}
 use Rattle.amo_kk.specs.declared.givens.Givens.{Givens}
 use Rattle.amo_kk.specs.declared.event.Move.{Move}
-use Rattle.amo_words.specs.declared.rule.Role.{Role}
 use Rattle.amo_words.specs.declared.rule.Role.TheVariants.{Keeping}
 use Rattle.amo_words.specs.declared.rule.Spot.{Spot}
 use Rattle.amo_words.specs.declared.rule.Spot.TheVariants.{Home, Out}
@@ -14,7 +13,7 @@ use Rattle.amo_words.specs.declared.rule.Key.{Key}
 use Rattle.amo_words.specs.Logs.{word_count, AreOwn}
 use Rattle.amo_words.specs.Rule.{Stands, AllStand, placing_view, open_view, open_role, first_view}
 use Rattle.amo_words.specs.Plays.{role_of_hired, without_hired, book_left, worker_right}
-use Rattle.amo_words.specs.Faces.{Seated, FloorView, machine_of, spots_of, IsBook}
+use Rattle.amo_words.specs.Faces.{machine_of, spots_of, IsBook}
 use Rattle.amo_words.specs.Hiring.{HasHired}
 use Rattle.amo_words.specs.Opening.{HasOpened}
 use Rattle.amo_words.proofs.Worlds.{own_none}

@@ -21,7 +21,6 @@ use Rattle.amo_kk.specs.World.{nobody, process, first_process, opening_world}
 use Rattle.amo_kk.specs.Machine.{LocalView}
 use Rattle.amo_kk.specs.declared.givens.Givens.{Givens}
 use Rattle.amo_kk.specs.declared.model.Process.{Process}
-use Rattle.amo_kk.specs.declared.model.World.{World}
 use Rattle.amo_kk.proofs.Choice.{choice_cases}
 use Rattle.amo_words.specs.declared.rule.Role.{Role}
 use Rattle.amo_words.specs.declared.rule.Role.TheVariants.{Opening, Keeping, Working, Spent}

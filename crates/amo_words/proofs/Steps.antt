@@ -1,6 +1,5 @@
 -- What each kind of a worker's step owes to the open table.
-use Rattle.std.proofs.Common.{◌≡◌, ℕ, ◌+◌, ◌-◌, List, [], ◌∷◌, ◌++◌, get_or, set, sym, refl, ap, ◌∙◌, subst, arith, Option, Some, Bool, true, false}
-use Rattle.std.proofs.lemmas.Bool.{true≢false}
+use Rattle.std.proofs.Common.{◌≡◌, ℕ, ◌+◌, ◌-◌, List, [], ◌∷◌, ◌++◌, get_or, set, sym, refl, ap, ◌∙◌, subst, arith, Option, Some, true, false}
 use Rattle.std.proofs.lemmas.List.{set-get_or}
 use mathlib.Core.Option.{none, some}
 use lib.ListN.{get_elem?}
@@ -8,7 +7,7 @@ use Rattle.atomic_table.specs.Table.{State, Me, step, keeps, takes, Allows}
 use Rattle.amo_kk.specs.Alone.{is_claiming}
 use Rattle.amo_kk.specs.Givens.{IsJob, IsWorker}
 use Rattle.amo_kk.specs.Record.{wants_nothing, can_leave}
-use Rattle.amo_kk.specs.Step.{want, want_in, is_load, is_store, MayLoad}
+use Rattle.amo_kk.specs.Step.{want, is_load, is_store, MayLoad}
 use Rattle.amo_kk.specs.World.{process, loaded_value, world_after_turn, world_after_leave, opening_world}
 use Rattle.amo_kk.specs.Words.{words_of, next_word, loaded_word, words_after}
 use Rattle.amo_kk.specs.Lawful.{IsLawful}
@@ -16,11 +15,9 @@ use Rattle.amo_kk.specs.Machine.{LocalView}
 use Rattle.amo_kk.specs.declared.givens.Givens.{Givens}
 use Rattle.amo_kk.specs.declared.event.Move.{Move}
 use Rattle.amo_kk.specs.declared.event.Move.TheVariants.{Turn, Leave}
-use Rattle.amo_kk.specs.declared.phase.Phase.{Phase}
-use Rattle.amo_kk.specs.declared.phase.Phase.TheVariants.{Announcing, Trying, Reading, Claiming, Holding, Over, Left}
+use Rattle.amo_kk.specs.declared.phase.Phase.TheVariants.{Claiming}
 use Rattle.amo_kk.specs.declared.phase.Want.{Want}
-use Rattle.amo_kk.specs.declared.phase.Want.TheVariants.{StoreNext, LoadNext, LoadDone, StoreClaim, StoreDone, Nothing}
-use Rattle.amo_kk.specs.declared.model.Record.{Record}
+use Rattle.amo_kk.specs.declared.phase.Want.TheVariants.{StoreClaim}
 use Rattle.amo_kk.specs.declared.model.World.{World}
 use Rattle.amo_kk.proofs.Words.{turn_writes, leave_writes, turn_loads}
 use Rattle.amo_words.specs.declared.rule.Role.TheVariants.{Working}

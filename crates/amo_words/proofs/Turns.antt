@@ -21,7 +21,7 @@ use Rattle.amo_words.specs.declared.rule.Role.TheVariants.{Opening, Keeping, Wor
 use Rattle.amo_words.specs.declared.rule.Spot.{Spot}
 use Rattle.amo_words.specs.declared.rule.Spot.TheVariants.{Home, Out, Back}
 use Rattle.amo_words.specs.declared.rule.View.{View}
-use Rattle.amo_words.specs.Logs.{world_after, machine_in, machine_after, moves_of, AreOwn, StartsWith, is_claimed}
+use Rattle.amo_words.specs.Logs.{world_after, machine_in, machine_after, moves_of, StartsWith, is_claimed}
 use Rattle.amo_words.specs.Rule.{Stands, IsSeated, HoldsAll, Has, Found, IsOf, Fits, SlotsFit, IsShown, home_of}
 use Rattle.amo_words.specs.Plays.{view_after}
 use Rattle.amo_kk.proofs.Moves.{move_other, world_more}

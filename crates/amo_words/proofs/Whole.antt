@@ -1,5 +1,5 @@
 -- The free jobs one at a time, what the closed table shows, and how many jobs are done where a worker has ended.
-use Rattle.std.proofs.Common.{◌≡◌, ⊎_elim, ℕ, zero, suc, ◌+◌, ◌-◌, ◌<◌, ◌≤◌, ◌==◌, Bool, true, false, ◌||◌, List, [], ◌∷◌, ◌++◌, length, get_or, set, take, drop, map, refl, sym, ap, ◌∙◌, subst, arith, eq-eqb, ne_eqb, Option, Some, append_assoc, length-append, Vec, Global}
+use Rattle.std.proofs.Common.{◌≡◌, ⊎_elim, ℕ, zero, suc, ◌+◌, ◌-◌, ◌<◌, ◌≤◌, ◌==◌, Bool, true, false, ◌||◌, List, [], ◌∷◌, ◌++◌, length, get_or, set, take, drop, map, refl, sym, ap, ◌∙◌, subst, arith, eq-eqb, ne_eqb, Option, Some, append_assoc, Vec, Global}
 use Rattle.std.specs.Prelude.{if◌then◌else◌}
 use Rattle.std.specs.List.{sum_by}
 use Rattle.std.proofs.lemmas.List.Sums.{sum_by-cons}
@@ -13,24 +13,18 @@ use Rattle.atomic_table.specs.Table.{Final, Seen}
 use Rattle.atomic_table.proofs.Lists.{drop_at}
 use Rattle.amo_sets.specs.Lists.{numbered}
 use Rattle.amo_sets.specs.Sets.{has}
-use Rattle.amo_sets.specs.Rank.{count}
-use Rattle.amo_sets.proofs.Numbers.{count_neither, count_has, count_le, has-append}
-use Rattle.amo_kk.specs.Givens.{IsWorker, bound}
-use Rattle.amo_kk.specs.Record.{is_open, is_over}
-use Rattle.amo_kk.specs.World.{nobody, process}
+use Rattle.amo_sets.proofs.Numbers.{has-append}
+use Rattle.amo_kk.specs.Givens.{bound}
+use Rattle.amo_kk.specs.Record.{is_over}
+use Rattle.amo_kk.specs.World.{nobody}
 use Rattle.amo_kk.specs.Words.{words_of}
-use Rattle.amo_kk.specs.Lawful.{FitsPhase, IsLawful}
+use Rattle.amo_kk.specs.Lawful.{IsLawful}
 use Rattle.amo_kk.specs.Machine.{LocalView}
 use Rattle.amo_kk.specs.declared.givens.Givens.{Givens}
-use Rattle.amo_kk.specs.declared.phase.Phase.{Phase}
-use Rattle.amo_kk.specs.declared.phase.Phase.TheVariants.{Announcing, Trying, Reading, Claiming, Holding, Over, Left}
 use Rattle.amo_kk.specs.declared.event.Move.{Move}
 use Rattle.amo_kk.specs.declared.model.Process.{Process}
-use Rattle.amo_kk.specs.declared.model.Record.{Record}
-use Rattle.amo_kk.specs.declared.model.World.{World}
 use Rattle.amo_words.specs.declared.rule.Role.TheVariants.{Keeping}
 use Rattle.amo_words.specs.declared.rule.Spot.{Spot}
-use Rattle.amo_words.specs.declared.rule.Spot.TheVariants.{Back}
 use Rattle.amo_words.specs.declared.rule.View.{View}
 use Rattle.amo_words.specs.declared.rule.Key.{Key}
 use Rattle.amo_words.specs.Logs.{world_after, is_claimed}
@@ -39,9 +33,8 @@ use Rattle.amo_words.specs.Looking.{IsBack}
 use Rattle.amo_words.specs.Settling.{AreShown, HasFree, AreMarked, IsClosed, any_has, claims_of, dones_of, free_of, job_count, book_view}
 use Rattle.amo_words.proofs.Meetings.{late_back}
 use Rattle.amo_words.proofs.Worlds.{lawful}
-use Rattle.amo_words.proofs.Turns.{inside_of, some_at}
+use Rattle.amo_words.proofs.Turns.{some_at}
 use Rattle.amo_words.proofs.Lifts.{is_placing, lift_final}
-use Rattle.amo_words.proofs.Workers.{at_from_get}
 
 pub any_claimed : (all : List Process) (j : ℕ) → any_has (claims_of all) j ≡ is_claimed all j
 any_claimed [] j = refl

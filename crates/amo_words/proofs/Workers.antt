@@ -1,13 +1,12 @@
 -- What the fields of a worker show before and after a step.
-use Rattle.std.proofs.Common.{◌≡◌, ℕ, zero, suc, ◌+◌, ◌-◌, ◌*◌, ◌/◌, ◌<◌, ◌≤◌, List, [], ◌∷◌, sym, ap, ◌∙◌, Bool, subst, arith, Option, Some, true, false, mul-le-mul_right, suc-mul, length, slice_get, unwrap_or, drop, get_or}
+use Rattle.std.proofs.Common.{◌≡◌, ℕ, zero, suc, ◌+◌, ◌-◌, ◌*◌, ◌/◌, ◌<◌, ◌≤◌, List, [], ◌∷◌, sym, ap, ◌∙◌, subst, arith, Option, Some, true, mul-le-mul_right, suc-mul, slice_get, unwrap_or, drop, get_or}
 use Rattle.atomic_table.specs.Seated.{TableId}
-use Rattle.amo_sets.specs.Sets.{has}
 use mathlib.Core.Option.{some, some-injective, some-ne-none}
 use lib.ListN.{get_elem?}
 use Rattle.atomic_table.specs.Table.{rest}
-use Rattle.amo_kk.specs.Givens.{IsJob, IsWorker}
+use Rattle.amo_kk.specs.Givens.{IsWorker}
 use Rattle.amo_kk.specs.Record.{can_leave}
-use Rattle.amo_kk.specs.Step.{want, want_in, MayLoad}
+use Rattle.amo_kk.specs.Step.{want, MayLoad}
 use Rattle.amo_kk.specs.Words.{claim_word, done_word}
 use Rattle.amo_kk.specs.Machine.{LocalView}
 use Rattle.amo_kk.specs.declared.givens.Givens.{Givens}
@@ -22,14 +21,9 @@ use Rattle.amo_words.specs.Faces.{Seated, machine_of, machine, spots_of, spots, 
 use Rattle.amo_words.specs.declared.rule.Spot.{Spot}
 use Rattle.amo_kk.specs.Lawful.{IsSoundRecord}
 use Rattle.amo_words.specs.declared.rule.Role.TheVariants.{Working}
-use Rattle.amo_sets.specs.Lists.{numbered}
-use Rattle.std.proofs.lemmas.Bool.{true≢false}
 use Rattle.std.proofs.Math.Nat.{mul-div_cancel}
 use Rattle.amo_kk.specs.declared.model.Record.{Record}
 use Rattle.amo_kk.specs.declared.phase.Want.{Want}
-use Rattle.amo_kk.specs.declared.phase.Want.TheVariants.{StoreNext, LoadNext, LoadDone, StoreClaim, StoreDone, Nothing}
-use Rattle.amo_kk.specs.declared.phase.Phase.{Phase}
-use Rattle.amo_kk.specs.declared.phase.Phase.TheVariants.{Announcing, Trying, Reading, Claiming, Holding, Over, Left}
 
 -- the places of words are within the table
 

@@ -1,4 +1,4 @@
-use Rattle.std.proofs.Common.{◌≡◌, arith, refl, ap, ◌∙◌, set}
+use Rattle.std.proofs.Common.{arith, refl, ap, ◌∙◌, set}
 use Rattle.amo_kk.specs.Step.{want}
 use Rattle.amo_kk.specs.declared.phase.Want.TheVariants.{StoreNext}
 use Rattle.amo_kk.proofs.Holding.{hears_zero}
