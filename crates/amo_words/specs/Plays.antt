@@ -1,4 +1,5 @@
--- What each kind of step tells its seat.
+-- What each kind of step tells its seat. A kind is stated by cases on the role of the seat's view: of the roles that never
+-- make such a step nothing is said, so nobody can use it to learn what it knows by then.
 use Rattle.std.specs.Prelude.{◌≡◌, ℕ, ◌+◌, ◌-◌, List, [], ◌∷◌, ◌++◌, slice_set, nat_lt, if◌then◌else◌, true, false, Option, Some, None, replicate, ⊤}
 use mathlib.Core.Option.{some}
 use lib.ListN.{get_elem?}

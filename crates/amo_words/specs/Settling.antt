@@ -63,7 +63,9 @@ free_of all j (x ∷ xs) = if is_claimed all j then free_of all (suc j) xs else 
 
 -- the slots have the payload of each job that nobody of these has claimed
 abbrev pub HasFree : {P : Type 0} → Givens → List Process → List P → List (Option P) → Type 0
-HasFree {P} g all payloads slots = (length payloads ≡ g.jobs) × ((j : ℕ) (x : P) → get_elem? payloads j ≡ some x → is_claimed all (j + 1) ≡ false → get_elem? slots j ≡ some (Some x))
+HasFree {P} g all payloads slots =
+    (length payloads ≡ g.jobs)
+    × ((j : ℕ) (x : P) → get_elem? payloads j ≡ some x → is_claimed all (j + 1) ≡ false → get_elem? slots j ≡ some (Some x))
 
 -- just the jobs that one of these has claimed are marked
 abbrev pub AreMarked : Givens → List Process → List Bool → Type 0
@@ -105,4 +107,5 @@ pub record IsWhole {P : Type 0} (g : Givens) (payloads : List P) (seen : List Mo
   pub ends : s.ends.items ≡ map end_of spots
   pub free : s.free.items ≡ free_of (world_after g log).processes 1 payloads
   -- where a worker has come back that ended, so many jobs are done
-  pub enough : (p : ℕ) (l : LocalView) → IsBack spots p l → is_over l.state.phase ≡ true → bound g ≤ job_count (map (λ (v : Vec ℕ Global). v.items) s.dones.items)
+  pub enough : (p : ℕ) (l : LocalView) → IsBack spots p l → is_over l.state.phase ≡ true
+      → bound g ≤ job_count (map (λ (v : Vec ℕ Global). v.items) s.dones.items)

@@ -36,10 +36,12 @@ pub fn floors_show_worlds<P>()
 /// The workers that have come back to a book stand in one lawful world, and no job is claimed by two of them.
 pub fn met_workers_agree()
     ensures lawful { (g : Givens) (log : List Move) → IsLawful g (world_after g log) }
-    ensures stand { (g : Givens) (log : List Move) (spots : List Spot) (p : ℕ) (l : LocalView) → AllStand g log spots → IsBack spots p l → l ≡ machine_after g log p }
-    ensures worker { (g : Givens) (log : List Move) (spots : List Spot) (p : ℕ) (l : LocalView) → AllStand g log spots → IsBack spots p l → IsWorker g p }
-    ensures distinct { (g : Givens) (log : List Move) (spots : List Spot) (p q j : ℕ) (l m : LocalView) → AllStand g log spots → IsBack spots p l → IsBack spots q m → q ≢ p
-        → has l.state.claimed j ≡ true → has m.state.claimed j ≡ false }
+    ensures stand { (g : Givens) (log : List Move) (spots : List Spot) (p : ℕ) (l : LocalView)
+        → AllStand g log spots → IsBack spots p l → l ≡ machine_after g log p }
+    ensures worker { (g : Givens) (log : List Move) (spots : List Spot) (p : ℕ) (l : LocalView)
+        → AllStand g log spots → IsBack spots p l → IsWorker g p }
+    ensures distinct { (g : Givens) (log : List Move) (spots : List Spot) (p q j : ℕ) (l m : LocalView)
+        → AllStand g log spots → IsBack spots p l → IsBack spots q m → q ≢ p → has l.state.claimed j ≡ true → has m.state.claimed j ≡ false }
 {}
 
 /// The workers that have come back to a book have together done no more jobs than there are.
@@ -49,8 +51,8 @@ pub fn met_workers_do_each_job_once()
 
 /// Where a worker that has come back had ended by its own choice, all workers together have done at least `bound` jobs.
 pub fn met_ends_come_late()
-    ensures { (g : Givens) (log : List Move) (spots : List Spot) (p : ℕ) (l : LocalView) → AllStand g log spots → IsBack spots p l → is_over l.state.phase ≡ true
-        → bound g ≤ done_count (world_after g log) }
+    ensures { (g : Givens) (log : List Move) (spots : List Spot) (p : ℕ) (l : LocalView)
+        → AllStand g log spots → IsBack spots p l → is_over l.state.phase ≡ true → bound g ≤ done_count (world_after g log) }
 {}
 
 /// What a collected worker had seen is a beginning of what the book has seen ever after: the calls of all who came back
