@@ -8,6 +8,7 @@ pub mod Counts
 pub mod Room
 pub mod Shows
 pub mod Ends
+pub mod RowSums
 -- what a step and a move do:
 pub mod Choice
 pub mod FirstChoice
@@ -28,5 +29,4 @@ mod AttemptReads
 mod LoneTurns
 mod Limits
 mod OpenJobs
-mod RowSums
 mod Worked

@@ -36,7 +36,7 @@ front_distinct [] ys d = tt
 front_distinct (x ∷ xs) ys d = (false_from_ne_true (has xs x) (λ t. true≢false (sym (has-append xs ys x ∙ or_left (has xs x) (has ys x) t) ∙ d.0)), front_distinct xs ys d.1)
 
 -- one of the workers 1..k has done j
-abbrev someone : (ℕ → Process) → ℕ → ℕ → Bool
+abbrev pub someone : (ℕ → Process) → ℕ → ℕ → Bool
 someone at zero j = false
 someone at (suc k) j = someone at k j || has (at (suc k)).local.dones j
 
@@ -51,7 +51,8 @@ module _ (g : Givens) (w : World) (law : IsLawful g w) where
       (λ t. (suc k, omega arith, omega arith, t))
       (or_cases (someone (process w) k j) (has (process w (suc k)).local.dones j) h)
 
-  rows_fit : (k : ℕ) → k ≤ g.workers → total k (λ q. length (process w q).local.dones) ≤ count g.jobs (someone (process w) k)
+  -- the rows of the first k workers have at most as many entries as there are jobs that one of these has done
+  pub rows_fit : (k : ℕ) → k ≤ g.workers → total k (λ q. length (process w q).local.dones) ≤ count g.jobs (someone (process w) k)
   rows_fit zero h = omega arith
   rows_fit (suc k) h =
       let below = rows_fit k (omega arith) in

@@ -3,10 +3,11 @@
 //!
 //! Proofs of those crates may also cite the lemmas of this one, in the files that `proofs/Lib.antt` makes public. Of
 //! worlds and runs speak `Worlds` and `Kept` (what stays lawful), `Runs` and `Steps` (a history is a run that agrees),
-//! `Claims`, `Counts` and `Room` (what a run says), `Shows` (what is answered) and `Ends` (an end comes late). Of a
-//! step and a move speak `Choice` and `FirstChoice`, `Fit` and `Holding` (what holds of a record by itself), `Wants`
-//! and `Loads` (what is wanted and loaded), `Growth` (what is claimed), `Moves` (what a list of moves does),
-//! `OwnTurns`, `Words` and `Bits`. Of a worker alone speak `Alone` and `Attempts`.
+//! `Claims`, `Counts` and `Room` (what a run says), `Shows` (what is answered), `Ends` (an end comes late) and `RowSums`
+//! (all rows together have at most as many entries as there are jobs). Of a step and a move speak `Choice` and
+//! `FirstChoice`, `Fit` and `Holding` (what holds of a record by itself), `Wants` and `Loads` (what is wanted and loaded),
+//! `Growth` (what is claimed), `Moves` (what a list of moves does), `OwnTurns`, `Words` and `Bits`. Of a worker alone
+//! speak `Alone` and `Attempts`.
 ghost use Rattle.std.specs.Prelude.{◌≡◌, ◌<◌, ◌≤◌, ◌↔◌, ◌+◌, ◌*◌, ℕ, suc, true, false, List, [], ◌∷◌, ◌++◌, length, slice_index, None};
 ghost use Rattle.amo_sets.specs.Sets.{has, AreDistinct};
 ghost use Rattle.amo_sets.specs.Rank.{count, has_rank};

@@ -1,0 +1,62 @@
+-- What the calls of a worker answer.
+use Rattle.std.specs.Prelude.{◌≡◌, ℕ, ◌-◌, Bool, true, false, List, Some, slice_get}
+use Rattle.amo_kk.specs.Record.{wants_nothing}
+use Rattle.amo_kk.specs.Step.{shown}
+use Rattle.amo_kk.specs.Machine.{LocalView}
+use Rattle.amo_kk.specs.declared.event.Shown.{Shown}
+use Rattle.amo_kk.specs.declared.event.Shown.TheVariants.{Quiet, Claimed, Done, DoneEnded, Ended, Left}
+use Rattle.amo_kk.specs.declared.event.Leaving.{Leaving}
+use Rattle.amo_kk.specs.declared.event.Leaving.TheVariants.{Left as LeftNow, InHand, Gone}
+use Rattle.amo_words.specs.declared.rule.View.{View}
+use Rattle.amo_words.specs.declared.floor.working.Step.{Step}
+use Rattle.amo_words.specs.declared.floor.working.Step.TheVariants.{Moved, Claimed as StepClaimed, Ended as StepEnded, Idle}
+use Rattle.amo_words.specs.declared.floor.working.Filed.{Filed}
+use Rattle.amo_words.specs.declared.floor.working.Filed.TheVariants.{More, Ended as FiledEnded}
+use Rattle.amo_words.specs.Plays.{machine_turned, HasTurned, HasLeft}
+
+-- the step answers what its event shows; a claim hands over the payload as it was put in
+abbrev pub StepShows : {P : Type 0} → List P → Shown → Step P → Type 0
+StepShows payloads Quiet step = step ≡ Moved
+StepShows {P} payloads (Claimed j) step = (x : P) × (step ≡ StepClaimed j x) × (slice_get payloads (j - 1) ≡ Some x)
+StepShows payloads (Done j) step = ⊥
+StepShows payloads (DoneEnded j) step = ⊥
+StepShows payloads Ended step = step ≡ StepEnded
+StepShows payloads Left step = ⊥
+
+-- what a step answers whose event shows no claim
+abbrev pub quiet_step : {P : Type 0} → Shown → Step P
+quiet_step Quiet = Moved
+quiet_step (Claimed j) = Moved
+quiet_step (Done j) = Moved
+quiet_step (DoneEnded j) = Moved
+quiet_step Ended = StepEnded
+quiet_step Left = Moved
+
+-- The worker with the machine l took a turn from the view v to w, and the step answers what its event shows.
+pub record HasStepped {P : Type 0} (v : View P) (l : LocalView) (step : Step P) (w : View P) : Type 0 where
+  pub loaded : ℕ
+  pub turned : HasTurned v l loaded w
+  pub shows : StepShows v.payloads (shown l.state.phase (machine_turned l loaded).state.phase) step
+
+-- the same, unless the worker wants nothing: then nothing changes
+abbrev pub SteppedIf : {P : Type 0} → Bool → View P → LocalView → Step P → View P → Type 0
+SteppedIf true v l step w = (step ≡ Idle) × (w ≡ v)
+SteppedIf false v l step w = HasStepped v l step w
+
+abbrev pub Stepped : {P : Type 0} → View P → LocalView → Step P → View P → Type 0
+Stepped v l step w = SteppedIf (wants_nothing l.state.phase) v l step w
+
+-- a filing answers what its event shows
+abbrev pub filed : Shown → Filed
+filed Quiet = More
+filed (Claimed j) = More
+filed (Done j) = More
+filed (DoneEnded j) = FiledEnded
+filed Ended = FiledEnded
+filed Left = FiledEnded
+
+-- the worker left, or nothing changed
+abbrev pub LeftIf : {P : Type 0} → Leaving → View P → LocalView → View P → Type 0
+LeftIf LeftNow v l w = HasLeft v l w
+LeftIf (InHand j) v l w = w ≡ v
+LeftIf Gone v l w = w ≡ v

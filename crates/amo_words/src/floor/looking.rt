@@ -1,0 +1,81 @@
+//! What the book shows. None of these takes memory.
+ghost use Rattle.std.specs.Prelude.{◌≡◌, ◌-◌, ◌<◌, slice_get, Some};
+ghost use Rattle.amo_kk.specs.Givens.{IsWorker};
+ghost use Rattle.amo_kk.specs.Record.{is_over};
+ghost use Rattle.amo_kk.specs.Machine.{LocalView};
+ghost use Rattle.amo_words.specs.declared.rule.Spot.{Spot};
+ghost use Rattle.amo_words.specs.declared.rule.Spot.TheVariants.{Back};
+ghost use Rattle.amo_words.specs.Faces.{spots};
+ghost use Rattle.amo_words.specs.Looking.{where_is, HasSpotOf, IsBack};
+
+use super::Book;
+use crate::rule::Spot;
+use amo_kk::Local;
+
+/// Where a worker of the book is.
+#[derive(Clone, Copy, Debug, PartialEq, Eq)]
+pub enum Place {
+    /// It was never hired.
+    Home,
+    /// It was hired, and not collected: it runs, or was dropped.
+    Out,
+    /// It was collected, and the book has its record.
+    Back,
+}
+
+impl<P> Book<P> {
+    /// The machine of worker p, which is back.
+    fn back(&self, p: u32) -> &Local
+        requires { (l : LocalView) × IsBack (spots self.now) p l }
+        ensures { (l : LocalView) → IsBack (spots self.now) p l → result.now ≡ l }
+    {
+        match &self.spots[p as usize - 1] {
+            Spot::Back(local) => local,
+            Spot::Home | Spot::Out => unreachable!(),
+        }
+    }
+
+    /// Where worker p of 1..m is. It is Back just where the other questions may be asked of it.
+    pub fn place_of(&self, p: u32) -> Place
+        requires { IsWorker self.now.view.givens p }
+        ensures { (x : Spot) × HasSpotOf (spots self.now) p x × (result ≡ where_is x) }
+    {
+        match &self.spots[p as usize - 1] {
+            Spot::Home => Place::Home,
+            Spot::Out => Place::Out,
+            Spot::Back(_) => Place::Back,
+        }
+    }
+
+    /// How many steps worker p has taken, which is Back.
+    pub fn steps_of(&self, p: u32) -> u64
+        requires { (l : LocalView) × IsBack (spots self.now) p l }
+        ensures { (l : LocalView) → IsBack (spots self.now) p l → result ≡ l.state.steps }
+    {
+        self.back(p).steps()
+    }
+
+    /// Whether worker p, which is Back, has ended by its own choice.
+    pub fn ended_of(&self, p: u32) -> bool
+        requires { (l : LocalView) × IsBack (spots self.now) p l }
+        ensures { (l : LocalView) → IsBack (spots self.now) p l → result ≡ is_over l.state.phase }
+    {
+        self.back(p).ended()
+    }
+
+    /// The jobs that worker p has claimed, which is Back, in their order.
+    pub fn claims_of(&self, p: u32) -> &[u32]
+        requires { (l : LocalView) × IsBack (spots self.now) p l }
+        ensures { (l : LocalView) → IsBack (spots self.now) p l → result.now ≡ l.state.claimed }
+    {
+        self.back(p).claims()
+    }
+
+    /// The jobs that worker p has done, which is Back, in their order.
+    pub fn dones_of(&self, p: u32) -> &[u32]
+        requires { (l : LocalView) × IsBack (spots self.now) p l }
+        ensures { (l : LocalView) → IsBack (spots self.now) p l → result.now ≡ l.state.dones }
+    {
+        self.back(p).dones()
+    }
+}

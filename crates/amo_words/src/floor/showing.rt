@@ -1,0 +1,64 @@
+//! What a worker shows. None of these takes memory.
+ghost use Rattle.std.specs.Prelude.{◌≡◌, ◌↔◌, true};
+ghost use Rattle.std.specs.Option.{option_to_list};
+ghost use Rattle.amo_kk.specs.Givens.{IsWorker};
+ghost use Rattle.amo_kk.specs.Record.{is_over, jobs_in_hand};
+ghost use Rattle.amo_kk.specs.Lawful.{IsSoundRecord};
+ghost use Rattle.amo_kk.specs.declared.phase.Phase.{Phase};
+ghost use Rattle.amo_words.specs.Faces.{machine};
+
+use super::Worker;
+
+impl<P> Worker<P> {
+    /// The worker's number, from 1. What the worker knows is sound.
+    pub fn number(&self) -> u32
+        ensures number { result ≡ (machine self.now).number }
+        ensures worker { IsWorker self.now.view.givens result }
+        ensures givens { (machine self.now).givens ≡ self.now.view.givens }
+        ensures sound { IsSoundRecord self.now.view.givens result (machine self.now).state }
+    {
+        self.local.number()
+    }
+
+    /// How many steps it has taken, its leaving among them; at most 18446744073709551615, where it stays.
+    pub fn steps(&self) -> u64
+        ensures { result ≡ (machine self.now).state.steps }
+    {
+        self.local.steps()
+    }
+
+    /// The job in its hand: claimed and not yet filed.
+    pub fn in_hand(&self) -> Option<u32>
+        ensures { option_to_list result ≡ jobs_in_hand (machine self.now).state.phase }
+    {
+        self.local.in_hand()
+    }
+
+    /// Whether it has left. It then takes no further step.
+    pub fn has_left(&self) -> bool
+        ensures { result ≡ true ↔ (machine self.now).state.phase ≡ Phase.Left }
+    {
+        self.local.has_left()
+    }
+
+    /// Whether it has ended by its own choice. It then takes no further step.
+    pub fn ended(&self) -> bool
+        ensures { result ≡ is_over (machine self.now).state.phase }
+    {
+        self.local.ended()
+    }
+
+    /// The jobs that it has claimed, in their order.
+    pub fn claims(&self) -> &[u32]
+        ensures { result.now ≡ (machine self.now).state.claimed }
+    {
+        self.local.claims()
+    }
+
+    /// The jobs that it has done, in their order.
+    pub fn dones(&self) -> &[u32]
+        ensures { result.now ≡ (machine self.now).state.dones }
+    {
+        self.local.dones()
+    }
+}

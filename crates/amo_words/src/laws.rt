@@ -1,0 +1,64 @@
+//! The theorems over the rule and the book that callers may lean on. Nothing here runs: each function's contract is a law.
+ghost use Rattle.std.specs.Prelude.{◌≡◌, ◌≢◌, ◌≤◌, ℕ, List, true, false, Option};
+ghost use mathlib.Core.Option.{some};
+ghost use lib.ListN.{get_elem?};
+ghost use Rattle.atomic_table.specs.Table.{State};
+ghost use Rattle.amo_sets.specs.Sets.{has};
+ghost use Rattle.amo_kk.specs.Givens.{IsWorker, bound};
+ghost use Rattle.amo_kk.specs.Record.{is_over};
+ghost use Rattle.amo_kk.specs.World.{done_count};
+ghost use Rattle.amo_kk.specs.Words.{words_of};
+ghost use Rattle.amo_kk.specs.Lawful.{IsLawful};
+ghost use Rattle.amo_kk.specs.Machine.{LocalView};
+ghost use Rattle.amo_kk.specs.declared.givens.Givens.{Givens};
+ghost use Rattle.amo_kk.specs.declared.event.Move.{Move};
+ghost use Rattle.amo_words.specs.declared.rule.Spot.{Spot};
+ghost use Rattle.amo_words.specs.declared.rule.Key.{Key};
+ghost use Rattle.amo_words.specs.declared.rule.View.{View};
+ghost use Rattle.amo_words.specs.Logs.{world_after, machine_after, AreOwn, StartsWith};
+ghost use Rattle.amo_words.specs.Rule.{AllStand, Has, HasWhole, IsOpen, SlotsFit, spent_view};
+ghost use Rattle.amo_words.specs.Looking.{IsBack, back_count};
+
+/// What the rule says of an open table: its words are those of a lawful world, reached by a list of turns and leavings.
+/// Some seat has seen, or was told, that whole list, and what any other has seen is a beginning of it. Each worker's
+/// record is in the view of one seat, as it is in that world. The slot of a job is at home, with its payload, just until
+/// the job is claimed.
+pub fn floors_show_worlds<P>()
+    ensures world { (k : Key P) (s : State (Option P) (View P)) (h : IsOpen k s)
+        → (s.words ≡ words_of (world_after k.givens h.log).processes) × IsLawful k.givens (world_after k.givens h.log) × AreOwn k.givens h.log }
+    ensures list { (k : Key P) (s : State (Option P) (View P)) (h : IsOpen k s)
+        → HasWhole h.log s.views × ((id : ℕ) (v : View P) → get_elem? s.views id ≡ some v → v ≢ spent_view → StartsWith h.log v.seen) }
+    ensures found { (k : Key P) (s : State (Option P) (View P)) (h : IsOpen k s) (p : ℕ) → IsWorker k.givens p
+        → (v : View P) × (get_elem? s.views (h.seat p) ≡ some v) × Has v.role (machine_after k.givens h.log p) }
+    ensures slots { (k : Key P) (s : State (Option P) (View P)) (h : IsOpen k s) → SlotsFit (world_after k.givens h.log) k.payloads.value.items s.homes }
+{}
+
+/// The workers that have come back to a book stand in one lawful world, and no job is claimed by two of them.
+pub fn met_workers_agree()
+    ensures lawful { (g : Givens) (log : List Move) → IsLawful g (world_after g log) }
+    ensures stand { (g : Givens) (log : List Move) (spots : List Spot) (p : ℕ) (l : LocalView)
+        → AllStand g log spots → IsBack spots p l → l ≡ machine_after g log p }
+    ensures worker { (g : Givens) (log : List Move) (spots : List Spot) (p : ℕ) (l : LocalView)
+        → AllStand g log spots → IsBack spots p l → IsWorker g p }
+    ensures distinct { (g : Givens) (log : List Move) (spots : List Spot) (p q j : ℕ) (l m : LocalView)
+        → AllStand g log spots → IsBack spots p l → IsBack spots q m → q ≢ p → has l.state.claimed j ≡ true → has m.state.claimed j ≡ false }
+{}
+
+/// The workers that have come back to a book have together done no more jobs than there are.
+pub fn met_workers_do_each_job_once()
+    ensures { (g : Givens) (log : List Move) (spots : List Spot) → AllStand g log spots → back_count spots ≤ g.jobs }
+{}
+
+/// Where a worker that has come back had ended by its own choice, all workers together have done at least `bound` jobs.
+pub fn met_ends_come_late()
+    ensures { (g : Givens) (log : List Move) (spots : List Spot) (p : ℕ) (l : LocalView)
+        → AllStand g log spots → IsBack spots p l → is_over l.state.phase ≡ true → bound g ≤ done_count (world_after g log) }
+{}
+
+/// What a collected worker had seen is a beginning of what the book has seen ever after: the calls of all who came back
+/// stand in the book's list, those of each in the order in which it saw them. And each beginning of a list of turns and
+/// leavings of workers is such a list, so also the one with which a settlement begins.
+pub fn seen_lists_begin()
+    ensures later { (log seen first : List Move) → StartsWith log seen → StartsWith seen first → StartsWith log first }
+    ensures turns { (g : Givens) (log seen : List Move) → AreOwn g log → StartsWith log seen → AreOwn g seen }
+{}

@@ -1,0 +1,72 @@
+//! Out of memory, and the calls that take no memory.
+use super::*;
+
+#[test]
+fn refused_floor(rt: HostRuntime) -> Result<(), Fail> {
+    let givens = Givens::try_new(3, 2, 2)?;
+    let Ok(payloads) = letters(rt.alloc(), 3) else {
+        return Ok(());
+    };
+    let (floor, mut book) = match Floor::try_new(rt.alloc(), givens, payloads) {
+        Ok(made) => made,
+        Err(OpenFault::NoMemory(back)) => {
+            assert!(rt; back.as_slice() == ['a', 'b', 'c'].as_slice());
+            return Ok(());
+        }
+        Err(OpenFault::WrongCount(_)) => panic!(rt; "there are three payloads"),
+    };
+    let mut first = match book.hire(rt.alloc(), &floor, 1) {
+        Ok(first) => first,
+        Err(HireFault::NoMemory) => hire(&rt, rt.alloc(), &floor, &mut book, 1),
+        Err(HireFault::NotInBook) => panic!(rt; "worker 1 was at home"),
+    };
+    run(&floor, &mut first, 4);
+    book.collect(&floor, first);
+    let expected = Expected {
+        claims: &[&[1], &[]],
+        dones: &[&[], &[]],
+        ends: &[WorkerEnd::Stopped(4), WorkerEnd::NeverHired],
+        free: &[(2, 'b'), (3, 'c')],
+    };
+    match floor.settle(rt.alloc(), book) {
+        Ok(end) => expected.is(&rt, end),
+        Err((floor, book)) => expected.holds(&rt, rt.alloc(), floor, book),
+    }
+    Ok(())
+}
+
+/// Opens a floor and hires its two workers. Where they are used, both make each call that takes no memory: one does a job,
+/// holds another and is collected, the other leaves and is collected.
+fn use_floor(rt: &impl Abort, alloc: Global, used: bool) -> Result<(), Fail> {
+    let (floor, mut book) = open_letters(rt, alloc, (5, 2, 2))?;
+    let mut first = hire(rt, alloc, &floor, &mut book, 1);
+    let mut second = hire(rt, alloc, &floor, &mut book, 2);
+    if used {
+        perform(&floor, &mut first, 2, 1);
+        let held = first.leave(&floor);
+        assert!(rt; held == Leaving::InHand(2) && first.in_hand() == Some(2));
+        assert!(rt; second.leave(&floor) == Leaving::Left && second.has_left() && !second.ended());
+        assert!(rt; first.number() == 1 && first.steps() == 9 && second.steps() == 1);
+        book.collect(&floor, first);
+        book.collect(&floor, second);
+    }
+    Ok(())
+}
+
+/// Opens 100 floors, of which so many are used.
+fn use_floors(rt: &impl Abort, alloc: Global, count: u32) -> Result<(), Fail> {
+    for i in 0..100 {
+        use_floor(rt, alloc, i < count)?;
+    }
+    Ok(())
+}
+
+#[test]
+fn calls_take_no_memory_once(rt: HostRuntime) -> Result<(), Fail> {
+    use_floors(&rt, rt.alloc(), 1)
+}
+
+#[test]
+fn calls_take_no_memory_often(rt: HostRuntime) -> Result<(), Fail> {
+    use_floors(&rt, rt.alloc(), 100)
+}
