@@ -1,10 +1,11 @@
-//! What bench/measure measures of the proved crates, in plain Rust: the same events, ranks, turns and judgements, with
-//! the same counts and checks. `bench/core` builds and runs both and prints their figures side by side.
+//! What bench/measure measures of the proved crates, in plain Rust: the same events, ranks, turns, judgements and accesses,
+//! with the same counts and checks. `bench/core` builds and runs both and prints their figures side by side.
 //!
 //!     core times             a line for each figure: its name, the items of a run, a check, picoseconds an item
 //!     core plan NAME FILE    such a line of reading that plan, a line at a time and without any test
 //!     core bytes N M         what the system gave this process before and after worlds of N jobs and M workers
 
+mod floors;
 #[allow(dead_code)]
 #[path = "replay.rs"]
 mod replay;
@@ -58,6 +59,7 @@ fn times() {
     for workers in [1, 4, 16] {
         worlds(workers);
     }
+    floors::measure();
 }
 
 /// What one run did, and how long it took.
