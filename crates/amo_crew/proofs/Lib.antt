@@ -1,0 +1,15 @@
+pub mod Lists
+pub mod Passes
+pub mod Gathers
+pub mod Ended
+pub mod Runs
+pub mod Collects
+pub mod Crews
+pub mod Hires
+pub mod Backs
+pub mod Starts
+pub mod Few
+pub mod Large
+pub mod Outputs
+pub mod Zips
+pub mod Fitted

@@ -1,0 +1,60 @@
+use Rattle.std.proofs.Common.{◌≡◌, vec_len, refl, sym, ◌∙◌, subst, arith}
+use Rattle.amo_words.specs.Faces.{spots}
+use Rattle.amo_crew.specs.Crew.{IsFinishOf}
+use Rattle.amo_crew.specs.Unsettling.{IsUnsettled}
+use Rattle.amo_crew.proofs.Crews.{zip_length, all_may_run, all_finished, all_ran_at, starts}
+use Rattle.amo_crew.proofs.Outputs.{gathered, few_given}
+use Rattle.amo_crew.proofs.crew.run_crew.Goals as goal
+
+pub run_all-inlet-requires-clause-crew : goal.run_all-inlet-requires-clause-crew
+run_all-inlet-requires-clause-crew g c κs within = let is = c.requires in
+    record { each = all_may_run (g.W.Work.related c.args.work.now) c.args.gear.queue c.args.floor.table_id c.args.floor.givens c.args.book.view.payloads c.args._plan.now.budgets c.args.gear.crew.items is.small is.members; takes = is.takes; fits = let n = is.count in let m = is.room in omega arith }
+
+pub collect_all-requires-clause-few : goal.collect_all-requires-clause-few
+collect_all-requires-clause-few g c = let is = c.requires in let n = is.count in let few = is.few in let len = c.run_all-inlet.result.1.ok.0 in
+    let same = zip_length (IsFinishOf (g.W.Work.related c.args.work.now) c.args.gear.queue c.args.floor.table_id) c.args.gear.crew.items c.run_all-inlet.result.1.items c.run_all-inlet.ensures.each in omega arith
+
+pub collect_all-requires-clause-workers : goal.collect_all-requires-clause-workers
+collect_all-requires-clause-workers g c = all_ran_at (g.W.Work.related c.args.work.now) c.args.gear.queue c.args.floor.table_id c.args.floor.givens c.args.book.view.payloads c.args._plan.now.budgets c.run_all-inlet.result.1.items
+    (all_finished (g.W.Work.related c.args.work.now) c.args.gear.queue c.args.floor.table_id c.args.floor.givens c.args.book.view.payloads c.args._plan.now.budgets c.args.gear.crew.items c.run_all-inlet.result.1.items c.requires.members c.run_all-inlet.ensures.each)
+
+pub collect_all-requires-clause-room : goal.collect_all-requires-clause-room
+collect_all-requires-clause-room g c = let is = c.requires in let n = is.count in let len = c.run_all-inlet.result.1.ok.0 in
+    let same = zip_length (IsFinishOf (g.W.Work.related c.args.work.now) c.args.gear.queue c.args.floor.table_id) c.args.gear.crew.items c.run_all-inlet.result.1.items c.run_all-inlet.ensures.each in
+    let a = is.rooms.outlets_room in let b = is.rooms.ends_room in let d = is.rooms.hand_room in
+    record { outlets_room = omega arith; ends_room = omega arith; hand_room = omega arith }
+
+pub gather-outputs-requires-clause-outlets : goal.gather-outputs-requires-clause-outlets
+gather-outputs-requires-clause-outlets g c = let is = c.requires in
+    let len : vec_len c.run_all-inlet.result.1 ≡ c.args.floor.givens.workers = c.run_all-inlet.result.1.ok.0 ∙ zip_length (IsFinishOf (g.W.Work.related c.args.work.now) c.args.gear.queue c.args.floor.table_id) c.args.gear.crew.items c.run_all-inlet.result.1.items c.run_all-inlet.ensures.each ∙ is.count in
+    (c.collect_all.ensures.collected c.args.floor.givens c.args.book.view.payloads c.args._plan.now.budgets
+    (all_finished (g.W.Work.related c.args.work.now) c.args.gear.queue c.args.floor.table_id c.args.floor.givens c.args.book.view.payloads c.args._plan.now.budgets c.args.gear.crew.items c.run_all-inlet.result.1.items is.members c.run_all-inlet.ensures.each)
+    len
+    (starts (g.W.Work.related c.args.work.now) c.args.gear.queue c.args.floor.table_id c.args.floor.givens c.args.book.view.payloads c.args._plan.now.budgets c.args.book _ _ _ is.tied is.givens refl is.size is.stand is.bare is.no_outlets is.no_ends is.no_hands)).belong
+
+pub gather-outputs-requires-clause-room : goal.gather-outputs-requires-clause-room
+gather-outputs-requires-clause-room g c = let is = c.requires in
+    let len : vec_len c.run_all-inlet.result.1 ≡ c.args.floor.givens.workers = c.run_all-inlet.result.1.ok.0 ∙ zip_length (IsFinishOf (g.W.Work.related c.args.work.now) c.args.gear.queue c.args.floor.table_id) c.args.gear.crew.items c.run_all-inlet.result.1.items c.run_all-inlet.ensures.each ∙ is.count in
+    let all = c.collect_all.ensures.collected c.args.floor.givens c.args.book.view.payloads c.args._plan.now.budgets
+    (all_finished (g.W.Work.related c.args.work.now) c.args.gear.queue c.args.floor.table_id c.args.floor.givens c.args.book.view.payloads c.args._plan.now.budgets c.args.gear.crew.items c.run_all-inlet.result.1.items is.members c.run_all-inlet.ensures.each)
+    len
+    (starts (g.W.Work.related c.args.work.now) c.args.gear.queue c.args.floor.table_id c.args.floor.givens c.args.book.view.payloads c.args._plan.now.budgets c.args.book _ _ _ is.tied is.givens refl is.size is.stand is.bare is.no_outlets is.no_ends is.no_hands) in
+    let given = few_given (g.W.Work.related c.args.work.now) _ _ _ _ _ _ _ _ _ all in let room = c.run_all-inlet.ensures.same_room in let n = is.inlet_room in omega arith
+
+pub returns : goal.returns
+returns g c = let is = c.requires in
+    let len : vec_len c.run_all-inlet.result.1 ≡ c.args.floor.givens.workers = c.run_all-inlet.result.1.ok.0 ∙ zip_length (IsFinishOf (g.W.Work.related c.args.work.now) c.args.gear.queue c.args.floor.table_id) c.args.gear.crew.items c.run_all-inlet.result.1.items c.run_all-inlet.ensures.each ∙ is.count in
+    let all = c.collect_all.ensures.collected c.args.floor.givens c.args.book.view.payloads c.args._plan.now.budgets
+    (all_finished (g.W.Work.related c.args.work.now) c.args.gear.queue c.args.floor.table_id c.args.floor.givens c.args.book.view.payloads c.args._plan.now.budgets c.args.gear.crew.items c.run_all-inlet.result.1.items is.members c.run_all-inlet.ensures.each)
+    len
+    (starts (g.W.Work.related c.args.work.now) c.args.gear.queue c.args.floor.table_id c.args.floor.givens c.args.book.view.payloads c.args._plan.now.budgets c.args.book _ _ _ is.tied is.givens refl is.size is.stand is.bare is.no_outlets is.no_ends is.no_hands) in
+    subst (IsUnsettled (g.W.Work.related c.args.work.now) c.args.floor.givens c.args.book.view.payloads c.args._plan.now.budgets) (sym c.new.ensures)
+    (record {
+      givens = all.givens;
+      payloads_are = all.payloads_are;
+      run = record {
+        ends_are = all.ends_are;
+        outputs_are = gathered (g.W.Work.related c.args.work.now) c.args.book.view.payloads (spots c.collect_all.new.book) c.collect_all.new.into.outlets.items c.gather-outputs.result.items all.fits c.gather-outputs.ensures.each c.gather-outputs.ensures.only;
+        hands_are = all.hands_are;
+      };
+    })

@@ -1,0 +1,83 @@
+-- While the workers are collected, in the order of their numbers.
+use Rattle.std.specs.Prelude.{◌≡◌, ◌⊎◌, ℕ, zero, suc, ◌+◌, ◌<◌, false, ◌≤◌, List, [], ◌∷◌, ◌++◌, length, map, sum_by, All, Option, Some, None, vec_len, vec_capacity, ⊤}
+use mathlib.Core.Option.{some}
+use lib.ListN.{get_elem?}
+use Rattle.atomic_table.specs.Seated.{TableId}
+use Rattle.amo_kk.specs.declared.givens.Givens.{Givens}
+use Rattle.amo_words.specs.declared.rule.Spot.{Spot}
+use Rattle.amo_words.specs.Rule.{AllStand}
+use Rattle.amo_words.specs.Faces.{Seated, spots}
+use Rattle.amo_words.specs.Hiring.{HasCollected}
+use Rattle.amo_crew.specs.declared.queue.Queue.{Queue}
+use Rattle.amo_crew.specs.declared.queue.outlet.Outlet.{Outlet}
+use Rattle.amo_crew.specs.declared.outcome.End.{End}
+use Rattle.amo_crew.specs.declared.outcome.End.TheVariants.{NotStarted}
+use Rattle.amo_crew.specs.declared.collecting.Yield.{Yield}
+use Rattle.amo_crew.specs.declared.member.Finish.{Finish}
+use Rattle.amo_crew.specs.declared.member.Finish.TheVariants.{Ran as HasRan, NotStarted as WasNotStarted}
+use Rattle.amo_crew.specs.Ends.{IsOutletOf, given, has_worker}
+use Rattle.amo_crew.specs.Running.{IsAnswer}
+use Rattle.amo_crew.specs.Outcomes.{spot_of, dones_in, IsBare, AreEnds, AreInHand}
+
+module _ {P Out : Type 0} where
+  -- an outlet of worker p is among these, and was given just the answers of these dones
+  pub record HasOutlet (related : ℕ → ℕ → P → Out → Type 0) (payloads : List P) (outlets : List (Outlet Out)) (p : ℕ) (dones : List ℕ) : Type 0 where
+    pub at : ℕ
+    pub outlet : Outlet Out
+    pub there : get_elem? outlets at ≡ some outlet
+    pub worker : outlet.worker ≡ p
+    pub jobs : map (λ x. x.job) (given outlet) ≡ dones
+    pub answers : All (IsAnswer related payloads) (given outlet)
+
+  -- or none is, and nothing was done
+  abbrev pub OutletFits : (ℕ → ℕ → P → Out → Type 0) → List P → List (Outlet Out) → ℕ → List ℕ → Type 0
+  OutletFits related payloads outlets p dones = HasOutlet related payloads outlets p dones ⊎ ((has_worker outlets p ≡ false) × (dones ≡ []))
+
+-- how many jobs 1..i have done
+abbrev pub dones_upto : List Spot → ℕ → ℕ
+dones_upto spots zero = 0
+dones_upto spots (suc p) = dones_upto spots p + length (dones_in (spot_of spots (suc p)))
+
+-- The workers 1..i are collected.
+pub record AreCollected {P Out : Type 0} (related : ℕ → ℕ → P → Out → Type 0) (queue : Queue Out) (table : TableId) (g : Givens) (payloads : List P) (budgets : List ℕ) (i : ℕ) (book : Seated P) (outlets : List (Outlet Out)) (ends : List End) (in_hand : List (ℕ × ℕ × P)) : Type 0 where
+  pub table_is : book.table_id ≡ table
+  pub givens : book.view.givens ≡ g
+  pub payloads_are : book.view.payloads ≡ payloads
+  pub size : length (spots book) ≡ g.workers
+  pub stand : AllStand g book.view.seen (spots book)
+  pub rest : (p : ℕ) → i < p → IsBare (spot_of (spots book) p)
+  pub belong : All (IsOutletOf queue) outlets
+  pub fits : (p : ℕ) → OutletFits related payloads outlets p (dones_in (spot_of (spots book) p))
+  pub count : sum_by (λ o. o.put_count) outlets ≡ dones_upto (spots book) i
+  pub ends_are : AreEnds budgets (spots book) i ends
+  pub hands_are : AreInHand payloads (spots book) i in_hand
+
+-- the job in hand of worker p, as a list
+abbrev pub hand_of : {P : Type 0} → ℕ → Option (ℕ × P) → List (ℕ × ℕ × P)
+hand_of p None = []
+hand_of p (Some h) = (p, h.0, h.1) ∷ []
+
+-- what collecting worker p does
+abbrev pub Collects : {P Out : Type 0} → ℕ → Finish P Out → Seated P → List (Outlet Out) → List End → List (ℕ × ℕ × P) → Seated P → List (Outlet Out) → List End → List (ℕ × ℕ × P) → Type 0
+Collects p (HasRan r) b os es hs c os' es' hs' = HasCollected b r.gone c × (os' ≡ os ++ r.outlet ∷ []) × (es' ≡ es ++ r.end ∷ []) × (hs' ≡ hs ++ hand_of p r.in_hand)
+Collects p (WasNotStarted u) b os es hs c os' es' hs' = (c ≡ b) × (os' ≡ os) × (es' ≡ es ++ NotStarted ∷ []) × (hs' ≡ hs)
+
+-- a worker that ran is of this table
+abbrev pub RanAt : {P Out : Type 0} → TableId → Finish P Out → Type 0
+RanAt table (HasRan r) = r.gone.table_id ≡ table
+RanAt table (WasNotStarted u) = ⊤
+
+-- the rooms are the same, and at most one more stands in each
+pub record HasRoomOf {P Out : Type 0} (a b : Yield P Out) : Type 0 where
+  pub outlets_room : vec_capacity b.outlets ≡ vec_capacity a.outlets
+  pub outlets_len : vec_len b.outlets ≤ vec_len a.outlets + 1
+  pub ends_room : vec_capacity b.ends ≡ vec_capacity a.ends
+  pub ends_len : vec_len b.ends ≤ vec_len a.ends + 1
+  pub hand_room : vec_capacity b.in_hand ≡ vec_capacity a.in_hand
+  pub hand_len : vec_len b.in_hand ≤ vec_len a.in_hand + 1
+
+-- there is room for n more
+pub record HasRoomFor {P Out : Type 0} (n : ℕ) (a : Yield P Out) : Type 0 where
+  pub outlets_room : vec_len a.outlets + n ≤ vec_capacity a.outlets
+  pub ends_room : vec_len a.ends + n ≤ vec_capacity a.ends
+  pub hand_room : vec_len a.in_hand + n ≤ vec_capacity a.in_hand

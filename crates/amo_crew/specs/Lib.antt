@@ -1,0 +1,15 @@
+pub mod Ports
+pub mod Ends
+pub mod Mailbox
+pub mod Running
+pub mod Crew
+pub mod Outcomes
+pub mod Collecting
+pub mod Plans
+pub mod Faults
+pub mod Unsettling
+pub mod Refusing
+pub mod Gears
+pub mod Hired
+pub mod Kits
+pub mod Fitting

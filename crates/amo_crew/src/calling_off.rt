@@ -1,0 +1,134 @@
+//! What is left where a worker could not be hired.
+ghost use Rattle.std.specs.Prelude.{◌≡◌, ◌≤◌, [], ℕ, List, All, length, vec_len, vec_capacity, map, replicate};
+ghost use Rattle.amo_kk.specs.declared.givens.Givens.{Givens};
+ghost use Rattle.amo_words.specs.Hiring.{HasCollected};
+ghost use Rattle.amo_claims.specs.Calls.{worker_in};
+ghost use Rattle.amo_crew.specs.Hired.{AreHired, AreCalledOff, AtTable};
+ghost use Rattle.amo_crew.specs.Refusing.{NoneStarted, Refuses};
+ghost use Rattle.amo_crew.specs.declared.outcome.End.TheVariants.{NotStarted};
+
+use crate::collecting::Yield;
+use crate::crew::Gear;
+use crate::fault::ExecFault;
+use crate::member::Member;
+use crate::outcome::End;
+use crate::plan::StopPlan;
+use crate::queue::Queue;
+use crate::unsettled::Unsettled;
+use amo_claims::{After, Work};
+use amo_kk::Givens;
+use amo_words::{Book, Floor, Settlement};
+use std::alloc::Global;
+
+/// The worker goes back to the book, without a step.
+fn send_back<P: Drop>(floor: &Floor<P>, book: &mut Book<P>, after: After<P>)
+    requires table { book.old.table_id ≡ floor.now.table_id }
+    requires worker { (worker_in after).table_id ≡ floor.now.table_id }
+    ensures collected { HasCollected book.old (worker_in after) book.new }
+{
+    match after {
+        After::More(ready) => ready.halt().collect(floor, book),
+        After::Over(gone) => gone.collect(floor, book),
+    }
+}
+
+/// The workers of the crew go back to the book, without a step.
+pub(crate) fn call_back<P: Drop, Out: Drop>(
+    floor: &Floor<P>,
+    book: &mut Book<P>,
+    _queue: &Queue<Out>,
+    mut crew: Vec<Member<P, Out>>,
+)
+    requires table { book.old.table_id ≡ floor.now.table_id }
+    requires workers { All (AtTable floor.now.table_id) crew.items }
+    ensures table { book.new.table_id ≡ book.old.table_id }
+    ensures back { (g : Givens) (payloads : List P) (budgets : List ℕ) → AreCalledOff _queue.now floor.now.table_id g payloads budgets book.old crew.items
+        → AreCalledOff _queue.now floor.now.table_id g payloads budgets book.new [] }
+{
+    while let Some(member) = crew.pop() {
+        let Member {
+            after,
+            outlet: _,
+            budget: _,
+        } = member;
+        send_back(floor, book, after);
+    }
+}
+
+/// The payloads of free jobs, in their order.
+pub(crate) fn payloads_of<P: Drop>(mut free: Vec<(u32, P)>, mut spare: Vec<P>) -> Vec<P>
+    requires empty { spare.items ≡ [] }
+    requires room { vec_len free ≤ vec_capacity spare }
+    ensures { result.items ≡ map (λ t. t.1) free.items }
+{
+    free.as_mut_slice().reverse();
+    while let Some((_, payload)) = free.pop() {
+        spare.push_reserved(payload);
+    }
+    spare
+}
+
+/// An end for each worker, none of whose threads was started.
+pub(crate) fn none_started(workers: u32, mut ends: Vec<End>) -> Vec<End>
+    requires empty { ends.items ≡ [] }
+    requires room { workers ≤ vec_capacity ends }
+    ensures { result.items ≡ replicate workers NotStarted }
+{
+    for _ in 0..workers {
+        ends.push_reserved(End::NotStarted);
+    }
+    ends
+}
+
+/// What is refused where a worker could not be hired: nothing was started, and the payloads come back where the floor
+/// can be settled.
+pub(crate) fn call_off<P: Drop, W: Work<P>>(
+    alloc: Global,
+    givens: Givens,
+    _work: &W,
+    _plan: &StopPlan,
+    floor: Floor<P>,
+    mut book: Book<P>,
+    gear: Gear<P, W::Out>,
+    spare: Vec<P>,
+) -> ExecFault<P, W::Out>
+where
+    W::Out: Drop,
+    requires givens { givens ≡ floor.givens }
+    requires hired { AreHired gear.queue floor.table_id givens book.view.payloads _plan.now.budgets book gear.crew.items }
+    requires count { length book.view.payloads ≡ givens.jobs }
+    requires empty { (spare.items ≡ []) × (gear.into.ends.items ≡ []) × (gear.into.in_hand.items ≡ []) }
+    requires room { (givens.jobs ≤ vec_capacity spare) × (givens.workers ≤ vec_capacity gear.into.ends) }
+    ensures refused { Refuses (W.related _work.now) givens book.view.payloads _plan.now.budgets result }
+    ensures none_started { NoneStarted givens result }
+{
+    let Gear {
+        queue,
+        inlet: _,
+        crew,
+        finishes: _,
+        into,
+    } = gear;
+    call_back(&floor, &mut book, &queue, crew);
+    let Yield {
+        outlets: _,
+        ends,
+        in_hand,
+    } = into;
+    match floor.settle(alloc, book) {
+        Ok(settlement) => {
+            let Settlement {
+                claims: _,
+                dones: _,
+                ends: _,
+                free,
+            } = settlement;
+            ExecFault::NoMemory(payloads_of(free, spare))
+        }
+        Err((floor, book)) => {
+            let ends = none_started(givens.workers(), ends);
+            let outputs = Vec::new(alloc);
+            ExecFault::Unsettled(Unsettled::new(floor, book, ends, outputs, in_hand))
+        }
+    }
+}

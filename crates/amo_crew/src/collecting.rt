@@ -1,0 +1,85 @@
+//! How workers come back to the book.
+ghost use Rattle.std.specs.Prelude.{ℕ, List, ◌≡◌, ◌+◌, ◌-◌, ◌<◌, ◌≤◌, [], length, vec_len, vec_capacity, All};
+ghost use Rattle.amo_kk.specs.declared.givens.Givens.{Givens};
+ghost use Rattle.amo_words.specs.Faces.{Seated, spots};
+ghost use Rattle.amo_crew.specs.Crew.{AreFinished};
+ghost use Rattle.amo_crew.specs.Collecting.{AreCollected, Collects, RanAt, HasRoomOf, HasRoomFor};
+
+use crate::member::{Finish, Ran};
+use crate::outcome::End;
+use crate::queue::{Outlet, Queue};
+use amo_claims::Work;
+use amo_words::{Book, Floor};
+
+/// What is collected beside the book.
+#[derive(Drop)]
+pub(crate) struct Yield<P, Out> {
+    pub outlets: Vec<Outlet<Out>>,
+    pub ends: Vec<End>,
+    pub in_hand: Vec<(u32, u32, P)>,
+}
+
+/// Collects worker p, if its thread ran.
+fn collect_one<P: Drop, Out: Drop>(
+    floor: &Floor<P>,
+    book: &mut Book<P>,
+    p: u32,
+    finish: Finish<P, Out>,
+    into: &mut Yield<P, Out>,
+)
+    requires table { book.old.table_id ≡ floor.now.table_id }
+    requires worker { RanAt floor.now.table_id finish }
+    requires outlets { vec_len into.old.outlets < vec_capacity into.old.outlets }
+    requires ends { vec_len into.old.ends < vec_capacity into.old.ends }
+    requires in_hand { vec_len into.old.in_hand < vec_capacity into.old.in_hand }
+    ensures collects { Collects p finish book.old into.old.outlets.items into.old.ends.items into.old.in_hand.items book.new into.new.outlets.items into.new.ends.items into.new.in_hand.items }
+    ensures table { book.new.table_id ≡ book.old.table_id }
+    ensures room { HasRoomOf into.old into.new }
+{
+    match finish {
+        Finish::Ran(ran) => {
+            let Ran {
+                gone,
+                end,
+                outlet,
+                in_hand,
+            } = ran;
+            gone.collect(floor, book);
+            into.outlets.push_reserved(outlet);
+            into.ends.push_reserved(end);
+            if let Some((job, payload)) = in_hand {
+                into.in_hand.push_reserved((p, job, payload));
+            }
+        }
+        Finish::NotStarted(_) => into.ends.push_reserved(End::NotStarted),
+    }
+}
+
+/// Collects the workers whose threads ran, in the order of their numbers.
+pub(crate) fn collect_all<P: Drop, W: Work<P>>(
+    floor: &Floor<P>,
+    book: &mut Book<P>,
+    _queue: &Queue<W::Out>,
+    _work: &W,
+    mut finishes: Vec<Finish<P, W::Out>>,
+    into: &mut Yield<P, W::Out>,
+)
+where
+    W::Out: Drop,
+    requires table { book.old.table_id ≡ floor.now.table_id }
+    requires few { vec_len finishes ≤ 16 }
+    requires workers { All (RanAt floor.now.table_id) finishes.items }
+    requires room { HasRoomFor (vec_len finishes) into.old }
+    ensures collected { (g : Givens) (payloads : List P) (budgets : List ℕ) → AreFinished (W.related _work.now) _queue.now floor.now.table_id g payloads budgets finishes.items → vec_len finishes ≡ g.workers
+        → AreCollected (W.related _work.now) _queue.now floor.now.table_id g payloads budgets 0 book.old into.old.outlets.items into.old.ends.items into.old.in_hand.items
+        → AreCollected (W.related _work.now) _queue.now floor.now.table_id g payloads budgets g.workers book.new into.new.outlets.items into.new.ends.items into.new.in_hand.items }
+    ensures table { book.new.table_id ≡ book.old.table_id }
+{
+    let count = finishes.len();
+    for before in 0..count {
+        let Some(finish) = finishes.pop() else {
+            unreachable!()
+        };
+        collect_one(floor, book, before as u32 + 1, finish, into);
+    }
+}

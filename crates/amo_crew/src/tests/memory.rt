@@ -1,0 +1,97 @@
+//! Out of memory, and the calls that take no memory.
+
+use super::places::{put_jobs, take_jobs};
+use super::*;
+
+#[test]
+fn refused_plan(rt: HostRuntime) -> Result<(), Fail> {
+    let givens = Givens::try_new(4, 2, 2)?;
+    match StopPlan::try_new(rt.alloc(), givens, &[5, 9]) {
+        Ok(plan) => {
+            assert!(rt; plan.givens() == givens);
+            Ok(())
+        }
+        Err(fault) => {
+            assert!(rt; fault == StopFault::NoMemory);
+            Ok(())
+        }
+    }
+}
+
+#[test]
+fn refused_outlets(rt: HostRuntime) -> Result<(), Fail> {
+    let givens = Givens::try_new(4, 2, 2)?;
+    if let Ok((queue, mut inlet, ends)) = outlets::<u32>(rt.alloc(), givens) {
+        assert!(rt; ends.len() == 2 && inlet.room() == 4);
+        assert!(rt; !inlet.take(&rt, &queue));
+    }
+    Ok(())
+}
+
+/// What a run left that wanted memory at its settling. Where no thread was started nothing is told of any job.
+fn expect_unsettled(rt: &impl Abort, rest: &Unsettled<u32, u32>) {
+    assert_eq!(rt; rest.ends().len(), 2);
+    if rest.ends().iter().all(|end| *end == End::NotStarted) {
+        assert!(rt; rest.outputs().is_empty() && rest.in_hand().is_empty());
+    }
+}
+
+#[test]
+fn refused_run(rt: HostRuntime) -> Result<(), Fail> {
+    let givens = Givens::try_new(4, 2, 2)?;
+    let Ok(payloads) = payloads_for(rt.alloc(), 4) else {
+        return Ok(());
+    };
+    let Ok(plan) = StopPlan::try_new(rt.alloc(), givens, &[10_000, 10_000]) else {
+        return Ok(());
+    };
+    match execute(&rt, rt.alloc(), givens, payloads, &Echo, &plan) {
+        Ok(outcome) => expect_each_once(&rt, &outcome, 4),
+        Err(ExecFault::NoMemory(back)) => {
+            assert!(rt; back.as_slice() == [10_001, 10_002, 10_003, 10_004].as_slice());
+        }
+        Err(ExecFault::ThreadRefused(outcome)) => {
+            assert!(rt; outcome.ends.iter().any(|end| *end == End::NotStarted));
+            expect_each_once(&rt, &outcome, 4);
+        }
+        Err(ExecFault::Unsettled(rest)) => {
+            expect_unsettled(&rt, &rest);
+            let Ok(outcome) = rest.settle(rt.alloc()) else {
+                panic!(rt; "there was memory to settle")
+            };
+            expect_each_once(&rt, &outcome, 4);
+        }
+        Err(ExecFault::WrongCount(_)) => panic!(rt; "there are four payloads"),
+    }
+    Ok(())
+}
+
+/// Makes a queue. Where it is used, one output goes through it, one is left to be gathered.
+fn use_queue<R: Abort + Wait>(rt: &R, alloc: Global, used: bool) -> Result<(), Fail> {
+    let (queue, mut inlet, mut ends) = outlets::<u32>(alloc, Givens::try_new(2, 1, 1)?)?;
+    if used {
+        put_jobs(rt, &queue, &mut ends[0], 1, 3);
+        assert_eq!(rt; take_jobs(rt, &queue, &mut inlet, 1), 1);
+        assert!(rt; ends[0].put_count() <= inlet.room());
+        assert_eq!(rt; inlet.gather(rt, queue, ends).len(), 2);
+    }
+    Ok(())
+}
+
+/// Makes 100 queues, of which so many are used.
+fn use_queues<R: Abort + Wait>(rt: &R, alloc: Global, count: u32) -> Result<(), Fail> {
+    for i in 0..100 {
+        use_queue(rt, alloc, i < count)?;
+    }
+    Ok(())
+}
+
+#[test]
+fn a_queue_takes_no_memory_once(rt: HostRuntime) -> Result<(), Fail> {
+    use_queues(&rt, rt.alloc(), 1)
+}
+
+#[test]
+fn a_queue_takes_no_memory_often(rt: HostRuntime) -> Result<(), Fail> {
+    use_queues(&rt, rt.alloc(), 100)
+}
