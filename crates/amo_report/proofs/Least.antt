@@ -15,7 +15,7 @@ lesser_swap x y None = omega arith
 lesser_swap x y (Some z) = omega arith
 
 -- a last number
-least_last : (xs : List ℕ) (y : ℕ) → least_of (xs ++ y ∷ []) ≡ Some (lesser y (least_of xs))
+pub least_last : (xs : List ℕ) (y : ℕ) → least_of (xs ++ y ∷ []) ≡ Some (lesser y (least_of xs))
 least_last [] y = refl
 least_last (x ∷ xs) y = ap (λ o. Some (lesser x o)) (least_last xs y) ∙ ap (λ n. Some n) (lesser_swap x y (least_of xs))
 

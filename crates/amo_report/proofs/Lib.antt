@@ -8,3 +8,7 @@ pub mod Explored
 pub mod ReachedWorlds
 pub mod Stopped
 pub mod RunOut
+pub mod Claims
+pub mod Noting
+pub mod DoneSets
+pub mod Fates

@@ -18,3 +18,7 @@ pub mod Summary
 pub mod Explorer
 pub mod Reached
 pub mod Stops
+pub mod Became
+pub mod OutcomeLines
+pub mod Noted
+pub mod OutcomeTexts

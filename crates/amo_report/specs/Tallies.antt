@@ -6,21 +6,21 @@ use Rattle.amo_report.specs.Numbers.{spaced}
 use Rattle.amo_report.specs.Results.{jobs_in_block}
 use Rattle.amo_report.specs.Happened.{unclaimed_jobs}
 
--- `performed R`, of these done jobs
-unfoldable pub performed_jobs : List ℕ → List ℕ
-performed_jobs dones = codes "performed " ++ decimal (length dones) ++ codes "\n"
+-- `performed R`
+unfoldable pub jobs_line : ℕ → List ℕ
+jobs_line dones = codes "performed " ++ decimal dones ++ codes "\n"
 
 -- `performed blocks R jobs K`
 unfoldable pub blocks_line : ℕ → ℕ → List ℕ
 blocks_line dones jobs = codes "performed blocks " ++ decimal dones ++ codes " jobs " ++ decimal jobs ++ codes "\n"
 
--- this of these done blocks, and of their jobs
-abbrev pub performed_blocks : ℕ → ℕ → List ℕ → List ℕ
-performed_blocks block jobs dones = blocks_line (length dones) (sum_by (jobs_in_block block jobs) dones)
-
 -- in version 1 the first, else the second
-unfoldable pub performed_line : ℕ → ℕ → ℕ → List ℕ → List ℕ
-performed_line version block jobs dones = if version == 1 then performed_jobs dones else performed_blocks block jobs dones
+unfoldable pub tally_line : ℕ → ℕ → ℕ → List ℕ
+tally_line version dones jobs = if version == 1 then jobs_line dones else blocks_line dones jobs
+
+-- this of these done blocks, and of their jobs
+abbrev pub performed_line : ℕ → ℕ → ℕ → List ℕ → List ℕ
+performed_line version block jobs dones = tally_line version (length dones) (sum_by (jobs_in_block block jobs) dones)
 
 -- `unclaimed`, and ` J` for each unclaimed job
 unfoldable pub unclaimed_line : ℕ → List Event → List ℕ

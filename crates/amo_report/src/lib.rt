@@ -4,13 +4,17 @@
 
 mod bytes;
 mod checking;
+mod claimers;
 mod copying;
 mod escaped;
 mod events;
 mod explorer;
 mod faults;
+mod filed;
 pub mod laws;
 mod numbers;
+mod outcome;
+mod outcome_lines;
 mod replaying;
 mod report;
 mod results;
@@ -28,6 +32,7 @@ pub use checking::check_text;
 pub use copying::{MOST_READ, ReadFault, read_all, write_all};
 pub use explorer::{MOST_FIRST, explore};
 pub use faults::fault_text;
+pub use outcome::outcome_text;
 pub use replaying::{ReplayFault, check, explore_plan, read_source, replay, stops_plan};
 pub use report::report_text;
 pub use room::Room;

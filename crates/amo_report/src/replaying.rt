@@ -1,6 +1,7 @@
 //! From the bytes of a plan to the bytes of its text.
 ghost use Rattle.std.specs.Prelude.{◌≡◌, ◌≤◌, false, Ok, OnOk, OnErr, IfOk, IfErr, IfSome, string_bytes};
 ghost use Rattle.std.specs.Io.KnownBytes.{Appends, IsAtEnd};
+ghost use Rattle.amo_plan.specs.Keeps.{Keeps};
 ghost use Rattle.amo_plan.specs.Plan.{plan_of};
 ghost use Rattle.amo_plan.specs.PlanSeen.{plan_seen};
 ghost use Rattle.amo_report.specs.Check.{check_of};
@@ -18,6 +19,7 @@ use super::report::report_text;
 use super::running::run_plan;
 use super::stops::stops_text;
 use super::streams::{Failed, Sink, Source};
+use amo_plan::laws::plans_keep_their_rules;
 use amo_plan::{Plan, PlanFault, read_plan};
 use std::alloc::{AllocError, Global};
 
@@ -43,11 +45,12 @@ impl From<AllocError> for ReplayFault {
 }
 
 /// Reads a plan from all bytes of a source that has not failed. `Plan(f)` comes just where the bytes give the fault
-/// f, memory aside; `Read` just where the source has failed; `Write` never.
+/// f, memory aside; `Read` just where the source has failed; `Write` never. What is read keeps what each plan keeps.
 #[tactic(auto, using(crate::proofs::Whole::whole, crate::proofs::Whole::at_end))]
 pub fn read_source<R: Source>(alloc: Global, reader: &mut R) -> Result<Plan, ReplayFault>
     requires { R.failed reader.old ≡ false }
     ensures plan { IfOk result (λ p. IfSome (R.remaining reader.old) (λ bytes. plan_of bytes ≡ Ok (plan_seen p))) }
+    ensures kept { IfOk result (λ p. Keeps (plan_seen p)) }
     ensures end { OnOk result (IsAtEnd (R.remaining reader.new)) }
     ensures source { R.failed reader.new ≡ is_failed_read result }
     ensures refused { IfErr result (λ e. IsNoPlan e (R.remaining reader.old)) }
@@ -57,6 +60,7 @@ pub fn read_source<R: Source>(alloc: Global, reader: &mut R) -> Result<Plan, Rep
         Err(ReadFault::Failed) => return Err(ReplayFault::Read),
         Err(ReadFault::NoMemory) => return Err(ReplayFault::NoMemory),
     };
+    plans_keep_their_rules();
     match read_plan(alloc, &bytes) {
         Ok(plan) => Ok(plan),
         Err(fault) if fault.is_memory() => Err(ReplayFault::NoMemory),

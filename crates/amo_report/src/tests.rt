@@ -8,6 +8,7 @@ use std::alloc::{AllocError, Global};
 use std::process::Abort;
 
 mod explored;
+mod outcomes;
 mod stops;
 mod streams;
 mod texts;
