@@ -1,19 +1,25 @@
 -- How a command ends, from the fault that came and what was told of it.
-use Rattle.std.proofs.Common.{◌≡◌, inl, inr, ℕ, Option, Some, Err, sym, subst}
+use Rattle.std.proofs.Common.{◌≡◌, inl, inr, ℕ, Bool, List, Option, None, Some, Result, Err, sym, subst}
+use Rattle.std.specs.Io.KnownBytes.{Keeps}
+use Rattle.amo_plan.specs.Plan.{PlanSeen}
+use Rattle.amo_plan.specs.declared.fault.PlanFault.{PlanFault}
 use Rattle.amo_report.specs.declared.replaying.ReplayFault.{ReplayFault}
 use Rattle.amo_report.specs.declared.replaying.ReplayFault.TheVariants as replay
-use Rattle.amo_report.specs.Replays.{Refuses, is_failed_read, is_failed_write}
+use Rattle.amo_report.specs.Replays.{is_failed_read, is_failed_write}
 use Rattle.amo.specs.declared.request.Request.{Request}
 use Rattle.amo.specs.declared.fault.Fault.{Fault}
-use Rattle.amo.specs.declared.fault.Fault.TheVariants.{Plan, NoCommand, NoMemory, Read, Write}
-use Rattle.amo.specs.Faults.{line_of, status_of, fault_of_replay}
-use Rattle.amo.specs.Wanted.{text_of}
-use Rattle.amo.specs.Statuses.{Change, Says, IsFault, Ends, Tells, IsTold}
+use Rattle.amo.specs.declared.fault.Fault.TheVariants.{Plan, NoCommand, NoMemory, Thread, Read, Write}
+use Rattle.amo.specs.declared.request.RequestFault.{RequestFault}
+use Rattle.amo.specs.declared.request.RequestFault.TheVariants as words
+use Rattle.amo.specs.Faults.{line_of, status_of, fault_of_request, fault_of_replay}
+use Rattle.amo.specs.Wanted.{text_of, RefusesWanted}
+use Rattle.amo.specs.Statuses.{Change, Says, IsFault, IsPassedOn, Ends, Tells, IsTold}
 
 told_itself : (fault : Fault) (err : Change) (status : ℕ) → Tells fault err status → IsTold fault err status
 told_itself (Plan f) err status h = inl h
 told_itself NoCommand err status h = h
 told_itself NoMemory err status h = h
+told_itself Thread err status h = h
 told_itself Read err status h = h
 told_itself Write err status h = h
 
@@ -21,20 +27,41 @@ told_itself Write err status h = h
 pub told : (given fault : Fault) (err : Change) (status : ℕ) → given ≡ fault → Says err (line_of fault) → status ≡ status_of fault → IsTold given err status
 told given fault err status e line same = subst (λ f. IsTold f err status) (sym e) (told_itself fault err status (line, same))
 
+-- the faults of words and of texts say nothing of what waits
+pub words_pass : (fault : RequestFault) (waits : Bool) → IsPassedOn (fault_of_request fault) waits
+words_pass words.NoCommand waits = tt
+words_pass words.NoMemory waits = tt
+
+pub texts_pass : (fault : ReplayFault) (waits : Bool) → IsPassedOn (fault_of_replay fault) waits
+texts_pass (replay.Plan f) waits = tt
+texts_pass replay.Read waits = tt
+texts_pass replay.Write waits = tt
+texts_pass replay.NoMemory waits = tt
+
+-- where the plan or memory was refused nothing was written, whatever was wanted
+plan_keeps : (made : Option (PlanSeen → Result (List ℕ) PlanFault)) (f : PlanFault) (known old new : Option (List ℕ)) → RefusesWanted made (replay.Plan f) known old new → Keeps old new
+plan_keeps None f known old new h = h.2
+plan_keeps (Some text) f known old new h = h.2
+
+memory_keeps : (made : Option (PlanSeen → Result (List ℕ) PlanFault)) (known old new : Option (List ℕ)) → RefusesWanted made replay.NoMemory known old new → Keeps old new
+memory_keeps None known old new h = h
+memory_keeps (Some text) known old new h = h
+
 module _ (wanted : Option Request) (reader out : Change) where
   -- what a text says of its fault is what the program says of it
-  pub of_text : (request : Request) (fault : ReplayFault) → wanted ≡ Some request → Refuses (text_of request) fault reader.before out.before out.after
+  pub of_text : (request : Request) (fault : ReplayFault) → wanted ≡ Some request → RefusesWanted (text_of request) fault reader.before out.before out.after
       → reader.failed ≡ is_failed_read {A = Unit {0}} (Err fault) → out.failed ≡ is_failed_write {A = Unit {0}} (Err fault) → IsFault (fault_of_replay fault) wanted reader out
   of_text request (replay.Plan f) asked left source sink = record { left = record { request = request; asked = asked; left = left }; source = source; sink = sink }
   of_text request replay.Read asked left source sink = record { left = record { request = request; asked = asked; left = left }; source = source; sink = sink }
   of_text request replay.Write asked left source sink = record { left = record { request = request; asked = asked; left = left }; source = source; sink = sink }
-  of_text request replay.NoMemory asked left source sink = record { left = left; source = source; sink = sink }
+  of_text request replay.NoMemory asked left source sink = record { left = memory_keeps (text_of request) _ _ _ left; source = source; sink = sink }
 
   -- the fault that came, and what was told
-  pub ends_by : (fault : Fault) (err : Change) (status : ℕ) → IsFault fault wanted reader out → IsTold fault err status → Ends wanted reader out err status
-  ends_by (Plan f) err status cause (inl line) = inr (Plan f, cause, line)
-  ends_by (Plan f) err status cause (inr line) = inr (NoMemory, record { left = cause.left.left.2; source = cause.source; sink = cause.sink }, line)
-  ends_by NoCommand err status cause line = inr (NoCommand, cause, line)
-  ends_by NoMemory err status cause line = inr (NoMemory, cause, line)
-  ends_by Read err status cause line = inr (Read, cause, line)
-  ends_by Write err status cause line = inr (Write, cause, line)
+  pub ends_by : (fault : Fault) (waits : Bool) (err : Change) (status : ℕ) → IsFault fault wanted reader out → IsPassedOn fault waits → IsTold fault err status → Ends wanted reader out waits err status
+  ends_by (Plan f) waits err status cause passed (inl line) = inr (Plan f, cause, tt, line)
+  ends_by (Plan f) waits err status cause passed (inr line) = inr (NoMemory, record { left = plan_keeps (text_of cause.left.request) f _ _ _ cause.left.left; source = cause.source; sink = cause.sink }, tt, line)
+  ends_by NoCommand waits err status cause passed line = inr (NoCommand, cause, tt, line)
+  ends_by NoMemory waits err status cause passed line = inr (NoMemory, cause, tt, line)
+  ends_by Thread waits err status cause passed line = inr (Thread, cause, passed, line)
+  ends_by Read waits err status cause passed line = inr (Read, cause, tt, line)
+  ends_by Write waits err status cause passed line = inr (Write, cause, tt, line)

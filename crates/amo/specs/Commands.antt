@@ -4,7 +4,7 @@ use Rattle.std.specs.Str.{bytes_eq}
 use Rattle.clap.specs.Words.{App, Row, Rule, Text, new_app, new_rule, with_rule, with_subcommand, subcommand_of, fault_of, first_of}
 use Rattle.amo_plan.specs.Digits.{number_in, within}
 use Rattle.amo.specs.declared.request.Request.{Request}
-use Rattle.amo.specs.declared.request.Request.TheVariants.{Replay, Check, Explore, Stops}
+use Rattle.amo.specs.declared.request.Request.TheVariants.{Replay, Check, Run, Explore, Stops}
 use Rattle.amo.specs.declared.request.RequestFault.{RequestFault}
 use Rattle.amo.specs.declared.request.RequestFault.TheVariants.{NoCommand}
 
@@ -15,6 +15,10 @@ replay_app = new_app (codes "replay")
 -- the subcommand `check`, which takes nothing
 abbrev pub check_app : App
 check_app = new_app (codes "check")
+
+-- the subcommand `run`, which takes nothing
+abbrev pub run_app : App
+run_app = new_app (codes "run")
 
 -- a text that has to be given
 abbrev pub required : Text → Rule
@@ -34,7 +38,7 @@ wanting_subcommand a = record a { top = record a.top { subcommand_required = tru
 
 -- the program as `clap` sees it: `amo` with a subcommand for each request
 abbrev pub amo_app : App
-amo_app = with_subcommand (with_subcommand (with_subcommand (with_subcommand (wanting_subcommand (new_app (codes "amo"))) replay_app.top) check_app.top) explore_app.top) stops_app.top
+amo_app = with_subcommand (with_subcommand (with_subcommand (with_subcommand (with_subcommand (wanting_subcommand (new_app (codes "amo"))) replay_app.top) check_app.top) run_app.top) explore_app.top) stops_app.top
 
 -- the number of the text at this id, where it is one and is within this range
 abbrev pub number_at : ℕ → ℕ → Text → List Row → Option ℕ
@@ -58,9 +62,10 @@ unfoldable pub request_of_row : Text → List Row → Option Request
 request_of_row name rows =
     if bytes_eq name (codes "replay") then Some Replay
     else (if bytes_eq name (codes "check") then Some Check
+    else (if bytes_eq name (codes "run") then Some Run
     else (if bytes_eq name (codes "explore") then explore_of_rows rows
     else (if bytes_eq name (codes "stops") then stops_of_rows rows
-    else None)))
+    else None))))
 
 -- this, where there are no faults
 abbrev pub unless_any : {A B : Type 0} → List A → Option B → Option B

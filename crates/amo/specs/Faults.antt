@@ -1,7 +1,7 @@
 -- The faults of the program: which come from a request or a replay, and the line and the status of each.
 use Rattle.std.specs.Prelude.{ℕ, List, Bool, true, false, codes}
 use Rattle.amo.specs.declared.fault.Fault.{Fault}
-use Rattle.amo.specs.declared.fault.Fault.TheVariants.{Plan, NoCommand, NoMemory, Read, Write}
+use Rattle.amo.specs.declared.fault.Fault.TheVariants.{Plan, NoCommand, NoMemory, Thread, Read, Write}
 use Rattle.amo.specs.declared.request.RequestFault.{RequestFault}
 use Rattle.amo.specs.declared.request.RequestFault.TheVariants as request
 use Rattle.amo_report.specs.declared.replaying.ReplayFault.{ReplayFault}
@@ -25,6 +25,7 @@ abbrev pub line_of : Fault → List ℕ
 line_of (Plan f) = fault_line f
 line_of NoCommand = codes "fault words\n"
 line_of NoMemory = codes "fault memory\n"
+line_of Thread = codes "fault thread\n"
 line_of Read = codes "fault read\n"
 line_of Write = codes "fault write\n"
 
@@ -33,6 +34,7 @@ abbrev pub status_of : Fault → ℕ
 status_of (Plan f) = 1
 status_of NoCommand = 2
 status_of NoMemory = 3
+status_of Thread = 3
 status_of Read = 4
 status_of Write = 4
 
@@ -41,6 +43,7 @@ abbrev pub is_of_reader : Fault → Bool
 is_of_reader (Plan f) = false
 is_of_reader NoCommand = false
 is_of_reader NoMemory = false
+is_of_reader Thread = false
 is_of_reader Read = true
 is_of_reader Write = false
 
@@ -49,5 +52,6 @@ abbrev pub is_of_writer : Fault → Bool
 is_of_writer (Plan f) = false
 is_of_writer NoCommand = false
 is_of_writer NoMemory = false
+is_of_writer Thread = false
 is_of_writer Read = false
 is_of_writer Write = true

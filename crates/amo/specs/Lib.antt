@@ -1,4 +1,5 @@
 pub mod Commands
 pub mod Faults
+pub mod Runs
 pub mod Wanted
 pub mod Statuses

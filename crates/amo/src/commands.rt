@@ -56,6 +56,7 @@ fn amo_command<'a>(alloc: Global) -> Result<Command<'a>, AllocError>
     let command = Command::new(alloc, "amo").subcommand_required(true);
     let command = with_bare(alloc, command, "replay")?;
     let command = with_bare(alloc, command, "check")?;
+    let command = with_bare(alloc, command, "run")?;
     let command = with_explore(alloc, command)?;
     with_stops(alloc, command)
 }
@@ -108,6 +109,7 @@ fn request_of_row(name: &str, matches: &ArgMatches<'_>) -> Option<Request>
     match name {
         "replay" => Some(Request::Replay),
         "check" => Some(Request::Check),
+        "run" => Some(Request::Run),
         "explore" => explore_of_matches(matches),
         "stops" => stops_of_matches(matches),
         _ => None,

@@ -15,6 +15,8 @@ pub enum Fault {
     NoCommand,
     /// Memory was refused.
     NoMemory,
+    /// A thread could not be started. The text of what the others did was written.
+    Thread,
     /// The reader failed.
     Read,
     /// The writer failed.

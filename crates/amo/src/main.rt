@@ -1,12 +1,16 @@
-//! Replays plans, which are read from standard input. `amo replay` writes the report of the plan's replay, `amo check`
-//! its check text, `amo explore FROM COUNT LENGTH` what numbered schedules of one length lead to, and `amo stops P`
-//! what becomes of the plan where worker P stops after each of its first moves.
+//! Replays and runs plans, which are read from standard input. `amo replay` writes the report of the plan's replay, `amo run`
+//! what comes of its jobs where workers in threads perform them, `amo check` its check text, `amo explore FROM COUNT LENGTH`
+//! what numbered schedules of one length lead to, and `amo stops P` what becomes of the plan where worker P stops after
+//! each of its first moves.
 #![tactic(auto)]
 
+mod block_work;
 mod commands;
 mod fault;
 mod program;
 mod request;
+mod running;
+mod started;
 mod working;
 
 use amo_report::Streamed;

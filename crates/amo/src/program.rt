@@ -13,6 +13,8 @@ use std::alloc::{AllocError, Global};
 use std::env::Args;
 use std::io;
 use std::process::ExitCode;
+use std::sync::Wait;
+use std::thread::Threads;
 
 /// The words, as a list.
 fn listed(alloc: Global, words: Args) -> Result<Vec<String>, AllocError>
@@ -37,7 +39,7 @@ fn texts_of<'a>(alloc: Global, words: &'a [String]) -> Result<Vec<&'a str>, Allo
 }
 
 /// `work` on the words after the first, or out of memory for their texts.
-fn work_after_name<R, S: Source, W: Sink, E: Sink>(
+fn work_after_name<R: Threads + Wait + Sync, S: Source, W: Sink, E: Sink>(
     rt: &R,
     alloc: Global,
     words: &[String],
@@ -49,7 +51,7 @@ fn work_after_name<R, S: Source, W: Sink, E: Sink>(
     requires out { W.failed out.old ≡ false }
     ensures ends { Ends (asked_after_name (map string_bytes words.now))
         (change (S.remaining reader.old) (S.remaining reader.new) (S.failed reader.new))
-        (change (W.contents out.old) (W.contents out.new) (W.failed out.new))
+        (change (W.contents out.old) (W.contents out.new) (W.failed out.new)) (W.waiting out.new)
         (change (E.contents err.old) (E.contents err.new) (E.failed err.new)) result }
     ensures passed { result ≡ 0 → W.waiting out.new ≡ false }
     ensures heard { 1 ≤ result → E.failed err.new ≡ false → E.waiting err.new ≡ false }
@@ -67,7 +69,7 @@ fn work_after_name<R, S: Source, W: Sink, E: Sink>(
 /// The whole program on the words that the system gives it, its own name first, and its streams: does what the words
 /// after the name ask for, and answers the status of `work` as the program's. Where the system can't give the words,
 /// since memory for them is refused or one of them isn't UTF-8, that is out of memory, before anything is read.
-pub fn serve_words<R, S: Source, W: Sink, E: Sink>(
+pub fn serve_words<R: Threads + Wait + Sync, S: Source, W: Sink, E: Sink>(
     rt: &R,
     alloc: Global,
     words: io::Result<Args>,
@@ -79,7 +81,7 @@ pub fn serve_words<R, S: Source, W: Sink, E: Sink>(
     requires out { W.failed out.old ≡ false }
     ensures ends { IfOk words (λ all. Ends (asked_after_name (map string_bytes (into_iter_items all)))
         (change (S.remaining reader.old) (S.remaining reader.new) (S.failed reader.new))
-        (change (W.contents out.old) (W.contents out.new) (W.failed out.new))
+        (change (W.contents out.old) (W.contents out.new) (W.failed out.new)) (W.waiting out.new)
         (change (E.contents err.old) (E.contents err.new) (E.failed err.new)) (exit_status result)) }
     ensures passed { exit_status result ≡ 0 → W.waiting out.new ≡ false }
     ensures heard { 1 ≤ exit_status result → E.failed err.new ≡ false → E.waiting err.new ≡ false }

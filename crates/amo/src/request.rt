@@ -11,6 +11,8 @@ pub enum Request {
     Replay,
     /// To say that the plan that is read is one, with its numbers.
     Check,
+    /// To execute the jobs of the plan that is read in threads, and to write what came of it.
+    Run,
     /// To write what numbered schedules of the plan that is read lead to.
     Explore {
         /// The number of the first schedule, 0 to 1,000,000,000,000.

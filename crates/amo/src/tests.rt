@@ -2,6 +2,7 @@
 mod explored;
 mod plans;
 mod program;
+mod runs;
 mod schedules;
 mod stops;
 mod words;
@@ -10,7 +11,9 @@ use super::working::work;
 use amo_report::{Bytes, Room};
 use std::alloc::{AllocError, Global};
 use std::process::Abort;
+use std::sync::Wait;
 use std::test::Fail;
+use std::thread::Threads;
 
 /// A plan of one worker and three jobs, which performs them all.
 const PLAN: &str =
@@ -84,11 +87,17 @@ fn text_of(room: &Room) -> &str {
 }
 
 /// Runs the program on these words and this plan, with so much room for its output.
-fn run_words(alloc: Global, words: &[&str], plan: &[u8], room: usize) -> Result<Ran, AllocError> {
+fn run_words<R: Threads + Wait + Sync>(
+    rt: &R,
+    alloc: Global,
+    words: &[&str],
+    plan: &[u8],
+    room: usize,
+) -> Result<Ran, AllocError> {
     let mut reader = Bytes::new(plan);
     let mut out = Room::new(alloc, room)?;
     let mut err = Room::new(alloc, 100)?;
-    let status = work(&(), alloc, words, &mut reader, &mut out, &mut err);
+    let status = work(rt, alloc, words, &mut reader, &mut out, &mut err);
     Ok(Ran { status, out, err })
 }
 
@@ -112,51 +121,51 @@ impl Outcome<'_> {
 }
 
 /// Asserts what comes of the program on these words and this plan, with so much room for its output.
-fn assert_outcome(
-    rt: &impl Abort,
+fn assert_outcome<R: Threads + Wait + Abort + Sync>(
+    rt: &R,
     alloc: Global,
     words: &[&str],
     plan: &str,
     room: usize,
     wanted: Outcome<'_>,
 ) -> Result<(), Fail> {
-    let ran = run_words(alloc, words, plan.as_bytes(), room)?;
+    let ran = run_words(rt, alloc, words, plan.as_bytes(), room)?;
     ran.outcome().assert_is(rt, wanted, words, plan);
     Ok(())
 }
 
 /// The same, but memory may be wanted in place of it, by the test too.
-fn assert_outcome_or_no_memory(
-    rt: &impl Abort,
+fn assert_outcome_or_no_memory<R: Threads + Wait + Abort + Sync>(
+    rt: &R,
     alloc: Global,
     words: &[&str],
     plan: &str,
     room: usize,
     wanted: Outcome<'_>,
 ) {
-    if let Ok(ran) = run_words(alloc, words, plan.as_bytes(), room) {
+    if let Ok(ran) = run_words(rt, alloc, words, plan.as_bytes(), room) {
         ran.outcome().assert_is_or_no_memory(rt, wanted);
     }
 }
 
 /// Asserts that the program is done on these words and this plan, with room for the longest text, and that its text
 /// has this beginning and this end.
-fn assert_long_text(
-    rt: &impl Abort,
+fn assert_long_text<R: Threads + Wait + Abort + Sync>(
+    rt: &R,
     alloc: Global,
     words: &[&str],
     plan: &str,
     first: &str,
     last: &str,
 ) -> Result<(), Fail> {
-    let ran = run_words(alloc, words, plan.as_bytes(), 100_000)?;
+    let ran = run_words(rt, alloc, words, plan.as_bytes(), 100_000)?;
     ran.outcome().assert_done_between(rt, first, last);
     Ok(())
 }
 
 /// Asserts what comes of the replay of this plan, with ample room for its report.
-fn assert_replay(
-    rt: &impl Abort,
+fn assert_replay<R: Threads + Wait + Abort + Sync>(
+    rt: &R,
     alloc: Global,
     plan: &str,
     wanted: Outcome<'_>,
@@ -165,6 +174,10 @@ fn assert_replay(
 }
 
 /// Asserts that these words are refused.
-fn assert_no_command(rt: &impl Abort, alloc: Global, words: &[&str]) -> Result<(), Fail> {
+fn assert_no_command<R: Threads + Wait + Abort + Sync>(
+    rt: &R,
+    alloc: Global,
+    words: &[&str],
+) -> Result<(), Fail> {
     assert_outcome(rt, alloc, words, PLAN, 1000, NO_COMMAND)
 }

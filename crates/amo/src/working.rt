@@ -1,17 +1,22 @@
 //! The whole program, over any source and any two sinks.
 ghost use Rattle.std.specs.Prelude.{◌≡◌, ◌≤◌, false, None, map, OnOk, IfErr};
 ghost use Rattle.amo.specs.Commands.{asked};
-ghost use Rattle.amo.specs.Statuses.{Says, IsTold, IsDone, IsFault, Ends, change};
+ghost use Rattle.amo.specs.Statuses.{Says, IsTold, IsDone, IsFault, IsPassedOn, Ends, change};
 
 use super::commands::asked;
 use super::fault::Fault;
 use super::request::Request;
+use super::running::run_plan;
+use super::started::Started;
 use amo_report::{Sink, Source, check, explore_plan, fault_text, replay, stops_plan, write_all};
 use std::alloc::{AllocError, Global};
+use std::sync::Wait;
+use std::thread::Threads;
 
-/// Does what the words ask for. Nothing is read or written where they are no command.
-#[tactic(auto, using(crate::proofs::Endings::of_text))]
-fn serve<S: Source, W: Sink>(
+/// Does what the words ask for. Nothing is read or written where they are no command. Only `run` may wait.
+#[tactic(auto, using(crate::proofs::Endings::of_text, crate::proofs::Endings::words_pass, crate::proofs::Endings::texts_pass))]
+fn serve<R: Threads + Wait + Sync, S: Source, W: Sink>(
+    rt: &R,
     alloc: Global,
     words: &[&str],
     reader: &mut S,
@@ -26,11 +31,16 @@ fn serve<S: Source, W: Sink>(
     ensures fault { IfErr result (λ fault. IsFault fault (asked (map (λ w. w.now) words.now))
         (change (S.remaining reader.old) (S.remaining reader.new) (S.failed reader.new))
         (change (W.contents out.old) (W.contents out.new) (W.failed out.new))) }
+    ensures passed_on { IfErr result (λ fault. IsPassedOn fault (W.waiting out.new)) }
     ensures untouched { asked (map (λ w. w.now) words.now) ≡ None → (reader.new ≡ reader.old) × (out.new ≡ out.old) }
 {
     match asked(alloc, words)? {
         Request::Replay => Ok(replay(alloc, reader, out)?),
         Request::Check => Ok(check(alloc, reader, out)?),
+        Request::Run => match run_plan(rt, alloc, reader, out)? {
+            Started::All => Ok(()),
+            Started::NotAll => Err(Fault::Thread),
+        },
         Request::Explore { from, count, turns } => {
             Ok(explore_plan(alloc, reader, out, from, count, turns)?)
         }
@@ -72,6 +82,10 @@ pub fn refuse<E: Sink>(alloc: Global, err: &mut E, fault: Fault) -> u8
             say(err, "fault memory\n");
             3
         }
+        Fault::Thread => {
+            say(err, "fault thread\n");
+            3
+        }
         Fault::Read => {
             say(err, "fault read\n");
             4
@@ -84,12 +98,11 @@ pub fn refuse<E: Sink>(alloc: Global, err: &mut E, fault: Fault) -> u8
 }
 
 /// Does what the words ask for, and answers the exit status of the program: 0 where it was done, 1 where the
-/// plan was refused, 2 where the words are no command, 3 where memory was refused, 4 where a read or a write
+/// plan was refused, 2 where the words are no command, 3 where memory or a thread was refused, 4 where a read or a write
 /// failed. With each but 0 one line is written to `err` and passed on; that this fails changes nothing. Where the
 /// words are no command nothing is read or written to `out`.
-#[tactic(auto, using(crate::proofs::Endings::ends_by))]
-pub fn work<R, S: Source, W: Sink, E: Sink>(
-    _rt: &R,
+pub fn work<R: Threads + Wait + Sync, S: Source, W: Sink, E: Sink>(
+    rt: &R,
     alloc: Global,
     words: &[&str],
     reader: &mut S,
@@ -100,13 +113,13 @@ pub fn work<R, S: Source, W: Sink, E: Sink>(
     requires out { W.failed out.old ≡ false }
     ensures ends { Ends (asked (map (λ w. w.now) words.now))
         (change (S.remaining reader.old) (S.remaining reader.new) (S.failed reader.new))
-        (change (W.contents out.old) (W.contents out.new) (W.failed out.new))
+        (change (W.contents out.old) (W.contents out.new) (W.failed out.new)) (W.waiting out.new)
         (change (E.contents err.old) (E.contents err.new) (E.failed err.new)) result }
     ensures passed { result ≡ 0 → W.waiting out.new ≡ false }
     ensures heard { 1 ≤ result → E.failed err.new ≡ false → E.waiting err.new ≡ false }
     ensures untouched { asked (map (λ w. w.now) words.now) ≡ None → (reader.new ≡ reader.old) × (out.new ≡ out.old) }
 {
-    match serve(alloc, words, reader, out) {
+    match serve(rt, alloc, words, reader, out) {
         Ok(()) => 0,
         Err(fault) => refuse(alloc, err, fault),
     }

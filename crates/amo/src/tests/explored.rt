@@ -5,7 +5,9 @@ use super::{
 };
 use std::alloc::Global;
 use std::process::Abort;
+use std::sync::Wait;
 use std::test::Fail;
+use std::thread::Threads;
 
 /// A plan of one worker and one job, which an empty schedule leaves as it is.
 const ONE_JOB: &str =
@@ -38,8 +40,8 @@ const OTHER_NUMBERS: [[&str; 3]; 15] = [
 ];
 
 /// Asserts what comes of exploring this plan, with room for the longest text.
-fn assert_explored(
-    rt: &impl Abort,
+fn assert_explored<R: Threads + Wait + Abort + Sync>(
+    rt: &R,
     alloc: Global,
     plan: &str,
     numbers: [&str; 3],

@@ -4,7 +4,9 @@ use super::{
     refused, run_words,
 };
 use std::alloc::{AllocError, Global};
+use std::sync::Wait;
 use std::test::Fail;
+use std::thread::Threads;
 
 /// The report of a plan of one worker without jobs.
 const NO_JOBS: &str =
@@ -93,8 +95,12 @@ fn refused_line_of_a_fault(rt: HostRuntime) {
 }
 
 /// Whether the replay of this plan writes a report alone or the line of a refused plan alone.
-fn is_replayed_or_refused(alloc: Global, plan: &[u8]) -> Result<bool, AllocError> {
-    let ran = run_words(alloc, &["replay"], plan, 1000)?;
+fn is_replayed_or_refused<R: Threads + Wait + Sync>(
+    rt: &R,
+    alloc: Global,
+    plan: &[u8],
+) -> Result<bool, AllocError> {
+    let ran = run_words(rt, alloc, &["replay"], plan, 1000)?;
     let Outcome { status, out, err } = ran.outcome();
     Ok(match status {
         0 => err.is_empty() && out.starts_with("jobs "),
@@ -108,7 +114,7 @@ fn each_beginning_of_a_plan_is_a_plan_or_is_refused(rt: HostRuntime) -> Result<(
     let bytes = PLAN.as_bytes();
     for end in 0..=bytes.len() {
         assert!(rt;
-            is_replayed_or_refused(rt.alloc(), &bytes[..end])?,
+            is_replayed_or_refused(&rt, rt.alloc(), &bytes[..end])?,
             "at {end}"
         );
     }

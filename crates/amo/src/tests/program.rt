@@ -4,7 +4,9 @@ use crate::program::serve_words;
 use amo_report::{Bytes, Room};
 use std::alloc::{AllocError, Global};
 use std::process::ExitCode;
+use std::sync::Wait;
 use std::test::Fail;
+use std::thread::Threads;
 
 /// What is left of a call of `serve_words`.
 #[derive(Drop)]
@@ -23,7 +25,11 @@ impl Served {
 }
 
 /// Runs the program on these words and `PLAN`.
-fn serve(alloc: Global, words: &[&str]) -> Result<Served, AllocError> {
+fn serve<R: Threads + Wait + Sync>(
+    rt: &R,
+    alloc: Global,
+    words: &[&str],
+) -> Result<Served, AllocError> {
     let mut given = Vec::with_capacity(alloc, words.len())?;
     for word in words {
         given.push(String::from_str(alloc, word)?)?;
@@ -32,13 +38,13 @@ fn serve(alloc: Global, words: &[&str]) -> Result<Served, AllocError> {
     let mut reader = Bytes::new(PLAN.as_bytes());
     let mut out = Room::new(alloc, 1000)?;
     let mut err = Room::new(alloc, 100)?;
-    let code = serve_words(&(), alloc, words, &mut reader, &mut out, &mut err);
+    let code = serve_words(rt, alloc, words, &mut reader, &mut out, &mut err);
     Ok(Served { code, out, err })
 }
 
 #[test]
 fn the_programs_name_is_passed_by(rt: HostRuntime) -> Result<(), Fail> {
-    let served = serve(rt.alloc(), &["check", "replay"])?;
+    let served = serve(&rt, rt.alloc(), &["check", "replay"])?;
     assert!(rt; served.is(done(REPORT)));
     Ok(())
 }
@@ -46,7 +52,7 @@ fn the_programs_name_is_passed_by(rt: HostRuntime) -> Result<(), Fail> {
 /// The report, or out of memory with nothing written.
 #[test]
 fn refused_words(rt: HostRuntime) {
-    if let Ok(served) = serve(rt.alloc(), &["amo", "replay"]) {
+    if let Ok(served) = serve(&rt, rt.alloc(), &["amo", "replay"]) {
         assert!(rt; served.is(done(REPORT)) || served.is(NO_MEMORY));
     }
 }

@@ -2,7 +2,9 @@
 use super::{assert_replay, done, refused};
 use std::alloc::{AllocError, Global};
 use std::process::Abort;
+use std::sync::Wait;
 use std::test::Fail;
+use std::thread::Threads;
 
 /// The report of a plan of two workers without jobs, whatever its schedule: both end at once.
 const NO_JOBS: &str =
@@ -161,8 +163,8 @@ fn plan_of(alloc: Global, head: &str, jobs: usize) -> Result<String, AllocError>
 }
 
 /// Asserts that the plan with this head and so many jobs has this report.
-fn assert_worked(
-    rt: &impl Abort,
+fn assert_worked<R: Threads + Wait + Abort + Sync>(
+    rt: &R,
     alloc: Global,
     head: &str,
     jobs: usize,

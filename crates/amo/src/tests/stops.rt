@@ -5,7 +5,9 @@ use super::{
 };
 use std::alloc::Global;
 use std::process::Abort;
+use std::sync::Wait;
 use std::test::Fail;
+use std::thread::Threads;
 
 /// A plan of two workers and two jobs, in which worker 1 takes four turns.
 const FOUR_TURNS: &str =
@@ -24,8 +26,8 @@ const ONE_TURN_MORE: &str =
     "version = 1\nworkers = 1\nbeta = 1\nschedule = \"1*1000 1\"\n\n[[job]]\nname = \"a\"\nsay = \"one\"\n";
 
 /// Asserts what comes of stopping this worker in this plan, with room for the longest text.
-fn assert_stopped(
-    rt: &impl Abort,
+fn assert_stopped<R: Threads + Wait + Abort + Sync>(
+    rt: &R,
     alloc: Global,
     plan: &str,
     worker: &str,
