@@ -1,0 +1,6 @@
+use Rattle.std.proofs.Common.{rules}
+use Rattle.amo_payments.proofs.Sorts.{sorted}
+use Rattle.amo_payments.proofs.sorting.sort_out.Goals as goal
+
+pub returns-clause-sorted : goal.returns-clause-sorted
+returns-clause-sorted c payloads budgets is = sorted _ payloads budgets _ _ is (search rules) (search rules) (search rules)

@@ -1,0 +1,27 @@
+-- What a worker does in a loop of its caller's own.
+use Rattle.std.specs.Prelude.{◌≡◌, ℕ, List, [], ◌++◌, map, All}
+use Rattle.amo_kk.specs.Record.{jobs_in_hand}
+use Rattle.amo_words.specs.Faces.{Seated, machine}
+use Rattle.amo_crew.specs.declared.hand.Output.{Output}
+use Rattle.amo_crew.specs.Running.{IsAnswer}
+
+-- The worker b, now w, has filed just the jobs of these outputs, in their order, and each answer is that of its job's payload.
+pub record HasPaid {P Out : Type 0} (related : ℕ → ℕ → P → Out → Type 0) (b w : Seated P) (outputs : List (Output Out)) : Type 0 where
+  pub table : w.table_id ≡ b.table_id
+  pub givens : w.view.givens ≡ b.view.givens
+  pub payloads_are : w.view.payloads ≡ b.view.payloads
+  pub number : (machine w).number ≡ (machine b).number
+  pub dones : (machine w).state.dones ≡ (machine b).state.dones ++ map (λ x. x.job) outputs
+  pub answers : All (IsAnswer related b.view.payloads) outputs
+
+-- nothing is in the worker's hand
+abbrev pub IsEmpty : {P : Type 0} → Seated P → Type 0
+IsEmpty w = jobs_in_hand (machine w).state.phase ≡ []
+
+-- The worker b, now w, has done nothing more.
+pub record StaysAs {P : Type 0} (b w : Seated P) : Type 0 where
+  pub table : w.table_id ≡ b.table_id
+  pub givens : w.view.givens ≡ b.view.givens
+  pub payloads_are : w.view.payloads ≡ b.view.payloads
+  pub number : (machine w).number ≡ (machine b).number
+  pub dones : (machine w).state.dones ≡ (machine b).state.dones

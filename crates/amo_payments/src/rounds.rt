@@ -1,0 +1,150 @@
+//! Payments go in rounds, since a floor has at most 4096 jobs.
+ghost use Rattle.std.specs.Prelude.{◌≡◌, ◌≤◌, ◌++◌, ℕ, List, min, map, vec_len, IfOk, IfErr, IfSome, OnOk, OnErr};
+ghost use Rattle.amo_kk.specs.declared.givens.Givens.{Givens as GivensView};
+ghost use Rattle.amo_crew.specs.Outcomes.{IsOutcome};
+ghost use Rattle.amo_crew.specs.Unsettling.{IsUnsettled};
+ghost use Rattle.amo_payments.specs.declared.payment.Payment.{Payment as PaymentView};
+ghost use Rattle.amo_payments.specs.Sorting.{related, IsSorted};
+ghost use Rattle.amo_payments.specs.Rounds.{IsRound, IsRoundFault};
+
+use crate::bank::Bank;
+use crate::payment::{Answer, Payment};
+use crate::sorting::{Sorted, sort_out};
+use amo_crew::laws::settled_later;
+use amo_crew::{ExecFault, Outcome, StopPlan, Unsettled, execute};
+use amo_kk::Givens;
+use std::alloc::{AllocError, Global};
+use std::io::Write;
+use std::mem;
+use std::sync::Wait;
+use std::thread::Threads;
+
+/// How many workers pay, and after how many steps each is halted, in each round.
+#[derive(Clone, Copy, Debug, PartialEq, Eq)]
+pub struct Crew {
+    /// From 1 to 16.
+    pub workers: u64,
+    /// At most 10,000,000.
+    pub steps: u64,
+}
+
+/// Why a round gives no sorted jobs.
+#[derive(Drop)]
+pub enum RoundFault {
+    /// Nothing was paid, and the payments come back in their order: there was no memory, or the crew is outside its ranges.
+    Unpaid(Vec<Payment>),
+    /// Memory was refused again and again where the round was to be settled or sorted. What became of its payments stands
+    /// in the journal alone.
+    Unsettled,
+}
+
+/// Takes the next round off the payments: their first 4096, or all. Where memory is refused they stay as they are.
+pub fn next_round(payments: &mut Vec<Payment>) -> Result<Vec<Payment>, AllocError>
+    ensures round { IfOk result (λ round. payments.old.items ≡ round.items ++ payments.new.items) }
+    ensures size { IfOk result (λ round. vec_len round ≡ min (vec_len payments.old) 4096) }
+    ensures refused { OnErr result (payments.new.items ≡ payments.old.items) }
+{
+    let count = payments.len().min(4096);
+    let rest = payments.split_off(count)?;
+    Ok(mem::replace(payments, rest))
+}
+
+/// A plan for so many jobs that halts each worker after the crew's steps, or None where the crew is outside its ranges or
+/// memory is refused.
+fn plan_of(alloc: Global, jobs: usize, crew: Crew) -> Option<StopPlan>
+    ensures { IfSome result (λ plan. plan.givens.jobs ≡ jobs) }
+{
+    let givens = Givens::try_new(jobs as u64, crew.workers, crew.workers).ok()?;
+    let budgets = [crew.steps; 16];
+    StopPlan::try_new(alloc, givens, &budgets[..givens.workers() as usize]).ok()
+}
+
+/// Sorts what came of a round. Memory that is refused is asked for once more.
+fn sort_twice(
+    alloc: Global,
+    givens: Givens,
+    outcome: Outcome<Payment, Answer>,
+) -> Result<Sorted, RoundFault>
+    ensures sorted { IfOk result (λ s. (payloads : List PaymentView) (budgets : List ℕ)
+        → IsOutcome related givens payloads budgets outcome → IsSorted givens.jobs payloads s) }
+    ensures fault { IfErr result (λ f. (payloads : List PaymentView) → IsRoundFault payloads f) }
+{
+    match sort_out(alloc, givens, outcome) {
+        Ok(sorted) => Ok(sorted),
+        Err(outcome) => match sort_out(alloc, givens, outcome) {
+            Ok(sorted) => Ok(sorted),
+            Err(_) => Err(RoundFault::Unsettled),
+        },
+    }
+}
+
+/// Settles what a run left whose settling wanted memory.
+fn settle_again<S: Write + Drop, R: Wait>(
+    alloc: Global,
+    bank: &Bank<'_, S, R>,
+    rest: Unsettled<Payment, Answer>,
+) -> Result<Outcome<Payment, Answer>, RoundFault>
+    ensures outcome { IfOk result (λ o. (g : GivensView) (payloads : List PaymentView) (budgets : List ℕ)
+        → IsUnsettled related g payloads budgets rest → IsOutcome related g payloads budgets o) }
+    ensures fault { IfErr result (λ f. (payloads : List PaymentView) → IsRoundFault payloads f) }
+{
+    settled_later(bank);
+    match rest.settle(alloc) {
+        Ok(outcome) => Ok(outcome),
+        Err(_) => Err(RoundFault::Unsettled),
+    }
+}
+
+/// Executes one round. Where a thread could not be started the others have paid, and where memory was refused at the settling
+/// it is settled again, once.
+fn run_round<S: Write + Drop + Send, R: Threads + Wait + Sync>(
+    rt: &R,
+    alloc: Global,
+    bank: &Bank<'_, S, R>,
+    plan: &StopPlan,
+    payments: Vec<Payment>,
+) -> Result<Outcome<Payment, Answer>, RoundFault>
+    ensures outcome { IfOk result (IsOutcome related plan.now.givens payments.items plan.now.budgets) }
+    ensures fault { IfErr result (IsRoundFault payments.items) }
+{
+    match execute(rt, alloc, plan.givens(), payments, bank, plan) {
+        Ok(outcome) | Err(ExecFault::ThreadRefused(outcome)) => Ok(outcome),
+        Err(ExecFault::WrongCount(payments)) | Err(ExecFault::NoMemory(payments)) => {
+            Err(RoundFault::Unpaid(payments))
+        }
+        Err(ExecFault::Unsettled(rest)) => settle_again(alloc, bank, rest),
+    }
+}
+
+/// Pays one round, and sorts what came of it. There have to be at most 4096 payments. May wait.
+#[tactic(auto, using(crate::proofs::RoundLemmas::round_of))]
+pub fn pay_round<S: Write + Drop + Send, R: Threads + Wait + Sync>(
+    rt: &R,
+    alloc: Global,
+    bank: &Bank<'_, S, R>,
+    crew: Crew,
+    payments: Vec<Payment>,
+) -> Result<Sorted, RoundFault>
+    requires few { vec_len payments ≤ 4096 }
+    ensures sorted { IfOk result (IsRound payments.items) }
+    ensures fault { IfErr result (IsRoundFault payments.items) }
+{
+    let Some(plan) = plan_of(alloc, payments.len(), crew) else {
+        return Err(RoundFault::Unpaid(payments));
+    };
+    match run_round(rt, alloc, bank, &plan, payments) {
+        Ok(outcome) => sort_twice(alloc, plan.givens(), outcome),
+        Err(fault) => Err(fault),
+    }
+}
+
+/// Adds the payments that nobody began, in their order: what a new floor is made of. What was in a worker's hand is not
+/// among them. Where memory is refused they are dropped, and the journal has no entry of them.
+pub fn add_free(free: Vec<(u32, Payment)>, list: &mut Vec<Payment>) -> Result<(), AllocError>
+    ensures { OnOk result (list.new.items ≡ list.old.items ++ map (λ t. t.1) free.items) }
+{
+    for (_, payment) in free {
+        list.push(payment)?;
+    }
+    Ok(())
+}

@@ -1,0 +1,84 @@
+//! A crash in the middle, lines that are none, and what several workers make of a day.
+ghost use Rattle.std.specs.Prelude.{◌≡◌, vec_len, IfOk};
+
+use crate::bank::Bank;
+use crate::journal::Journal;
+use crate::line::{Entry, Line, line_of};
+use crate::payment::Payment;
+use crate::restarting::part;
+use crate::rounds::{Crew, pay_round};
+use crate::second::run_alone;
+use std::alloc::{AllocError, Global};
+use std::sync::atomic::AtomicBool;
+use std::test::Fail;
+
+/// So many payments, numbered from 1.
+fn payments(alloc: Global, count: u64) -> Result<Vec<Payment>, AllocError>
+    ensures { IfOk result (λ v. vec_len v ≡ count) }
+{
+    let mut list = Vec::new(alloc);
+    for before in 0..count {
+        let id = before + 1;
+        list.push(Payment {
+            id,
+            account: 7,
+            cents: 100,
+        })?;
+    }
+    Ok(list)
+}
+
+#[test]
+fn a_broken_line_is_none(rt: HostRuntime) {
+    for text in [
+        "",
+        "intent",
+        "intent ",
+        "intent x",
+        "inten 3",
+        "receipt 3 4",
+        "pay 7",
+        "pay 7 ",
+    ] {
+        assert!(rt; line_of(text).is_none(), "{text} is a line");
+    }
+    assert!(rt; line_of("intent 3") == Some(Line::Old(Entry::Intent(3))));
+    assert!(rt; line_of("pay 7 250") == Some(Line::Pay(7, 250)));
+}
+
+#[test]
+fn an_intent_without_a_receipt_is_not_paid_again(rt: HostRuntime) -> Result<(), Fail> {
+    let journal = [Entry::Intent(2), Entry::Intent(1), Entry::Receipt(2)];
+    let parts = part(rt.alloc(), payments(rt.alloc(), 3)?, &journal)?;
+    assert!(rt; parts.made.len() == 1 && parts.made[0].id == 2);
+    assert!(rt; parts.in_doubt.len() == 1 && parts.in_doubt[0].id == 1);
+    assert!(rt; parts.untried.len() == 1 && parts.untried[0].id == 3);
+    Ok(())
+}
+
+#[test]
+fn four_workers_pay_a_hundred(rt: HostRuntime) -> Result<(), Fail> {
+    let stop = AtomicBool::new(false);
+    let bank = Bank::new(&rt, Journal::new(Vec::new(rt.alloc())), 1000, &stop);
+    let crew = Crew {
+        workers: 4,
+        steps: 100_000,
+    };
+    let Ok(sorted) = pay_round(&rt, rt.alloc(), &bank, crew, payments(rt.alloc(), 100)?) else {
+        panic!(rt; "the round was not paid")
+    };
+    assert!(rt; sorted.done.len() >= 94 && sorted.in_doubt.is_empty());
+    assert_eq!(rt; sorted.done.len() + sorted.free.len(), 100);
+    Ok(())
+}
+
+#[test]
+fn the_flag_stops_after_the_limit(rt: HostRuntime) -> Result<(), Fail> {
+    let stop = AtomicBool::new(false);
+    let bank = Bank::new(&rt, Journal::new(Vec::new(rt.alloc())), 2, &stop);
+    let Ok(rest) = run_alone(rt.alloc(), &stop, &bank, payments(rt.alloc(), 5)?) else {
+        panic!(rt; "nothing was paid")
+    };
+    assert!(rt; rest.outputs.len() == 2 && rest.free.len() == 3);
+    Ok(())
+}
