@@ -5,6 +5,7 @@
 //!     core plan NAME FILE    such a line of reading that plan, a line at a time and without any test
 //!     core bytes N M         what the system gave this process before and after worlds of N jobs and M workers
 
+mod crews;
 mod floors;
 #[allow(dead_code)]
 #[path = "replay.rs"]
@@ -16,6 +17,9 @@ use std::io;
 use std::time::{Duration, Instant};
 
 const JOBS: u32 = 4096;
+
+/// A long job has so many turns, which take about 20 microseconds.
+const LONG_TURNS: u32 = 9_000;
 
 /// The runs of a figure take so long together; the fastest counts.
 const LONG_ENOUGH: Duration = Duration::from_millis(200);
@@ -60,6 +64,7 @@ fn times() {
         worlds(workers);
     }
     floors::measure();
+    crews::measure();
 }
 
 /// What one run did, and how long it took.

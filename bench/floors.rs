@@ -9,10 +9,10 @@ use std::sync::atomic::{AtomicU64, Ordering::SeqCst};
 use std::time::Instant;
 
 /// The done jobs of each worker, and the free ones with their payloads.
-type Settlement = (Vec<Vec<u32>>, Vec<(u32, u32)>);
+pub type Settlement = (Vec<Vec<u32>>, Vec<(u32, u32)>);
 
 /// The words and the payloads. A payload is taken by the one worker that has claimed its job.
-struct Floor {
+pub struct Floor {
     givens: Givens,
     words: Vec<AtomicU64>,
     payloads: Vec<UnsafeCell<Option<u32>>>,
@@ -21,7 +21,7 @@ struct Floor {
 unsafe impl Sync for Floor {}
 
 impl Floor {
-    fn new(givens: Givens) -> Floor {
+    pub fn new(givens: Givens) -> Floor {
         let words = givens.workers * (givens.jobs + 3) + 1;
         Floor {
             givens,
@@ -35,8 +35,8 @@ impl Floor {
         &self.words[(row + place) as usize]
     }
 
-    /// The next access of worker p. A claim takes the payload.
-    fn step(&self, p: u32, local: &mut Local) {
+    /// The next access of worker p, and the payload that it claims.
+    pub fn step(&self, p: u32, local: &mut Local) -> Option<u32> {
         match local.want() {
             Want::StoreNext(job) => {
                 self.words[p as usize].store(u64::from(job), SeqCst);
@@ -53,7 +53,7 @@ impl Floor {
                 local.after(0);
                 let job = local.claims[local.claims.len() - 1];
                 // nobody else claims this job, so nobody else looks at its payload
-                black_box(unsafe { (*self.payloads[job as usize - 1].get()).take() });
+                return unsafe { (*self.payloads[job as usize - 1].get()).take() };
             }
             Want::StoreDone(place, job) => {
                 self.done(p, place).store(u64::from(job), SeqCst);
@@ -61,20 +61,21 @@ impl Floor {
             }
             Want::Nothing => {}
         }
+        None
     }
 
     /// The accesses of worker p until it has ended, and how many they are.
     fn run(&self, p: u32, local: &mut Local) -> u64 {
         let mut count = 0;
         while local.want() != Want::Nothing {
-            self.step(p, local);
+            black_box(self.step(p, local));
             count += 1;
         }
         count
     }
 
     /// The done jobs of each worker, and the jobs that nobody has claimed with their payloads.
-    fn settle(self) -> Settlement {
+    pub fn settle(self) -> Settlement {
         let mut dones = Vec::new();
         for p in 1..=self.givens.workers {
             let row = (1..=self.givens.jobs).map(|place| self.done(p, place).load(SeqCst) as u32);
