@@ -1,6 +1,46 @@
 //! Out of memory, and the calls that take no memory.
 use super::*;
 
+/// Whether a request for memory is granted. Where one was refused and this is, what was refused has to succeed now.
+fn has_memory(alloc: Global) -> bool {
+    Vec::<u32>::with_capacity(alloc, 1).is_ok()
+}
+
+/// Hires worker 1 after a refusal: nobody while there is no memory.
+fn hire_again(
+    rt: &impl Abort,
+    alloc: Global,
+    floor: &Floor<char>,
+    book: &mut Book<char>,
+) -> Option<Worker<char>>
+    requires { book.old.table_id ≡ floor.now.table_id }
+    ensures book { book.new.table_id ≡ book.old.table_id }
+    ensures worker { IfSome result (λ w. w.table_id ≡ book.old.table_id) }
+{
+    if has_memory(alloc) {
+        return Some(hire(rt, alloc, floor, book, 1));
+    }
+    assert!(rt; matches!(book.hire(alloc, floor, 1), Err(HireFault::NoMemory)));
+    None
+}
+
+/// Settles after a refusal: not while there is no memory.
+fn settle_again(
+    rt: &impl Abort,
+    alloc: Global,
+    floor: Floor<char>,
+    book: Book<char>,
+    expected: &Expected<'_>,
+)
+    requires { book.table_id ≡ floor.table_id }
+{
+    if has_memory(alloc) {
+        expected.holds(rt, alloc, floor, book);
+    } else {
+        assert!(rt; floor.settle(alloc, book).is_err());
+    }
+}
+
 #[test]
 fn refused_floor(rt: HostRuntime) -> Result<(), Fail> {
     let givens = Givens::try_new(3, 2, 2)?;
@@ -17,7 +57,12 @@ fn refused_floor(rt: HostRuntime) -> Result<(), Fail> {
     };
     let mut first = match book.hire(rt.alloc(), &floor, 1) {
         Ok(first) => first,
-        Err(HireFault::NoMemory) => hire(&rt, rt.alloc(), &floor, &mut book, 1),
+        Err(HireFault::NoMemory) => {
+            let Some(first) = hire_again(&rt, rt.alloc(), &floor, &mut book) else {
+                return Ok(());
+            };
+            first
+        }
         Err(HireFault::NotInBook) => panic!(rt; "worker 1 was at home"),
     };
     run(&floor, &mut first, 4);
@@ -30,7 +75,7 @@ fn refused_floor(rt: HostRuntime) -> Result<(), Fail> {
     };
     match floor.settle(rt.alloc(), book) {
         Ok(end) => expected.is(&rt, end),
-        Err((floor, book)) => expected.holds(&rt, rt.alloc(), floor, book),
+        Err((floor, book)) => settle_again(&rt, rt.alloc(), floor, book, &expected),
     }
     Ok(())
 }
