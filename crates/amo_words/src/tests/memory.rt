@@ -1,4 +1,6 @@
 //! Out of memory, and the calls that take no memory.
+ghost use Rattle.std.specs.Prelude.{◌≡◌, IfSome};
+
 use super::*;
 
 /// Whether a request for memory is granted. Where one was refused and this is, what was refused has to succeed now.
