@@ -3,7 +3,7 @@ ghost use Rattle.std.specs.Prelude.{◌≡◌, false};
 
 use super::*;
 use std::io;
-use std::io::{Cursor, Read, Write};
+use std::io::{Cursor, ErrorKind, Read, Write};
 
 /// A source of one byte at a time, which fails once so many bytes were given.
 #[derive(Drop)]
@@ -104,13 +104,15 @@ impl Write for Stubborn {
     }
 }
 
-/// A reader of std that only fails.
+/// A reader of std that only fails, in this way.
 #[derive(Drop)]
-struct Broken;
+struct Broken {
+    kind: ErrorKind,
+}
 
 impl Read for Broken {
     fn read(&mut self, _buf: &mut [u8]) -> io::Result<usize> {
-        Err(io::Error::other("broken"))
+        Err(io::Error::from(self.kind))
     }
 }
 
@@ -168,9 +170,11 @@ fn a_failing_read_writes_nothing(rt: HostRuntime) {
 }
 
 #[test]
-fn a_broken_reader_of_std_writes_nothing(rt: HostRuntime) {
-    let mut reader = Streamed::new(Broken);
-    assert_replayed(&rt, rt.alloc(), &mut reader, Err(ReplayFault::Read), "");
+fn a_broken_or_interrupted_reader_of_std_writes_nothing(rt: HostRuntime) {
+    for kind in [ErrorKind::Other, ErrorKind::Interrupted] {
+        let mut reader = Streamed::new(Broken { kind });
+        assert_replayed(&rt, rt.alloc(), &mut reader, Err(ReplayFault::Read), "");
+    }
 }
 
 #[test]
