@@ -56,13 +56,12 @@ pub(crate) fn call_back<P: Drop, Out: Drop>(
 }
 
 /// The payloads of free jobs, in their order.
-pub(crate) fn payloads_of<P: Drop>(mut free: Vec<(u32, P)>, mut spare: Vec<P>) -> Vec<P>
+pub(crate) fn payloads_of<P: Drop>(free: Vec<(u32, P)>, mut spare: Vec<P>) -> Vec<P>
     requires empty { spare.items ≡ [] }
     requires room { vec_len free ≤ vec_capacity spare }
     ensures { result.items ≡ map (λ t. t.1) free.items }
 {
-    free.as_mut_slice().reverse();
-    while let Some((_, payload)) = free.pop() {
+    for (_, payload) in free {
         spare.push_reserved(payload);
     }
     spare
