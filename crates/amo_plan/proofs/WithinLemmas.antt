@@ -73,7 +73,7 @@ each_within {A} {B} p f good i (x ∷ xs) ys e =
     rw (← parts, good (capped i) x first.0 first.1, each_within p f good (i + 1) xs rest.0 rest.1) refl
 
 -- one list of moves after another
-in_range-append : (g : Givens) (xs ys : List Move) → are_in_range g xs ≡ true → are_in_range g ys ≡ true → are_in_range g (xs ++ ys) ≡ true
+pub in_range-append : (g : Givens) (xs ys : List Move) → are_in_range g xs ≡ true → are_in_range g ys ≡ true → are_in_range g (xs ++ ys) ≡ true
 in_range-append g [] ys front back = back
 in_range-append g (x ∷ xs) ys front back =
     let (here, more) = and_parts (is_within g.workers (mover x)) (are_in_range g xs) front in

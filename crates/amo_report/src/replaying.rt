@@ -70,7 +70,7 @@ pub fn read_source<R: Source>(alloc: Global, reader: &mut R) -> Result<Plan, Rep
 
 /// Writes a text and flushes the sink. `Write`, the only fault, comes just where the sink has failed; then a beginning of
 /// the text was written.
-fn write_text<W: Sink>(writer: &mut W, text: &String) -> Result<(), ReplayFault>
+pub fn write_text<W: Sink>(writer: &mut W, text: &String) -> Result<(), ReplayFault>
     requires { W.failed writer.old ≡ false }
     ensures ok { OnOk result (Appends (W.contents writer.old) (W.contents writer.new) (string_bytes text.now)) }
     ensures passed { OnOk result (W.waiting writer.new ≡ false) }

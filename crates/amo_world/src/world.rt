@@ -200,8 +200,8 @@ impl World {
         &self.seats[p as usize - 1]
     }
 
-    /// What the load that worker p wants gives; 0 where it wants none.
-    fn heard(&self, p: u32) -> u32
+    /// What the load that worker p, in 1..=workers, wants gives; 0 where it wants none.
+    pub fn heard(&self, p: u32) -> u32
         requires { IsWorker self.now.givens p }
         ensures { result ≡ loaded_value self.now.world (want (process self.now.world p).local) }
     {

@@ -1,0 +1,4 @@
+mod Gone
+mod Range
+mod Attempts
+mod Meetings

@@ -1,0 +1,177 @@
+//! Writes the lines of a trace.
+ghost use Rattle.std.specs.Prelude.{◌≡◌, ◌++◌, OnOk, string_bytes};
+ghost use Rattle.amo_kk.specs.Givens.{IsWorker};
+ghost use Rattle.amo_kk.specs.World.{process};
+ghost use Rattle.amo_trace.specs.Trace.{next_word, claim_word, done_word, equals, want_words, act_words, fact_words, phase_words, state_words, opening_line, opening_lines, step_words, step_lines};
+
+use crate::step::{Act, Fact, Step};
+use amo_kk::{Phase, Want};
+use amo_world::World;
+use std::alloc::AllocError;
+
+/// Appends the name of a worker's announcement.
+#[tactic(auto, unfolding(crate::specs::Trace::next_word))]
+fn push_next(out: &mut String, worker: u32) -> Result<(), AllocError>
+    ensures { OnOk result (string_bytes out.new ≡ string_bytes out.old ++ next_word worker) }
+{
+    write!(out, "next[{worker}]")
+}
+
+/// Appends the name of a worker's count of claims.
+#[tactic(auto, unfolding(crate::specs::Trace::claim_word))]
+fn push_claim(out: &mut String, worker: u32) -> Result<(), AllocError>
+    ensures { OnOk result (string_bytes out.new ≡ string_bytes out.old ++ claim_word worker) }
+{
+    write!(out, "claim[{worker}]")
+}
+
+/// Appends the name of a place in a worker's row.
+#[tactic(auto, unfolding(crate::specs::Trace::done_word))]
+fn push_done(out: &mut String, worker: u32, place: u32) -> Result<(), AllocError>
+    ensures { OnOk result (string_bytes out.new ≡ string_bytes out.old ++ done_word worker place) }
+{
+    write!(out, "done[{worker}][{place}]")
+}
+
+/// Appends what a word has.
+#[tactic(auto, unfolding(crate::specs::Trace::equals))]
+fn push_equals(out: &mut String, value: u32) -> Result<(), AllocError>
+    ensures { OnOk result (string_bytes out.new ≡ string_bytes out.old ++ equals value) }
+{
+    write!(out, " = {value}")
+}
+
+/// Appends what a worker stores, or what it loads, which gives this value.
+#[tactic(auto, unfolding(crate::specs::Trace::want_words))]
+fn push_want(out: &mut String, worker: u32, want: Want, value: u32) -> Result<(), AllocError>
+    ensures { OnOk result (string_bytes out.new ≡ string_bytes out.old ++ want_words worker want value) }
+{
+    match want {
+        Want::StoreNext(j) => {
+            out.push_str("stores ")?;
+            push_next(out, worker)?;
+            push_equals(out, j)
+        }
+        Want::LoadNext(q) => {
+            out.push_str("loads ")?;
+            push_next(out, q)?;
+            push_equals(out, value)
+        }
+        Want::LoadDone(q, k) => {
+            out.push_str("loads ")?;
+            push_done(out, q, k)?;
+            push_equals(out, value)
+        }
+        Want::StoreClaim(c, _) => {
+            out.push_str("stores ")?;
+            push_claim(out, worker)?;
+            push_equals(out, c)
+        }
+        Want::StoreDone(k, j) => {
+            out.push_str("stores ")?;
+            push_done(out, worker, k)?;
+            push_equals(out, j)
+        }
+        Want::Nothing => out.push_str("idles"),
+    }
+}
+
+/// Appends what a worker does.
+fn push_act(out: &mut String, worker: u32, act: Act) -> Result<(), AllocError>
+    ensures { OnOk result (string_bytes out.new ≡ string_bytes out.old ++ act_words worker act) }
+{
+    match act {
+        Act::Turned(want, value) => push_want(out, worker, want, value),
+        Act::Leaves => push_want(out, worker, Want::StoreNext(0), 0),
+        Act::Stops => out.push_str("stops"),
+        Act::Stays => out.push_str("stays"),
+        Act::Idles => out.push_str("idles"),
+    }
+}
+
+/// Appends what a step comes to.
+#[tactic(auto, unfolding(crate::specs::Trace::fact_words))]
+fn push_fact(out: &mut String, fact: Fact) -> Result<(), AllocError>
+    ensures { OnOk result (string_bytes out.new ≡ string_bytes out.old ++ fact_words fact) }
+{
+    match fact {
+        Fact::Plain => Ok(()),
+        Fact::Tried(j) => write!(out, " tried {j}"),
+        Fact::Known(j) => write!(out, " known {j}"),
+        Fact::Failed(j) => write!(out, " failed {j}"),
+        Fact::Claimed(j) => write!(out, " claimed {j}"),
+        Fact::Done(j) => write!(out, " done {j}"),
+    }
+}
+
+/// Appends where a worker stands that isn't stopped.
+#[tactic(auto, unfolding(crate::specs::Trace::phase_words))]
+fn push_phase(out: &mut String, phase: Phase) -> Result<(), AllocError>
+    ensures { OnOk result (string_bytes out.new ≡ string_bytes out.old ++ phase_words phase) }
+{
+    match phase {
+        Phase::Announcing(j) => write!(out, "announcing {j}"),
+        Phase::Trying(j, q) => write!(out, "trying {j} at {q}"),
+        Phase::Reading(j, q) => write!(out, "reading {j} at {q}"),
+        Phase::Claiming(j) => write!(out, "claiming {j}"),
+        Phase::Holding(j) => write!(out, "holding {j}"),
+        Phase::Over => out.push_str("ended"),
+        Phase::Left => out.push_str("left"),
+    }
+}
+
+/// Appends where a worker stands, given whether it is gone.
+fn push_state(out: &mut String, phase: Phase, gone: bool) -> Result<(), AllocError>
+    ensures { OnOk result (string_bytes out.new ≡ string_bytes out.old ++ state_words phase gone) }
+{
+    if gone && !phase.wants_nothing() {
+        return out.push_str("halted");
+    }
+    push_phase(out, phase)
+}
+
+/// Appends the line of a worker that opens.
+#[tactic(auto, unfolding(crate::specs::Trace::opening_line))]
+fn push_opening(out: &mut String, world: &World, worker: u32) -> Result<(), AllocError>
+    requires { IsWorker world.now.givens worker }
+    ensures { OnOk result (string_bytes out.new ≡ string_bytes out.old ++ opening_line worker (process world.now.world worker)) }
+{
+    write!(out, "0 worker {worker} opens now ")?;
+    push_state(out, world.local(worker).phase(), world.is_gone(worker))?;
+    out.push_str("\n")
+}
+
+/// Appends such a line for each worker.
+pub fn push_openings(out: &mut String, world: &World) -> Result<(), AllocError>
+    ensures { OnOk result (string_bytes out.new ≡ string_bytes out.old ++ opening_lines world.now.world world.now.givens.workers) }
+{
+    for before in 0..world.givens().workers {
+        push_opening(out, world, before + 1)?;
+    }
+    Ok(())
+}
+
+/// Appends the line of a step, without its end.
+#[tactic(auto, unfolding(crate::specs::Trace::step_words))]
+pub fn push_step(out: &mut String, step: &Step) -> Result<(), AllocError>
+    ensures { OnOk result (string_bytes out.new ≡ string_bytes out.old ++ step_words step.now) }
+{
+    let number = step.number;
+    let worker = step.worker;
+    write!(out, "{number} worker {worker} ")?;
+    push_act(out, worker, step.act)?;
+    push_fact(out, step.fact())?;
+    out.push_str(" now ")?;
+    push_state(out, step.after, step.gone)
+}
+
+/// Appends a line for each step.
+pub fn push_steps(out: &mut String, steps: &[Step]) -> Result<(), AllocError>
+    ensures { OnOk result (string_bytes out.new ≡ string_bytes out.old ++ step_lines steps.now) }
+{
+    for step in steps {
+        push_step(out, step)?;
+        out.push_str("\n")?;
+    }
+    Ok(())
+}

@@ -1,0 +1,130 @@
+//! The steps of a plan.
+ghost use Rattle.std.specs.Prelude.{◌≡◌, ◌++◌, true, OnOk, IfOk};
+ghost use Rattle.amo_kk.specs.Givens.{IsWorker};
+ghost use Rattle.amo_kk.specs.World.{worker_of, world_after_move, world_after_moves, are_in_range};
+ghost use Rattle.amo_plan.specs.PlanSeen.{plan_seen};
+ghost use Rattle.amo_report.specs.Texts.{round, moves_of};
+ghost use Rattle.amo_trace.specs.Steps.{act_here, act_of, all_gone, step_of, steps, steps_of};
+
+use crate::step::{Act, Step};
+use amo_kk::Move;
+use amo_plan::Plan;
+use amo_world::World;
+use std::alloc::{AllocError, Global};
+
+/// The worker of a move.
+fn worker_of(one: Move) -> u32
+    ensures { result ≡ worker_of one }
+{
+    match one {
+        Move::Turn(p) | Move::Halt(p) | Move::Leave(p) => p,
+    }
+}
+
+/// Whether all workers are gone.
+fn all_gone(world: &World) -> bool
+    ensures { result ≡ all_gone world.now.givens world.now.world }
+{
+    for before in 0..world.givens().workers {
+        if !world.is_gone(before + 1) {
+            return false;
+        }
+    }
+    true
+}
+
+/// What the worker of a move does, where it isn't gone.
+fn act_here(world: &World, one: Move) -> Act
+    requires { IsWorker world.now.givens (worker_of one) }
+    ensures { result ≡ act_here world.now.world one }
+{
+    match one {
+        Move::Turn(p) => Act::Turned(world.local(p).want(), world.heard(p)),
+        Move::Halt(_) => Act::Stops,
+        Move::Leave(p) if world.local(p).can_leave() => Act::Leaves,
+        Move::Leave(_) => Act::Stays,
+    }
+}
+
+/// What the worker of a move does.
+fn act_of(world: &World, one: Move) -> Act
+    requires { IsWorker world.now.givens (worker_of one) }
+    ensures { result ≡ act_of world.now.world one }
+{
+    if world.is_gone(worker_of(one)) {
+        return Act::Idles;
+    }
+    act_here(world, one)
+}
+
+/// Makes the move with this number, and answers its step.
+fn take_step(world: &mut World, number: usize, one: Move) -> Step
+    requires { IsWorker world.old.givens (worker_of one) }
+    ensures step { result ≡ step_of world.old.givens world.old.world number one }
+    ensures world { world.new ≡ record { givens = world.old.givens; world = world_after_move world.old.givens world.old.world one } }
+{
+    let worker = worker_of(one);
+    let act = act_of(world, one);
+    let before = world.local(worker).phase();
+    world.run(&[one]);
+    let after = world.local(worker).phase();
+    let gone = world.is_gone(worker);
+    Step {
+        number,
+        worker,
+        act,
+        before,
+        after,
+        gone,
+    }
+}
+
+/// Makes these moves until all workers are gone, from when on moves change nothing, and answers their steps. The only
+/// error is out of memory.
+fn take_steps(alloc: Global, world: &mut World, moves: &[Move]) -> Result<Vec<Step>, AllocError>
+    requires { are_in_range world.old.givens moves.now ≡ true }
+    ensures steps { IfOk result (λ v. v.items ≡ steps world.old.givens world.old.world 1 moves.now) }
+    ensures world { OnOk result (world.new ≡ record { givens = world.old.givens; world = world_after_moves world.old.givens world.old.world moves.now }) }
+{
+    let mut steps = Vec::new(alloc);
+    for (i, one) in moves.iter().enumerate() {
+        if all_gone(world) {
+            return Ok(steps);
+        }
+        let step = take_step(world, i + 1, *one);
+        steps.push(step)?;
+    }
+    Ok(steps)
+}
+
+/// Appends a round: a turn of each worker.
+fn push_round(moves: &mut Vec<Move>, workers: u32) -> Result<(), AllocError>
+    ensures { OnOk result (moves.new.items ≡ moves.old.items ++ round workers) }
+{
+    for before in 0..workers {
+        moves.push(Move::Turn(before + 1))?;
+    }
+    Ok(())
+}
+
+/// All moves of a plan: its schedule, then its rounds. The only error is out of memory.
+fn moves_of(alloc: Global, plan: &Plan) -> Result<Vec<Move>, AllocError>
+    ensures { IfOk result (λ v. v.items ≡ moves_of (plan_seen plan.now)) }
+{
+    let mut moves = Vec::new(alloc);
+    moves.extend_from_slice(plan.heads.moves.as_slice())?;
+    for _done in 0..plan.heads.rounds {
+        push_round(&mut moves, plan.heads.givens.workers)?;
+    }
+    Ok(moves)
+}
+
+/// The steps of a plan: what each move of its schedule and its rounds does, until all workers are gone. The only error is
+/// out of memory.
+pub fn steps_of(alloc: Global, plan: &Plan) -> Result<Vec<Step>, AllocError>
+    ensures { IfOk result (λ v. v.items ≡ steps_of (plan_seen plan.now)) }
+{
+    let moves = moves_of(alloc, plan)?;
+    let mut world = World::new(alloc, plan.heads.givens)?;
+    take_steps(alloc, &mut world, &moves)
+}
