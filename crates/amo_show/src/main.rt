@@ -1,0 +1,22 @@
+//! Shows what becomes of a plan, which is read from standard input: `amo_show trace` writes a line for each move of its run.
+#![tactic(auto)]
+
+mod fault;
+mod program;
+mod request;
+mod working;
+
+use amo_report::Streamed;
+use program::serve_words;
+use std::process::ExitCode;
+
+fn main(rt: HostRuntime) -> ExitCode {
+    let words = std::env::args(&rt);
+    let mut reader = Streamed::new(rt.stdin());
+    let mut out = Streamed::new(rt.stdout());
+    let mut err = Streamed::new(rt.stderr());
+    serve_words(rt.alloc(), words, &mut reader, &mut out, &mut err)
+}
+
+#[cfg(test)]
+mod tests;

@@ -1,0 +1,59 @@
+//! The program on what the system gives it: all its words and three streams.
+ghost use Rattle.std.specs.Prelude.{◌≡◌, ◌≤◌, false, None, map, OnErr, IfOk, string_bytes};
+ghost use Rattle.std.specs.Process.{exit_status};
+ghost use Rattle.std.specs.Vec.Iter.{into_iter_items};
+ghost use Rattle.amo_show.specs.Statuses.{Tells, Ends, change};
+ghost use Rattle.amo_show.specs.Words.{asked_after_name};
+ghost use Rattle.amo_show.specs.declared.fault.Fault.TheVariants.{NoMemory};
+
+use super::fault::Fault;
+use super::working::{refuse, work};
+use amo_report::{Sink, Source};
+use std::alloc::{AllocError, Global};
+use std::env::Args;
+use std::io;
+use std::process::ExitCode;
+
+/// The words, as a list.
+fn listed(alloc: Global, words: Args) -> Result<Vec<String>, AllocError>
+    ensures { IfOk result (λ list. list.items ≡ into_iter_items words) }
+{
+    let mut list = Vec::with_capacity(alloc, words.len())?;
+    for word in words {
+        list.push(word)?;
+    }
+    Ok(list)
+}
+
+/// The whole program on the words that the system gives it, its own name first, and its streams: does what the words
+/// after the name ask for, and answers the status of `work` as the program's. Where the system can't give the words,
+/// since memory for them is refused or one of them isn't UTF-8, that is out of memory, before anything is read.
+pub fn serve_words<S: Source, W: Sink, E: Sink>(
+    alloc: Global,
+    words: io::Result<Args>,
+    reader: &mut S,
+    out: &mut W,
+    err: &mut E,
+) -> ExitCode
+    requires reader { S.failed reader.old ≡ false }
+    requires out { W.failed out.old ≡ false }
+    ensures ends { IfOk words (λ all. Ends (asked_after_name (map string_bytes (into_iter_items all)))
+        (change (S.remaining reader.old) (S.remaining reader.new) (S.failed reader.new))
+        (change (W.contents out.old) (W.contents out.new) (W.failed out.new))
+        (change (E.contents err.old) (E.contents err.new) (E.failed err.new)) (exit_status result)) }
+    ensures passed { exit_status result ≡ 0 → W.waiting out.new ≡ false }
+    ensures heard { 1 ≤ exit_status result → E.failed err.new ≡ false → E.waiting err.new ≡ false }
+    ensures untouched { IfOk words (λ all. asked_after_name (map string_bytes (into_iter_items all)) ≡ None
+        → (reader.new ≡ reader.old) × (out.new ≡ out.old)) }
+    ensures no_words { OnErr words (Tells NoMemory (change (E.contents err.old) (E.contents err.new) (E.failed err.new)) (exit_status result)) }
+    ensures no_words_untouched { OnErr words ((reader.new ≡ reader.old) × (out.new ≡ out.old)) }
+{
+    let status = match words {
+        Ok(words) => match listed(alloc, words) {
+            Ok(words) => work(alloc, &words, reader, out, err),
+            Err(AllocError) => refuse(alloc, err, Fault::NoMemory),
+        },
+        Err(_) => refuse(alloc, err, Fault::NoMemory),
+    };
+    ExitCode::from(status)
+}
