@@ -4,3 +4,9 @@ pub mod Sorts
 pub mod Stops
 pub mod RoundLemmas
 pub mod Numbers
+pub mod NumberTexts
+pub mod Seconds
+pub mod Fronts
+pub mod Floors
+pub mod DayLemmas
+pub mod DayReports

@@ -1,19 +1,27 @@
 -- What a round is sorted into.
-use Rattle.std.proofs.Common.{◌≡◌, ℕ, List, length, IfOk, subst}
-use Rattle.std.proofs.lemmas.Result.{IfOk-weaker}
+use Rattle.std.proofs.Common.{◌≡◌, ℕ, List, length, replicate, Ok, Err, IfOk, subst, sym, ap, ◌∙◌}
 use Rattle.std.specs.Prelude.{Result}
+use Rattle.amo_kk.specs.Givens.{givens_of}
 use Rattle.amo_kk.specs.declared.givens.Givens.{Givens}
 use Rattle.amo_crew.specs.declared.outcome.Outcome.{Outcome}
 use Rattle.amo_crew.specs.Outcomes.{IsOutcome}
 use Rattle.amo_payments.specs.declared.payment.Payment.{Payment}
 use Rattle.amo_payments.specs.declared.payment.Answer.{Answer}
 use Rattle.amo_payments.specs.declared.sorting.Sorted.{Sorted}
+use Rattle.amo_payments.specs.declared.rounds.Crew.{Crew}
 use Rattle.amo_payments.specs.declared.rounds.RoundFault.{RoundFault}
-use Rattle.amo_payments.specs.Sorting.{related, IsSorted}
+use Rattle.amo_payments.specs.Sorting.{related, IsSorted, IsSortingOf}
 use Rattle.amo_payments.specs.Rounds.{IsRound}
 
-pub round_of : (g : Givens) (payloads : List Payment) (budgets : List ℕ) (o : Outcome Payment Answer) (r : Result Sorted RoundFault) → IsOutcome related g payloads budgets o → g.jobs ≡ length payloads
-    → IfOk r (λ s. (xs : List Payment) (bs : List ℕ) → IsOutcome related g xs bs o → IsSorted g.jobs xs s) → IfOk r (IsRound payloads)
-round_of g payloads budgets o r is count h =
-    IfOk-weaker r (λ (s : Sorted). (xs : List Payment) (bs : List ℕ) → IsOutcome related g xs bs o → IsSorted g.jobs xs s) (IsRound payloads)
-    (λ s sorted. subst (λ n. IsSorted n payloads s) count (sorted payloads budgets is)) h
+pub round_of : (crew : Crew) (g h : Givens) (n : ℕ) (payments : List Payment) (budgets : List ℕ) (o : Outcome Payment Answer) (r : Result Sorted RoundFault)
+    → h ≡ g → n ≡ length payments → g.jobs ≡ n → givens_of n crew.workers crew.workers ≡ Ok g → budgets ≡ replicate crew.workers crew.steps → IsOutcome related g payments budgets o
+    → IfOk r (IsSortingOf h.jobs o) → IfOk r (λ s. (xs : List Payment) (bs : List ℕ) → IsOutcome related h xs bs o → IsSorted h.jobs xs s) → IfOk r (IsRound crew payments)
+round_of crew g h n payments budgets o (Ok s) same size count givens all is lists sorted = record {
+  givens = g;
+  givens_are = subst (λ k. givens_of k crew.workers crew.workers ≡ Ok g) size givens;
+  outcome = o;
+  has_come = subst (λ bs. IsOutcome related g payments bs o) all is;
+  lists = subst (λ (x : Givens). IsSortingOf x.jobs o s) same lists;
+  sorted = subst (λ k. IsSorted k payments s) (ap (λ (x : Givens). x.jobs) same ∙ count ∙ size) (sorted payments budgets (subst (λ (x : Givens). IsOutcome related x payments budgets o) (sym same) is));
+}
+round_of crew g h n payments budgets o (Err f) same size count givens all is lists sorted = tt

@@ -1,15 +1,18 @@
 -- How a worker goes on in a loop of its caller's own.
-use Rattle.std.proofs.Common.{◌≡◌, ℕ, ◌-◌, List, [], ◌∷◌, ◌++◌, map, slice_get, sym, ap, ◌∙◌, subst}
+use Rattle.std.proofs.Common.{◌≡◌, ℕ, Bool, true, false, cond, refl, ◌-◌, List, [], ◌∷◌, ◌++◌, map, slice_get, sym, ap, ◌∙◌, subst}
 use Rattle.std.proofs.lemmas.List.{map_push, append_assoc}
 use Rattle.std.proofs.lemmas.List.Elements.{All-push}
+use Rattle.amo_kk.specs.Record.{is_over, wants_nothing}
+use Rattle.amo_kk.specs.declared.phase.Phase.{Phase}
+use Rattle.amo_kk.specs.declared.phase.Phase.TheVariants.{Announcing, Trying, Reading, Claiming, Holding, Over as PhaseOver, Left}
 use Rattle.amo_words.specs.Faces.{Seated, machine}
 use Rattle.amo_claims.specs.States.{Holds}
-use Rattle.amo_claims.specs.Calls.{IsOneStepOn, FilesOn, worker_in}
+use Rattle.amo_claims.specs.Calls.{IsOneStepOn, IsOverNow, FilesOn, state_of, worker_in}
 use Rattle.amo_claims.specs.declared.states.After.{After}
 use Rattle.amo_claims.specs.declared.states.After.TheVariants.{More, Over}
 use Rattle.amo_crew.specs.declared.hand.Output.{Output}
 use Rattle.amo_crew.specs.Running.{IsAnswer}
-use Rattle.amo_payments.specs.Stopping.{HasPaid, StaysAs}
+use Rattle.amo_payments.specs.Stopping.{HasPaid, HasEnded, EndsIfOver, StaysAs}
 
 module _ {P : Type 0} where
   filed : (h : Seated P) (j : ℕ) (after : After P) → FilesOn h j after → IsOneStepOn h (worker_in after) × ((machine (worker_in after)).state.dones ≡ (machine h).state.dones ++ j ∷ [])
@@ -24,6 +27,30 @@ module _ {P : Type 0} where
     number = on.number;
     dones = same;
   }
+
+-- who is over wants nothing
+over_wants : (p : Phase) → is_over p ≡ true → wants_nothing p ≡ true
+over_wants (Announcing j) h = h
+over_wants (Trying j q) h = h
+over_wants (Reading j q) h = h
+over_wants (Claiming j) h = h
+over_wants (Holding j) h = h
+over_wants PhaseOver h = refl
+over_wants Left h = refl
+
+pub over_has_ended : {P : Type 0} (w : Seated P) → IsOverNow w → HasEnded w
+over_has_ended w h = over_wants (machine w).state.phase h.0
+
+pub filed_ends : {P : Type 0} (h : Seated P) (j : ℕ) (after : After P) → FilesOn h j after → EndsIfOver after
+filed_ends h j (More w) on = tt
+filed_ends h j (Over w) on = over_has_ended w on.2
+
+begun : {P : Type 0} (w : Seated P) (b : Bool) → wants_nothing (machine w).state.phase ≡ b → EndsIfOver (cond b (Over w) (More w))
+begun w true e = e
+begun w false e = tt
+
+pub begins : {P : Type 0} (w : Seated P) (after : After P) → after ≡ state_of w → EndsIfOver after
+begins w after e = subst EndsIfOver (sym e) (begun w (wants_nothing (machine w).state.phase) refl)
 
 module _ {P Out : Type 0} (related : ℕ → ℕ → P → Out → Type 0) (b : Seated P) where
   abbrev HP : Seated P → List (Output Out) → Type 0

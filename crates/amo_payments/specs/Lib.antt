@@ -5,3 +5,5 @@ pub mod Sorting
 pub mod Stopping
 pub mod Rounds
 pub mod Days
+pub mod Second
+pub mod Reports

@@ -1,7 +1,7 @@
 -- What belongs to a payment.
 use Rattle.std.specs.Prelude.{◌≡◌, ℕ}
 use Rattle.amo_payments.specs.declared.payment.Payment.{Payment}
-use Rattle.amo_payments.specs.declared.payment.Receipt.{Receipt}
+use Rattle.amo_payments.specs.declared.journal.Receipt.{Receipt}
 use Rattle.amo_payments.specs.declared.payment.Answer.{Answer}
 use Rattle.amo_payments.specs.declared.payment.Answer.TheVariants.{Paid, Unpaid}
 

@@ -2,6 +2,7 @@
 use Rattle.std.specs.Prelude.{◌≡◌, ℕ, ◌+◌, ◌-◌, ◌≤◌, Bool, true, false, not, ◌==◌, ◌||◌, List, map, filter, All, Some, slice_get}
 use Rattle.std.specs.List.{list_any, range_with_len}
 use Rattle.amo_crew.specs.declared.hand.Output.{Output}
+use Rattle.amo_crew.specs.declared.outcome.Outcome.{Outcome}
 use Rattle.amo_payments.specs.declared.payment.Payment.{Payment}
 use Rattle.amo_payments.specs.declared.payment.Answer.{Answer}
 use Rattle.amo_payments.specs.declared.payment.Answer.TheVariants.{Paid, Unpaid}
@@ -59,6 +60,14 @@ IsOwn payloads t = slice_get payloads (t.0 - 1) ≡ Some t.1
 -- the answers that a bank gives
 abbrev pub related : ℕ → ℕ → Payment → Answer → Type 0
 related worker job p answer = Answers job p answer
+
+-- The lists are those of the outcome of a run of n jobs: its receipts, its free jobs, what came back from a hand, and each job
+-- once that is neither done nor free, by rising number.
+pub record IsSortingOf (n : ℕ) (o : Outcome Payment Answer) (s : Sorted) : Type 0 where
+  pub done : s.done.items ≡ paid_of o.outputs.items
+  pub free : s.free.items ≡ o.settlement.free.items
+  pub in_hand : s.in_hand.items ≡ o.in_hand.items
+  pub in_doubt : s.in_doubt.items ≡ filter (is_unsure s.done.items s.free.items) (jobs_upto n)
 
 -- Of a run of n jobs with these payments: each job is in just one of the three lists; each that is done has a receipt of its own
 -- payment; and what is free comes with its own payment.

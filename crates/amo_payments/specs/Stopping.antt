@@ -1,7 +1,9 @@
 -- What a worker does in a loop of its caller's own.
-use Rattle.std.specs.Prelude.{◌≡◌, ℕ, List, [], ◌++◌, map, All}
-use Rattle.amo_kk.specs.Record.{jobs_in_hand}
+use Rattle.std.specs.Prelude.{◌≡◌, ℕ, true, List, [], ◌++◌, map, All, ⊤}
+use Rattle.amo_kk.specs.Record.{jobs_in_hand, wants_nothing}
 use Rattle.amo_words.specs.Faces.{Seated, machine}
+use Rattle.amo_claims.specs.declared.states.After.{After}
+use Rattle.amo_claims.specs.declared.states.After.TheVariants.{More, Over}
 use Rattle.amo_crew.specs.declared.hand.Output.{Output}
 use Rattle.amo_crew.specs.Running.{IsAnswer}
 
@@ -17,6 +19,15 @@ pub record HasPaid {P Out : Type 0} (related : ℕ → ℕ → P → Out → Typ
 -- nothing is in the worker's hand
 abbrev pub IsEmpty : {P : Type 0} → Seated P → Type 0
 IsEmpty w = jobs_in_hand (machine w).state.phase ≡ []
+
+-- the worker takes no step any more: it has ended by its own choice, or it has left
+abbrev pub HasEnded : {P : Type 0} → Seated P → Type 0
+HasEnded w = wants_nothing (machine w).state.phase ≡ true
+
+-- whoever is over has ended
+abbrev pub EndsIfOver : {P : Type 0} → After P → Type 0
+EndsIfOver (More w) = ⊤
+EndsIfOver (Over w) = HasEnded w
 
 -- The worker b, now w, has done nothing more.
 pub record StaysAs {P : Type 0} (b w : Seated P) : Type 0 where

@@ -2,8 +2,8 @@
 ghost use Rattle.std.specs.Prelude.{◌≡◌};
 ghost use Rattle.amo_payments.specs.Payments.{IsReceiptOf, Answers};
 
-use crate::journal::{Intent, Journal};
-use crate::payment::{Answer, Payment, Receipt};
+use crate::journal::{Intent, Journal, Receipt};
+use crate::payment::{Answer, Payment};
 use amo_crew::Work;
 use std::io::Write;
 use std::sync::atomic::{AtomicBool, AtomicU64, Ordering};

@@ -1,12 +1,15 @@
 //! What the input says: a day's payments, and the journal of an earlier run of it.
-ghost use Rattle.std.specs.Prelude.{◌≡◌, ◌+◌, ◌++◌, [], length, vec_len, IfOk, OnOk};
-ghost use Rattle.amo_payments.specs.Days.{payments_in, entries_in, AreNumbered};
+ghost use Rattle.std.specs.Prelude.{◌≡◌, true, [], Err, map, IfOk, IfSome, OnOk};
+ghost use Rattle.std.specs.Str.Lines.{lines};
+ghost use Rattle.amo_payments.specs.Days.{IsDay, IsDayOf, IsDayWith, has_broken_line};
+ghost use Rattle.amo_payments.specs.declared.fault.Fault.TheVariants.{Line as BrokenLine, Input as NoInput};
 
 use crate::fault::Fault;
 use crate::line::{Entry, Line, line_of};
 use crate::payment::Payment;
 use crate::rounds::Crew;
 use std::alloc::{AllocError, Global};
+use std::io::Read;
 
 /// A day.
 #[derive(Drop)]
@@ -23,7 +26,7 @@ pub struct Day {
 impl Day {
     /// A day without payments, with one worker and no limit.
     pub fn new(alloc: Global) -> Day
-        ensures { (result.payments.items ≡ []) × (result.journal.items ≡ []) }
+        ensures { IsDay [] result }
     {
         Day {
             crew: Crew {
@@ -37,11 +40,8 @@ impl Day {
     }
 
     /// Adds what a line says. Where memory is refused the day is of no use.
-    #[tactic(auto, using(crate::proofs::Numbers::numbered_more))]
     pub fn add(&mut self, line: Line) -> Result<(), AllocError>
-        ensures payments { OnOk result (self.new.payments.items ≡ self.old.payments.items ++ payments_in (vec_len self.old.payments + 1) line) }
-        ensures journal { OnOk result (self.new.journal.items ≡ self.old.journal.items ++ entries_in line) }
-        ensures numbered { OnOk result (AreNumbered self.old.payments.items → AreNumbered self.new.payments.items) }
+        ensures { OnOk result (IsDayWith self.old line self.new) }
     {
         match line {
             Line::Workers(workers) => self.crew.workers = workers,
@@ -57,20 +57,40 @@ impl Day {
     }
 }
 
-/// Reads a day from its lines. A line that is none refuses the whole day: it may be half an intent, and a payment of which
-/// the journal can't be read must not be made.
-pub fn read_day<R: Input>(rt: &R, alloc: Global) -> Result<Day, Fault>
-    ensures { IfOk result (λ day. AreNumbered day.payments.items) }
+/// The lines of a text.
+fn lines_of(alloc: Global, text: &str) -> Result<Vec<&str>, AllocError>
+    ensures { IfOk result (λ all. map (λ line. line.now) all.items ≡ lines text.now) }
 {
+    text.lines().collect(alloc)
+}
+
+/// The day that a text says. A line that is none refuses the whole day: it may be half an intent, and a payment of which
+/// the journal can't be read must not be made.
+fn day_of(alloc: Global, text: &str) -> Result<Day, Fault>
+    ensures day { IfOk result (IsDayOf text.now) }
+    ensures line { result ≡ Err BrokenLine → has_broken_line text.now ≡ true }
+    ensures input { result ≡ Err NoInput → ⊥ }
+{
+    let lines = lines_of(alloc, text)?;
     let mut day = Day::new(alloc);
-    for text in rt.lines(alloc) {
-        let Ok(text) = text else {
-            return Err(Fault::Input);
-        };
-        let Some(line) = line_of(&text) else {
+    for words in &lines {
+        let Some(line) = line_of(words) else {
             return Err(Fault::Line);
         };
         day.add(line)?;
     }
     Ok(day)
+}
+
+/// Reads all of the input, and the day that it says. A line that is none refuses the whole day. Input is refused where it
+/// can't be read, or is no text.
+pub fn read_day<B: Read>(alloc: Global, input: &mut B) -> Result<Day, Fault>
+    ensures day { IfOk result (λ day. IfSome (B.remaining input.old) (λ text. IsDayOf text day)) }
+    ensures line { result ≡ Err BrokenLine → IfSome (B.remaining input.old) (λ text. has_broken_line text ≡ true) }
+{
+    let mut text = String::new(alloc);
+    if input.read_to_string(&mut text).is_err() {
+        return Err(Fault::Input);
+    }
+    day_of(alloc, text.as_str())
 }

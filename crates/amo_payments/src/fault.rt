@@ -1,6 +1,9 @@
 //! Why the program ends early.
 ghost use Rattle.std.specs.Prelude.{◌≡◌};
+ghost use Rattle.amo_payments.specs.declared.fault.Fault.TheVariants.{Memory};
 
+use crate::rounds::RoundFault;
+use crate::second::RestFault;
 use std::alloc::AllocError;
 
 /// Why the program ends early. What was paid by then stands in the journal.
@@ -19,7 +22,27 @@ pub enum Fault {
 }
 
 impl From<AllocError> for Fault {
+    ghost from_gives = { λ _ fault. fault ≡ Memory };
+
     fn from(_: AllocError) -> Fault {
         Fault::Memory
+    }
+}
+
+impl From<RoundFault> for Fault {
+    fn from(fault: RoundFault) -> Fault {
+        match fault {
+            RoundFault::Unpaid(_) => Fault::Memory,
+            RoundFault::Unsettled => Fault::Unsettled,
+        }
+    }
+}
+
+impl<P: Drop> From<RestFault<P>> for Fault {
+    fn from(fault: RestFault<P>) -> Fault {
+        match fault {
+            RestFault::Untried(_) => Fault::Memory,
+            RestFault::Unsettled => Fault::Unsettled,
+        }
     }
 }

@@ -4,13 +4,22 @@ ghost use Rattle.std.specs.Io.KnownBytes.{Appends};
 ghost use Rattle.amo_payments.specs.Payments.{IsReceiptOf};
 ghost use Rattle.amo_payments.specs.Lines.{intent_line, receipt_line};
 
-use crate::payment::{Payment, Receipt};
+use crate::payment::Payment;
 use std::io::Write;
 
 /// A payment whose intent stands in the journal. Only such a payment can be made.
 #[derive(Drop)]
 pub struct Intent {
     payment: Payment,
+}
+
+/// What shows that a payment was made. An intent alone gives one.
+#[derive(Debug, PartialEq, Drop)]
+pub struct Receipt {
+    job: u32,
+    id: u64,
+    account: u64,
+    cents: u64,
 }
 
 impl Intent {
@@ -25,6 +34,15 @@ impl Intent {
             account: payment.account,
             cents: payment.cents,
         }
+    }
+}
+
+impl Receipt {
+    /// The number of the payment.
+    pub fn id(&self) -> u64
+        ensures { result ≡ self.now.id }
+    {
+        self.id
     }
 }
 

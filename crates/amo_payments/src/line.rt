@@ -1,6 +1,6 @@
 //! The lines of the input.
-ghost use Rattle.std.specs.Prelude.{IfSome, codes};
-ghost use Rattle.amo_payments.specs.Lines.{IsNumber, IsLine, first_word, other_words};
+ghost use Rattle.std.specs.Prelude.{◌≡◌};
+ghost use Rattle.amo_payments.specs.Lines.{number_in, payment_in, line_of_word, line_in};
 
 /// A line of a journal.
 #[derive(Clone, Copy, Debug, PartialEq, Eq)]
@@ -26,26 +26,26 @@ pub enum Line {
     Old(Entry),
 }
 
-/// The number that the text is.
+/// The number that the text says, which may have a plus before its digits.
+#[tactic(auto, using(crate::proofs::NumberTexts::number_is))]
 fn number(text: &str) -> Option<u64>
-    ensures { IfSome result (IsNumber text.now) }
+    ensures { result ≡ number_in text.now }
 {
     text.parse::<u64>().ok()
 }
 
 /// Two numbers, with a blank between them.
 fn pay(text: &str) -> Option<Line>
-    ensures { IfSome result (IsLine (codes "pay") text.now) }
+    ensures { result ≡ payment_in text.now }
 {
     let (account, cents) = text.split_once(' ')?;
     Some(Line::Pay(number(account)?, number(cents)?))
 }
 
-/// What the line says, or None where it is none of these: then nobody may go on, since it may be a broken intent.
-pub fn line_of(text: &str) -> Option<Line>
-    ensures { IfSome result (IsLine (first_word text.now) (other_words text.now)) }
+/// What a line of this word and this rest says.
+fn line_of_word(word: &str, rest: &str) -> Option<Line>
+    ensures { result ≡ line_of_word word.now rest.now }
 {
-    let (word, rest) = text.split_once(' ')?;
     match word {
         "workers" => Some(Line::Workers(number(rest)?)),
         "steps" => Some(Line::Steps(number(rest)?)),
@@ -55,4 +55,12 @@ pub fn line_of(text: &str) -> Option<Line>
         "receipt" => Some(Line::Old(Entry::Receipt(number(rest)?))),
         _ => None,
     }
+}
+
+/// What the line says, or None where it is none of these: then nobody may go on, since it may be a broken intent.
+pub fn line_of(text: &str) -> Option<Line>
+    ensures { result ≡ line_in text.now }
+{
+    let (word, rest) = text.split_once(' ')?;
+    line_of_word(word, rest)
 }

@@ -17,14 +17,16 @@ mod rounds;
 mod second;
 mod sorting;
 mod stopping;
+mod telling;
 
 use program::serve;
 use std::process::ExitCode;
 
 fn main(rt: HostRuntime) -> ExitCode {
+    let mut input = rt.stdin();
     let sink = rt.stdout();
     let mut out = rt.stdout();
-    match serve(&rt, rt.alloc(), sink, &mut out) {
+    match serve(&rt, rt.alloc(), &mut input, sink, &mut out) {
         Ok(()) => ExitCode::SUCCESS,
         Err(fault) => {
             let _ = eprintln!(rt; "fault {fault:?}");

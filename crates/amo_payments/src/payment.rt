@@ -1,4 +1,5 @@
 //! A payment, and what comes of it.
+use crate::journal::Receipt;
 
 /// An amount that goes to an account. It has no copy: who holds it is the only one who can make it.
 #[derive(Debug, PartialEq, Drop)]
@@ -8,16 +9,6 @@ pub struct Payment {
     /// The account that gets it.
     pub account: u64,
     /// How much, in hundredths.
-    pub cents: u64,
-}
-
-/// What shows that a payment was made.
-#[derive(Debug, PartialEq, Drop)]
-pub struct Receipt {
-    /// The job of the floor that the payment was.
-    pub job: u32,
-    pub id: u64,
-    pub account: u64,
     pub cents: u64,
 }
 

@@ -1,79 +1,44 @@
 //! A day from its input to its report.
-ghost use Rattle.std.specs.Prelude.{◌≡◌, ◌≤◌, [], ◌∷◌, ◌++◌, map, vec_len, OnOk};
-ghost use Rattle.amo_payments.specs.declared.sorting.Sorted.{Sorted as SortedView};
-ghost use Rattle.amo_payments.specs.Rounds.{IsRound};
-ghost use Rattle.std.specs.Fmt.{decimal};
-ghost use Rattle.std.specs.Io.KnownBytes.{Appends};
+ghost use Rattle.std.specs.Prelude.{◌≡◌, ◌⊎◌, ◌<◌, List, [], vec_len, IfOk, IfSome, OnOk, OnErr};
+ghost use Rattle.std.specs.Io.KnownBytes.{Keeps};
+ghost use Rattle.amo_payments.specs.declared.day.Day.{Day as DayView};
+ghost use Rattle.amo_payments.specs.Days.{IsDayOf};
+ghost use Rattle.amo_payments.specs.Reports.{ArePaid, AreTried, TellsPart, TellsNext, Reports, ReportsFront};
 
 use crate::bank::Bank;
 use crate::day::{Day, read_day};
 use crate::fault::Fault;
 use crate::journal::Journal;
-use crate::payment::{Answer, Payment};
+use crate::payment::Payment;
 use crate::restarting::part;
-use crate::rounds::{Crew, RoundFault, add_free, next_round, pay_round};
+use crate::rounds::{Crew, add_free, next_round, pay_round};
 use crate::second::run_alone;
-use amo_crew::Output;
+use crate::telling::{tell_answers, tell_each, tell_round};
 use std::alloc::Global;
-use std::io::Write;
+use std::io::{Read, Write};
 use std::sync::Wait;
 use std::sync::atomic::AtomicBool;
 use std::thread::Threads;
 
-/// Writes what became of a payment, as a line.
-fn tell<O: Write>(out: &mut O, word: &str, id: u64) -> Result<(), Fault>
-    ensures { OnOk result (Appends (O.contents out.old) (O.contents out.new) ((word.now ++ 32 ∷ decimal id) ++ 10 ∷ [])) }
-{
-    if writeln!(out, "{word} {id}").is_err() {
-        return Err(Fault::Output);
-    }
-    Ok(())
-}
-
-/// Writes a line of this word for each payment.
-fn tell_each<O: Write>(out: &mut O, word: &str, payments: &[Payment]) -> Result<(), Fault> {
-    for payment in payments {
-        tell(out, word, payment.id)?;
-    }
-    Ok(())
-}
-
-/// Writes a line for each answer: `done` with a receipt, and `doubt` without.
-fn tell_answers<O: Write>(out: &mut O, outputs: &[Output<Answer>]) -> Result<(), Fault> {
-    for output in outputs {
-        match &output.out {
-            Answer::Paid(receipt) => tell(out, "done", receipt.id)?,
-            Answer::Unpaid(payment) => tell(out, "doubt", payment.id)?,
-        }
-    }
-    Ok(())
-}
-
-/// Pays one round, writes what is certain of it, and adds what nobody began to the list.
+/// Pays one round off the payments, writes what is certain of it, and adds what nobody began to the list.
 fn pay_next<S: Write + Drop + Send, O: Write, R: Threads + Wait + Sync>(
     rt: &R,
     alloc: Global,
     out: &mut O,
     bank: &Bank<'_, S, R>,
     crew: Crew,
-    round: Vec<Payment>,
+    payments: &mut Vec<Payment>,
     free: &mut Vec<Payment>,
 ) -> Result<(), Fault>
-    requires few { vec_len round ≤ 4096 }
-    ensures free { OnOk result ((s : SortedView) × IsRound round.items s × (free.new.items ≡ free.old.items ++ map (λ t. t.1) s.free.items)) }
+    ensures told { OnOk result (TellsNext (ArePaid crew) payments.old.items payments.new.items free.old.items free.new.items (O.contents out.old) (O.contents out.new)) }
+    ensures fewer { OnOk result (0 < vec_len payments.old → vec_len payments.new < vec_len payments.old) }
+    ensures part { OnErr result (TellsPart (ArePaid crew) payments.old.items (O.contents out.old) (O.contents out.new)) }
 {
-    match pay_round(rt, alloc, bank, crew, round) {
-        Ok(sorted) => {
-            tell_answers(out, &sorted.done)?;
-            for (_, _, payment) in &sorted.in_hand {
-                tell(out, "doubt", payment.id)?;
-            }
-            add_free(sorted.free, free)?;
-            Ok(())
-        }
-        Err(RoundFault::Unpaid(_)) => Err(Fault::Memory),
-        Err(RoundFault::Unsettled) => Err(Fault::Unsettled),
-    }
+    let round = next_round(payments)?;
+    let sorted = pay_round(rt, alloc, bank, crew, round)?;
+    tell_round(alloc, out, &sorted)?;
+    add_free(sorted.free, free)?;
+    Ok(())
 }
 
 /// Pays all in rounds, and answers what nobody began.
@@ -84,48 +49,91 @@ fn pay_all<S: Write + Drop + Send, O: Write, R: Threads + Wait + Sync>(
     bank: &Bank<'_, S, R>,
     crew: Crew,
     mut payments: Vec<Payment>,
-) -> Result<Vec<Payment>, Fault> {
+) -> Result<Vec<Payment>, Fault>
+    ensures told { IfOk result (λ free. TellsNext (ArePaid crew) payments.items [] [] free.items (O.contents out.old) (O.contents out.new)) }
+    ensures part { OnErr result (TellsPart (ArePaid crew) payments.items (O.contents out.old) (O.contents out.new)) }
+{
     let mut free = Vec::new(alloc);
-    for _ in 0..payments.len() {
-        if payments.is_empty() {
-            break;
-        }
-        let round = next_round(&mut payments)?;
-        pay_next(rt, alloc, out, bank, crew, round, &mut free)?;
+    'paying: while !payments.is_empty() {
+        pay_next(rt, alloc, out, bank, crew, &mut payments, &mut free)?;
     }
     Ok(free)
 }
 
-/// Pays what the old journal says nothing of: first in rounds, and then what nobody began on a second floor, until the flag is
-/// set.
+/// Opens one floor of one worker for payments off the list, writes what it has made, and adds what it has not begun to the
+/// other list.
+fn try_next<S: Write + Drop, O: Write, R: Wait>(
+    alloc: Global,
+    flag: &AtomicBool,
+    out: &mut O,
+    bank: &Bank<'_, S, R>,
+    payments: &mut Vec<Payment>,
+    left: &mut Vec<Payment>,
+) -> Result<(), Fault>
+    ensures told { OnOk result (TellsNext AreTried payments.old.items payments.new.items left.old.items left.new.items (O.contents out.old) (O.contents out.new)) }
+    ensures fewer { OnOk result (0 < vec_len payments.old → vec_len payments.new < vec_len payments.old) }
+    ensures part { OnErr result (TellsPart AreTried payments.old.items (O.contents out.old) (O.contents out.new)) }
+{
+    let round = next_round(payments)?;
+    let rest = run_alone(alloc, flag, bank, round)?;
+    tell_answers(alloc, out, &rest.outputs)?;
+    add_free(rest.free, left)?;
+    Ok(())
+}
+
+/// Pays on floors of one worker until the flag is set, and answers what is left.
+fn try_all<S: Write + Drop, O: Write, R: Wait>(
+    alloc: Global,
+    flag: &AtomicBool,
+    out: &mut O,
+    bank: &Bank<'_, S, R>,
+    mut payments: Vec<Payment>,
+) -> Result<Vec<Payment>, Fault>
+    ensures told { IfOk result (λ left. TellsNext AreTried payments.items [] [] left.items (O.contents out.old) (O.contents out.new)) }
+    ensures part { OnErr result (TellsPart AreTried payments.items (O.contents out.old) (O.contents out.new)) }
+{
+    let mut left = Vec::new(alloc);
+    'trying: while !payments.is_empty() {
+        try_next(alloc, flag, out, bank, &mut payments, &mut left)?;
+    }
+    Ok(left)
+}
+
+/// Pays what the old journal says nothing of: first in rounds, and then what nobody began on floors of one worker, until the
+/// flag is set. Writes what became of each payment.
 fn pay_day<S: Write + Drop + Send, O: Write, R: Threads + Wait + Sync>(
     rt: &R,
     alloc: Global,
     sink: S,
     out: &mut O,
     day: Day,
-) -> Result<(), Fault> {
+) -> Result<(), Fault>
+    ensures whole { OnOk result (Reports day (O.contents out.old) (O.contents out.new)) }
+    ensures front { OnErr result (ReportsFront day (O.contents out.old) (O.contents out.new)) }
+{
     let parts = part(alloc, day.payments, &day.journal)?;
-    tell_each(out, "before", &parts.made)?;
-    tell_each(out, "doubt", &parts.in_doubt)?;
+    tell_each(alloc, out, "before", &parts.made)?;
+    tell_each(alloc, out, "doubt", &parts.in_doubt)?;
     let stop = AtomicBool::new(day.limit == 0);
     let bank = Bank::new(rt, Journal::new(sink), day.limit, &stop);
     let free = pay_all(rt, alloc, out, &bank, day.crew, parts.untried)?;
-    let rest = run_alone(alloc, &stop, &bank, free)?;
-    tell_answers(out, &rest.outputs)?;
-    for (_, payment) in &rest.free {
-        tell(out, "free", payment.id)?;
-    }
-    Ok(())
+    let left = try_all(alloc, &stop, out, &bank, free)?;
+    tell_each(alloc, out, "free", &left)
 }
 
-/// Reads a day, pays it, and writes what became of each payment.
-pub fn serve<S: Write + Drop + Send, O: Write, R: Input + Threads + Wait + Sync>(
+/// Reads a day, pays it, and writes what became of each payment. Where the input says no day nothing is written and nothing
+/// is paid. After another fault a beginning of the report was written, and the journal alone says what was paid.
+pub fn serve<B: Read, S: Write + Drop + Send, O: Write, R: Threads + Wait + Sync>(
     rt: &R,
     alloc: Global,
+    input: &mut B,
     sink: S,
     out: &mut O,
-) -> Result<(), Fault> {
-    let day = read_day(rt, alloc)?;
+) -> Result<(), Fault>
+    ensures whole { OnOk result ((day : DayView) × IfSome (B.remaining input.old) (λ text. IsDayOf text day) × Reports day (O.contents out.old) (O.contents out.new)) }
+    ensures front { OnErr result (Keeps (O.contents out.old) (O.contents out.new)
+        ⊎ ((day : DayView) × IfSome (B.remaining input.old) (λ text. IsDayOf text day) × ReportsFront day (O.contents out.old) (O.contents out.new))) }
+{
+    let day = read_day(alloc, input)?;
     pay_day(rt, alloc, sink, out, day)
 }

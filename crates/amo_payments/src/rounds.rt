@@ -1,10 +1,11 @@
 //! Payments go in rounds, since a floor has at most 4096 jobs.
-ghost use Rattle.std.specs.Prelude.{◌≡◌, ◌≤◌, ◌++◌, ℕ, List, min, map, vec_len, IfOk, IfErr, IfSome, OnOk, OnErr};
+ghost use Rattle.std.specs.Prelude.{◌≡◌, ◌≤◌, ◌++◌, ℕ, List, Ok, min, map, replicate, vec_len, IfOk, IfErr, IfSome, OnOk, OnErr};
+ghost use Rattle.amo_kk.specs.Givens.{givens_of};
 ghost use Rattle.amo_kk.specs.declared.givens.Givens.{Givens as GivensView};
 ghost use Rattle.amo_crew.specs.Outcomes.{IsOutcome};
 ghost use Rattle.amo_crew.specs.Unsettling.{IsUnsettled};
 ghost use Rattle.amo_payments.specs.declared.payment.Payment.{Payment as PaymentView};
-ghost use Rattle.amo_payments.specs.Sorting.{related, IsSorted};
+ghost use Rattle.amo_payments.specs.Sorting.{related, IsSorted, IsSortingOf};
 ghost use Rattle.amo_payments.specs.Rounds.{IsRound, IsRoundFault};
 
 use crate::bank::Bank;
@@ -52,11 +53,13 @@ pub fn next_round(payments: &mut Vec<Payment>) -> Result<Vec<Payment>, AllocErro
 /// A plan for so many jobs that halts each worker after the crew's steps, or None where the crew is outside its ranges or
 /// memory is refused.
 fn plan_of(alloc: Global, jobs: usize, crew: Crew) -> Option<StopPlan>
-    ensures { IfSome result (λ plan. plan.givens.jobs ≡ jobs) }
+    ensures count { IfSome result (λ plan. plan.givens.jobs ≡ jobs) }
+    ensures givens { IfSome result (λ plan. givens_of jobs crew.workers crew.workers ≡ Ok plan.givens) }
+    ensures budgets { IfSome result (λ plan. plan.budgets ≡ replicate crew.workers crew.steps) }
 {
     let givens = Givens::try_new(jobs as u64, crew.workers, crew.workers).ok()?;
-    let budgets = [crew.steps; 16];
-    StopPlan::try_new(alloc, givens, &budgets[..givens.workers() as usize]).ok()
+    let budgets = Vec::from_elem(alloc, crew.steps, givens.workers() as usize).ok()?;
+    StopPlan::try_new(alloc, givens, &budgets).ok()
 }
 
 /// Sorts what came of a round. Memory that is refused is asked for once more.
@@ -65,6 +68,7 @@ fn sort_twice(
     givens: Givens,
     outcome: Outcome<Payment, Answer>,
 ) -> Result<Sorted, RoundFault>
+    ensures lists { IfOk result (IsSortingOf givens.jobs outcome) }
     ensures sorted { IfOk result (λ s. (payloads : List PaymentView) (budgets : List ℕ)
         → IsOutcome related givens payloads budgets outcome → IsSorted givens.jobs payloads s) }
     ensures fault { IfErr result (λ f. (payloads : List PaymentView) → IsRoundFault payloads f) }
@@ -117,7 +121,6 @@ fn run_round<S: Write + Drop + Send, R: Threads + Wait + Sync>(
 }
 
 /// Pays one round, and sorts what came of it. There have to be at most 4096 payments. May wait.
-#[tactic(auto, using(crate::proofs::RoundLemmas::round_of))]
 pub fn pay_round<S: Write + Drop + Send, R: Threads + Wait + Sync>(
     rt: &R,
     alloc: Global,
@@ -126,7 +129,7 @@ pub fn pay_round<S: Write + Drop + Send, R: Threads + Wait + Sync>(
     payments: Vec<Payment>,
 ) -> Result<Sorted, RoundFault>
     requires few { vec_len payments ≤ 4096 }
-    ensures sorted { IfOk result (IsRound payments.items) }
+    ensures sorted { IfOk result (IsRound crew payments.items) }
     ensures fault { IfErr result (IsRoundFault payments.items) }
 {
     let Some(plan) = plan_of(alloc, payments.len(), crew) else {

@@ -2,7 +2,7 @@
 ghost use Rattle.std.specs.Prelude.{◌≡◌, ◌<◌, ◌≤◌, ◌+◌, ℕ, List, [], ◌∷◌, ◌++◌, filter, vec_len, vec_capacity, IfOk, IfErr};
 ghost use Rattle.amo_kk.specs.declared.givens.Givens.{Givens as GivensView};
 ghost use Rattle.amo_crew.specs.Outcomes.{IsOutcome};
-ghost use Rattle.amo_payments.specs.Sorting.{is_paid, paid_of, has_output, has_free, is_unsure, jobs_upto, related, IsSorted};
+ghost use Rattle.amo_payments.specs.Sorting.{is_paid, paid_of, has_output, has_free, is_unsure, jobs_upto, related, IsSorted, IsSortingOf};
 ghost use Rattle.amo_payments.specs.declared.payment.Payment.{Payment as PaymentView};
 
 use crate::payment::{Answer, Payment};
@@ -81,15 +81,14 @@ fn list_unsure(jobs: u32, done: &[Output<Answer>], free: &[(u32, Payment)], unsu
 }
 
 /// Sorts the jobs of a run by what is certain of their payments. The givens have to be those of the run. Where memory is
-/// refused the outcome comes back as it was.
+/// refused the outcome comes back as it was. For each job it goes through the outputs and then through the free jobs until
+/// it is found: in a round of 4096 jobs up to 16 million comparisons.
 pub fn sort_out(
     alloc: Global,
     givens: Givens,
     outcome: Outcome<Payment, Answer>,
 ) -> Result<Sorted, Outcome<Payment, Answer>>
-    ensures done { IfOk result (λ s. s.done.items ≡ paid_of outcome.outputs.items) }
-    ensures free { IfOk result (λ s. s.free ≡ outcome.settlement.free) }
-    ensures in_hand { IfOk result (λ s. s.in_hand ≡ outcome.in_hand) }
+    ensures lists { IfOk result (IsSortingOf givens.jobs outcome) }
     ensures sorted { IfOk result (λ s. (payloads : List PaymentView) (budgets : List ℕ)
         → IsOutcome related givens payloads budgets outcome → IsSorted givens.jobs payloads s) }
     ensures refused { IfErr result (λ o. o ≡ outcome) }

@@ -2,7 +2,7 @@
 ghost use Rattle.std.specs.Prelude.{◌≡◌, ◌≤◌, [], length, vec_len, vec_capacity};
 ghost use Rattle.amo_words.specs.Faces.{Seated, machine};
 ghost use Rattle.amo_claims.specs.Calls.{worker_in};
-ghost use Rattle.amo_payments.specs.Stopping.{HasPaid, IsEmpty, StaysAs};
+ghost use Rattle.amo_payments.specs.Stopping.{HasPaid, IsEmpty, HasEnded, EndsIfOver, StaysAs};
 
 use amo_claims::{After, Go, Gone, Ready, Work, begin};
 use amo_crew::Output;
@@ -23,6 +23,7 @@ fn turn<P: Drop, W: Work<P>>(
     requires room { ready.view.givens.jobs ≤ vec_capacity outputs.old }
     ensures paid { (b : Seated P) → HasPaid (W.related work.now) b ready outputs.old.items → HasPaid (W.related work.now) b (worker_in result) outputs.new.items }
     ensures empty { IsEmpty (worker_in result) }
+    ensures ended { EndsIfOver result }
     ensures capacity { vec_capacity outputs.new ≡ vec_capacity outputs.old }
 {
     match ready.go(floor) {
@@ -46,8 +47,10 @@ fn turn<P: Drop, W: Work<P>>(
 fn leave<P: Drop>(floor: &Floor<P>, after: After<P>) -> Gone<P>
     requires table { (worker_in after).table_id ≡ floor.now.table_id }
     requires empty { IsEmpty (worker_in after) }
+    requires ended { EndsIfOver after }
     ensures same { StaysAs (worker_in after) result }
     ensures empty { IsEmpty result }
+    ensures ended { HasEnded result }
 {
     match after {
         After::Over(gone) => gone,
@@ -57,8 +60,8 @@ fn leave<P: Drop>(floor: &Floor<P>, after: After<P>) -> Gone<P>
 
 /// Runs a hired worker until it has ended, or the flag is set. It looks at the flag before each step, and never while a
 /// job is in its hand: what it has claimed it performs and files first. It may be called in as many threads as there are
-/// workers, with one flag. The list gets the answers, and needs room for as many as there are jobs. No clause says when
-/// the flag is seen.
+/// workers, with one flag. The list gets the answers, and needs room for as many as there are jobs. Afterwards the worker
+/// has ended or has left, so that nothing that it had announced is kept from others. No clause says when the flag is seen.
 pub fn run_until<P: Drop, W: Work<P>>(
     flag: &AtomicBool,
     floor: &Floor<P>,
@@ -73,6 +76,7 @@ pub fn run_until<P: Drop, W: Work<P>>(
     requires room { (outputs.items ≡ []) × (worker.view.givens.jobs ≤ vec_capacity outputs) }
     ensures paid { HasPaid (W.related work.now) worker result.0 result.1.items }
     ensures empty { IsEmpty result.0 }
+    ensures ended { HasEnded result.0 }
 {
     let mut after = begin(worker);
     for _ in 0..u64::MAX {

@@ -1,8 +1,8 @@
-use Rattle.std.proofs.Common.{List, All, IfOk, subst}
+use Rattle.std.proofs.Common.{List, subst}
 use Rattle.amo_payments.specs.declared.second.Rest.{Rest}
-use Rattle.amo_crew.specs.Running.{IsAnswer}
+use Rattle.amo_payments.specs.Second.{IsRest}
 use Rattle.amo_payments.proofs.second.run_alone.Goals as goal
 
-pub returns-in-Ok-try_new : goal.returns-in-Ok-try_new
-returns-in-Ok-try_new g c =
-    record { answers = subst (λ (xs : List g.row.P.Denot). IfOk c.run_one.result (λ (r : Rest g.row.P.Denot g.row.W-Out.Denot). All (IsAnswer (g.W.Work.related c.args.work.now) xs) r.outputs.items)) c.in-Ok-try_new.ensures.opened.payloads_are c.run_one.ensures.answers }
+pub returns-in-Some-clause-rest : goal.returns-in-Some-clause-rest
+returns-in-Some-clause-rest g c =
+    subst (λ (xs : List g.row.P.Denot). IsRest (g.W.Work.related c.args.work.now) xs c.in-Some.rest) c.in-Ok-try_new.ensures.opened.payloads_are c.in-Some.ensures.rest

@@ -1,9 +1,7 @@
-use Rattle.std.proofs.Common.{List, All, subst}
-use Rattle.amo_crew.specs.declared.hand.Output.{Output}
-use Rattle.amo_crew.specs.Running.{IsAnswer}
+use Rattle.std.proofs.Common.{refl}
+use Rattle.amo_payments.proofs.Seconds.{rest_of}
 use Rattle.amo_payments.proofs.second.run_one.Goals as goal
 
 pub returns-in-Ok-settle : goal.returns-in-Ok-settle
 returns-in-Ok-settle g c =
-    let outputs : List (Output g.row.W-Out.Denot) = c.run_until-gone.result.1.items in
-    record { answers = subst (λ (xs : List g.row.P.Denot). All (IsAnswer (g.W.Work.related c.args.work.now) xs) outputs) c.in-Ok.ensures.hired.1.worker.payloads c.run_until-gone.ensures.paid.answers }
+    record { rest = rest_of _ _ _ _ _ _ _ _ c.requires.alone.0 c.requires.alone.1 c.in-Ok.ensures.hired.1 c.run_until-gone.ensures.paid c.run_until-gone.ensures.empty c.collect.ensures.collected c.in-Ok-settle.ensures.whole _ refl refl }

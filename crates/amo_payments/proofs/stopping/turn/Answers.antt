@@ -4,7 +4,7 @@ use Rattle.amo_claims.specs.States.{Holds}
 use Rattle.amo_claims.specs.Calls.{FilesOn, worker_in}
 use Rattle.amo_crew.specs.declared.hand.Output.{Output}
 use Rattle.amo_payments.specs.Stopping.{HasPaid}
-use Rattle.amo_payments.proofs.Stops.{does}
+use Rattle.amo_payments.proofs.Stops.{does, over_has_ended, filed_ends}
 use Rattle.amo_payments.proofs.stopping.turn.Goals as goal
 
 pub returns-in-Got-clause-paid : goal.returns-in-Got-clause-paid
@@ -20,3 +20,9 @@ returns-in-Got-clause-paid g c b at =
     (subst (λ (j : ℕ). Holds held.worker j held.payload) job did.holds) c.requires.number
     (subst (λ (j : ℕ). g.W.Work.related c.args.work.now (machine held.worker).number j held.payload c.file-after.result.1) job (subst (g.W.Work.related c.args.work.now (machine held.worker).number held.job held.payload) (sym c.file-after.ensures.out) did.related)) in
     subst (λ (xs : List (Output g.row.W-Out.Denot)). HasPaid (g.W.Work.related c.args.work.now) b (worker_in c.file-after.result.0) xs) (sym c.push_reserved.ensures.items) paid
+
+pub returns-in-Over-clause-ended : goal.returns-in-Over-clause-ended
+returns-in-Over-clause-ended g c = over_has_ended c.in-Over.gone c.in-Over.ensures.plainly.2
+
+pub returns-in-Got-clause-ended : goal.returns-in-Got-clause-ended
+returns-in-Got-clause-ended g c = filed_ends _ _ _ c.file-after.ensures.plainly

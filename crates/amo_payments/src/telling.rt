@@ -1,0 +1,111 @@
+//! Writes what became of payments, a line for each.
+ghost use Rattle.std.specs.Prelude.{◌≡◌, ◌++◌, IfOk, IfErr, OnOk, OnErr, string_bytes};
+ghost use Rattle.std.specs.Io.KnownBytes.{Appends};
+ghost use Rattle.amo_payments.specs.Reports.{AppendsFront, line, lines_of, answer_lines, hand_lines, round_text};
+ghost use Rattle.amo_payments.specs.declared.fault.Fault.TheVariants.{Output as NoOutput};
+
+use crate::fault::Fault;
+use crate::payment::{Answer, Payment};
+use crate::sorting::Sorted;
+use amo_crew::Output;
+use std::alloc::{AllocError, Global};
+use std::io::Write;
+
+/// Writes all of the text. Where the writer fails a beginning of it was taken.
+fn write_text<O: Write>(out: &mut O, text: &str) -> Result<(), Fault>
+    ensures whole { OnOk result (Appends (O.contents out.old) (O.contents out.new) text.now) }
+    ensures front { OnErr result (AppendsFront (O.contents out.old) (O.contents out.new) text.now) }
+    ensures fault { IfErr result (λ fault. fault ≡ NoOutput) }
+{
+    let bytes = text.as_bytes();
+    let mut at = 0;
+    'writing: while at < bytes.len() {
+        let (_, rest) = bytes.split_at(at);
+        match out.write(rest) {
+            Ok(0) | Err(_) => return Err(Fault::Output),
+            Ok(count) => at += count,
+        }
+    }
+    Ok(())
+}
+
+/// Appends the line of a word and a number.
+fn push_line(text: &mut String, word: &str, id: u64) -> Result<(), AllocError>
+    ensures { OnOk result (string_bytes text.new ≡ string_bytes text.old ++ line word.now id) }
+{
+    writeln!(text, "{word} {id}")
+}
+
+/// Appends a line of this word for each payment.
+fn push_each(text: &mut String, word: &str, payments: &[Payment]) -> Result<(), AllocError>
+    ensures { OnOk result (string_bytes text.new ≡ string_bytes text.old ++ lines_of word.now payments.now) }
+{
+    for payment in payments {
+        push_line(text, word, payment.id)?;
+    }
+    Ok(())
+}
+
+/// Appends a line for each answer: `done` with a receipt, and `doubt` without.
+fn push_answers(text: &mut String, outputs: &[Output<Answer>]) -> Result<(), AllocError>
+    ensures { OnOk result (string_bytes text.new ≡ string_bytes text.old ++ answer_lines outputs.now) }
+{
+    for output in outputs {
+        match &output.out {
+            Answer::Paid(receipt) => push_line(text, "done", receipt.id())?,
+            Answer::Unpaid(payment) => push_line(text, "doubt", payment.id)?,
+        }
+    }
+    Ok(())
+}
+
+/// Appends a line for each payment that came back from a worker's hand.
+fn push_hands(text: &mut String, in_hand: &[(u32, u32, Payment)]) -> Result<(), AllocError>
+    ensures { OnOk result (string_bytes text.new ≡ string_bytes text.old ++ hand_lines in_hand.now) }
+{
+    for (_, _, payment) in in_hand {
+        push_line(text, "doubt", payment.id)?;
+    }
+    Ok(())
+}
+
+/// Writes a line of this word for each payment. Where memory is refused nothing is written.
+pub fn tell_each<O: Write>(
+    alloc: Global,
+    out: &mut O,
+    word: &str,
+    payments: &[Payment],
+) -> Result<(), Fault>
+    ensures whole { OnOk result (Appends (O.contents out.old) (O.contents out.new) (lines_of word.now payments.now)) }
+    ensures front { OnErr result (AppendsFront (O.contents out.old) (O.contents out.new) (lines_of word.now payments.now)) }
+{
+    let mut text = String::new(alloc);
+    push_each(&mut text, word, payments)?;
+    write_text(out, text.as_str())
+}
+
+/// Writes a line for each answer: `done` with a receipt, and `doubt` without. Where memory is refused nothing is written.
+pub fn tell_answers<O: Write>(
+    alloc: Global,
+    out: &mut O,
+    outputs: &[Output<Answer>],
+) -> Result<(), Fault>
+    ensures whole { OnOk result (Appends (O.contents out.old) (O.contents out.new) (answer_lines outputs.now)) }
+    ensures front { OnErr result (AppendsFront (O.contents out.old) (O.contents out.new) (answer_lines outputs.now)) }
+{
+    let mut text = String::new(alloc);
+    push_answers(&mut text, outputs)?;
+    write_text(out, text.as_str())
+}
+
+/// Writes what is certain of a round: what was made, and what came back in doubt. Where memory is refused nothing is
+/// written.
+pub fn tell_round<O: Write>(alloc: Global, out: &mut O, sorted: &Sorted) -> Result<(), Fault>
+    ensures whole { OnOk result (Appends (O.contents out.old) (O.contents out.new) (round_text sorted.now)) }
+    ensures front { OnErr result (AppendsFront (O.contents out.old) (O.contents out.new) (round_text sorted.now)) }
+{
+    let mut text = String::new(alloc);
+    push_answers(&mut text, &sorted.done)?;
+    push_hands(&mut text, &sorted.in_hand)?;
+    write_text(out, text.as_str())
+}
