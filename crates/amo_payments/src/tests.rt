@@ -2,9 +2,12 @@
 ghost use Rattle.std.specs.Prelude.{◌≡◌, vec_len, IfOk};
 
 use crate::bank::Bank;
+use crate::day::read_day;
+use crate::fault::Fault;
 use crate::journal::Journal;
 use crate::line::{Entry, Line, line_of};
 use crate::payment::Payment;
+use crate::program::serve;
 use crate::restarting::part;
 use crate::rounds::{Crew, pay_round};
 use crate::second::run_alone;
@@ -80,5 +83,31 @@ fn the_flag_stops_after_the_limit(rt: HostRuntime) -> Result<(), Fail> {
         panic!(rt; "nothing was paid")
     };
     assert!(rt; rest.outputs.len() == 2 && rest.free.len() == 3);
+    Ok(())
+}
+
+#[test]
+fn a_broken_line_refuses_the_day(rt: HostRuntime) {
+    let mut broken = "pay 7 250\ninten 1\n".as_bytes();
+    assert!(rt; matches!(read_day(rt.alloc(), &mut broken), Err(Fault::Line)));
+    let mut whole = "workers 3\npay 7 250\nintent 1\n".as_bytes();
+    let Ok(day) = read_day(rt.alloc(), &mut whole) else {
+        panic!(rt; "the day was refused")
+    };
+    assert!(rt; day.crew.workers == 3 && day.payments.len() == 1 && day.journal.len() == 1);
+}
+
+#[test]
+fn what_no_round_began_fills_several_floors(rt: HostRuntime) -> Result<(), Fail> {
+    let mut text = String::new(rt.alloc());
+    text.push_str("steps 0\nlimit 0\n")?;
+    for _ in 0..4097 {
+        text.push_str("pay 7 100\n")?;
+    }
+    let mut input = text.as_bytes();
+    let mut out = Vec::new(rt.alloc());
+    let journal = Vec::new(rt.alloc());
+    assert!(rt; serve(&rt, rt.alloc(), &mut input, journal, &mut out).is_ok());
+    assert!(rt; out.starts_with(b"free 1\nfree 2\n") && out.ends_with(b"free 4096\nfree 4097\n"));
     Ok(())
 }
