@@ -34,7 +34,9 @@ pub use explorer::{MOST_FIRST, explore};
 pub use faults::fault_text;
 pub use numbers::push_first_line;
 pub use outcome::outcome_text;
-pub use replaying::{ReplayFault, check, explore_plan, read_source, replay, stops_plan, write_text};
+pub use replaying::{
+    ReplayFault, check, explore_plan, read_source, replay, stops_plan, write_text,
+};
 pub use report::report_text;
 pub use room::Room;
 pub use stops::stops_text;
