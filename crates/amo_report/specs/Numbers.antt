@@ -14,9 +14,12 @@ unfoldable pub numbers_part : ℕ → ℕ → ℕ → Givens → List ℕ
 numbers_part version block jobs g =
     codes "jobs " ++ decimal jobs ++ block_part version block g ++ codes " workers " ++ decimal g.workers ++ codes " beta " ++ decimal g.beta
 
--- these numbers and ` bound L`
+-- these numbers and ` bound L`, and their line
+unfoldable pub first_words : ℕ → ℕ → ℕ → Givens → List ℕ
+first_words version block jobs g = numbers_part version block jobs g ++ codes " bound " ++ decimal (bound g)
+
 unfoldable pub first_line : ℕ → ℕ → ℕ → Givens → List ℕ
-first_line version block jobs g = numbers_part version block jobs g ++ codes " bound " ++ decimal (bound g) ++ codes "\n"
+first_line version block jobs g = first_words version block jobs g ++ codes "\n"
 
 -- ` J` for each
 abbrev pub spaced : List ℕ → List ℕ

@@ -7,18 +7,24 @@ use Rattle.amo_report.specs.Results.{jobs_in_block}
 use Rattle.amo_report.specs.Happened.{unclaimed_jobs}
 
 -- `performed R`
-unfoldable pub jobs_line : ℕ → List ℕ
-jobs_line dones = codes "performed " ++ decimal dones ++ codes "\n"
+unfoldable pub jobs_words : ℕ → List ℕ
+jobs_words dones = codes "performed " ++ decimal dones
 
 -- `performed blocks R jobs K`
-unfoldable pub blocks_line : ℕ → ℕ → List ℕ
-blocks_line dones jobs = codes "performed blocks " ++ decimal dones ++ codes " jobs " ++ decimal jobs ++ codes "\n"
+unfoldable pub blocks_words : ℕ → ℕ → List ℕ
+blocks_words dones jobs = codes "performed blocks " ++ decimal dones ++ codes " jobs " ++ decimal jobs
 
--- in version 1 the first, else the second
+-- in version 1 the first, else the second, and their line
+unfoldable pub tally_words : ℕ → ℕ → ℕ → List ℕ
+tally_words version dones jobs = if version == 1 then jobs_words dones else blocks_words dones jobs
+
 unfoldable pub tally_line : ℕ → ℕ → ℕ → List ℕ
-tally_line version dones jobs = if version == 1 then jobs_line dones else blocks_line dones jobs
+tally_line version dones jobs = tally_words version dones jobs ++ codes "\n"
 
--- this of these done blocks, and of their jobs
+-- these of these done blocks, and of their jobs
+abbrev pub performed_words : ℕ → ℕ → ℕ → List ℕ → List ℕ
+performed_words version block jobs dones = tally_words version (length dones) (sum_by (jobs_in_block block jobs) dones)
+
 abbrev pub performed_line : ℕ → ℕ → ℕ → List ℕ → List ℕ
 performed_line version block jobs dones = tally_line version (length dones) (sum_by (jobs_in_block block jobs) dones)
 

@@ -31,7 +31,7 @@ pub fn push_events(out: &mut String, history: &[Event]) -> Result<(), AllocError
 }
 
 /// How a worker went, in one word.
-fn state_of(worker: usize, history: &[Event]) -> &'static str
+pub fn state_of(worker: usize, history: &[Event]) -> &'static str
     ensures { result.now ≡ state_of worker history.now }
 {
     for event in history {
@@ -66,7 +66,7 @@ fn is_done_of(worker: usize, event: &Event) -> bool
 }
 
 /// How many claims of the worker the history has.
-fn claims_of(worker: usize, history: &[Event]) -> usize
+pub fn claims_of(worker: usize, history: &[Event]) -> usize
     ensures { result ≡ count_by (is_claim_of worker) history.now }
 {
     history
@@ -76,7 +76,7 @@ fn claims_of(worker: usize, history: &[Event]) -> usize
 }
 
 /// How many performances of the worker the history has.
-fn dones_of(worker: usize, history: &[Event]) -> usize
+pub fn dones_of(worker: usize, history: &[Event]) -> usize
     ensures { result ≡ count_by (is_done_of worker) history.now }
 {
     history

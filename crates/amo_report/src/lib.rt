@@ -30,18 +30,21 @@ mod unclaimed;
 pub use bytes::Bytes;
 pub use checking::check_text;
 pub use copying::{MOST_READ, ReadFault, read_all, write_all};
+pub use events::{claims_of, dones_of, push_workers, state_of};
 pub use explorer::{MOST_FIRST, explore};
 pub use faults::fault_text;
-pub use numbers::push_first_line;
+pub use numbers::{push_first_line, push_first_words};
 pub use outcome::outcome_text;
 pub use replaying::{
     ReplayFault, check, explore_plan, read_source, replay, stops_plan, write_text,
 };
 pub use report::report_text;
 pub use room::Room;
+pub use running::all_turns;
 pub use stops::stops_text;
 pub use streamed::Streamed;
 pub use streams::{Failed, Sink, Source};
+pub use tallies::{push_performed, push_performed_words};
 
 #[cfg(test)]
 mod tests;

@@ -1,6 +1,6 @@
 //! Writes the numbers with which a text begins.
 ghost use Rattle.std.specs.Prelude.{◌≡◌, ◌++◌, OnOk, string_bytes, length};
-ghost use Rattle.amo_report.specs.Numbers.{block_part, numbers_part, first_line};
+ghost use Rattle.amo_report.specs.Numbers.{block_part, numbers_part, first_words, first_line};
 
 use amo_kk::Givens;
 use amo_plan::Heads;
@@ -32,13 +32,24 @@ pub fn push_numbers(out: &mut String, heads: &Heads) -> Result<(), AllocError>
     write!(out, " workers {workers} beta {beta}")
 }
 
-/// Appends the first line of a report: these numbers and the bound.
+/// Appends the words of the first line of a report: these numbers and the bound. The only error is out of memory, and
+/// leaves a beginning of the words.
+#[tactic(auto, unfolding(crate::specs::Numbers::first_words))]
+pub fn push_first_words(out: &mut String, heads: &Heads) -> Result<(), AllocError>
+    ensures { OnOk result (string_bytes out.new ≡ string_bytes out.old
+        ++ first_words heads.now.version heads.now.block (length heads.now.names) heads.now.givens) }
+{
+    let bound = heads.givens.bound();
+    push_numbers(out, heads)?;
+    write!(out, " bound {bound}")
+}
+
+/// Appends the first line of a report: these words.
 #[tactic(auto, unfolding(crate::specs::Numbers::first_line))]
 pub fn push_first_line(out: &mut String, heads: &Heads) -> Result<(), AllocError>
     ensures { OnOk result (string_bytes out.new ≡ string_bytes out.old
         ++ first_line heads.now.version heads.now.block (length heads.now.names) heads.now.givens) }
 {
-    let bound = heads.givens.bound();
-    push_numbers(out, heads)?;
-    writeln!(out, " bound {bound}")
+    push_first_words(out, heads)?;
+    out.push_str("\n")
 }

@@ -2,7 +2,7 @@
 ghost use Rattle.std.specs.Prelude.{◌≡◌, ◌++◌, ◌<◌, ◌≤◌, ◌^◌, OnOk, string_bytes, length, sum_by};
 ghost use Rattle.amo_kk.specs.Run.{done_jobs};
 ghost use Rattle.amo_report.specs.Results.{jobs_in_block};
-ghost use Rattle.amo_report.specs.Tallies.{jobs_line, blocks_line, tally_line, performed_line};
+ghost use Rattle.amo_report.specs.Tallies.{jobs_words, blocks_words, tally_words, tally_line, performed_words, performed_line};
 
 use super::summary::count_performances;
 use amo_kk::Event;
@@ -32,25 +32,30 @@ fn count_jobs(block: u32, jobs: usize, history: &[Event]) -> u64
 }
 
 /// Appends how many jobs were performed.
-#[tactic(auto, unfolding(crate::specs::Tallies::jobs_line))]
+#[tactic(auto, unfolding(crate::specs::Tallies::jobs_words))]
 fn push_jobs(out: &mut String, dones: usize) -> Result<(), AllocError>
-    ensures { OnOk result (string_bytes out.new ≡ string_bytes out.old ++ jobs_line dones) }
+    ensures { OnOk result (string_bytes out.new ≡ string_bytes out.old ++ jobs_words dones) }
 {
-    writeln!(out, "performed {dones}")
+    write!(out, "performed {dones}")
 }
 
 /// Appends how many blocks were performed, and how many jobs stand in them.
-#[tactic(auto, unfolding(crate::specs::Tallies::blocks_line))]
+#[tactic(auto, unfolding(crate::specs::Tallies::blocks_words))]
 fn push_blocks(out: &mut String, dones: usize, jobs: u64) -> Result<(), AllocError>
-    ensures { OnOk result (string_bytes out.new ≡ string_bytes out.old ++ blocks_line dones jobs) }
+    ensures { OnOk result (string_bytes out.new ≡ string_bytes out.old ++ blocks_words dones jobs) }
 {
-    writeln!(out, "performed blocks {dones} jobs {jobs}")
+    write!(out, "performed blocks {dones} jobs {jobs}")
 }
 
-/// Appends the line of what was performed: so many blocks, with so many jobs.
-#[tactic(auto, unfolding(crate::specs::Tallies::tally_line))]
-pub fn push_tally(out: &mut String, version: u32, dones: usize, jobs: u64) -> Result<(), AllocError>
-    ensures { OnOk result (string_bytes out.new ≡ string_bytes out.old ++ tally_line version dones jobs) }
+/// Appends what was performed: so many blocks, with so many jobs.
+#[tactic(auto, unfolding(crate::specs::Tallies::tally_words))]
+fn push_tally_words(
+    out: &mut String,
+    version: u32,
+    dones: usize,
+    jobs: u64,
+) -> Result<(), AllocError>
+    ensures { OnOk result (string_bytes out.new ≡ string_bytes out.old ++ tally_words version dones jobs) }
 {
     if version == 1 {
         push_jobs(out, dones)
@@ -59,7 +64,33 @@ pub fn push_tally(out: &mut String, version: u32, dones: usize, jobs: u64) -> Re
     }
 }
 
+/// Appends the line of what was performed.
+#[tactic(auto, unfolding(crate::specs::Tallies::tally_line))]
+pub fn push_tally(out: &mut String, version: u32, dones: usize, jobs: u64) -> Result<(), AllocError>
+    ensures { OnOk result (string_bytes out.new ≡ string_bytes out.old ++ tally_line version dones jobs) }
+{
+    push_tally_words(out, version, dones, jobs)?;
+    out.push_str("\n")
+}
+
+/// Appends what a history performs. The only error is out of memory, and leaves a beginning of the words.
+pub fn push_performed_words(
+    out: &mut String,
+    version: u32,
+    block: u32,
+    jobs: usize,
+    history: &[Event],
+) -> Result<(), AllocError>
+    requires { length history.now < 2 ^ 32 }
+    ensures { OnOk result (string_bytes out.new ≡ string_bytes out.old ++ performed_words version block jobs (done_jobs history.now)) }
+{
+    let dones = count_performances(history);
+    let done_jobs = count_jobs(block, jobs, history);
+    push_tally_words(out, version, dones, done_jobs)
+}
+
 /// Appends the line of what a history performs.
+#[tactic(auto, unfolding(crate::specs::Tallies::tally_line))]
 pub fn push_performed(
     out: &mut String,
     version: u32,
@@ -70,7 +101,6 @@ pub fn push_performed(
     requires { length history.now < 2 ^ 32 }
     ensures { OnOk result (string_bytes out.new ≡ string_bytes out.old ++ performed_line version block jobs (done_jobs history.now)) }
 {
-    let dones = count_performances(history);
-    let done_jobs = count_jobs(block, jobs, history);
-    push_tally(out, version, dones, done_jobs)
+    push_performed_words(out, version, block, jobs, history)?;
+    out.push_str("\n")
 }
