@@ -1,3 +1,11 @@
 pub mod Steps
 pub mod Trace
 pub mod Attempts
+pub mod Elements
+pub mod Marks
+pub mod Rows
+pub mod Frame
+pub mod Feet
+pub mod Scale
+pub mod Jobs
+pub mod Picture

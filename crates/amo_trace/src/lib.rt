@@ -1,13 +1,23 @@
-//! The trace of a run: what each move of a plan loads or stores, and where it leaves its worker. The module `laws` has the
-//! theorem over steps: when an attempt fails.
+//! The trace of a run: what each move of a plan loads or stores, and where it leaves its worker; and its picture. The module
+//! `laws` has the theorem over steps: when an attempt fails.
 #![tactic(auto)]
 
+mod elements;
+mod feet;
+mod frame;
+mod jobs;
 pub mod laws;
 mod lines;
+mod marks;
+mod picturing;
+mod pieces;
+mod rows;
+mod scale;
 mod step;
 mod steps;
 mod tracing;
 
+pub use picturing::{picture, picture_text};
 pub use step::{Act, Fact, Step};
 pub use steps::steps_of;
 pub use tracing::{trace, trace_text};

@@ -11,7 +11,7 @@ use std::alloc::AllocError;
 
 /// Appends the name of a worker's announcement.
 #[tactic(auto, unfolding(crate::specs::Trace::next_word))]
-fn push_next(out: &mut String, worker: u32) -> Result<(), AllocError>
+pub fn push_next(out: &mut String, worker: u32) -> Result<(), AllocError>
     ensures { OnOk result (string_bytes out.new ≡ string_bytes out.old ++ next_word worker) }
 {
     write!(out, "next[{worker}]")
@@ -27,7 +27,7 @@ fn push_claim(out: &mut String, worker: u32) -> Result<(), AllocError>
 
 /// Appends the name of a place in a worker's row.
 #[tactic(auto, unfolding(crate::specs::Trace::done_word))]
-fn push_done(out: &mut String, worker: u32, place: u32) -> Result<(), AllocError>
+pub fn push_done(out: &mut String, worker: u32, place: u32) -> Result<(), AllocError>
     ensures { OnOk result (string_bytes out.new ≡ string_bytes out.old ++ done_word worker place) }
 {
     write!(out, "done[{worker}][{place}]")
@@ -35,7 +35,7 @@ fn push_done(out: &mut String, worker: u32, place: u32) -> Result<(), AllocError
 
 /// Appends what a word has.
 #[tactic(auto, unfolding(crate::specs::Trace::equals))]
-fn push_equals(out: &mut String, value: u32) -> Result<(), AllocError>
+pub fn push_equals(out: &mut String, value: u32) -> Result<(), AllocError>
     ensures { OnOk result (string_bytes out.new ≡ string_bytes out.old ++ equals value) }
 {
     write!(out, " = {value}")

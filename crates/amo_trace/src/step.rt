@@ -1,5 +1,5 @@
 //! Steps: what one move of a run does.
-ghost use Rattle.std.specs.Prelude.{◌≡◌};
+ghost use Rattle.std.specs.Prelude.{◌≡◌, slice_get};
 ghost use Rattle.amo_trace.specs.Steps.{loads, fails, job_of, fact_of_want, fact_of_act, fact_of};
 
 use amo_kk::{Phase, Want};
@@ -54,7 +54,7 @@ pub enum Fact {
 }
 
 /// The job of an attempt, or in a worker's hand; 0 where it has none.
-fn job_of(phase: Phase) -> u32
+pub fn job_of(phase: Phase) -> u32
     ensures { result ≡ job_of phase }
 {
     match phase {
@@ -99,6 +99,16 @@ fn fact_of_act(act: Act) -> Fact
     match act {
         Act::Turned(want, value) => fact_of_want(want, value),
         Act::Leaves | Act::Stops | Act::Stays | Act::Idles => Fact::Plain,
+    }
+}
+
+/// The step at a place.
+pub fn step_at(steps: &[Step], place: usize) -> Option<Step>
+    ensures { result ≡ slice_get steps.now place }
+{
+    match steps.get(place) {
+        Some(step) => Some(*step),
+        None => None,
     }
 }
 

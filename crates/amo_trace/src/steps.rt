@@ -3,7 +3,7 @@ ghost use Rattle.std.specs.Prelude.{◌≡◌, ◌++◌, true, OnOk, IfOk};
 ghost use Rattle.amo_kk.specs.Givens.{IsWorker};
 ghost use Rattle.amo_kk.specs.World.{worker_of, world_after_move, world_after_moves, are_in_range};
 ghost use Rattle.amo_plan.specs.PlanSeen.{plan_seen};
-ghost use Rattle.amo_report.specs.Texts.{round, moves_of};
+ghost use Rattle.amo_report.specs.Texts.{round, moves_of, world_of};
 ghost use Rattle.amo_trace.specs.Steps.{act_here, act_of, all_gone, step_of, steps, steps_of};
 
 use crate::step::{Act, Step};
@@ -119,12 +119,30 @@ fn moves_of(alloc: Global, plan: &Plan) -> Result<Vec<Move>, AllocError>
     Ok(moves)
 }
 
+/// The run of a plan.
+#[derive(Drop)]
+pub struct Run {
+    /// Its steps.
+    pub steps: Vec<Step>,
+    /// The world to which its moves lead.
+    pub world: World,
+}
+
+/// Makes the moves of a plan, until all workers are gone. The only error is out of memory.
+pub fn run_of(alloc: Global, plan: &Plan) -> Result<Run, AllocError>
+    ensures steps { IfOk result (λ r. r.steps.items ≡ steps_of (plan_seen plan.now)) }
+    ensures world { IfOk result (λ r. r.world ≡ record { givens = (plan_seen plan.now).givens; world = world_of (plan_seen plan.now) }) }
+{
+    let moves = moves_of(alloc, plan)?;
+    let mut world = World::new(alloc, plan.heads.givens)?;
+    let steps = take_steps(alloc, &mut world, &moves)?;
+    Ok(Run { steps, world })
+}
+
 /// The steps of a plan: what each move of its schedule and its rounds does, until all workers are gone. The only error is
 /// out of memory.
 pub fn steps_of(alloc: Global, plan: &Plan) -> Result<Vec<Step>, AllocError>
     ensures { IfOk result (λ v. v.items ≡ steps_of (plan_seen plan.now)) }
 {
-    let moves = moves_of(alloc, plan)?;
-    let mut world = World::new(alloc, plan.heads.givens)?;
-    take_steps(alloc, &mut world, &moves)
+    Ok(run_of(alloc, plan)?.steps)
 }

@@ -2,7 +2,7 @@ use Rattle.std.proofs.Common.{ap, ◌∙◌}
 use Rattle.amo_world.specs.Views.{WorldView}
 use Rattle.amo_report.proofs.Rounds.{range_of}
 use Rattle.amo_trace.proofs.Range.{all_in_range}
-use Rattle.amo_trace.proofs.steps.steps_of.Goals as goal
+use Rattle.amo_trace.proofs.steps.run_of.Goals as goal
 
 pub take_steps-requires : goal.take_steps-requires
 take_steps-requires c =

@@ -1,0 +1,57 @@
+-- The elements of a picture, each a line. C is a class, the name of a colour.
+use Rattle.std.specs.Prelude.{ℕ, List, ◌++◌, codes}
+use Rattle.std.specs.Fmt.{decimal}
+
+-- the parts ` x="X"` and ` y="Y"`, after the quote that ends the part before
+unfoldable pub x_part : ℕ → List ℕ
+x_part x = codes "\" x=\"" ++ decimal x
+
+unfoldable pub y_part : ℕ → List ℕ
+y_part y = codes "\" y=\"" ++ decimal y ++ codes "\">"
+
+-- `<text class="C" x="X" y="Y">`
+unfoldable pub text_start : List ℕ → ℕ → ℕ → List ℕ
+text_start c x y = codes "<text class=\"" ++ c ++ x_part x ++ y_part y
+
+-- `<text class="C" text-anchor="end" x="X" y="Y">`
+unfoldable pub before_start : List ℕ → ℕ → ℕ → List ℕ
+before_start c x y = codes "<text class=\"" ++ c ++ codes "\" text-anchor=\"end" ++ x_part x ++ y_part y
+
+-- words that begin at a place
+abbrev pub text : List ℕ → ℕ → ℕ → List ℕ → List ℕ
+text c x y words = text_start c x y ++ words ++ codes "</text>\n"
+
+-- a number that ends at a place
+abbrev pub number_before : List ℕ → ℕ → ℕ → ℕ → List ℕ
+number_before c x y n = before_start c x y ++ decimal n ++ codes "</text>\n"
+
+-- `<path class="C" d="`
+unfoldable pub area_start : List ℕ → List ℕ
+area_start c = codes "<path class=\"" ++ c ++ codes "\" d=\""
+
+-- the part ` stroke-width="W"`
+unfoldable pub width_part : ℕ → List ℕ
+width_part w = codes "\" stroke-width=\"" ++ decimal w
+
+-- `<path class="lC" stroke-width="W" d="`
+unfoldable pub stroke_start : List ℕ → ℕ → List ℕ
+stroke_start c w = codes "<path class=\"l" ++ c ++ width_part w ++ codes "\" d=\""
+
+-- `<path class="lC" stroke-dasharray="1 3" d="`
+unfoldable pub dotted_start : List ℕ → List ℕ
+dotted_start c = codes "<path class=\"l" ++ c ++ codes "\" stroke-dasharray=\"1 3\" d=\""
+
+-- `MX Y`
+unfoldable pub at_place : ℕ → ℕ → List ℕ
+at_place x y = codes "M" ++ decimal x ++ codes " " ++ decimal y
+
+-- a shape that is filled, and one that is drawn by a line
+abbrev pub area_at : List ℕ → ℕ → ℕ → List ℕ → List ℕ
+area_at c x y shape = area_start c ++ at_place x y ++ shape ++ codes "\"/>\n"
+
+abbrev pub stroke_at : List ℕ → ℕ → ℕ → ℕ → List ℕ → List ℕ
+stroke_at c w x y shape = stroke_start c w ++ at_place x y ++ shape ++ codes "\"/>\n"
+
+-- a line from a place so far down
+abbrev pub down : List ℕ → ℕ → ℕ → ℕ → ℕ → List ℕ
+down c w x y far = stroke_start c w ++ at_place x y ++ codes "v" ++ decimal far ++ codes "\"/>\n"

@@ -1,0 +1,324 @@
+//! Writes what the picture of a long run has besides its frame: a column for each job, and a narrow lane for each worker.
+ghost use Rattle.std.specs.Prelude.{◌≡◌, ◌++◌, ◌<◌, ◌≤◌, ◌^◌, OnOk, string_bytes};
+ghost use Rattle.amo_plan.specs.PlanSeen.{plan_seen};
+ghost use Rattle.amo_trace.specs.Jobs.{worker_class, worker_columns, worker_ticks, going, lane_end, going_shape, going_mark, lifeline, lane_number, lane_numbers, worker_title, worker_drawn, workers_drawn, level_line, grid_line, grid_line_in, grid, what_columns_are, jobs_head, columns_words, lanes_words, jobs_key, jobs_ground, columns_of, jobs_width};
+ghost use Rattle.amo_trace.specs.Scale.{last_number};
+
+use crate::elements::{
+    push_number_before, push_stroke, push_stroke_start, push_text, push_text_start,
+};
+use crate::pieces::{Kind, push_path};
+use crate::rows::until_gone;
+use crate::scale::{at, grid_step, last_number, narrow_lane, wide};
+use crate::step::{Step, step_at};
+use amo_kk::{Event, Phase};
+use amo_plan::Plan;
+use amo_report::dones_of;
+use std::alloc::AllocError;
+
+/// The colour of a worker.
+fn worker_class(worker: u32) -> &'static str
+    ensures { result.now ≡ worker_class worker }
+{
+    if worker % 2 == 1 { "c" } else { "i" }
+}
+
+/// Appends what a worker did, in the columns of the jobs.
+#[tactic(auto, unfolding(crate::specs::Jobs::worker_columns))]
+fn push_worker_columns(
+    out: &mut String,
+    jobs: u32,
+    worker: u32,
+    rows: &[Step],
+) -> Result<(), AllocError>
+    requires { 1 ≤ jobs }
+    ensures { OnOk result (string_bytes out.new ≡ string_bytes out.old ++ worker_columns jobs worker rows.now) }
+{
+    let class = worker_class(worker);
+    let width = wide(jobs) + 1;
+    push_path(out, class, width, Kind::Stays, jobs, worker, rows)?;
+    push_path(out, "x", width, Kind::Failures, jobs, worker, rows)
+}
+
+/// Appends what a worker did, beside its lane.
+#[tactic(auto, unfolding(crate::specs::Jobs::worker_ticks))]
+fn push_worker_ticks(
+    out: &mut String,
+    jobs: u32,
+    worker: u32,
+    rows: &[Step],
+) -> Result<(), AllocError>
+    requires { 1 ≤ jobs }
+    ensures { OnOk result (string_bytes out.new ≡ string_bytes out.old ++ worker_ticks jobs worker rows.now) }
+{
+    push_path(
+        out,
+        worker_class(worker),
+        2,
+        Kind::Ticks,
+        jobs,
+        worker,
+        rows,
+    )?;
+    push_path(out, "x", 2, Kind::Crosses, jobs, worker, rows)
+}
+
+/// The row after which the worker is gone.
+fn going(worker: u32, rows: &[Step]) -> Option<Step>
+    ensures { result ≡ going worker rows.now }
+{
+    step_at(rows, until_gone(worker, rows))
+}
+
+/// How far down a lane goes.
+fn lane_end(last: usize, gone: Option<Step>) -> u128
+    requires { 1 ≤ last }
+    ensures { result ≡ lane_end last gone }
+{
+    match gone {
+        Some(step) => at(last, step.number),
+        None => 1032,
+    }
+}
+
+/// The mark of a worker that is gone in this phase.
+fn going_shape(phase: Phase) -> &'static str
+    ensures { result.now ≡ going_shape phase }
+{
+    match phase {
+        Phase::Over => "m-8 0h16",
+        Phase::Left => "m-6 -2h12m0 5h-12",
+        Phase::Announcing(_)
+        | Phase::Trying(_, _)
+        | Phase::Reading(_, _)
+        | Phase::Claiming(_)
+        | Phase::Holding(_) => "m-6 -6l12 12m0 -12l-12 12",
+    }
+}
+
+/// Appends how a lane ends.
+fn push_going_mark(
+    out: &mut String,
+    last: usize,
+    worker: u32,
+    gone: Option<Step>,
+) -> Result<(), AllocError>
+    requires { 1 ≤ last }
+    ensures { OnOk result (string_bytes out.new ≡ string_bytes out.old ++ going_mark last worker gone) }
+{
+    match gone {
+        None => Ok(()),
+        Some(step) => {
+            let y = at(last, step.number);
+            push_stroke(out, "i", 2, narrow_lane(worker), y, going_shape(step.after))
+        }
+    }
+}
+
+/// Appends the line of a lane.
+#[tactic(auto, unfolding(crate::specs::Jobs::lifeline))]
+fn push_lifeline(
+    out: &mut String,
+    last: usize,
+    worker: u32,
+    gone: Option<Step>,
+) -> Result<(), AllocError>
+    requires { 1 ≤ last }
+    ensures { OnOk result (string_bytes out.new ≡ string_bytes out.old ++ lifeline last worker gone) }
+{
+    let x = narrow_lane(worker);
+    let end = lane_end(last, gone);
+    push_stroke_start(out, "b", 2)?;
+    write!(out, "M{x} 72V{end}\"/>\n")?;
+    push_going_mark(out, last, worker, gone)
+}
+
+/// Appends a number at a worker's lane.
+#[tactic(auto, unfolding(crate::specs::Jobs::lane_number))]
+fn push_lane_number(out: &mut String, worker: u32, y: u128, number: usize) -> Result<(), AllocError>
+    ensures { OnOk result (string_bytes out.new ≡ string_bytes out.old ++ lane_number worker y number) }
+{
+    push_text_start(out, worker_class(worker), narrow_lane(worker) - 12, y)?;
+    write!(out, "{number}</text>\n")
+}
+
+/// Appends a worker's number, and how many jobs it has done.
+#[tactic(auto, unfolding(crate::specs::Jobs::lane_numbers))]
+fn push_lane_numbers(out: &mut String, history: &[Event], worker: u32) -> Result<(), AllocError>
+    ensures { OnOk result (string_bytes out.new ≡ string_bytes out.old ++ lane_numbers history.now worker) }
+{
+    let dones = dones_of(worker as usize, history);
+    push_lane_number(out, worker, 56, worker as usize)?;
+    push_lane_number(out, worker, 1052, dones)?;
+    out.push_str("</g>\n")
+}
+
+/// Appends the title of a worker's marks.
+#[tactic(auto, unfolding(crate::specs::Jobs::worker_title))]
+fn push_worker_title(out: &mut String, worker: u32) -> Result<(), AllocError>
+    ensures { OnOk result (string_bytes out.new ≡ string_bytes out.old ++ worker_title worker) }
+{
+    write!(out, "<g><title>worker {worker}</title>\n")
+}
+
+/// Appends all marks of a worker.
+#[tactic(auto, unfolding(crate::specs::Jobs::worker_drawn))]
+fn push_worker_drawn(
+    out: &mut String,
+    history: &[Event],
+    jobs: u32,
+    rows: &[Step],
+    worker: u32,
+) -> Result<(), AllocError>
+    requires { 1 ≤ jobs }
+    ensures { OnOk result (string_bytes out.new ≡ string_bytes out.old ++ worker_drawn history.now jobs rows.now worker) }
+{
+    let last = last_number(rows);
+    push_worker_title(out, worker)?;
+    push_worker_columns(out, jobs, worker, rows)?;
+    push_worker_ticks(out, jobs, worker, rows)?;
+    push_lifeline(out, last, worker, going(worker, rows))?;
+    push_lane_numbers(out, history, worker)
+}
+
+/// Appends the marks of so many workers.
+pub fn push_workers_drawn(
+    out: &mut String,
+    history: &[Event],
+    jobs: u32,
+    rows: &[Step],
+    workers: u32,
+) -> Result<(), AllocError>
+    requires { 1 ≤ jobs }
+    ensures { OnOk result (string_bytes out.new ≡ string_bytes out.old ++ workers_drawn history.now jobs rows.now workers) }
+{
+    for before in 0..workers {
+        push_worker_drawn(out, history, jobs, rows, before + 1)?;
+    }
+    Ok(())
+}
+
+/// Appends a level line.
+#[tactic(auto, unfolding(crate::specs::Jobs::level_line))]
+fn push_level_line(out: &mut String, width: u128, y: u128) -> Result<(), AllocError>
+    ensures { OnOk result (string_bytes out.new ≡ string_bytes out.old ++ level_line width y) }
+{
+    let far = width.saturating_sub(88);
+    push_stroke_start(out, "p", 1)?;
+    write!(out, "M72 {y}h{far}\"/>\n")
+}
+
+/// Appends the level line of a move, and its number.
+#[tactic(auto, unfolding(crate::specs::Jobs::grid_line))]
+fn push_grid_line(
+    out: &mut String,
+    width: u128,
+    last: usize,
+    number: usize,
+) -> Result<(), AllocError>
+    requires { 1 ≤ last }
+    ensures { OnOk result (string_bytes out.new ≡ string_bytes out.old ++ grid_line width last number) }
+{
+    let y = at(last, number);
+    push_number_before(out, "f", 64, y + 4, number as u128)?;
+    push_level_line(out, width, y)
+}
+
+/// Appends the level line of a move that has one.
+fn push_grid_line_in(
+    out: &mut String,
+    width: u128,
+    last: usize,
+    number: usize,
+) -> Result<(), AllocError>
+    requires { 1 ≤ last }
+    ensures { OnOk result (string_bytes out.new ≡ string_bytes out.old ++ grid_line_in width last number) }
+{
+    if number as u128 % grid_step(last) == 0 {
+        return push_grid_line(out, width, last, number);
+    }
+    Ok(())
+}
+
+/// Appends the level lines below this number.
+fn push_grid(out: &mut String, width: u128, last: usize, end: usize) -> Result<(), AllocError>
+    requires { 1 ≤ last }
+    ensures { OnOk result (string_bytes out.new ≡ string_bytes out.old ++ grid width last end) }
+{
+    for number in 0..end {
+        push_grid_line_in(out, width, last, number)?;
+    }
+    Ok(())
+}
+
+/// What the columns are.
+fn what_columns_are(version: u32) -> &'static str
+    ensures { result.now ≡ what_columns_are version }
+{
+    if version == 1 { "jobs" } else { "blocks" }
+}
+
+/// Appends what stands above the columns and the lanes.
+#[tactic(auto, unfolding(crate::specs::Jobs::jobs_head))]
+fn push_jobs_head(out: &mut String, version: u32, jobs: u32) -> Result<(), AllocError>
+    ensures { OnOk result (string_bytes out.new ≡ string_bytes out.old ++ jobs_head version jobs) }
+{
+    push_text_start(out, "i", 72, 56)?;
+    out.push_str(what_columns_are(version))?;
+    write!(out, " 1 to {jobs}</text>\n")?;
+    push_text(out, "i", 872, 40, "workers")
+}
+
+/// What the columns say.
+#[tactic(auto, unfolding(crate::specs::Jobs::columns_words))]
+fn columns_words() -> &'static str
+    ensures { result.now ≡ columns_words }
+{
+    "Down are the moves. Left, a column is a job: marked from its claim on, grey once it is done, empty while unclaimed."
+}
+
+/// What the lanes say.
+#[tactic(auto, unfolding(crate::specs::Jobs::lanes_words))]
+fn lanes_words() -> &'static str
+    ensures { result.now ≡ lanes_words }
+{
+    "Right, a lane is a worker: a tick on the left is a claim, on the right a failed attempt. Below, how many it has done."
+}
+
+/// Appends what the marks say, and the end of the picture.
+#[tactic(auto, unfolding(crate::specs::Jobs::jobs_key))]
+pub fn push_jobs_key(out: &mut String) -> Result<(), AllocError>
+    ensures { OnOk result (string_bytes out.new ≡ string_bytes out.old ++ jobs_key) }
+{
+    push_text(out, "f", 16, 1136, columns_words())?;
+    push_text(out, "f", 16, 1152, lanes_words())?;
+    out.push_str("</svg>\n")
+}
+
+/// How many jobs the columns are placed by.
+pub fn columns_of(plan: &Plan) -> u32
+    ensures value { result ≡ columns_of (plan_seen plan.now) }
+    ensures some { 1 ≤ result }
+{
+    plan.heads.givens.jobs.max(1)
+}
+
+/// How wide the picture is.
+pub fn jobs_width(plan: &Plan) -> u128
+    ensures value { result ≡ jobs_width (plan_seen plan.now) }
+{
+    880 + 36 * plan.heads.givens.workers.max(2) as u128
+}
+
+/// Appends what is behind the workers' marks.
+#[tactic(auto, unfolding(crate::specs::Jobs::jobs_ground))]
+pub fn push_jobs_ground(out: &mut String, plan: &Plan, rows: &[Step]) -> Result<(), AllocError>
+    ensures { OnOk result (string_bytes out.new ≡ string_bytes out.old ++ jobs_ground (plan_seen plan.now) rows.now) }
+{
+    let jobs = columns_of(plan);
+    let last = last_number(rows);
+    push_jobs_head(out, plan.heads.version, plan.heads.givens.jobs)?;
+    push_grid(out, jobs_width(plan), last, last)?;
+    push_grid_line_in(out, jobs_width(plan), last, last)?;
+    push_path(out, "p", wide(jobs), Kind::Columns, jobs, 0, rows)
+}

@@ -1,0 +1,130 @@
+//! The picture of a plan, as a text and from bytes to bytes.
+ghost use Rattle.std.specs.Prelude.{◌≡◌, ◌++◌, ◌≤◌, false, Ok, OnOk, IfOk, IfErr, string_bytes, length};
+ghost use Rattle.std.specs.Io.KnownBytes.{IsAtEnd};
+ghost use Rattle.std.specs.List.{filter};
+ghost use Rattle.amo_plan.specs.PlanSeen.{plan_seen};
+ghost use Rattle.amo_report.specs.Replays.{Refuses, Writes, is_failed_read, is_failed_write};
+ghost use Rattle.amo_trace.specs.Jobs.{jobs_picture};
+ghost use Rattle.amo_trace.specs.Picture.{rows_picture, picture_in, picture_of};
+ghost use Rattle.amo_trace.specs.Rows.{acts};
+
+use crate::feet::{push_lane_feet, push_rows_key};
+use crate::frame::{push_foot, push_head};
+use crate::jobs::{columns_of, jobs_width, push_jobs_ground, push_jobs_key, push_workers_drawn};
+use crate::rows::{changes, push_lane_heads, push_rows};
+use crate::step::Step;
+use crate::steps::run_of;
+use amo_plan::Plan;
+use amo_report::{ReplayFault, Sink, Source, read_source, write_text};
+use amo_world::World;
+use std::alloc::{AllocError, Global};
+
+/// The most rows of a picture; of a longer run the jobs are drawn.
+const MOST_ROWS: usize = 400;
+
+/// The steps that change something. The only error is out of memory.
+fn rows_of(alloc: Global, steps: &[Step]) -> Result<Vec<Step>, AllocError>
+    ensures { IfOk result (λ v. v.items ≡ filter (λ s. acts s.act) steps.now) }
+{
+    let mut rows = Vec::new(alloc);
+    for step in steps {
+        if changes(step) {
+            rows.push(*step)?;
+        }
+    }
+    Ok(rows)
+}
+
+/// Appends the picture with a row for each of these steps.
+#[tactic(auto, unfolding(crate::specs::Picture::rows_picture))]
+fn push_rows_picture(
+    alloc: Global,
+    out: &mut String,
+    plan: &Plan,
+    world: &World,
+    rows: &[Step],
+) -> Result<(), AllocError>
+    requires short { length rows.now ≤ 400 }
+    requires same { world.now.givens ≡ plan.now.heads.givens }
+    ensures { OnOk result (string_bytes out.new ≡ string_bytes out.old ++ rows_picture (plan_seen plan.now) world.now.world rows.now) }
+{
+    let workers = plan.heads.givens.workers;
+    let end = 72 + 18 * (rows.len() as u128 + 1);
+    let width = 56 + 176 * workers.max(3) as u128;
+    push_head(alloc, out, plan, world, width, end + 192)?;
+    push_lane_heads(out, rows, workers)?;
+    push_rows(alloc, out, rows)?;
+    push_lane_feet(out, world, end)?;
+    push_foot(out, plan, world, end + 60)?;
+    push_rows_key(out, end + 60)
+}
+
+/// Appends the picture with a column for each job.
+#[tactic(auto, unfolding(crate::specs::Jobs::jobs_picture))]
+fn push_jobs_picture(
+    alloc: Global,
+    out: &mut String,
+    plan: &Plan,
+    world: &World,
+    rows: &[Step],
+) -> Result<(), AllocError>
+    requires { world.now.givens ≡ plan.now.heads.givens }
+    ensures { OnOk result (string_bytes out.new ≡ string_bytes out.old ++ jobs_picture (plan_seen plan.now) world.now.world rows.now) }
+{
+    let workers = plan.heads.givens.workers;
+    push_head(alloc, out, plan, world, jobs_width(plan), 1176)?;
+    push_jobs_ground(out, plan, rows)?;
+    push_workers_drawn(out, world.history(), columns_of(plan), rows, workers)?;
+    push_foot(out, plan, world, 1092)?;
+    push_jobs_key(out)
+}
+
+/// Appends the picture of a run with these rows.
+fn push_picture(
+    alloc: Global,
+    out: &mut String,
+    plan: &Plan,
+    world: &World,
+    rows: &[Step],
+) -> Result<(), AllocError>
+    requires { world.now.givens ≡ plan.now.heads.givens }
+    ensures { OnOk result (string_bytes out.new ≡ string_bytes out.old ++ picture_in (plan_seen plan.now) world.now.world rows.now) }
+{
+    if rows.len() <= MOST_ROWS {
+        return push_rows_picture(alloc, out, plan, world, rows);
+    }
+    push_jobs_picture(alloc, out, plan, world, rows)
+}
+
+/// The picture of a plan, an SVG: a row for each move that changes something where they are at most 400, else a column for
+/// each job. The only error is out of memory.
+pub fn picture_text(alloc: Global, plan: &Plan) -> Result<String, AllocError>
+    ensures { IfOk result (λ s. string_bytes s ≡ picture_of (plan_seen plan.now)) }
+{
+    let run = run_of(alloc, plan)?;
+    let rows = rows_of(alloc, &run.steps)?;
+    let mut out = String::new(alloc);
+    push_picture(alloc, &mut out, plan, &run.world, &rows)?;
+    Ok(out)
+}
+
+/// Reads a plan to the end of the reader, and writes its picture and nothing else. Neither stream may have failed. What each
+/// fault leaves is said at `ReplayFault`.
+pub fn picture<R: Source, W: Sink>(
+    alloc: Global,
+    reader: &mut R,
+    writer: &mut W,
+) -> Result<(), ReplayFault>
+    requires reader { R.failed reader.old ≡ false }
+    requires writer { W.failed writer.old ≡ false }
+    ensures end { OnOk result (IsAtEnd (R.remaining reader.new)) }
+    ensures text { OnOk result (Writes (λ p. Ok (picture_of p)) (R.remaining reader.old) (W.contents writer.old) (W.contents writer.new)) }
+    ensures passed { OnOk result (W.waiting writer.new ≡ false) }
+    ensures source { R.failed reader.new ≡ is_failed_read result }
+    ensures sink { W.failed writer.new ≡ is_failed_write result }
+    ensures refused { IfErr result (λ e. Refuses (λ p. Ok (picture_of p)) e (R.remaining reader.old) (W.contents writer.old) (W.contents writer.new)) }
+{
+    let plan = read_source(alloc, reader)?;
+    let text = picture_text(alloc, &plan)?;
+    write_text(writer, &text)
+}
