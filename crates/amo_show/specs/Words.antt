@@ -3,13 +3,16 @@ use Rattle.std.specs.Prelude.{ℕ, List, [], ◌∷◌, Option, Some, None, code
 use Rattle.std.specs.Str.{bytes_eq}
 use Rattle.amo_plan.specs.Plan.{PlanSeen}
 use Rattle.amo_plan.specs.declared.fault.PlanFault.{PlanFault}
+use Rattle.amo_trace.specs.Picture.{picture_of}
 use Rattle.amo_trace.specs.Trace.{trace_of}
 use Rattle.amo_show.specs.declared.request.Request.{Request}
-use Rattle.amo_show.specs.declared.request.Request.TheVariants.{Trace}
+use Rattle.amo_show.specs.declared.request.Request.TheVariants.{Trace, Picture}
 
 -- what one word asks for
 abbrev pub request_of : List ℕ → Option Request
-request_of word = if bytes_eq word (codes "trace") then Some Trace else None
+request_of word =
+    if bytes_eq word (codes "trace") then Some Trace else
+    if bytes_eq word (codes "picture") then Some Picture else None
 
 -- what the words after the program's name ask for, or None where they are no command: it is just one word
 abbrev pub asked : List (List ℕ) → Option Request
@@ -24,3 +27,4 @@ asked_after_name words = asked (drop 1 words)
 -- the text that a request wants of a plan; each plan has it
 abbrev pub text_of : Request → PlanSeen → Result (List ℕ) PlanFault
 text_of Trace plan = Ok (trace_of plan)
+text_of Picture plan = Ok (picture_of plan)

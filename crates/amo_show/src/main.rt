@@ -1,4 +1,5 @@
-//! Shows what becomes of a plan, which is read from standard input: `amo_show trace` writes a line for each move of its run.
+//! Shows what becomes of a plan, which is read from standard input: `amo_show trace` writes a line for each move of its run,
+//! `amo_show picture` a picture of it.
 #![tactic(auto)]
 
 mod fault;

@@ -7,6 +7,8 @@ ghost use Rattle.amo_show.specs.Words.{request_of, asked_after_name};
 pub enum Request {
     /// To write the trace of the plan that is read.
     Trace,
+    /// To write its picture.
+    Picture,
 }
 
 /// What one word asks for.
@@ -15,6 +17,7 @@ fn request_of(word: &str) -> Option<Request>
 {
     match word {
         "trace" => Some(Request::Trace),
+        "picture" => Some(Request::Picture),
         _ => None,
     }
 }

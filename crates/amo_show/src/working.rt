@@ -6,7 +6,7 @@ ghost use Rattle.amo_show.specs.Words.{asked_after_name};
 use super::fault::Fault;
 use super::request::{Request, asked};
 use amo_report::{Sink, Source, fault_text, write_all};
-use amo_trace::trace;
+use amo_trace::{picture, trace};
 use std::alloc::{AllocError, Global};
 
 /// Does what the words ask for, the program's name first. Nothing is read or written where they are no command.
@@ -30,6 +30,7 @@ fn serve<S: Source, W: Sink>(
 {
     match asked(words) {
         Some(Request::Trace) => Ok(trace(alloc, reader, out)?),
+        Some(Request::Picture) => Ok(picture(alloc, reader, out)?),
         None => Err(Fault::NoCommand),
     }
 }
