@@ -1,4 +1,5 @@
 pub mod Payments
+pub mod Faults
 pub mod Lines
 pub mod Restarts
 pub mod Sorting

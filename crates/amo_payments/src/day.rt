@@ -1,7 +1,8 @@
 //! What the input says: a day's payments, and the journal of an earlier run of it.
-ghost use Rattle.std.specs.Prelude.{◌≡◌, true, [], Err, map, IfOk, IfSome, OnOk};
+ghost use Rattle.std.specs.Prelude.{◌≡◌, true, [], Err, map, IfOk, IfErr, IfSome, OnOk};
 ghost use Rattle.std.specs.Str.Lines.{lines};
 ghost use Rattle.amo_payments.specs.Days.{IsDay, IsDayOf, IsDayWith, has_broken_line};
+ghost use Rattle.amo_payments.specs.Faults.{is_of_reading};
 ghost use Rattle.amo_payments.specs.declared.fault.Fault.TheVariants.{Line as BrokenLine, Input as NoInput};
 
 use crate::fault::Fault;
@@ -70,6 +71,7 @@ fn day_of(alloc: Global, text: &str) -> Result<Day, Fault>
     ensures day { IfOk result (IsDayOf text.now) }
     ensures line { result ≡ Err BrokenLine → has_broken_line text.now ≡ true }
     ensures input { result ≡ Err NoInput → ⊥ }
+    ensures fault { IfErr result (λ fault. is_of_reading fault ≡ true) }
 {
     let lines = lines_of(alloc, text)?;
     let mut day = Day::new(alloc);
@@ -87,6 +89,7 @@ fn day_of(alloc: Global, text: &str) -> Result<Day, Fault>
 pub fn read_day<B: Read>(alloc: Global, input: &mut B) -> Result<Day, Fault>
     ensures day { IfOk result (λ day. IfSome (B.remaining input.old) (λ text. IsDayOf text day)) }
     ensures line { result ≡ Err BrokenLine → IfSome (B.remaining input.old) (λ text. has_broken_line text ≡ true) }
+    ensures fault { IfErr result (λ fault. is_of_reading fault ≡ true) }
 {
     let mut text = String::new(alloc);
     if input.read_to_string(&mut text).is_err() {

@@ -1,5 +1,6 @@
 //! Why the program ends early.
 ghost use Rattle.std.specs.Prelude.{◌≡◌};
+ghost use Rattle.amo_payments.specs.Faults.{fault_of_round, fault_of_rest};
 ghost use Rattle.amo_payments.specs.declared.fault.Fault.TheVariants.{Memory};
 
 use crate::rounds::RoundFault;
@@ -30,6 +31,8 @@ impl From<AllocError> for Fault {
 }
 
 impl From<RoundFault> for Fault {
+    ghost from_gives = { λ round fault. fault ≡ fault_of_round round };
+
     fn from(fault: RoundFault) -> Fault {
         match fault {
             RoundFault::Unpaid(_) => Fault::Memory,
@@ -39,6 +42,8 @@ impl From<RoundFault> for Fault {
 }
 
 impl<P: Drop> From<RestFault<P>> for Fault {
+    ghost from_gives = { λ rest fault. fault ≡ fault_of_rest rest };
+
     fn from(fault: RestFault<P>) -> Fault {
         match fault {
             RestFault::Untried(_) => Fault::Memory,

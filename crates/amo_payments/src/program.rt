@@ -1,8 +1,10 @@
 //! A day from its input to its report.
-ghost use Rattle.std.specs.Prelude.{◌≡◌, ◌⊎◌, ◌<◌, List, [], vec_len, IfOk, IfSome, OnOk, OnErr};
+ghost use Rattle.std.specs.Prelude.{◌≡◌, ◌⊎◌, ◌<◌, true, List, [], Err, vec_len, IfOk, IfErr, IfSome, OnOk, OnErr};
 ghost use Rattle.std.specs.Io.KnownBytes.{Keeps};
 ghost use Rattle.amo_payments.specs.declared.day.Day.{Day as DayView};
-ghost use Rattle.amo_payments.specs.Days.{IsDayOf};
+ghost use Rattle.amo_payments.specs.declared.fault.Fault.TheVariants.{Line as BrokenLine};
+ghost use Rattle.amo_payments.specs.Days.{IsDayOf, has_broken_line};
+ghost use Rattle.amo_payments.specs.Faults.{is_of_input, is_of_paying};
 ghost use Rattle.amo_payments.specs.Reports.{ArePaid, AreTried, TellsPart, TellsNext, Reports, ReportsFront};
 
 use crate::bank::Bank;
@@ -33,6 +35,7 @@ fn pay_next<S: Write + Drop + Send, O: Write, R: Threads + Wait + Sync>(
     ensures told { OnOk result (TellsNext (ArePaid crew) payments.old.items payments.new.items free.old.items free.new.items (O.contents out.old) (O.contents out.new)) }
     ensures fewer { OnOk result (0 < vec_len payments.old → vec_len payments.new < vec_len payments.old) }
     ensures part { OnErr result (TellsPart (ArePaid crew) payments.old.items (O.contents out.old) (O.contents out.new)) }
+    ensures fault { IfErr result (λ fault. is_of_paying fault ≡ true) }
 {
     let round = next_round(payments)?;
     let sorted = pay_round(rt, alloc, bank, crew, round)?;
@@ -52,6 +55,7 @@ fn pay_all<S: Write + Drop + Send, O: Write, R: Threads + Wait + Sync>(
 ) -> Result<Vec<Payment>, Fault>
     ensures told { IfOk result (λ free. TellsNext (ArePaid crew) payments.items [] [] free.items (O.contents out.old) (O.contents out.new)) }
     ensures part { OnErr result (TellsPart (ArePaid crew) payments.items (O.contents out.old) (O.contents out.new)) }
+    ensures fault { IfErr result (λ fault. is_of_paying fault ≡ true) }
 {
     let mut free = Vec::new(alloc);
     'paying: while !payments.is_empty() {
@@ -73,6 +77,7 @@ fn try_next<S: Write + Drop, O: Write, R: Wait>(
     ensures told { OnOk result (TellsNext AreTried payments.old.items payments.new.items left.old.items left.new.items (O.contents out.old) (O.contents out.new)) }
     ensures fewer { OnOk result (0 < vec_len payments.old → vec_len payments.new < vec_len payments.old) }
     ensures part { OnErr result (TellsPart AreTried payments.old.items (O.contents out.old) (O.contents out.new)) }
+    ensures fault { IfErr result (λ fault. is_of_paying fault ≡ true) }
 {
     let round = next_round(payments)?;
     let rest = run_alone(alloc, flag, bank, round)?;
@@ -91,6 +96,7 @@ fn try_all<S: Write + Drop, O: Write, R: Wait>(
 ) -> Result<Vec<Payment>, Fault>
     ensures told { IfOk result (λ left. TellsNext AreTried payments.items [] [] left.items (O.contents out.old) (O.contents out.new)) }
     ensures part { OnErr result (TellsPart AreTried payments.items (O.contents out.old) (O.contents out.new)) }
+    ensures fault { IfErr result (λ fault. is_of_paying fault ≡ true) }
 {
     let mut left = Vec::new(alloc);
     'trying: while !payments.is_empty() {
@@ -110,6 +116,7 @@ fn pay_day<S: Write + Drop + Send, O: Write, R: Threads + Wait + Sync>(
 ) -> Result<(), Fault>
     ensures whole { OnOk result (Reports day (O.contents out.old) (O.contents out.new)) }
     ensures front { OnErr result (ReportsFront day (O.contents out.old) (O.contents out.new)) }
+    ensures fault { IfErr result (λ fault. is_of_paying fault ≡ true) }
 {
     let parts = part(alloc, day.payments, &day.journal)?;
     tell_each(alloc, out, "before", &parts.made)?;
@@ -133,6 +140,8 @@ pub fn serve<B: Read, S: Write + Drop + Send, O: Write, R: Threads + Wait + Sync
     ensures whole { OnOk result ((day : DayView) × IfSome (B.remaining input.old) (λ text. IsDayOf text day) × Reports day (O.contents out.old) (O.contents out.new)) }
     ensures front { OnErr result (Keeps (O.contents out.old) (O.contents out.new)
         ⊎ ((day : DayView) × IfSome (B.remaining input.old) (λ text. IsDayOf text day) × ReportsFront day (O.contents out.old) (O.contents out.new))) }
+    ensures no_day { IfErr result (λ fault. is_of_input fault ≡ true → Keeps (O.contents out.old) (O.contents out.new)) }
+    ensures line { result ≡ Err BrokenLine → IfSome (B.remaining input.old) (λ text. has_broken_line text ≡ true) }
 {
     let day = read_day(alloc, input)?;
     pay_day(rt, alloc, sink, out, day)

@@ -1,6 +1,7 @@
 //! Writes what became of payments, a line for each.
-ghost use Rattle.std.specs.Prelude.{◌≡◌, ◌++◌, IfOk, IfErr, OnOk, OnErr, string_bytes};
+ghost use Rattle.std.specs.Prelude.{◌≡◌, ◌++◌, true, IfOk, IfErr, OnOk, OnErr, string_bytes};
 ghost use Rattle.std.specs.Io.KnownBytes.{Appends};
+ghost use Rattle.amo_payments.specs.Faults.{is_of_telling};
 ghost use Rattle.amo_payments.specs.Reports.{AppendsFront, line, lines_of, answer_lines, hand_lines, round_text};
 ghost use Rattle.amo_payments.specs.declared.fault.Fault.TheVariants.{Output as NoOutput};
 
@@ -78,6 +79,7 @@ pub fn tell_each<O: Write>(
 ) -> Result<(), Fault>
     ensures whole { OnOk result (Appends (O.contents out.old) (O.contents out.new) (lines_of word.now payments.now)) }
     ensures front { OnErr result (AppendsFront (O.contents out.old) (O.contents out.new) (lines_of word.now payments.now)) }
+    ensures fault { IfErr result (λ fault. is_of_telling fault ≡ true) }
 {
     let mut text = String::new(alloc);
     push_each(&mut text, word, payments)?;
@@ -92,6 +94,7 @@ pub fn tell_answers<O: Write>(
 ) -> Result<(), Fault>
     ensures whole { OnOk result (Appends (O.contents out.old) (O.contents out.new) (answer_lines outputs.now)) }
     ensures front { OnErr result (AppendsFront (O.contents out.old) (O.contents out.new) (answer_lines outputs.now)) }
+    ensures fault { IfErr result (λ fault. is_of_telling fault ≡ true) }
 {
     let mut text = String::new(alloc);
     push_answers(&mut text, outputs)?;
@@ -103,6 +106,7 @@ pub fn tell_answers<O: Write>(
 pub fn tell_round<O: Write>(alloc: Global, out: &mut O, sorted: &Sorted) -> Result<(), Fault>
     ensures whole { OnOk result (Appends (O.contents out.old) (O.contents out.new) (round_text sorted.now)) }
     ensures front { OnErr result (AppendsFront (O.contents out.old) (O.contents out.new) (round_text sorted.now)) }
+    ensures fault { IfErr result (λ fault. is_of_telling fault ≡ true) }
 {
     let mut text = String::new(alloc);
     push_answers(&mut text, &sorted.done)?;

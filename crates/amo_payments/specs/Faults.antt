@@ -1,0 +1,50 @@
+-- What a fault can be of.
+use Rattle.std.specs.Prelude.{Bool, true, false}
+use Rattle.amo_payments.specs.declared.fault.Fault.{Fault}
+use Rattle.amo_payments.specs.declared.fault.Fault.TheVariants.{Line, Input, Output, Memory, Unsettled}
+use Rattle.amo_payments.specs.declared.rounds.RoundFault.{RoundFault}
+use Rattle.amo_payments.specs.declared.rounds.RoundFault.TheVariants.{Unpaid, Unsettled as UnsettledRound}
+use Rattle.amo_payments.specs.declared.second.RestFault.{RestFault}
+use Rattle.amo_payments.specs.declared.second.RestFault.TheVariants.{Untried, Unsettled as UnsettledRest}
+
+-- the fault of a round that gave nothing
+abbrev pub fault_of_round : RoundFault → Fault
+fault_of_round (Unpaid back) = Memory
+fault_of_round UnsettledRound = Unsettled
+
+-- the fault of a floor of one worker that gave nothing
+abbrev pub fault_of_rest : {P : Type 0} → RestFault P → Fault
+fault_of_rest (Untried back) = Memory
+fault_of_rest UnsettledRest = Unsettled
+
+-- the input says no day
+abbrev pub is_of_input : Fault → Bool
+is_of_input Line = true
+is_of_input Input = true
+is_of_input Output = false
+is_of_input Memory = false
+is_of_input Unsettled = false
+
+-- reading can end with it
+abbrev pub is_of_reading : Fault → Bool
+is_of_reading Line = true
+is_of_reading Input = true
+is_of_reading Output = false
+is_of_reading Memory = true
+is_of_reading Unsettled = false
+
+-- writing a text can end with it
+abbrev pub is_of_telling : Fault → Bool
+is_of_telling Line = false
+is_of_telling Input = false
+is_of_telling Output = true
+is_of_telling Memory = true
+is_of_telling Unsettled = false
+
+-- paying can end with it
+abbrev pub is_of_paying : Fault → Bool
+is_of_paying Line = false
+is_of_paying Input = false
+is_of_paying Output = true
+is_of_paying Memory = true
+is_of_paying Unsettled = true
