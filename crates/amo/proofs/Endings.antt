@@ -1,5 +1,5 @@
 -- How a command ends, from the fault that came and what was told of it.
-use Rattle.std.proofs.Common.{◌≡◌, inl, inr, ℕ, Bool, List, Option, None, Some, Result, Err, sym, subst}
+use Rattle.std.proofs.Common.{◌≡◌, inl, inr, ℕ, Bool, List, Option, None, Some, Result, Err}
 use Rattle.std.specs.Io.KnownBytes.{Keeps}
 use Rattle.amo_plan.specs.Plan.{PlanSeen}
 use Rattle.amo_plan.specs.declared.fault.PlanFault.{PlanFault}
@@ -7,25 +7,15 @@ use Rattle.amo_report.specs.declared.replaying.ReplayFault.{ReplayFault}
 use Rattle.amo_report.specs.declared.replaying.ReplayFault.TheVariants as replay
 use Rattle.amo_report.specs.Replays.{is_failed_read, is_failed_write}
 use Rattle.amo.specs.declared.request.Request.{Request}
-use Rattle.amo.specs.declared.fault.Fault.{Fault}
-use Rattle.amo.specs.declared.fault.Fault.TheVariants.{Plan, NoCommand, NoMemory, Thread, Read, Write}
+use Rattle.amo_ends.specs.declared.fault.Fault.{Fault}
+use Rattle.amo_ends.specs.declared.fault.Fault.TheVariants.{Plan, NoCommand, NoMemory, Thread, Read, Write}
 use Rattle.amo.specs.declared.request.RequestFault.{RequestFault}
 use Rattle.amo.specs.declared.request.RequestFault.TheVariants as words
-use Rattle.amo.specs.Faults.{line_of, status_of, fault_of_request, fault_of_replay}
+use Rattle.amo_ends.specs.Endings.{Change, IsTold}
+use Rattle.amo_ends.specs.Faults.{fault_of_replay}
+use Rattle.amo.specs.Faults.{fault_of_request}
 use Rattle.amo.specs.Wanted.{text_of, RefusesWanted}
-use Rattle.amo.specs.Statuses.{Change, Says, IsFault, IsPassedOn, Ends, Tells, IsTold}
-
-told_itself : (fault : Fault) (err : Change) (status : ℕ) → Tells fault err status → IsTold fault err status
-told_itself (Plan f) err status h = inl h
-told_itself NoCommand err status h = h
-told_itself NoMemory err status h = h
-told_itself Thread err status h = h
-told_itself Read err status h = h
-told_itself Write err status h = h
-
--- a fault was told where its line was given and its status is answered
-pub told : (given fault : Fault) (err : Change) (status : ℕ) → given ≡ fault → Says err (line_of fault) → status ≡ status_of fault → IsTold given err status
-told given fault err status e line same = subst (λ f. IsTold f err status) (sym e) (told_itself fault err status (line, same))
+use Rattle.amo.specs.Statuses.{IsFault, IsPassedOn, Ends}
 
 -- the faults of words and of texts say nothing of what waits
 pub words_pass : (fault : RequestFault) (waits : Bool) → IsPassedOn (fault_of_request fault) waits

@@ -1,37 +1,17 @@
 -- What each exit status says of the words, the reader and the two writers.
-use Rattle.std.specs.Prelude.{◌≡◌, ◌⊎◌, ℕ, List, Bool, false, Option, Some, None, ⊤}
-use Rattle.std.specs.Io.KnownBytes.{Keeps, Appends, IsAtEnd}
+use Rattle.std.specs.Prelude.{◌≡◌, ◌⊎◌, ℕ, Bool, false, Option, Some, None, ⊤}
+use Rattle.std.specs.Io.KnownBytes.{IsAtEnd}
 use Rattle.amo_report.specs.declared.replaying.ReplayFault.{ReplayFault}
 use Rattle.amo_report.specs.declared.replaying.ReplayFault.TheVariants as replay
-use Rattle.amo_report.specs.Streams.{AppendsFront}
 use Rattle.amo.specs.declared.request.Request.{Request}
 use Rattle.amo.specs.declared.request.Request.TheVariants.{Run}
 use Rattle.amo.specs.declared.started.Started.TheVariants.{NotAll}
-use Rattle.amo.specs.declared.fault.Fault.{Fault}
-use Rattle.amo.specs.declared.fault.Fault.TheVariants.{Plan, NoCommand, NoMemory, Thread, Read, Write}
-use Rattle.amo.specs.Faults.{line_of, status_of, is_of_reader, is_of_writer}
+use Rattle.amo_ends.specs.declared.fault.Fault.{Fault}
+use Rattle.amo_ends.specs.declared.fault.Fault.TheVariants.{Plan, NoCommand, NoMemory, Thread, Read, Write}
+use Rattle.amo_ends.specs.Endings.{Change, IsKept, Tells}
+use Rattle.amo_ends.specs.Faults.{is_of_reader, is_of_writer}
 use Rattle.amo.specs.Runs.{WritesRun}
 use Rattle.amo.specs.Wanted.{text_of, WritesWanted, RefusesWanted}
-
--- What becomes of a stream: its bytes before and after, where they are known, and whether it has failed then. A
--- reader's bytes are those that remain, a writer's those that it holds.
-pub record Change : Type 0 where
-  pub before : Option (List ℕ)
-  pub after : Option (List ℕ)
-  pub failed : Bool
-
--- the change from the first bytes to the second
-abbrev pub change : Option (List ℕ) → Option (List ℕ) → Bool → Change
-change before after failed = record { before = before; after = after; failed = failed }
-
--- nothing was written
-abbrev pub IsKept : Change → Type 0
-IsKept s = Keeps s.before s.after
-
--- A line was given to a writer: a beginning of it was written, and all of it unless the writer has failed.
-pub record Says (s : Change) (line : List ℕ) : Type 0 where
-  pub beginning : AppendsFront s.before s.after line
-  pub whole : s.failed ≡ false → Appends s.before s.after line
 
 -- The text that is wanted of the reader's bytes was written to `out`, and nothing else; of a run the text of something that
 -- came of it, each thread having been started. The reader is at its end, and neither has failed.
@@ -80,17 +60,8 @@ IsPassedOn Thread waits = waits ≡ false
 IsPassedOn Read waits = ⊤
 IsPassedOn Write waits = ⊤
 
--- the line of this fault was given to `err`, and the status is that of the fault
-abbrev pub Tells : Fault → Change → ℕ → Type 0
-Tells fault err status = Says err (line_of fault) × (status ≡ status_of fault)
-
 -- What an exit status says: the command was done, nothing was written to `err`, and the status is 0; or a fault came and
 -- was told, and the status is that of the fault, 1 to 4. The flag says whether anything that was written to `out` waits.
 abbrev pub Ends : Option Request → Change → Change → Bool → Change → ℕ → Type 0
 Ends wanted reader out waits err status =
     (IsDone wanted reader out × IsKept err × (status ≡ 0)) ⊎ ((fault : Fault) × IsFault fault wanted reader out × IsPassedOn fault waits × Tells fault err status)
-
--- the fault that came was told, or out of memory in the place of a plan's fault, whose line takes memory
-abbrev pub IsTold : Fault → Change → ℕ → Type 0
-IsTold (Plan f) err status = Tells (Plan f) err status ⊎ Tells NoMemory err status
-IsTold fault err status = Tells fault err status

@@ -6,7 +6,6 @@
 
 mod block_work;
 mod commands;
-mod fault;
 mod program;
 mod request;
 mod running;

@@ -3,11 +3,12 @@ ghost use Rattle.std.specs.Prelude.{◌≡◌, ◌≤◌, false, None, map, OnEr
 ghost use Rattle.std.specs.Process.{exit_status};
 ghost use Rattle.std.specs.Vec.Iter.{into_iter_items};
 ghost use Rattle.amo.specs.Commands.{asked_after_name};
-ghost use Rattle.amo.specs.Statuses.{Tells, Ends, change};
-ghost use Rattle.amo.specs.declared.fault.Fault.TheVariants.{NoMemory};
+ghost use Rattle.amo.specs.Statuses.{Ends};
+ghost use Rattle.amo_ends.specs.Endings.{Tells, change};
+ghost use Rattle.amo_ends.specs.declared.fault.Fault.TheVariants.{NoMemory};
 
-use super::fault::Fault;
-use super::working::{refuse, work};
+use super::working::work;
+use amo_ends::{Fault, listed, refuse};
 use amo_report::{Sink, Source};
 use std::alloc::{AllocError, Global};
 use std::env::Args;
@@ -15,17 +16,6 @@ use std::io;
 use std::process::ExitCode;
 use std::sync::Wait;
 use std::thread::Threads;
-
-/// The words, as a list.
-fn listed(alloc: Global, words: Args) -> Result<Vec<String>, AllocError>
-    ensures { IfOk result (λ list. list.items ≡ into_iter_items words) }
-{
-    let mut list = Vec::with_capacity(alloc, words.len())?;
-    for word in words {
-        list.push(word)?;
-    }
-    Ok(list)
-}
 
 /// The texts of the words.
 fn texts_of<'a>(alloc: Global, words: &'a [String]) -> Result<Vec<&'a str>, AllocError>

@@ -1,7 +1,9 @@
 //! What the words of a command line can ask for.
 ghost use Rattle.std.specs.Prelude.{◌≡◌};
+ghost use Rattle.amo.specs.Faults.{fault_of_request};
 ghost use Rattle.amo.specs.declared.request.RequestFault.TheVariants.{NoMemory};
 
+use amo_ends::Fault;
 use std::alloc::{AllocError, AllocFailed};
 
 /// What a command asks for.
@@ -51,5 +53,16 @@ impl<T: Drop> From<AllocFailed<T>> for RequestFault {
 
     fn from(_e: AllocFailed<T>) -> RequestFault {
         RequestFault::NoMemory
+    }
+}
+
+impl From<RequestFault> for Fault {
+    ghost from_gives = { λ fault e. e ≡ fault_of_request fault };
+
+    fn from(fault: RequestFault) -> Fault {
+        match fault {
+            RequestFault::NoCommand => Fault::NoCommand,
+            RequestFault::NoMemory => Fault::NoMemory,
+        }
     }
 }

@@ -1,19 +1,21 @@
 //! The whole program, over any source and any two sinks.
 ghost use Rattle.std.specs.Prelude.{◌≡◌, ◌≤◌, false, None, map, OnOk, IfErr};
 ghost use Rattle.amo.specs.Commands.{asked};
-ghost use Rattle.amo.specs.Statuses.{Says, IsTold, IsDone, IsFault, IsPassedOn, Ends, change};
+ghost use Rattle.amo.specs.Statuses.{IsDone, IsFault, IsPassedOn, Ends};
+ghost use Rattle.amo_ends.specs.Endings.{change};
 
 use super::commands::asked;
-use super::fault::Fault;
 use super::request::Request;
 use super::running::run_plan;
 use super::started::Started;
-use amo_report::{Sink, Source, check, explore_plan, fault_text, replay, stops_plan, write_all};
-use std::alloc::{AllocError, Global};
+use amo_ends::{Fault, refuse};
+use amo_report::{Sink, Source, check, explore_plan, replay, stops_plan};
+use std::alloc::Global;
 use std::sync::Wait;
 use std::thread::Threads;
 
-/// Does what the words ask for. Nothing is read or written where they are no command. Only `run` may wait.
+/// Does what the words ask for. Nothing is read or written where they are no command. The texts of
+/// all commands but `run` are written by calls that are proved to return.
 #[tactic(auto, using(crate::proofs::Endings::of_text, crate::proofs::Endings::words_pass, crate::proofs::Endings::texts_pass))]
 fn serve<R: Threads + Wait + Sync, S: Source, W: Sink>(
     rt: &R,
@@ -45,55 +47,6 @@ fn serve<R: Threads + Wait + Sync, S: Source, W: Sink>(
             Ok(explore_plan(alloc, reader, out, from, count, turns)?)
         }
         Request::Stops { worker } => Ok(stops_plan(alloc, reader, out, worker)?),
-    }
-}
-
-/// Gives a line to the sink. That this fails changes nothing.
-fn say<E: Sink>(err: &mut E, line: &str)
-    ensures says { Says (change (E.contents err.old) (E.contents err.new) (E.failed err.new)) line.now }
-    ensures heard { E.failed err.new ≡ false → E.waiting err.new ≡ false }
-{
-    let _ = write_all(err, line.as_bytes());
-}
-
-/// Tells of the fault, or of memory having run out where there is none for its line, and answers the status.
-#[tactic(auto, using(crate::proofs::Endings::told))]
-pub fn refuse<E: Sink>(alloc: Global, err: &mut E, fault: Fault) -> u8
-    ensures told { IsTold fault (change (E.contents err.old) (E.contents err.new) (E.failed err.new)) result }
-    ensures status { 1 ≤ result }
-    ensures heard { E.failed err.new ≡ false → E.waiting err.new ≡ false }
-{
-    match fault {
-        Fault::Plan(fault) => match fault_text(alloc, &fault) {
-            Ok(text) => {
-                say(err, text.as_str());
-                1
-            }
-            Err(AllocError) => {
-                say(err, "fault memory\n");
-                3
-            }
-        },
-        Fault::NoCommand => {
-            say(err, "fault words\n");
-            2
-        }
-        Fault::NoMemory => {
-            say(err, "fault memory\n");
-            3
-        }
-        Fault::Thread => {
-            say(err, "fault thread\n");
-            3
-        }
-        Fault::Read => {
-            say(err, "fault read\n");
-            4
-        }
-        Fault::Write => {
-            say(err, "fault write\n");
-            4
-        }
     }
 }
 

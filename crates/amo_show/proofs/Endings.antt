@@ -1,25 +1,15 @@
 -- How a command ends, from the fault that came and what was told of it.
-use Rattle.std.proofs.Common.{◌≡◌, inl, inr, ℕ, Option, Some, Err, sym, subst}
+use Rattle.std.proofs.Common.{◌≡◌, inl, inr, ℕ, Option, Some, Err}
+use Rattle.amo_ends.specs.Endings.{Change, IsTold}
+use Rattle.amo_ends.specs.Faults.{fault_of_replay}
+use Rattle.amo_ends.specs.declared.fault.Fault.{Fault}
+use Rattle.amo_ends.specs.declared.fault.Fault.TheVariants.{Plan, NoCommand, NoMemory, Thread, Read, Write}
 use Rattle.amo_report.specs.declared.replaying.ReplayFault.{ReplayFault}
 use Rattle.amo_report.specs.declared.replaying.ReplayFault.TheVariants as replay
 use Rattle.amo_report.specs.Replays.{Refuses, is_failed_read, is_failed_write}
-use Rattle.amo_show.specs.declared.fault.Fault.{Fault}
-use Rattle.amo_show.specs.declared.fault.Fault.TheVariants.{Plan, NoCommand, NoMemory, Read, Write}
 use Rattle.amo_show.specs.declared.request.Request.{Request}
-use Rattle.amo_show.specs.Faults.{line_of, status_of, fault_of_replay}
-use Rattle.amo_show.specs.Statuses.{Change, Says, IsFault, Ends, Tells, IsTold}
+use Rattle.amo_show.specs.Statuses.{IsFault, Ends}
 use Rattle.amo_show.specs.Words.{text_of}
-
-told_itself : (fault : Fault) (err : Change) (status : ℕ) → Tells fault err status → IsTold fault err status
-told_itself (Plan f) err status h = inl h
-told_itself NoCommand err status h = h
-told_itself NoMemory err status h = h
-told_itself Read err status h = h
-told_itself Write err status h = h
-
--- a fault was told where its line was given and its status is answered
-pub told : (given fault : Fault) (err : Change) (status : ℕ) → given ≡ fault → Says err (line_of fault) → status ≡ status_of fault → IsTold given err status
-told given fault err status e line same = subst (λ f. IsTold f err status) (sym e) (told_itself fault err status (line, same))
 
 module _ (wanted : Option Request) (reader out : Change) where
   -- what a text says of its fault is what the program says of it
@@ -36,5 +26,6 @@ module _ (wanted : Option Request) (reader out : Change) where
   ends_by (Plan f) err status cause (inr line) = inr (NoMemory, record { left = cause.left.left.2; source = cause.source; sink = cause.sink }, line)
   ends_by NoCommand err status cause line = inr (NoCommand, cause, line)
   ends_by NoMemory err status cause line = inr (NoMemory, cause, line)
+  ends_by Thread err status cause line = absurd cause.left
   ends_by Read err status cause line = inr (Read, cause, line)
   ends_by Write err status cause line = inr (Write, cause, line)

@@ -2,7 +2,6 @@
 //! `amo_show picture` a picture of it.
 #![tactic(auto)]
 
-mod fault;
 mod program;
 mod request;
 mod working;

@@ -2,28 +2,18 @@
 ghost use Rattle.std.specs.Prelude.{◌≡◌, ◌≤◌, false, None, map, OnErr, IfOk, string_bytes};
 ghost use Rattle.std.specs.Process.{exit_status};
 ghost use Rattle.std.specs.Vec.Iter.{into_iter_items};
-ghost use Rattle.amo_show.specs.Statuses.{Tells, Ends, change};
+ghost use Rattle.amo_ends.specs.Endings.{Tells, change};
+ghost use Rattle.amo_ends.specs.declared.fault.Fault.TheVariants.{NoMemory};
+ghost use Rattle.amo_show.specs.Statuses.{Ends};
 ghost use Rattle.amo_show.specs.Words.{asked_after_name};
-ghost use Rattle.amo_show.specs.declared.fault.Fault.TheVariants.{NoMemory};
 
-use super::fault::Fault;
-use super::working::{refuse, work};
+use super::working::work;
+use amo_ends::{Fault, listed, refuse};
 use amo_report::{Sink, Source};
 use std::alloc::{AllocError, Global};
 use std::env::Args;
 use std::io;
 use std::process::ExitCode;
-
-/// The words, as a list.
-fn listed(alloc: Global, words: Args) -> Result<Vec<String>, AllocError>
-    ensures { IfOk result (λ list. list.items ≡ into_iter_items words) }
-{
-    let mut list = Vec::with_capacity(alloc, words.len())?;
-    for word in words {
-        list.push(word)?;
-    }
-    Ok(list)
-}
 
 /// The whole program on the words that the system gives it, its own name first, and its streams: does what the words
 /// after the name ask for, and answers the status of `work` as the program's. Where the system can't give the words,

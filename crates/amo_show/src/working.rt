@@ -1,13 +1,14 @@
 //! The program on its words, over any source and any two sinks.
 ghost use Rattle.std.specs.Prelude.{◌≡◌, ◌≤◌, false, None, map, string_bytes, OnOk, IfErr};
-ghost use Rattle.amo_show.specs.Statuses.{Says, IsTold, IsDone, IsFault, Ends, change};
+ghost use Rattle.amo_ends.specs.Endings.{change};
+ghost use Rattle.amo_show.specs.Statuses.{IsDone, IsFault, Ends};
 ghost use Rattle.amo_show.specs.Words.{asked_after_name};
 
-use super::fault::Fault;
 use super::request::{Request, asked};
-use amo_report::{Sink, Source, fault_text, write_all};
+use amo_ends::{Fault, refuse};
+use amo_report::{Sink, Source};
 use amo_trace::{picture, trace};
-use std::alloc::{AllocError, Global};
+use std::alloc::Global;
 
 /// Does what the words ask for, the program's name first. Nothing is read or written where they are no command.
 #[tactic(auto, using(crate::proofs::Endings::of_text))]
@@ -32,51 +33,6 @@ fn serve<S: Source, W: Sink>(
         Some(Request::Trace) => Ok(trace(alloc, reader, out)?),
         Some(Request::Picture) => Ok(picture(alloc, reader, out)?),
         None => Err(Fault::NoCommand),
-    }
-}
-
-/// Gives a line to the sink. That this fails changes nothing.
-fn say<E: Sink>(err: &mut E, line: &str)
-    ensures says { Says (change (E.contents err.old) (E.contents err.new) (E.failed err.new)) line.now }
-    ensures heard { E.failed err.new ≡ false → E.waiting err.new ≡ false }
-{
-    let _ = write_all(err, line.as_bytes());
-}
-
-/// Tells of the fault, or of memory having run out where there is none for its line, and answers the status.
-#[tactic(auto, using(crate::proofs::Endings::told))]
-pub fn refuse<E: Sink>(alloc: Global, err: &mut E, fault: Fault) -> u8
-    ensures told { IsTold fault (change (E.contents err.old) (E.contents err.new) (E.failed err.new)) result }
-    ensures status { 1 ≤ result }
-    ensures heard { E.failed err.new ≡ false → E.waiting err.new ≡ false }
-{
-    match fault {
-        Fault::Plan(fault) => match fault_text(alloc, &fault) {
-            Ok(text) => {
-                say(err, text.as_str());
-                1
-            }
-            Err(AllocError) => {
-                say(err, "fault memory\n");
-                3
-            }
-        },
-        Fault::NoCommand => {
-            say(err, "fault words\n");
-            2
-        }
-        Fault::NoMemory => {
-            say(err, "fault memory\n");
-            3
-        }
-        Fault::Read => {
-            say(err, "fault read\n");
-            4
-        }
-        Fault::Write => {
-            say(err, "fault write\n");
-            4
-        }
     }
 }
 

@@ -8,7 +8,7 @@ ghost use Rattle.amo_trace.specs.Steps.{loads, fails, steps};
 ghost use Rattle.amo_trace.specs.declared.step.Step.{Step};
 
 /// Whatever moves are made in the opening world: with the last load of an attempt the attempt fails exactly where in it
-/// the worker has loaded its own job, from an announcement or from a row. Where it hasn't, it is about to claim the job.
+/// the worker has loaded its own job, from an announcement or from a row.
 pub fn attempts_fail_by_their_own_job()
     ensures { (g : Givens) (moves : List Move) (before after : List Step) (s : Step)
         → steps g (opening_world g) 1 moves ≡ before ++ s ∷ after → loads s.act ≡ true → looks_on s.after ≡ false

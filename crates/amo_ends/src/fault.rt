@@ -1,8 +1,7 @@
 //! Why a command wasn't done.
 ghost use Rattle.std.specs.Prelude.{◌≡◌};
-ghost use Rattle.amo.specs.Faults.{fault_of_request, fault_of_replay};
+ghost use Rattle.amo_ends.specs.Faults.{fault_of_replay};
 
-use super::request::RequestFault;
 use amo_plan::PlanFault;
 use amo_report::ReplayFault;
 
@@ -21,17 +20,6 @@ pub enum Fault {
     Read,
     /// The writer failed.
     Write,
-}
-
-impl From<RequestFault> for Fault {
-    ghost from_gives = { λ fault e. e ≡ fault_of_request fault };
-
-    fn from(fault: RequestFault) -> Fault {
-        match fault {
-            RequestFault::NoCommand => Fault::NoCommand,
-            RequestFault::NoMemory => Fault::NoMemory,
-        }
-    }
 }
 
 impl From<ReplayFault> for Fault {
