@@ -2,8 +2,8 @@
 //! `explore FROM COUNT LENGTH` the text of the explorer.
 //!
 //! `bench/run` measures the proved program against it and compares their reports byte for byte, so it also serves
-//! as a second opinion, written apart from the proved crates. `bench/core` measures its parts. The program uses no
-//! crate:
+//! as a second opinion, written apart from the proved crates. `bench/core` measures its parts, and bench/show.rs, which
+//! writes traces and pictures, is built on it. The program uses no crate:
 //!
 //! ```text
 //! rustc -O --edition 2021 -o bench/out/replay bench/replay.rs
@@ -11,11 +11,12 @@
 //! ```
 //!
 //! It does the same work: sets of jobs are bit words, and each worker keeps the number of jobs that it could take.
-//! Of the plan it reads only what is written one key a line, as in `examples/`, and it tests nothing: a plan that
-//! breaks a rule makes it panic or write nonsense.
+//! Of the plan it reads only what is written one key a line, as in most of `examples/`, and it tests nothing: a plan
+//! that breaks a rule makes it panic or write nonsense.
 
 use std::fmt::Write as _;
 use std::io::{self, Read as _, Write as _};
+use std::ops::Range;
 
 fn main() -> io::Result<()> {
     let mut text = String::new();
@@ -32,7 +33,7 @@ fn main() -> io::Result<()> {
 }
 
 /// The report of the plan's schedule and rounds.
-fn replayed(plan: &Plan) -> String {
+pub fn replayed(plan: &Plan) -> String {
     let mut world = World::new(plan.givens);
     world.run(&plan.moves);
     world.run_rounds(plan.rounds);
@@ -142,6 +143,17 @@ pub enum Phase {
     Left,
 }
 
+impl Phase {
+    /// The job of the attempt, or 0 where there is none.
+    pub fn job(self) -> u32 {
+        match self {
+            Phase::Announcing(job) | Phase::Claiming(job) | Phase::Holding(job) => job,
+            Phase::Trying(job, _) | Phase::Reading(job, _) => job,
+            Phase::Over | Phase::Left => 0,
+        }
+    }
+}
+
 /// The one load or store that a worker makes next.
 #[derive(Clone, Copy, Debug, PartialEq)]
 pub enum Want {
@@ -157,7 +169,7 @@ pub enum Want {
 pub struct Local {
     givens: Givens,
     number: u32,
-    phase: Phase,
+    pub phase: Phase,
     /// The jobs that it doesn't know to be performed.
     free: JobSet,
     /// The jobs that it has seen announced in this attempt.
@@ -167,7 +179,7 @@ pub struct Local {
     /// How many entries of each worker's row it has read, worker 1 first.
     fronts: Vec<u32>,
     pub claims: Vec<u32>,
-    dones: Vec<u32>,
+    pub dones: Vec<u32>,
     pub steps: u64,
 }
 
@@ -288,7 +300,7 @@ impl Local {
 
 /// A choice of a schedule; the number is the worker's.
 #[derive(Clone, Copy, Debug)]
-enum Move {
+pub enum Move {
     Turn(u32),
     Halt(u32),
     Leave(u32),
@@ -341,7 +353,9 @@ impl World {
     fn run(&mut self, moves: &[Move]) {
         for &chosen in moves {
             match chosen {
-                Move::Turn(worker) => self.turn(worker),
+                Move::Turn(worker) => {
+                    self.turn(worker);
+                }
                 Move::Halt(worker) => self.halt(worker),
                 Move::Leave(worker) => self.leave(worker),
             }
@@ -357,10 +371,11 @@ impl World {
         }
     }
 
-    pub fn turn(&mut self, worker: u32) {
+    /// Gives back the load or store that was made, and what a load gave, or 0.
+    pub fn turn(&mut self, worker: u32) -> (Want, u32) {
         let seat = &self.seats[worker as usize - 1];
         if seat.gone {
-            return;
+            return (Want::Nothing, 0);
         }
         let want = seat.local.want();
         let value = match want {
@@ -385,9 +400,10 @@ impl World {
             seat.gone = true;
             self.history.push(Event::Ended(worker));
         }
+        (want, value)
     }
 
-    fn halt(&mut self, worker: u32) {
+    pub fn halt(&mut self, worker: u32) {
         let seat = &mut self.seats[worker as usize - 1];
         if !seat.gone {
             seat.gone = true;
@@ -395,7 +411,7 @@ impl World {
         }
     }
 
-    fn leave(&mut self, worker: u32) {
+    pub fn leave(&mut self, worker: u32) {
         let seat = &mut self.seats[worker as usize - 1];
         if !seat.gone && !matches!(seat.local.phase, Phase::Holding(_)) {
             seat.next = 0;
@@ -408,11 +424,13 @@ impl World {
 
 /// The part of a plan that a report needs.
 pub struct Plan {
-    givens: Givens,
+    pub givens: Givens,
+    /// How many jobs are in a block, in version 2 alone. There the jobs of the givens are the blocks.
+    pub block: Option<u32>,
     pub names: Vec<String>,
     says: Vec<String>,
-    moves: Vec<Move>,
-    rounds: u32,
+    pub moves: Vec<Move>,
+    pub rounds: u32,
 }
 
 impl Plan {
@@ -423,6 +441,7 @@ impl Plan {
                 workers: 0,
                 beta: 0,
             },
+            block: None,
             names: Vec::new(),
             says: Vec::new(),
             moves: Vec::new(),
@@ -434,6 +453,8 @@ impl Plan {
             };
             let text = value.trim_matches('"');
             match key {
+                "version" if number(value) == 2 => plan.block = plan.block.or(Some(1)),
+                "block" => plan.block = Some(number(value)),
                 "workers" => plan.givens.workers = number(value),
                 "beta" => plan.givens.beta = number(value),
                 "rounds" => plan.rounds = number(value),
@@ -443,8 +464,15 @@ impl Plan {
                 _ => {}
             }
         }
-        plan.givens.jobs = plan.names.len() as u32;
+        plan.givens.jobs = (plan.names.len() as u32).div_ceil(plan.block.unwrap_or(1));
         plan
+    }
+
+    /// The jobs of a block, which in version 1 is one job, by their places from 0.
+    fn places_of(&self, block: u32) -> Range<usize> {
+        let size = self.block.unwrap_or(1) as usize;
+        let end = block as usize * size;
+        end - size..end.min(self.names.len())
     }
 }
 
@@ -579,9 +607,7 @@ fn report(plan: &Plan, world: &World) -> String {
 }
 
 fn write_report(out: &mut String, plan: &Plan, world: &World) -> std::fmt::Result {
-    let Givens { jobs, workers, beta } = world.givens;
-    let bound = world.givens.bound();
-    writeln!(out, "jobs {jobs} workers {workers} beta {beta} bound {bound}")?;
+    write_first_line(out, plan)?;
     for (i, event) in (1..).zip(&world.history) {
         match event {
             Event::Claimed(p, j) => writeln!(out, "{i} claimed {p} {j}")?,
@@ -591,28 +617,23 @@ fn write_report(out: &mut String, plan: &Plan, world: &World) -> std::fmt::Resul
             Event::Left(p) => writeln!(out, "{i} left {p}")?,
         }
     }
-    for (p, seat) in (1..).zip(&world.seats) {
-        let state = state_of(p, &world.history);
-        let turns = seat.local.steps;
-        let claimed = seat.local.claims.len();
-        let done = seat.local.dones.len();
-        writeln!(out, "worker {p} {state} turns {turns} claimed {claimed} done {done}")?;
-    }
-    let mut performed = 0;
+    write_workers(out, world)?;
+    let jobs = world.givens.jobs;
     let mut unclaimed = JobSet::full(jobs);
     for event in &world.history {
         match event {
             Event::Claimed(_, j) => unclaimed.take_out(*j),
             Event::Done(_, j) => {
-                performed += 1;
-                write!(out, "result {j} {} ", plan.names[*j as usize - 1])?;
-                write_escaped(out, &plan.says[*j as usize - 1])?;
-                writeln!(out)?;
+                for place in plan.places_of(*j) {
+                    write!(out, "result {} {} ", place + 1, plan.names[place])?;
+                    write_escaped(out, &plan.says[place])?;
+                    writeln!(out)?;
+                }
             }
             _ => {}
         }
     }
-    writeln!(out, "performed {performed}")?;
+    write_performed(out, plan, world)?;
     write!(out, "unclaimed")?;
     for job in unclaimed.members(jobs) {
         write!(out, " {job}")?;
@@ -620,7 +641,42 @@ fn write_report(out: &mut String, plan: &Plan, world: &World) -> std::fmt::Resul
     writeln!(out)
 }
 
-fn state_of(worker: u32, history: &[Event]) -> &'static str {
+/// The first line of a report.
+pub fn write_first_line(out: &mut String, plan: &Plan) -> std::fmt::Result {
+    let Givens { jobs, workers, beta } = plan.givens;
+    match plan.block {
+        None => write!(out, "jobs {jobs}")?,
+        Some(block) => write!(out, "jobs {} block {block} blocks {jobs}", plan.names.len())?,
+    }
+    writeln!(out, " workers {workers} beta {beta} bound {}", plan.givens.bound())
+}
+
+/// A report's line for each worker.
+pub fn write_workers(out: &mut String, world: &World) -> std::fmt::Result {
+    for (p, seat) in (1..).zip(&world.seats) {
+        let state = state_of(p, &world.history);
+        let turns = seat.local.steps;
+        let claimed = seat.local.claims.len();
+        let done = seat.local.dones.len();
+        writeln!(out, "worker {p} {state} turns {turns} claimed {claimed} done {done}")?;
+    }
+    Ok(())
+}
+
+/// A report's line on what was performed.
+pub fn write_performed(out: &mut String, plan: &Plan, world: &World) -> std::fmt::Result {
+    let done = || world.seats.iter().flat_map(|seat| &seat.local.dones);
+    let performed = done().count();
+    match plan.block {
+        None => writeln!(out, "performed {performed}"),
+        Some(_) => {
+            let jobs: usize = done().map(|block| plan.places_of(*block).len()).sum();
+            writeln!(out, "performed blocks {performed} jobs {jobs}")
+        }
+    }
+}
+
+pub fn state_of(worker: u32, history: &[Event]) -> &'static str {
     for event in history {
         match event {
             Event::Ended(p) if *p == worker => return "ended",
