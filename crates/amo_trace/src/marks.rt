@@ -3,9 +3,10 @@ ghost use Rattle.std.specs.Prelude.{◌≡◌, ◌++◌, ◌<◌, ◌≤◌, ◌
 ghost use Rattle.std.specs.List.{position_or_len};
 ghost use Rattle.amo_kk.specs.Record.{is_over};
 ghost use Rattle.amo_trace.specs.Marks.{mark_of_load, mark_of_want, mark_of_act, mark_of, class_of, loaded_word, sees_more, sees, ends, label_of, lane, row, until, is_announcement, is_claim, is_filing, loaded_of, seen_at, line_start, level_to, line_to, lead_at, shape_at, mark_at};
-ghost use Rattle.amo_trace.specs.Elements.{at_place};
 
-use crate::elements::{push_area, push_dotted_start, push_down, push_stroke, push_stroke_start};
+use crate::elements::{
+    push_area, push_dotted_start, push_down, push_place, push_stroke, push_stroke_start,
+};
 use crate::lines::{push_done, push_equals, push_next};
 use crate::step::{Act, Step, job_of};
 use amo_kk::Want;
@@ -259,14 +260,6 @@ fn line_start(worker: u32, want: Want, label: &str) -> u128
     x + 14 + 8 * label.len() as u128
 }
 
-/// Appends where the line of a load begins.
-#[tactic(auto, unfolding(crate::specs::Elements::at_place))]
-fn push_line_start(out: &mut String, start: u128, y: u128) -> Result<(), AllocError>
-    ensures { OnOk result (string_bytes out.new ≡ string_bytes out.old ++ at_place start y) }
-{
-    write!(out, "M{start} {y}")
-}
-
 /// Appends a level line to a place.
 #[tactic(auto, unfolding(crate::specs::Marks::level_to))]
 fn push_level(out: &mut String, end: u128) -> Result<(), AllocError>
@@ -285,7 +278,7 @@ fn push_line(
 ) -> Result<(), AllocError>
     ensures { OnOk result (string_bytes out.new ≡ string_bytes out.old ++ line_to worker y want label.now) }
 {
-    push_line_start(out, line_start(worker, want, label), y)?;
+    push_place(out, line_start(worker, want, label), y)?;
     push_level(out, seen_at(want))
 }
 

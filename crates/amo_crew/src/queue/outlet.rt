@@ -56,8 +56,9 @@ impl<Out: Drop> Outlet<Out> {
         }
     }
 
-    /// Puts an output into the queue, which has to be the outlet's own. From the first that the queue gives back on, it and
-    /// all later ones are kept. Takes no memory; may wait while another thread is in the queue.
+    /// Puts an output of the outlet's worker into the queue, which has to be the outlet's own. The outlet has to have been given
+    /// fewer outputs than there are jobs. From the first that the queue gives back on, it and all later ones are kept. Takes
+    /// no memory; may wait while another thread is in the queue.
     pub fn put<R: Wait>(&mut self, rt: &R, queue: &Queue<Out>, output: Output<Out>)
         requires belong { IsOutletOf queue.now self.old }
         requires worker { output.worker ≡ self.old.worker }
