@@ -13,7 +13,7 @@ use super::started::Started;
 use amo_crew::laws::outcome_fits;
 use amo_crew::{ExecFault, Outcome, StopFault, StopPlan, execute};
 use amo_plan::{Answer, Block, Heads, Plan, blocks_of};
-use amo_report::{Failed, ReplayFault, Sink, Source, outcome_text, read_source, write_all};
+use amo_report::{ReplayFault, Sink, Source, outcome_text, read_source, write_text};
 use std::alloc::{AllocError, Global};
 use std::sync::Wait;
 use std::thread::Threads;
@@ -106,8 +106,6 @@ pub fn run_plan<R: Threads + Wait + Sync, S: Source, W: Sink>(
 {
     let plan = read_source(alloc, reader)?;
     let (text, started) = run_text(rt, alloc, plan)?;
-    match write_all(writer, text.as_bytes()) {
-        Ok(()) => Ok(started),
-        Err(Failed) => Err(ReplayFault::Write),
-    }
+    write_text(writer, &text)?;
+    Ok(started)
 }

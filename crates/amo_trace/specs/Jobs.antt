@@ -1,6 +1,6 @@
 -- The picture of a long run: a column for each job, and a narrow lane for each worker. In it n is the number of jobs, or of blocks,
 -- and `last` the number of the last row.
-use Rattle.std.specs.Prelude.{ℕ, zero, suc, ◌+◌, ◌-◌, ◌*◌, ◌%◌, max, Bool, ◌&&◌, List, [], ◌∷◌, ◌++◌, length, count_by, Option, Some, None, slice_get, ◌==◌, if◌then◌else◌, codes}
+use Rattle.std.specs.Prelude.{ℕ, zero, suc, ◌+◌, ◌-◌, ◌*◌, ◌%◌, max, Bool, ◌&&◌, List, [], ◌∷◌, ◌++◌, count_by, Option, Some, None, slice_get, ◌==◌, if◌then◌else◌, codes}
 use Rattle.std.specs.Fmt.{decimal}
 use Rattle.std.specs.List.{position_or_len}
 use Rattle.amo_kk.specs.declared.event.Event.{Event}

@@ -1,8 +1,7 @@
 -- What a picture shows of a step.
-use Rattle.std.specs.Prelude.{ℕ, ◌+◌, ◌-◌, ◌*◌, Bool, true, false, not, ◌&&◌, List, [], ◌∷◌, ◌++◌, length, nat_lt, ◌==◌, if◌then◌else◌, codes}
+use Rattle.std.specs.Prelude.{ℕ, ◌+◌, ◌-◌, ◌*◌, Bool, true, false, ◌&&◌, List, [], ◌++◌, length, nat_lt, ◌==◌, if◌then◌else◌, codes}
 use Rattle.std.specs.Fmt.{decimal}
 use Rattle.std.specs.List.{position_or_len}
-use Rattle.amo_kk.specs.Record.{is_over}
 use Rattle.amo_kk.specs.declared.phase.Want.{Want}
 use Rattle.amo_kk.specs.declared.phase.Want.TheVariants.{StoreNext, LoadNext, LoadDone, StoreClaim, StoreDone, Nothing}
 use Rattle.amo_trace.specs.declared.marks.Mark.{Mark}
