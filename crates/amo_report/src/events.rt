@@ -102,7 +102,8 @@ fn push_worker(
     writeln!(out, " claimed {claims} done {dones}")
 }
 
-/// Appends a line for each worker, given how many turns each has had.
+/// Appends a line for each worker, given how many turns each has had. The only error is out of memory. What the text is
+/// then isn't said: a caller drops it.
 pub fn push_workers(out: &mut String, history: &[Event], turns: &[u64]) -> Result<(), AllocError>
     ensures { OnOk result (string_bytes out.new ≡ string_bytes out.old ++ worker_lines history.now 1 turns.now) }
 {
