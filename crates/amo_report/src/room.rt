@@ -1,5 +1,5 @@
 //! A sink over memory.
-ghost use Rattle.std.specs.Prelude.{◌≡◌, ◌<◌, ◌-◌, ◌||◌, ◌↔◌, min, [], false, Some, IfOk, OnErr, OnOk, IsErr, IsOk, is_err, length};
+ghost use Rattle.std.specs.Prelude.{◌≡◌, ◌<◌, ◌≤◌, ◌+◌, ◌-◌, ◌||◌, ◌↔◌, ◌++◌, min, [], false, Some, IfOk, OnErr, OnOk, IsErr, IsOk, is_err, length, vec_len, vec_capacity};
 ghost use Rattle.std.specs.Io.{WritesAtMost};
 ghost use Rattle.std.specs.Io.KnownBytes.{WriteAppends};
 ghost use Rattle.amo_report.specs.RoomSeen.{HasNoRoomFor};
@@ -18,14 +18,14 @@ pub struct Room {
 }
 
 impl Model for Room {
-    ghost use Rattle.std.specs.Prelude.{◌≤◌, vec_len, vec_capacity};
+    ghost use Rattle.std.specs.Prelude.{◌≡◌, ◌≤◌, vec_len, vec_capacity};
     ghost use Rattle.amo_report.specs.RoomSeen.{RoomSeen};
 
     ghost Value = { RoomSeen };
 
     ghost view = { λ r. record { bytes = r.bytes.items; room = r.room; failed = r.failed } };
 
-    ghost invariant = { λ r. (vec_len r.bytes ≤ r.room) × (r.room ≤ vec_capacity r.bytes) };
+    ghost invariant = { λ r. (vec_len r.bytes ≤ r.room) × (vec_capacity r.bytes ≡ r.room) };
 }
 
 impl Room {
@@ -46,6 +46,17 @@ impl Room {
         ensures { result.now ≡ self.now.bytes }
     {
         self.bytes.as_slice()
+    }
+}
+
+/// Appends bytes that there is room for, and takes no memory.
+fn push_all(bytes: &mut Vec<u8>, more: &[u8])
+    requires { vec_len bytes.old + length more.now ≤ vec_capacity bytes.old }
+    ensures items { bytes.new.items ≡ bytes.old.items ++ more.now }
+    ensures capacity { vec_capacity bytes.new ≡ vec_capacity bytes.old }
+{
+    for byte in more {
+        bytes.push_reserved(*byte);
     }
 }
 
@@ -72,7 +83,7 @@ impl Sink for Room {
             self.failed = true;
             return Err(Failed);
         }
-        self.bytes.extend_from_slice(&buf[..count]).unwrap();
+        push_all(&mut self.bytes, &buf[..count]);
         Ok(count)
     }
 

@@ -286,3 +286,35 @@ fn refused_room(rt: HostRuntime) {
         assert_eq!(rt; text_of(&room), "abc");
     }
 }
+
+/// Reads four bytes into a room for three, as far as they go, and looks at it.
+fn use_room(mut room: Room) {
+    let mut source = Bytes::new(b"abcd");
+    let mut buf = [0u8; 2];
+    for _ in 0..3 {
+        let _count = source.read(&mut buf);
+        let _taken = room.write(&buf);
+        let _passed = room.flush();
+        let _held = room.as_slice();
+    }
+}
+
+/// Makes 100 rooms, of which so many are used.
+fn use_rooms(rt: &impl Abort, alloc: Global, count: u32) {
+    for i in 0..100 {
+        let room = Room::new(alloc, 3).expect(rt, "no memory");
+        if i < count {
+            use_room(room);
+        }
+    }
+}
+
+#[test]
+fn a_room_takes_no_memory_once(rt: HostRuntime) {
+    use_rooms(&rt, rt.alloc(), 1);
+}
+
+#[test]
+fn a_room_takes_no_memory_often(rt: HostRuntime) {
+    use_rooms(&rt, rt.alloc(), 100);
+}
