@@ -116,6 +116,68 @@ impl Read for Broken {
     }
 }
 
+/// A reader and a writer of std that fails once, in this way, and from then on fills and takes all.
+#[derive(Drop)]
+struct Stumbling {
+    kind: ErrorKind,
+    has_failed: bool,
+}
+
+impl Stumbling {
+    /// Fails the first time.
+    fn stumble(&mut self) -> io::Result<()> {
+        if self.has_failed {
+            return Ok(());
+        }
+        self.has_failed = true;
+        Err(io::Error::from(self.kind))
+    }
+}
+
+impl Read for Stumbling {
+    fn read(&mut self, buf: &mut [u8]) -> io::Result<usize> {
+        self.stumble()?;
+        Ok(buf.len())
+    }
+}
+
+impl Write for Stumbling {
+    fn write(&mut self, buf: &[u8]) -> io::Result<usize> {
+        self.stumble()?;
+        Ok(buf.len())
+    }
+
+    fn flush(&mut self) -> io::Result<()> {
+        self.stumble()
+    }
+}
+
+/// A sink over memory that counts the writes.
+#[derive(Drop)]
+struct Counting {
+    inner: Room,
+    writes: usize,
+}
+
+impl Sink for Counting {
+    ghost use Rattle.std.specs.Prelude.{Some, false};
+
+    ghost contents = { λ s. Some s.inner.bytes };
+
+    ghost waiting = { λ _. false };
+
+    ghost failed = { λ s. s.inner.failed };
+
+    fn write(&mut self, buf: &[u8]) -> Result<usize, Failed> {
+        self.writes = self.writes.saturating_add(1);
+        self.inner.write(buf)
+    }
+
+    fn flush(&mut self) -> Result<(), Failed> {
+        self.inner.flush()
+    }
+}
+
 /// Asserts what replay answers, and what it writes, of a source that has not failed.
 fn assert_replayed<R: Source>(
     rt: &impl Abort,
@@ -175,6 +237,51 @@ fn a_broken_or_interrupted_reader_of_std_writes_nothing(rt: HostRuntime) {
         let mut reader = Streamed::new(Broken { kind });
         assert_replayed(&rt, rt.alloc(), &mut reader, Err(ReplayFault::Read), "");
     }
+}
+
+/// Asserts that reads, writes and flushes over a stumbling stream fail the first time and not the second, where they are
+/// of so many bytes.
+fn assert_stumbles(rt: &impl Abort, alloc: Global, kind: ErrorKind, size: usize) {
+    let mut bytes = vec![in alloc; b'a'; size].expect(rt, "no memory");
+    let stumbling = |kind| Stumbling {
+        kind,
+        has_failed: false,
+    };
+    let mut source = Streamed::new(stumbling(kind));
+    assert!(rt;
+        source.read(bytes.as_mut_slice()) == Err(Failed),
+        "read of {size}"
+    );
+    assert!(rt;
+        source.read(bytes.as_mut_slice()) == Ok(size),
+        "read of {size}"
+    );
+    let mut sink = Streamed::new(stumbling(kind));
+    assert!(rt;
+        sink.write(bytes.as_slice()) == Err(Failed),
+        "write of {size}"
+    );
+    assert!(rt; sink.write(bytes.as_slice()) == Ok(size), "write of {size}");
+    let mut passing = Streamed::new(stumbling(kind));
+    assert!(rt; passing.flush() == Err(Failed));
+    assert!(rt; passing.flush() == Ok(()));
+}
+
+#[test]
+fn a_stream_of_std_that_fails_once_is_not_asked_again(rt: HostRuntime) {
+    for size in [0, 1, 2, 100, 4095, 4096, 4097, 2_000_000] {
+        assert_stumbles(&rt, rt.alloc(), ErrorKind::Other, size);
+        assert_stumbles(&rt, rt.alloc(), ErrorKind::Interrupted, size);
+    }
+}
+
+#[test]
+fn a_text_with_room_is_one_write(rt: HostRuntime) {
+    let inner = Room::new(rt.alloc(), 1000).expect(&rt, "no memory");
+    let mut writer = Counting { inner, writes: 0 };
+    let answer = write_all(&mut writer, ONE_WORKER_REPORT.as_bytes());
+    assert!(rt; answer == Ok(()) && writer.writes == 1);
+    assert_eq!(rt; text_of(&writer.inner), ONE_WORKER_REPORT);
 }
 
 #[test]

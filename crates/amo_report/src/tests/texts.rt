@@ -43,6 +43,28 @@ fn faults_have_these_lines(rt: HostRuntime) {
 }
 
 #[test]
+fn faults_tell_all_digits_of_a_number(rt: HostRuntime) {
+    for (fault, line) in [
+        (PlanFault::UnknownKey(10), "fault 2 UnknownKey 10\n"),
+        (PlanFault::MissingKey(99), "fault 3 MissingKey 99\n"),
+        (PlanFault::WrongKind(100), "fault 4 WrongKind 100\n"),
+        (PlanFault::TwoNames(4095), "fault 6 TwoNames 4095\n"),
+        (PlanFault::BadName(4096), "fault 7 BadName 4096\n"),
+        (PlanFault::SumTooLarge(1020), "fault 8 SumTooLarge 1020\n"),
+        (
+            PlanFault::BadScheduleWord(524_288),
+            "fault 9 BadScheduleWord 524288\n",
+        ),
+        (
+            PlanFault::NoSuchWorker(4_294_967_295),
+            "fault 10 NoSuchWorker 4294967295\n",
+        ),
+    ] {
+        assert_text(&rt, fault_text(rt.alloc(), &fault), line);
+    }
+}
+
+#[test]
 fn checks_have_these_texts(rt: HostRuntime) {
     for (plan, line) in [
         (ONE_WORKER, "ok jobs 3 workers 1 beta 1 moves 9 rounds 0\n"),
