@@ -41,10 +41,16 @@ fn has_memory(alloc: Global) -> bool {
     Vec::<u32>::with_capacity(alloc, 1).is_ok()
 }
 
-/// Settles what a run of four jobs left: not while there is no memory, and then it is as it was.
+/// Settles what a run of four jobs left: not while there is no memory, and then it is as it was. Where no thread was
+/// started, a hire was refused and then the settling too, so there is no memory now.
 fn settle_again(rt: &impl Abort, alloc: Global, rest: Unsettled<u32, u32>) {
     expect_unsettled(rt, &rest);
     let has_memory = has_memory(alloc);
+    let has_started = rest.ends().iter().any(|end| *end != End::NotStarted);
+    assert!(rt;
+        has_started || !has_memory,
+        "there was memory for the payloads"
+    );
     match rest.settle(alloc) {
         Ok(outcome) => expect_each_once(rt, &outcome, 4),
         Err(rest) => {
