@@ -198,17 +198,63 @@ fn sixteen_workers_do_4096_jobs(rt: HostRuntime) -> Result<(), Fail> {
     Ok(())
 }
 
+/// Each worker ends at once, without a step, and all jobs are free.
+fn expect_all_free<R: Threads + Wait + Abort + Sync>(
+    rt: &R,
+    alloc: Global,
+    numbers: (u32, u32, u32),
+    budgets: &[u64],
+) -> Result<(), Fail> {
+    let outcome = run(rt, alloc, numbers, budgets, &Echo)?;
+    for end in &outcome.ends {
+        assert_eq!(rt; *end, End::Ended(0));
+    }
+    assert_eq!(rt; outcome.settlement.free.len(), numbers.0 as usize);
+    expect_each_once(rt, &outcome, numbers.0);
+    Ok(())
+}
+
 #[test]
-fn without_jobs_each_ends_at_once(rt: HostRuntime) -> Result<(), Fail> {
-    for jobs in [0, 15] {
-        let outcome = run(&rt, rt.alloc(), (jobs, 16, 16), &[0; 16], &Echo)?;
-        for end in &outcome.ends {
-            assert_eq!(rt; *end, End::Ended(0));
-        }
-        assert_eq!(rt; outcome.settlement.free.len(), jobs as usize);
-        expect_each_once(&rt, &outcome, jobs);
+fn with_fewer_jobs_than_the_threshold_each_ends_at_once(rt: HostRuntime) -> Result<(), Fail> {
+    expect_all_free(&rt, rt.alloc(), (0, 16, 16), &[0; 16])?;
+    expect_all_free(&rt, rt.alloc(), (15, 16, 16), &[0; 16])?;
+    expect_all_free(&rt, rt.alloc(), (6, 2, 65535), &[10_000; 2])
+}
+
+/// Each worker ends by itself, and at least so many jobs are done.
+fn expect_bound<R: Threads + Wait + Abort + Sync>(
+    rt: &R,
+    alloc: Global,
+    numbers: (u32, u32, u32),
+    budgets: &[u64],
+    bound: u32,
+) -> Result<(), Fail> {
+    let outcome = run(rt, alloc, numbers, budgets, &Echo)?;
+    for end in &outcome.ends {
+        assert!(rt; matches!(end, End::Ended(_)));
+    }
+    assert!(rt;
+        outcome.outputs.len() >= bound as usize,
+        "fewer than {bound}"
+    );
+    expect_each_once(rt, &outcome, numbers.0);
+    Ok(())
+}
+
+#[test]
+fn each_number_of_workers_does_its_bound(rt: HostRuntime) -> Result<(), Fail> {
+    let budgets = [10_000; 16];
+    for workers in 1..17 {
+        let numbers = (3 * workers, workers, workers);
+        let own = &budgets[..workers as usize];
+        expect_bound(&rt, rt.alloc(), numbers, own, workers + 2)?;
     }
     Ok(())
+}
+
+#[test]
+fn a_threshold_above_the_number_of_workers_has_its_bound(rt: HostRuntime) -> Result<(), Fail> {
+    expect_bound(&rt, rt.alloc(), (6, 2, 4), &[10_000; 2], 2)
 }
 
 #[test]
