@@ -33,7 +33,7 @@ impl<'a, P: Drop, W: Work<P>> Promise<Ran<P, W::Out>> for Runs<'a, P, W> {
 }
 
 /// Takes what stands in the queue.
-fn take_all<Out: Drop, R: Wait>(rt: &R, queue: &Queue<Out>, inlet: &mut Inlet<Out>)
+pub(crate) fn take_all<Out: Drop, R: Wait>(rt: &R, queue: &Queue<Out>, inlet: &mut Inlet<Out>)
     requires { IsInletOf queue.now inlet.old }
     ensures belong { IsInletOf queue.now inlet.new }
     ensures room { inlet.new.room ≡ inlet.old.room }

@@ -3,6 +3,7 @@ ghost use Rattle.std.specs.Prelude.{◌≡◌};
 ghost use Rattle.amo_crew.specs.Ends.{IsOutletOf, IsInletOf};
 
 use super::*;
+use crate::threads::take_all;
 
 /// Puts outputs of these jobs, as far as there is room.
 pub(super) fn put_jobs<R: Wait>(
@@ -69,17 +70,18 @@ fn queue_of_64(rt: HostRuntime) -> Result<(), Fail> {
 }
 
 #[test]
-fn the_last_of_16_outlets_sends_through_the_queue(rt: HostRuntime) -> Result<(), Fail> {
+fn each_of_16_outlets_sends_through_the_queue(rt: HostRuntime) -> Result<(), Fail> {
     let (queue, mut inlet, mut all) = outlets::<u32>(rt.alloc(), Givens::try_new(4096, 16, 16)?)?;
     assert_eq!(rt; all.len(), 16);
-    let Some(mut last) = all.pop() else {
-        panic!(rt; "there are no outlets")
-    };
-    put_jobs(&rt, &queue, &mut last, 1, 4);
-    assert!(rt; last.kept().is_empty() && last.put_count() == 3);
-    assert_eq!(rt; take_jobs(&rt, &queue, &mut inlet, 1000), 3);
+    while let Some(mut outlet) = all.pop() {
+        put_jobs(&rt, &queue, &mut outlet, 1, 4);
+        assert!(rt; outlet.kept().is_empty() && outlet.put_count() == 3);
+    }
+    take_all(&rt, &queue, &mut inlet);
+    assert_eq!(rt; inlet.taken().len(), 48);
     for (k, output) in inlet.taken().iter().enumerate() {
-        assert!(rt; output.worker == 16 && output.job as usize == k + 1);
+        assert!(rt; (output.worker as usize).wrapping_add(k / 3) == 16);
+        assert!(rt; output.job as usize == k % 3 + 1);
     }
     Ok(())
 }
