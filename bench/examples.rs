@@ -69,6 +69,16 @@ fn reports() {
     check_all("report", |plan| replay::replayed(plan).into_bytes());
 }
 
+#[test]
+fn stops() {
+    check("examples/each_stop.toml", "examples/each_stop.stops_1", |plan| replay::stops(plan, 1).into_bytes());
+}
+
+#[test]
+fn explored() {
+    check("examples/rounds.toml", "examples/rounds.explore_0_2_5", |plan| replay::explore(plan, 0, 2, 5).into_bytes());
+}
+
 /// A plan of one worker with this version, schedule and number of jobs.
 fn alone(version: u32, schedule: &str, jobs: u32) -> Plan {
     let names: String = (1..=jobs).map(|job| format!("name = \"{job}\"\n")).collect();

@@ -1,5 +1,5 @@
 //! A replay in plain Rust: the plan on standard input, the report on standard output; with the words
-//! `explore FROM COUNT LENGTH` the text of the explorer.
+//! `explore FROM COUNT LENGTH` the text of the explorer, with the words `stops P` that of the stops.
 //!
 //! `bench/run` measures the proved program against it and compares their reports byte for byte, so it also serves
 //! as a second opinion, written apart from the proved crates. `bench/core` measures its parts, and bench/show.rs, which
@@ -27,6 +27,7 @@ fn main() -> io::Result<()> {
     let number = |word: &str| word.parse().expect("a number");
     let out = match words[..] {
         ["explore", from, count, length] => explore(&plan, number(from), number(count), number(length) as u32),
+        ["stops", worker] => stops(&plan, number(worker) as u32),
         _ => replayed(&plan),
     };
     io::stdout().write_all(out.as_bytes())
@@ -371,6 +372,25 @@ impl World {
         }
     }
 
+    /// Each worker that is here goes on alone until it ends, in the order of their numbers. Gives back the most turns that
+    /// one took for a claim or its end.
+    fn run_out(&mut self) -> u32 {
+        let mut most = 0;
+        for worker in 1..=self.givens.workers {
+            let place = worker as usize - 1;
+            let mut turns = 0;
+            while !self.seats[place].gone {
+                let (want, _) = self.turn(worker);
+                turns += 1;
+                if matches!(want, Want::StoreClaim(_)) || self.seats[place].gone {
+                    most = most.max(turns);
+                    turns = 0;
+                }
+            }
+        }
+        most
+    }
+
     /// Gives back the load or store that was made, and what a load gave, or 0.
     pub fn turn(&mut self, worker: u32) -> (Want, u32) {
         let seat = &self.seats[worker as usize - 1];
@@ -579,25 +599,53 @@ fn explored(plan: &Plan, schedule: u64, length: u32) -> World {
 }
 
 /// A line for each of so many schedules, and the least number of performances.
-fn explore(plan: &Plan, from: u64, count: u64, length: u32) -> String {
+pub fn explore(plan: &Plan, from: u64, count: u64, length: u32) -> String {
     let mut out = String::new();
     let mut least = usize::MAX;
     for schedule in from..from + count {
         let world = explored(plan, schedule, length);
-        let many = |test: fn(&Event) -> bool| world.history.iter().filter(|event| test(event)).count();
-        let claimed = many(|event| matches!(event, Event::Claimed(..)));
-        let done = many(|event| matches!(event, Event::Done(..)));
-        let ended = many(|event| matches!(event, Event::Ended(_)));
-        let verdict = match first_bad(plan.givens, &world.history) {
-            None => String::from("lawful"),
-            Some(place) => format!("bad {place}"),
-        };
+        let (claimed, done) = claimed_and_done(&world);
+        let ended = world.history.iter().filter(|event| matches!(event, Event::Ended(_))).count();
+        let verdict = verdict(&world);
         writeln!(out, "schedule {schedule} claimed {claimed} done {done} ended {ended} {verdict}")
             .expect("a String takes all that is written");
         least = least.min(done);
     }
     writeln!(out, "least {least}").expect("a String takes all that is written");
     out
+}
+
+/// A line for each number of moves after which the worker is stopped, and the least number of performances. The others go on
+/// alone then; the plan's rounds are not used.
+pub fn stops(plan: &Plan, worker: u32) -> String {
+    let mut out = String::new();
+    let mut least = usize::MAX;
+    for made in 0..=plan.moves.len() {
+        let mut world = World::new(plan.givens);
+        world.run(&plan.moves[..made]);
+        world.halt(worker);
+        let most = world.run_out();
+        let (claimed, done) = claimed_and_done(&world);
+        let verdict = verdict(&world);
+        writeln!(out, "stop {made} claimed {claimed} done {done} most {most} {verdict}")
+            .expect("a String takes all that is written");
+        least = least.min(done);
+    }
+    writeln!(out, "least {least}").expect("a String takes all that is written");
+    out
+}
+
+fn claimed_and_done(world: &World) -> (usize, usize) {
+    let many = |test: fn(&Event) -> bool| world.history.iter().filter(|event| test(event)).count();
+    let claimed = many(|event| matches!(event, Event::Claimed(..)));
+    (claimed, many(|event| matches!(event, Event::Done(..))))
+}
+
+fn verdict(world: &World) -> String {
+    match first_bad(world.givens, &world.history) {
+        None => String::from("lawful"),
+        Some(place) => format!("bad {place}"),
+    }
 }
 
 fn report(plan: &Plan, world: &World) -> String {
