@@ -55,6 +55,7 @@ fn check_all(ending: &str, text: impl Fn(&Plan) -> Text) {
 #[test]
 fn traces() {
     check_all("trace", trace);
+    check_all("trace_sum", |plan| sum(&trace(plan)));
 }
 
 #[test]
