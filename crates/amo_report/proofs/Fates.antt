@@ -1,5 +1,5 @@
 -- What is noted of each block is what became of it, and so the lines are the same.
-use Rattle.std.proofs.Common.{◌≡◌, ℕ, zero, suc, ◌+◌, ◌-◌, ◌*◌, ◌/◌, ◌<◌, ◌≤◌, Bool, true, false, List, [], ◌∷◌, ◌++◌, append_assoc, length, Option, Some, None, option_map, refl, sym, ap, ◌∙◌, arith}
+use Rattle.std.proofs.Common.{◌≡◌, ℕ, ◌+◌, ◌≤◌, Bool, true, false, List, [], ◌∷◌, ◌++◌, append_assoc, length, Option, Some, None, refl, sym, ap, ◌∙◌, arith}
 use Rattle.std.specs.Prelude.{◌&&◌, ◌||◌, ◌==◌, nat_le, is_some}
 use Rattle.std.specs.Int.{div_ceil}
 use Rattle.std.proofs.lemmas.Bool.{and_parts, eqb-true, leb-true}
@@ -13,8 +13,8 @@ use Rattle.amo_crew.specs.declared.outcome.End.{End}
 use Rattle.amo_report.specs.declared.filed.Filed.{Filed}
 use Rattle.amo_report.specs.Numbers.{first_line}
 use Rattle.amo_report.specs.Tallies.{performed_line}
-use Rattle.amo_report.specs.Became.{Handed, Fate, fate_of, claimer_of, lists_block, doer_of, first_output, done_blocks}
-use Rattle.amo_report.specs.Noted.{IsNoted, fate_in, noted_output}
+use Rattle.amo_report.specs.Became.{Handed, Fate, fate_of, claimer_of, lists_block, first_output, done_blocks}
+use Rattle.amo_report.specs.Noted.{IsNoted, fate_in}
 use Rattle.amo_report.specs.OutcomeLines.{fate_line, block_of, place_of, job_line, job_lines, end_lines}
 use Rattle.amo_report.specs.OutcomeTexts.{run_lines}
 

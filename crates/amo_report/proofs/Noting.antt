@@ -1,6 +1,6 @@
 -- Outputs that are noted one by one: of each block the first of the least worker stays.
 use Rattle.std.proofs.Common.{◌≡◌, ⊎_elim, ℕ, zero, suc, ◌<◌, ◌≤◌, Bool, true, false, ◌&&◌, List, [], ◌∷◌, ◌++◌, length, map, take, get_or, ◌+◌, min, Option, Some, None, refl, sym, ap, ◌∙◌, subst, arith}
-use Rattle.std.specs.Prelude.{◌==◌, cond, filter, find, slice_get, nat_le, ⊤}
+use Rattle.std.specs.Prelude.{◌==◌, cond, filter, slice_get, nat_le, ⊤}
 use Rattle.std.specs.Option.{option_or}
 use Rattle.std.proofs.lemmas.Bool.{cases_eq, eq-eqb, ne_eqb, eqb-true, and_parts, and_from, leb-true, leb-false}
 use Rattle.std.proofs.lemmas.List.{map-append, append-nil, take_more, length-take-le}

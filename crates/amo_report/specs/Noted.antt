@@ -1,6 +1,5 @@
 -- What is noted of blocks while an outcome is read.
 use Rattle.std.specs.Prelude.{◌≡◌, ℕ, ◌≤◌, Bool, true, false, List, length, Option, Some, None, option_map, [], is_some, slice_get, nat_le, if◌then◌else◌}
-use Rattle.std.proofs.Common.{Vec, Global}
 use Rattle.amo_sets.specs.Lists.{numbered}
 use Rattle.amo_sets.specs.Sets.{has, members}
 use Rattle.amo_report.specs.declared.filed.Filed.{Filed}

@@ -10,7 +10,7 @@ use Rattle.amo_crew.specs.declared.outcome.End.{End}
 use Rattle.amo_crew.specs.declared.outcome.Outcome.{Outcome}
 use Rattle.amo_report.specs.Numbers.{first_line}
 use Rattle.amo_report.specs.Tallies.{performed_line}
-use Rattle.amo_report.specs.Became.{Handed, Fate, listed, fate_of, done_blocks}
+use Rattle.amo_report.specs.Became.{Fate, listed, fate_of, done_blocks}
 use Rattle.amo_report.specs.OutcomeLines.{end_lines, job_lines}
 
 -- what came of a run of blocks

@@ -1,4 +1,4 @@
-use Rattle.std.proofs.Common.{◌≡◌, ◌≤◌, ◌+◌, ℕ, None, List, length, drop}
+use Rattle.std.proofs.Common.{◌≡◌, ◌≤◌, ◌+◌, ℕ, None, length, drop}
 use Rattle.std.specs.Option.{option_or}
 use Rattle.amo_sets.specs.Lists.{numbered}
 use Rattle.amo_report.specs.Became.{listed, claimer_from, claimer_of}

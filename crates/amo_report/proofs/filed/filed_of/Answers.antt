@@ -1,4 +1,4 @@
-use Rattle.std.proofs.Common.{rules, ◌≡◌, ℕ, None, List, Bool, Option, length, sym, ap, subst, ◌∙◌, arith}
+use Rattle.std.proofs.Common.{rules, ◌≡◌, None, List, Bool, Option, length, sym, subst, arith}
 use Rattle.amo_sets.specs.Lists.{numbered}
 use Rattle.amo_report.specs.declared.filed.Filed.{Filed}
 use Rattle.amo_report.specs.Became.{listed, lists_block}

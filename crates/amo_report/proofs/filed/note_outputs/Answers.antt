@@ -1,5 +1,4 @@
-use Rattle.std.proofs.Common.{◌≡◌, ◌≤◌, ℕ, None, length, sym, subst, ◌∙◌, arith}
-use Rattle.amo_sets.specs.Lists.{numbered}
+use Rattle.std.proofs.Common.{◌∙◌, arith}
 use Rattle.amo_report.specs.Noted.{is_in}
 use Rattle.amo_report.proofs.Noting.{noted_next}
 use Rattle.amo_report.proofs.filed.note_outputs.Goals as goal

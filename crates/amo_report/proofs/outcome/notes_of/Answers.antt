@@ -1,4 +1,4 @@
-use Rattle.std.proofs.Common.{◌≡◌, ℕ, None, List, Vec, Global, sym, ap, ◌∙◌}
+use Rattle.std.proofs.Common.{ℕ, None, List, Vec, Global, ap, ◌∙◌}
 use Rattle.amo_sets.specs.Lists.{numbered}
 use Rattle.amo_report.specs.Became.{Handed, listed, fate_of}
 use Rattle.amo_report.proofs.Fates.{fate_is}

@@ -1,4 +1,4 @@
-use Rattle.std.proofs.Common.{◌≡◌, ℕ, List, ◌++◌, ap, ◌∙◌}
+use Rattle.std.proofs.Common.{◌++◌, ap, ◌∙◌}
 use Rattle.amo_report.specs.Became.{listed}
 use Rattle.amo_report.specs.Noted.{noted_fate}
 use Rattle.amo_report.specs.OutcomeTexts.{run_lines, fates_of}
