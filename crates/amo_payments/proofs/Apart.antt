@@ -20,7 +20,8 @@ use Rattle.amo_crew.specs.Mailbox.{of}
 use Rattle.amo_crew.specs.Outcomes.{spot_of, dones_in}
 use Rattle.amo_payments.specs.declared.payment.Payment.{Payment}
 use Rattle.amo_payments.specs.declared.payment.Answer.{Answer}
-use Rattle.amo_payments.specs.Sorting.{has_output, has_free}
+use Rattle.amo_payments.specs.Second.{jobs_in}
+use Rattle.amo_payments.specs.Sorting.{has_free}
 
 or_right : (a b : Bool) → b ≡ true → a || b ≡ true
 or_right true b h = refl
@@ -40,7 +41,7 @@ free_is_unclaimed all i (x ∷ xs) j h = go (free_is_unclaimed all (suc i) xs j)
     go rest false c n = here rest (eqb i j) refl c n
 
 -- an output of the job j is of some worker, among whose outputs are those of j
-output_of : (outputs : List (Output Answer)) (j : ℕ) → has_output outputs j ≡ true → (p : ℕ) × (has (map (λ (x : Output Answer). x.job) (of p outputs)) j ≡ true)
+output_of : (outputs : List (Output Answer)) (j : ℕ) → has (jobs_in outputs) j ≡ true → (p : ℕ) × (has (map (λ (x : Output Answer). x.job) (of p outputs)) j ≡ true)
 output_of [] j h = absurd (true≢false (sym h))
 output_of (x ∷ xs) j h = go (output_of xs j) (eqb x.job j) refl h
   where
@@ -52,7 +53,7 @@ output_of (x ∷ xs) j h = go (output_of xs j) (eqb x.job j) refl h
     more p true n = or_right (eqb x.job j) (has (map (λ (y : Output Answer). y.job) (of p xs)) j) n
     more p false n = n
 
-    go : (has_output xs j ≡ true → (p : ℕ) × (has (map (λ (y : Output Answer). y.job) (of p xs)) j ≡ true)) → (b : Bool) → eqb x.job j ≡ b → b || has_output xs j ≡ true
+    go : (has (jobs_in xs) j ≡ true → (p : ℕ) × (has (map (λ (y : Output Answer). y.job) (of p xs)) j ≡ true)) → (b : Bool) → eqb x.job j ≡ b → b || has (jobs_in xs) j ≡ true
         → (p : ℕ) × (has (map (λ (y : Output Answer). y.job) (cond (eqb x.worker p) (x ∷ of p xs) (of p xs))) j ≡ true)
     go rest true e n = (x.worker, own (eqb x.worker x.worker) refl e)
     go rest false e n = let found = rest n in (found.0, more found.0 (eqb x.worker found.0) found.1)
@@ -86,7 +87,7 @@ module _ (g : Givens) (log : List Move) (spots : List Spot) (stand : AllStand g 
       let done : has (machine_after g log (suc k)).state.dones j ≡ true = ap (λ (m : LocalView). has m.state.dones j) (sym is) ∙ h in
       claimed_by j (world_after g log).processes (suc k) (ap (λ c. has c j) sound.claims ∙ has_front _ _ j done)
 
-  pub output_is_claimed : (outputs : List (Output Answer)) → ((p : ℕ) → map (λ (x : Output Answer). x.job) (of p outputs) ≡ dones_in (spot_of spots p)) → (j : ℕ) → has_output outputs j ≡ true
+  pub output_is_claimed : (outputs : List (Output Answer)) → ((p : ℕ) → map (λ (x : Output Answer). x.job) (of p outputs) ≡ dones_in (spot_of spots p)) → (j : ℕ) → has (jobs_in outputs) j ≡ true
       → is_claimed (world_after g log).processes j ≡ true
   output_is_claimed outputs jobs j h = let found = output_of outputs j h in
       done_is_claimed found.0 j (spot_of spots found.0) refl (ap (λ l. has l j) (sym (jobs found.0)) ∙ found.1)

@@ -10,18 +10,19 @@ use Rattle.amo_payments.specs.declared.payment.Answer.{Answer}
 use Rattle.amo_payments.specs.declared.sorting.Sorted.{Sorted}
 use Rattle.amo_payments.specs.declared.rounds.Crew.{Crew}
 use Rattle.amo_payments.specs.declared.rounds.RoundFault.{RoundFault}
-use Rattle.amo_payments.specs.Sorting.{related, IsSorted, IsSortingOf}
+use Rattle.amo_payments.specs.Payments.{Answers}
+use Rattle.amo_payments.specs.Sorting.{IsSorted, IsSortingOf}
 use Rattle.amo_payments.specs.Rounds.{IsRound}
 
 pub round_of : (crew : Crew) (g h : Givens) (n : ℕ) (payments : List Payment) (budgets : List ℕ) (o : Outcome Payment Answer) (r : Result Sorted RoundFault)
-    → h ≡ g → n ≡ length payments → g.jobs ≡ n → givens_of n crew.workers crew.workers ≡ Ok g → budgets ≡ replicate crew.workers crew.steps → IsOutcome related g payments budgets o
-    → IfOk r (IsSortingOf h.jobs o) → IfOk r (λ s. (xs : List Payment) (bs : List ℕ) → IsOutcome related h xs bs o → IsSorted h.jobs xs s) → IfOk r (IsRound crew payments)
+    → h ≡ g → n ≡ length payments → g.jobs ≡ n → givens_of n crew.workers crew.workers ≡ Ok g → budgets ≡ replicate crew.workers crew.steps → IsOutcome Answers g payments budgets o
+    → IfOk r (IsSortingOf h.jobs o) → IfOk r (λ s. (xs : List Payment) (bs : List ℕ) → IsOutcome Answers h xs bs o → IsSorted h.jobs xs s) → IfOk r (IsRound crew payments)
 round_of crew g h n payments budgets o (Ok s) same size count givens all is lists sorted = record {
   givens = g;
   givens_are = subst (λ k. givens_of k crew.workers crew.workers ≡ Ok g) size givens;
   outcome = o;
-  has_come = subst (λ bs. IsOutcome related g payments bs o) all is;
+  has_come = subst (λ bs. IsOutcome Answers g payments bs o) all is;
   lists = subst (λ (x : Givens). IsSortingOf x.jobs o s) same lists;
-  sorted = subst (λ k. IsSorted k payments s) (ap (λ (x : Givens). x.jobs) same ∙ count ∙ size) (sorted payments budgets (subst (λ (x : Givens). IsOutcome related x payments budgets o) (sym same) is));
+  sorted = subst (λ k. IsSorted k payments s) (ap (λ (x : Givens). x.jobs) same ∙ count ∙ size) (sorted payments budgets (subst (λ (x : Givens). IsOutcome Answers x payments budgets o) (sym same) is));
 }
 round_of crew g h n payments budgets o (Err f) same size count givens all is lists sorted = tt

@@ -12,7 +12,7 @@ pub record IsReceiptOf (job : ℕ) (p : Payment) (r : Receipt) : Type 0 where
   pub account : r.account ≡ p.account
   pub cents : r.cents ≡ p.cents
 
--- the answer is a receipt of this payment, or the payment itself
-abbrev pub Answers : ℕ → Payment → Answer → Type 0
-Answers job p (Paid r) = IsReceiptOf job p r
-Answers job p (Unpaid q) = q ≡ p
+-- what a bank answers: a receipt of this payment as this job, or the payment itself
+abbrev pub Answers : ℕ → ℕ → Payment → Answer → Type 0
+Answers worker job p (Paid r) = IsReceiptOf job p r
+Answers worker job p (Unpaid q) = q ≡ p

@@ -11,10 +11,10 @@ use Rattle.amo_payments.specs.declared.payment.Answer.TheVariants.{Paid, Unpaid}
 use Rattle.amo_payments.specs.declared.rounds.Crew.{Crew}
 use Rattle.amo_payments.specs.declared.second.Rest.{Rest}
 use Rattle.amo_payments.specs.declared.sorting.Sorted.{Sorted}
+use Rattle.amo_payments.specs.Payments.{Answers}
 use Rattle.amo_payments.specs.Restarts.{was_made, is_in_doubt, is_untried}
 use Rattle.amo_payments.specs.Rounds.{IsRound}
 use Rattle.amo_payments.specs.Second.{IsRest}
-use Rattle.amo_payments.specs.Sorting.{related}
 
 -- known bytes grow by a beginning of bs
 abbrev pub AppendsFront : Option (List ℕ) → Option (List ℕ) → List ℕ → Type 0
@@ -41,9 +41,9 @@ answer_lines outputs = flat_map (λ x. answer_line x.out) outputs
 abbrev pub hand_lines : List (ℕ × ℕ × Payment) → List ℕ
 hand_lines in_hand = flat_map (λ t. line (codes "doubt") t.2.id) in_hand
 
--- what is written of a round: what was made, and what came back in doubt
+-- what is written of a round: a line for each payment that a worker got
 abbrev pub round_text : Sorted → List ℕ
-round_text s = answer_lines s.done.items ++ hand_lines s.in_hand.items
+round_text s = answer_lines s.answers.items ++ hand_lines s.in_hand.items
 
 -- what is written of a floor of one worker
 abbrev pub rest_text : Rest Payment Answer → List ℕ
@@ -68,7 +68,7 @@ ArePaid crew payments rest free text = AreFloors (IsRound crew) (λ s. s.free.it
 
 -- on floors of one worker
 abbrev pub AreTried : List Payment → List Payment → List Payment → List ℕ → Type 0
-AreTried payments rest free text = AreFloors (IsRest related) (λ r. r.free.items) rest_text payments rest free text
+AreTried payments rest free text = AreFloors (IsRest Answers) (λ r. r.free.items) rest_text payments rest free text
 
 -- Some floors took payments off this list, and what they gave back was added to that one: their text was written.
 abbrev pub TellsNext : (List Payment → List Payment → List Payment → List ℕ → Type 0) → List Payment → List Payment → List Payment → List Payment → Option (List ℕ) → Option (List ℕ) → Type 0

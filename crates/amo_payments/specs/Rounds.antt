@@ -10,14 +10,15 @@ use Rattle.amo_payments.specs.declared.sorting.Sorted.{Sorted}
 use Rattle.amo_payments.specs.declared.rounds.Crew.{Crew}
 use Rattle.amo_payments.specs.declared.rounds.RoundFault.{RoundFault}
 use Rattle.amo_payments.specs.declared.rounds.RoundFault.TheVariants.{Unpaid, Unsettled}
-use Rattle.amo_payments.specs.Sorting.{related, IsSorted, IsSortingOf}
+use Rattle.amo_payments.specs.Payments.{Answers}
+use Rattle.amo_payments.specs.Sorting.{IsSorted, IsSortingOf}
 
 -- The round was executed by this crew, each worker with its steps, and its jobs are sorted.
 pub record IsRound (crew : Crew) (payments : List Payment) (s : Sorted) : Type 0 where
   pub givens : Givens
   pub givens_are : givens_of (length payments) crew.workers crew.workers ≡ Ok givens
   pub outcome : Outcome Payment Answer
-  pub has_come : IsOutcome related givens payments (replicate crew.workers crew.steps) outcome
+  pub has_come : IsOutcome Answers givens payments (replicate crew.workers crew.steps) outcome
   pub lists : IsSortingOf givens.jobs outcome s
   pub sorted : IsSorted (length payments) payments s
 

@@ -48,7 +48,7 @@ impl<'a, S: Write + Drop, R: Wait> Bank<'a, S, R> {
 impl<'a, S: Write + Drop, R: Wait> Work<Payment> for Bank<'a, S, R> {
     type Out = Answer;
 
-    ghost related = { λ bank worker job payment answer. Answers job payment answer };
+    ghost related = { λ _. Answers };
 
     /// Writes the intent, makes the payment, and writes its receipt. No other thread waits while a payment is made. Where the
     /// journal can't be written it sets the flag.

@@ -5,7 +5,8 @@ ghost use Rattle.amo_kk.specs.declared.givens.Givens.{Givens as GivensView};
 ghost use Rattle.amo_crew.specs.Outcomes.{IsOutcome};
 ghost use Rattle.amo_crew.specs.Unsettling.{IsUnsettled};
 ghost use Rattle.amo_payments.specs.declared.payment.Payment.{Payment as PaymentView};
-ghost use Rattle.amo_payments.specs.Sorting.{related, IsSorted, IsSortingOf};
+ghost use Rattle.amo_payments.specs.Payments.{Answers};
+ghost use Rattle.amo_payments.specs.Sorting.{IsSorted, IsSortingOf};
 ghost use Rattle.amo_payments.specs.Rounds.{IsRound, IsRoundFault};
 
 use crate::bank::Bank;
@@ -70,7 +71,7 @@ fn sort_twice(
 ) -> Result<Sorted, RoundFault>
     ensures lists { IfOk result (IsSortingOf givens.jobs outcome) }
     ensures sorted { IfOk result (λ s. (payloads : List PaymentView) (budgets : List ℕ)
-        → IsOutcome related givens payloads budgets outcome → IsSorted givens.jobs payloads s) }
+        → IsOutcome Answers givens payloads budgets outcome → IsSorted givens.jobs payloads s) }
     ensures fault { IfErr result (λ f. (payloads : List PaymentView) → IsRoundFault payloads f) }
 {
     match sort_out(alloc, givens, outcome) {
@@ -89,7 +90,7 @@ fn settle_again<S: Write + Drop, R: Wait>(
     rest: Unsettled<Payment, Answer>,
 ) -> Result<Outcome<Payment, Answer>, RoundFault>
     ensures outcome { IfOk result (λ o. (g : GivensView) (payloads : List PaymentView) (budgets : List ℕ)
-        → IsUnsettled related g payloads budgets rest → IsOutcome related g payloads budgets o) }
+        → IsUnsettled Answers g payloads budgets rest → IsOutcome Answers g payloads budgets o) }
     ensures fault { IfErr result (λ f. (payloads : List PaymentView) → IsRoundFault payloads f) }
 {
     settled_later(bank);
@@ -108,7 +109,7 @@ fn run_round<S: Write + Drop + Send, R: Threads + Wait + Sync>(
     plan: &StopPlan,
     payments: Vec<Payment>,
 ) -> Result<Outcome<Payment, Answer>, RoundFault>
-    ensures outcome { IfOk result (IsOutcome related plan.now.givens payments.items plan.now.budgets) }
+    ensures outcome { IfOk result (IsOutcome Answers plan.now.givens payments.items plan.now.budgets) }
     ensures fault { IfErr result (IsRoundFault payments.items) }
 {
     match execute(rt, alloc, plan.givens(), payments, bank, plan) {

@@ -2,7 +2,8 @@
 ghost use Rattle.std.specs.Prelude.{◌≡◌, ◌<◌, ◌≤◌, ◌+◌, ℕ, List, [], ◌∷◌, ◌++◌, filter, vec_len, vec_capacity, IfOk, IfErr};
 ghost use Rattle.amo_kk.specs.declared.givens.Givens.{Givens as GivensView};
 ghost use Rattle.amo_crew.specs.Outcomes.{IsOutcome};
-ghost use Rattle.amo_payments.specs.Sorting.{is_paid, paid_of, has_output, has_free, is_unsure, jobs_upto, related, IsSorted, IsSortingOf};
+ghost use Rattle.amo_payments.specs.Payments.{Answers};
+ghost use Rattle.amo_payments.specs.Sorting.{is_paid, has_receipt_of, has_free, is_unsure, jobs_upto, IsSorted, IsSortingOf};
 ghost use Rattle.amo_payments.specs.declared.payment.Payment.{Payment as PaymentView};
 
 use crate::payment::{Answer, Payment};
@@ -10,11 +11,12 @@ use amo_crew::{Outcome, Output};
 use amo_kk::Givens;
 use std::alloc::Global;
 
-/// The jobs of a run, sorted by what is certain of their payments. Each job is in just one of the first three.
+/// The jobs of a run, sorted by what is certain of their payments. Each job has a receipt among the answers, or is free, or
+/// is in doubt, and just one of these.
 #[derive(Drop)]
 pub struct Sorted {
-    /// Those that were made, each with its receipt. There is nothing left to do.
-    pub done: Vec<Output<Answer>>,
+    /// What came of those that were performed. Where it is a receipt the payment was made, and there is nothing left to do.
+    pub answers: Vec<Output<Answer>>,
     /// Those that nobody began, each with its payment. They may be handed to a new floor.
     pub free: Vec<(u32, Payment)>,
     /// Those that were claimed, and of which there is no receipt. They must not be made again.
@@ -30,11 +32,13 @@ fn is_paid(answer: &Answer) -> bool
     matches!(answer, Answer::Paid(_))
 }
 
-/// Whether one of the outputs is of the job.
-fn has_output(outputs: &[Output<Answer>], job: u32) -> bool
-    ensures { result ≡ has_output outputs.now job }
+/// Whether one of the answers is a receipt of the job.
+fn has_receipt_of(answers: &[Output<Answer>], job: u32) -> bool
+    ensures { result ≡ has_receipt_of answers.now job }
 {
-    outputs.iter().any(|output| output.job == job)
+    answers
+        .iter()
+        .any(|output| output.job == job && is_paid(&output.out))
 }
 
 /// Whether the job is free.
@@ -44,44 +48,38 @@ fn has_free(free: &[(u32, Payment)], job: u32) -> bool
     free.iter().any(|entry| entry.0 == job)
 }
 
-/// Drops the answers that are no receipts. Their jobs are in doubt.
-fn keep_paid(outputs: &mut Vec<Output<Answer>>)
-    ensures { outputs.new.items ≡ paid_of outputs.old.items }
-{
-    outputs.retain(
-        |output| -> bool
-            ensures { result ≡ is_paid output.now.out }
-        { is_paid(&output.out) },
-    );
-}
-
-/// Lists the job where it is neither done nor free.
+/// Lists the job where there is no receipt of it, and it is not free.
 #[tactic(auto, using(crate::proofs::Filters::passed, crate::proofs::Filters::skipped))]
-fn add_unsure(job: u32, done: &[Output<Answer>], free: &[(u32, Payment)], unsure: &mut Vec<u32>)
+fn add_unsure(job: u32, answers: &[Output<Answer>], free: &[(u32, Payment)], unsure: &mut Vec<u32>)
     requires room { vec_len unsure.old < vec_capacity unsure.old }
-    ensures listed { (jobs : List ℕ) → unsure.old.items ≡ filter (is_unsure done.now free.now) jobs → unsure.new.items ≡ filter (is_unsure done.now free.now) (jobs ++ job ∷ []) }
+    ensures listed { (jobs : List ℕ) → unsure.old.items ≡ filter (is_unsure answers.now free.now) jobs → unsure.new.items ≡ filter (is_unsure answers.now free.now) (jobs ++ job ∷ []) }
     ensures len { vec_len unsure.new ≤ vec_len unsure.old + 1 }
     ensures capacity { vec_capacity unsure.new ≡ vec_capacity unsure.old }
 {
-    if !has_output(done, job) && !has_free(free, job) {
+    if !has_receipt_of(answers, job) && !has_free(free, job) {
         unsure.push_reserved(job);
     }
 }
 
-/// Lists the jobs up to the last that are neither done nor free.
-fn list_unsure(jobs: u32, done: &[Output<Answer>], free: &[(u32, Payment)], unsure: &mut Vec<u32>)
+/// Lists the jobs up to the last of which there is no receipt, and which are not free.
+fn list_unsure(
+    jobs: u32,
+    answers: &[Output<Answer>],
+    free: &[(u32, Payment)],
+    unsure: &mut Vec<u32>,
+)
     requires empty { unsure.old.items ≡ [] }
     requires room { (vec_len unsure.old ≡ 0) × (jobs ≤ vec_capacity unsure.old) }
     requires small { jobs ≤ 4096 }
-    ensures { unsure.new.items ≡ filter (is_unsure done.now free.now) (jobs_upto jobs) }
+    ensures { unsure.new.items ≡ filter (is_unsure answers.now free.now) (jobs_upto jobs) }
 {
     for before in 0..jobs {
-        add_unsure(before + 1, done, free, unsure);
+        add_unsure(before + 1, answers, free, unsure);
     }
 }
 
 /// Sorts the jobs of a run by what is certain of their payments. The givens have to be those of the run. Where memory is
-/// refused the outcome comes back as it was. For each job it goes through the outputs and then through the free jobs until
+/// refused the outcome comes back as it was. For each job it goes through the answers and then through the free jobs until
 /// it is found: in a round of 4096 jobs up to 16 million comparisons.
 pub fn sort_out(
     alloc: Global,
@@ -90,7 +88,7 @@ pub fn sort_out(
 ) -> Result<Sorted, Outcome<Payment, Answer>>
     ensures lists { IfOk result (IsSortingOf givens.jobs outcome) }
     ensures sorted { IfOk result (λ s. (payloads : List PaymentView) (budgets : List ℕ)
-        → IsOutcome related givens payloads budgets outcome → IsSorted givens.jobs payloads s) }
+        → IsOutcome Answers givens payloads budgets outcome → IsSorted givens.jobs payloads s) }
     ensures refused { IfErr result (λ o. o ≡ outcome) }
 {
     let Ok(mut in_doubt) = Vec::with_capacity(alloc, givens.jobs() as usize) else {
@@ -99,14 +97,13 @@ pub fn sort_out(
     let Outcome {
         settlement,
         ends: _,
-        outputs: mut done,
+        outputs: answers,
         in_hand,
     } = outcome;
     let free = settlement.free;
-    keep_paid(&mut done);
-    list_unsure(givens.jobs(), &done, &free, &mut in_doubt);
+    list_unsure(givens.jobs(), &answers, &free, &mut in_doubt);
     Ok(Sorted {
-        done,
+        answers,
         free,
         in_doubt,
         in_hand,

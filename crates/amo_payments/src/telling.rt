@@ -101,15 +101,15 @@ pub fn tell_answers<O: Write>(
     write_text(out, text.as_str())
 }
 
-/// Writes what is certain of a round: what was made, and what came back in doubt. Where memory is refused nothing is
-/// written.
+/// Writes a line for each payment of a round that a worker got: `done` with a receipt, and `doubt` without. Where memory is
+/// refused nothing is written.
 pub fn tell_round<O: Write>(alloc: Global, out: &mut O, sorted: &Sorted) -> Result<(), Fault>
     ensures whole { OnOk result (Appends (O.contents out.old) (O.contents out.new) (round_text sorted.now)) }
     ensures front { OnErr result (AppendsFront (O.contents out.old) (O.contents out.new) (round_text sorted.now)) }
     ensures fault { IfErr result (λ fault. is_of_telling fault ≡ true) }
 {
     let mut text = String::new(alloc);
-    push_answers(&mut text, &sorted.done)?;
+    push_answers(&mut text, &sorted.answers)?;
     push_hands(&mut text, &sorted.in_hand)?;
     write_text(out, text.as_str())
 }

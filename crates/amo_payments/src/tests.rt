@@ -70,8 +70,8 @@ fn four_workers_pay_a_hundred(rt: HostRuntime) -> Result<(), Fail> {
     let Ok(sorted) = pay_round(&rt, rt.alloc(), &bank, crew, payments(rt.alloc(), 100)?) else {
         panic!(rt; "the round was not paid")
     };
-    assert!(rt; sorted.done.len() >= 94 && sorted.in_doubt.is_empty());
-    assert_eq!(rt; sorted.done.len() + sorted.free.len(), 100);
+    assert!(rt; sorted.answers.len() >= 94 && sorted.in_doubt.is_empty());
+    assert_eq!(rt; sorted.answers.len() + sorted.free.len(), 100);
     Ok(())
 }
 

@@ -3,9 +3,9 @@ use Rattle.amo_crew.specs.Outcomes.{IsOutcome}
 use Rattle.amo_crew.specs.declared.outcome.Outcome.{Outcome}
 use Rattle.amo_payments.specs.declared.payment.Payment.{Payment}
 use Rattle.amo_payments.specs.declared.payment.Answer.{Answer}
-use Rattle.amo_payments.specs.Sorting.{related}
+use Rattle.amo_payments.specs.Payments.{Answers}
 use Rattle.amo_payments.proofs.rounds.sort_twice.Goals as goal
 
 pub returns-in-Ok-sort_out-clause-sorted : goal.returns-in-Ok-sort_out-clause-sorted
 returns-in-Ok-sort_out-clause-sorted c payloads budgets is =
-    c.in-Ok-sort_out.ensures.sorted payloads budgets (subst (λ (o : Outcome Payment Answer). IsOutcome related c.args.givens payloads budgets o) (sym c.in-Err.ensures.refused) is)
+    c.in-Ok-sort_out.ensures.sorted payloads budgets (subst (λ (o : Outcome Payment Answer). IsOutcome Answers c.args.givens payloads budgets o) (sym c.in-Err.ensures.refused) is)
