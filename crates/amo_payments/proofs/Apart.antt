@@ -18,8 +18,8 @@ use Rattle.amo_words.proofs.Meetings.{stands_back, worker_back}
 use Rattle.amo_crew.specs.declared.hand.Output.{Output}
 use Rattle.amo_crew.specs.Mailbox.{of}
 use Rattle.amo_crew.specs.Outcomes.{spot_of, dones_in}
-use Rattle.amo_payments.specs.declared.payment.Payment.{Payment}
-use Rattle.amo_payments.specs.declared.payment.Answer.{Answer}
+use Rattle.amo_payments.specs.declared.day.payment.Payment.{Payment}
+use Rattle.amo_payments.specs.declared.bank.Answer.{Answer}
 use Rattle.amo_payments.specs.Second.{jobs_in}
 use Rattle.amo_payments.specs.Sorting.{has_free}
 

@@ -1,6 +1,6 @@
 -- What the lines of a day say together, line by line.
 use Rattle.std.proofs.Common.{◌≡◌, ℕ, zero, suc, ◌+◌, ◌<◌, Bool, ◌||◌, List, [], ◌∷◌, ◌++◌, length, map, fold, get_or, take, Some, None, refl, sym, ap, ◌∙◌, append-nil, subst, arith}
-use Rattle.std.specs.Prelude.{is_none, true}
+use Rattle.std.specs.Prelude.{is_none, not, true}
 use Rattle.std.specs.List.{flat_map, list_any}
 use Rattle.std.specs.Str.Lines.{lines}
 use Rattle.std.proofs.lemmas.Bool.{or_right}
@@ -10,9 +10,9 @@ use Rattle.std.proofs.lemmas.List.Sums.{fold_push}
 use Rattle.amo_payments.specs.declared.day.Day.{Day}
 use Rattle.amo_payments.specs.declared.line.Line.{Line}
 use Rattle.amo_payments.specs.declared.line.Line.TheVariants.{Workers, Steps, Limit, Pay, Old}
-use Rattle.amo_payments.specs.declared.payment.Payment.{Payment}
+use Rattle.amo_payments.specs.declared.day.payment.Payment.{Payment}
 use Rattle.amo_payments.specs.Lines.{line_in}
-use Rattle.amo_payments.specs.Days.{AreNumbered, has_broken_line, IsDay, IsDayWith, crew_after, limit_after, first_crew, payments_in, paid_in, entries_in}
+use Rattle.amo_payments.specs.Days.{AreNumbered, has_broken_line, is_ended, IsDay, IsDayWith, crew_after, limit_after, first_crew, payments_in, paid_in, entries_in}
 use Rattle.amo_payments.proofs.Numbers.{numbered_more}
 
 flat_push : {X A : Type 0} (f : X → List A) (xs : List X) (x : X) → flat_map f (xs ++ x ∷ []) ≡ flat_map f xs ++ f x
@@ -65,4 +65,4 @@ any_at now p (y ∷ ys) (suc i) d within h = or_right (p (now y)) (list_any p (m
 pub broken : {X : Type 0} (now : X → List ℕ) (xs : List X) (i : ℕ) (d : X) (text : List ℕ) → map now xs ≡ lines text → i < length xs → line_in (now (get_or xs i d)) ≡ None
     → has_broken_line text ≡ true
 broken now xs i d text all within none =
-    ap (list_any (λ l. is_none (line_in l))) (sym all) ∙ any_at now (λ l. is_none (line_in l)) xs i d within (ap is_none none)
+    ap (λ b. b || not (is_ended text)) (ap (list_any (λ l. is_none (line_in l))) (sym all) ∙ any_at now (λ l. is_none (line_in l)) xs i d within (ap is_none none))

@@ -4,7 +4,7 @@ use Rattle.std.specs.Io.KnownBytes.{Appends}
 use Rattle.std.proofs.KnownBytes.{Appends-trans}
 use Rattle.amo_payments.specs.declared.day.Day.{Day}
 use Rattle.amo_payments.specs.declared.line.Entry.{Entry}
-use Rattle.amo_payments.specs.declared.payment.Payment.{Payment}
+use Rattle.amo_payments.specs.declared.day.payment.Payment.{Payment}
 use Rattle.amo_payments.specs.declared.restarting.Restart.{Restart}
 use Rattle.amo_payments.specs.Restarts.{IsParted, was_made, is_in_doubt, is_untried}
 use Rattle.amo_payments.specs.Reports.{AppendsFront, ArePaid, AreTried, TellsNext, TellsPart, IsReport, Reports, ReportsFront, lines_of}

@@ -6,7 +6,7 @@ use Rattle.std.specs.Io.KnownBytes.{Appends}
 use Rattle.std.proofs.KnownBytes.{Appends-nil, Appends-trans}
 use Rattle.std.proofs.lemmas.Grind.{flat_map-append}
 use Rattle.std.proofs.lemmas.List.Elements.{All-nil, All-cons, All-append}
-use Rattle.amo_payments.specs.declared.payment.Payment.{Payment}
+use Rattle.amo_payments.specs.declared.day.payment.Payment.{Payment}
 use Rattle.amo_payments.specs.Reports.{AppendsFront, AreFloors, TellsNext, TellsPart, payments_of}
 use Rattle.amo_payments.proofs.Fronts.{nothing, next as front_next}
 

@@ -12,8 +12,8 @@ use Rattle.amo_crew.specs.declared.hand.Output.{Output}
 use Rattle.amo_crew.specs.declared.outcome.Outcome.{Outcome}
 use Rattle.amo_crew.specs.Running.{IsAnswer}
 use Rattle.amo_crew.specs.Outcomes.{IsOutcome}
-use Rattle.amo_payments.specs.declared.payment.Payment.{Payment}
-use Rattle.amo_payments.specs.declared.payment.Answer.{Answer}
+use Rattle.amo_payments.specs.declared.day.payment.Payment.{Payment}
+use Rattle.amo_payments.specs.declared.bank.Answer.{Answer}
 use Rattle.amo_payments.specs.declared.sorting.Sorted.{Sorted}
 use Rattle.amo_payments.specs.Second.{jobs_in}
 use Rattle.amo_payments.specs.Sorting.{is_paid, has_receipt_of, has_free, is_unsure, jobs_upto, IsOneOf, IsOwn, IsSorted}

@@ -1,12 +1,12 @@
 -- What the lines of the input say together.
-use Rattle.std.specs.Prelude.{◌≡◌, ℕ, ◌+◌, ◌-◌, ◌^◌, Bool, List, [], ◌∷◌, ◌++◌, length, map, fold, Some, is_none}
+use Rattle.std.specs.Prelude.{◌≡◌, ℕ, ◌+◌, ◌-◌, ◌^◌, Bool, true, not, ◌==◌, ◌||◌, List, [], ◌∷◌, ◌++◌, length, map, fold, slice_index, Some, is_none}
 use Rattle.std.specs.List.{flat_map, list_any}
 use Rattle.std.specs.Str.Lines.{lines}
 use Rattle.amo_payments.specs.declared.line.Entry.{Entry}
 use Rattle.amo_payments.specs.declared.line.Line.{Line}
 use Rattle.amo_payments.specs.declared.line.Line.TheVariants.{Workers, Steps, Limit, Pay, Old}
 use Rattle.amo_payments.specs.declared.day.Day.{Day}
-use Rattle.amo_payments.specs.declared.payment.Payment.{Payment}
+use Rattle.amo_payments.specs.declared.day.payment.Payment.{Payment}
 use Rattle.amo_payments.specs.declared.rounds.Crew.{Crew}
 use Rattle.amo_payments.specs.Lines.{line_in}
 use Rattle.amo_payments.specs.Sorting.{jobs_upto}
@@ -75,12 +75,17 @@ pub record IsDay (said : List Line) (day : Day) : Type 0 where
   pub numbered : AreNumbered day.payments.items
   pub journal : day.journal.items ≡ flat_map entries_in said
 
--- The text says this day: each of its lines is a line.
+-- The last line of a text has its end: a text that is not empty has a line feed as its last byte.
+abbrev pub is_ended : List ℕ → Bool
+is_ended text = (length text == 0) || (slice_index text (length text - 1) == 10)
+
+-- The text says this day: each of its lines is a line, and none is cut off.
 pub record IsDayOf (text : List ℕ) (day : Day) : Type 0 where
+  pub ended : is_ended text ≡ true
   pub said : List Line
   pub lines_are : map line_in (lines text) ≡ map (λ line. Some line) said
   pub day_is : IsDay said day
 
--- some line of the text is none
+-- some line of the text is none, or the last has no end
 abbrev pub has_broken_line : List ℕ → Bool
-has_broken_line text = list_any (λ line. is_none (line_in line)) (lines text)
+has_broken_line text = list_any (λ line. is_none (line_in line)) (lines text) || not (is_ended text)

@@ -1,9 +1,9 @@
 -- What belongs to a payment.
 use Rattle.std.specs.Prelude.{◌≡◌, ℕ}
-use Rattle.amo_payments.specs.declared.payment.Payment.{Payment}
+use Rattle.amo_payments.specs.declared.day.payment.Payment.{Payment}
 use Rattle.amo_payments.specs.declared.journal.Receipt.{Receipt}
-use Rattle.amo_payments.specs.declared.payment.Answer.{Answer}
-use Rattle.amo_payments.specs.declared.payment.Answer.TheVariants.{Paid, Unpaid}
+use Rattle.amo_payments.specs.declared.bank.Answer.{Answer}
+use Rattle.amo_payments.specs.declared.bank.Answer.TheVariants.{Paid, Unpaid}
 
 -- The receipt is of this payment, and names the job.
 pub record IsReceiptOf (job : ℕ) (p : Payment) (r : Receipt) : Type 0 where

@@ -5,9 +5,9 @@ use Rattle.std.specs.List.{flat_map}
 use Rattle.std.specs.Io.KnownBytes.{Appends}
 use Rattle.amo_crew.specs.declared.hand.Output.{Output}
 use Rattle.amo_payments.specs.declared.day.Day.{Day}
-use Rattle.amo_payments.specs.declared.payment.Payment.{Payment}
-use Rattle.amo_payments.specs.declared.payment.Answer.{Answer}
-use Rattle.amo_payments.specs.declared.payment.Answer.TheVariants.{Paid, Unpaid}
+use Rattle.amo_payments.specs.declared.day.payment.Payment.{Payment}
+use Rattle.amo_payments.specs.declared.bank.Answer.{Answer}
+use Rattle.amo_payments.specs.declared.bank.Answer.TheVariants.{Paid, Unpaid}
 use Rattle.amo_payments.specs.declared.rounds.Crew.{Crew}
 use Rattle.amo_payments.specs.declared.second.Rest.{Rest}
 use Rattle.amo_payments.specs.declared.sorting.Sorted.{Sorted}

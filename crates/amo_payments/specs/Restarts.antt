@@ -3,7 +3,7 @@ use Rattle.std.specs.Prelude.{◌≡◌, ℕ, Bool, false, not, ◌==◌, ◌&&�
 use Rattle.std.specs.List.{list_any}
 use Rattle.amo_payments.specs.declared.line.Entry.{Entry}
 use Rattle.amo_payments.specs.declared.line.Entry.TheVariants.{Intent, Receipt}
-use Rattle.amo_payments.specs.declared.payment.Payment.{Payment}
+use Rattle.amo_payments.specs.declared.day.payment.Payment.{Payment}
 use Rattle.amo_payments.specs.declared.restarting.Restart.{Restart}
 
 -- it is the intent of this payment

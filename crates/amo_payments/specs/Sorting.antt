@@ -4,9 +4,9 @@ use Rattle.std.specs.List.{list_any, range_with_len}
 use Rattle.amo_sets.specs.Sets.{has}
 use Rattle.amo_crew.specs.declared.hand.Output.{Output}
 use Rattle.amo_crew.specs.declared.outcome.Outcome.{Outcome}
-use Rattle.amo_payments.specs.declared.payment.Payment.{Payment}
-use Rattle.amo_payments.specs.declared.payment.Answer.{Answer}
-use Rattle.amo_payments.specs.declared.payment.Answer.TheVariants.{Paid, Unpaid}
+use Rattle.amo_payments.specs.declared.day.payment.Payment.{Payment}
+use Rattle.amo_payments.specs.declared.bank.Answer.{Answer}
+use Rattle.amo_payments.specs.declared.bank.Answer.TheVariants.{Paid, Unpaid}
 use Rattle.amo_payments.specs.declared.sorting.Sorted.{Sorted}
 use Rattle.amo_crew.specs.Running.{IsAnswer}
 use Rattle.amo_payments.specs.Payments.{Answers}

@@ -2,12 +2,21 @@
 ghost use Rattle.std.specs.Prelude.{◌≡◌};
 ghost use Rattle.amo_payments.specs.Payments.{IsReceiptOf, Answers};
 
+use crate::day::Payment;
 use crate::journal::{Intent, Journal, Receipt};
-use crate::payment::{Answer, Payment};
 use amo_crew::Work;
 use std::io::Write;
 use std::sync::atomic::{AtomicBool, AtomicU64, Ordering};
 use std::sync::{Mutex, Wait};
+
+/// What performing a payment gives.
+#[derive(Debug, PartialEq, Drop)]
+pub enum Answer {
+    /// The payment was made.
+    Paid(Receipt),
+    /// Its intent could not be written, so it was not made.
+    Unpaid(Payment),
+}
 
 /// Makes payments, and keeps a journal of them. Threads share it by reference.
 #[derive(Drop)]

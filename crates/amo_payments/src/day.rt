@@ -1,16 +1,19 @@
 //! What the input says: a day's payments, and the journal of an earlier run of it.
 ghost use Rattle.std.specs.Prelude.{◌≡◌, true, [], Err, map, IfOk, IfErr, IfSome, OnOk};
 ghost use Rattle.std.specs.Str.Lines.{lines};
-ghost use Rattle.amo_payments.specs.Days.{IsDay, IsDayOf, IsDayWith, has_broken_line};
+ghost use Rattle.amo_payments.specs.Days.{IsDay, IsDayOf, IsDayWith, has_broken_line, is_ended};
 ghost use Rattle.amo_payments.specs.Faults.{is_of_reading};
 ghost use Rattle.amo_payments.specs.declared.fault.Fault.TheVariants.{Line as BrokenLine, Input as NoInput};
 
 use crate::fault::Fault;
 use crate::line::{Entry, Line, line_of};
-use crate::payment::Payment;
 use crate::rounds::Crew;
 use std::alloc::{AllocError, Global};
 use std::io::Read;
+
+mod payment;
+
+pub use payment::Payment;
 
 /// A day.
 #[derive(Drop)]
@@ -50,7 +53,7 @@ impl Day {
             Line::Limit(limit) => self.limit = limit,
             Line::Pay(account, cents) => {
                 let id = self.payments.len() as u64 + 1;
-                self.payments.push(Payment { id, account, cents })?;
+                self.payments.push(Payment::new(id, account, cents))?;
             }
             Line::Old(entry) => self.journal.push(entry)?,
         }
@@ -65,14 +68,24 @@ fn lines_of(alloc: Global, text: &str) -> Result<Vec<&str>, AllocError>
     text.lines().collect(alloc)
 }
 
-/// The day that a text says. A line that is none refuses the whole day: it may be half an intent, and a payment of which
-/// the journal can't be read must not be made.
+/// Whether the last line of the text has its end.
+fn is_ended(text: &str) -> bool
+    ensures { result ≡ is_ended text.now }
+{
+    text.is_empty() || text.ends_with('\n')
+}
+
+/// The day that a text says. A line that is none, or whose end is missing, refuses the whole day: it may be half an intent,
+/// and a payment of which the journal can't be read must not be made.
 fn day_of(alloc: Global, text: &str) -> Result<Day, Fault>
     ensures day { IfOk result (IsDayOf text.now) }
     ensures line { result ≡ Err BrokenLine → has_broken_line text.now ≡ true }
     ensures input { result ≡ Err NoInput → ⊥ }
     ensures fault { IfErr result (λ fault. is_of_reading fault ≡ true) }
 {
+    if !is_ended(text) {
+        return Err(Fault::Line);
+    }
     let lines = lines_of(alloc, text)?;
     let mut day = Day::new(alloc);
     for words in &lines {
@@ -84,7 +97,7 @@ fn day_of(alloc: Global, text: &str) -> Result<Day, Fault>
     Ok(day)
 }
 
-/// Reads all of the input, and the day that it says. A line that is none refuses the whole day. Input is refused where it
+/// Reads all of the input, and the day that it says. A line that is none, or whose end is missing, refuses the whole day. Input is refused where it
 /// can't be read, or is no text.
 pub fn read_day<B: Read>(alloc: Global, input: &mut B) -> Result<Day, Fault>
     ensures day { IfOk result (λ day. IfSome (B.remaining input.old) (λ text. IsDayOf text day)) }

@@ -10,7 +10,7 @@ use std::alloc::AllocError;
 /// Why the program ends early. What was paid by then stands in the journal.
 #[derive(Clone, Copy, Debug, PartialEq, Eq)]
 pub enum Fault {
-    /// A line of the input is none of those that there are.
+    /// A line of the input is none of those that there are, or its last line has no end.
     Line,
     /// The input can't be read.
     Input,

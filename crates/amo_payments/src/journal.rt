@@ -4,7 +4,7 @@ ghost use Rattle.std.specs.Io.KnownBytes.{Appends};
 ghost use Rattle.amo_payments.specs.Payments.{IsReceiptOf};
 ghost use Rattle.amo_payments.specs.Lines.{intent_line, receipt_line};
 
-use crate::payment::Payment;
+use crate::day::Payment;
 use std::io::Write;
 
 /// A payment whose intent stands in the journal. Only such a payment can be made.
@@ -30,9 +30,9 @@ impl Intent {
         let Intent { payment } = self;
         Receipt {
             job,
-            id: payment.id,
-            account: payment.account,
-            cents: payment.cents,
+            id: payment.id(),
+            account: payment.account(),
+            cents: payment.cents(),
         }
     }
 }
@@ -66,7 +66,7 @@ impl<S: Write + Drop> Journal<S> {
         ensures intent { IfOk result (λ i. i.payment ≡ payment) }
         ensures back { IfErr result (λ p. p ≡ payment) }
     {
-        let id = payment.id;
+        let id = payment.id();
         if writeln!(self.sink, "intent {id}").is_err() {
             return Err(payment);
         }

@@ -10,7 +10,6 @@ mod day;
 mod fault;
 mod journal;
 mod line;
-mod payment;
 mod program;
 mod restarting;
 mod rounds;

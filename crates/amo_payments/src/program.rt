@@ -8,10 +8,9 @@ ghost use Rattle.amo_payments.specs.Faults.{is_of_input, is_of_paying};
 ghost use Rattle.amo_payments.specs.Reports.{ArePaid, AreTried, TellsPart, TellsNext, Reports, ReportsFront};
 
 use crate::bank::Bank;
-use crate::day::{Day, read_day};
+use crate::day::{Day, Payment, read_day};
 use crate::fault::Fault;
 use crate::journal::Journal;
-use crate::payment::Payment;
 use crate::restarting::part;
 use crate::rounds::{Crew, add_free, next_round, pay_round};
 use crate::second::run_alone;

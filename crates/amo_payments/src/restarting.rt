@@ -1,10 +1,10 @@
 //! What is left to do where an earlier run has left a journal.
 ghost use Rattle.std.specs.Prelude.{◌≡◌, List, [], ◌∷◌, ◌++◌, IfOk, OnOk};
-ghost use Rattle.amo_payments.specs.declared.payment.Payment.{Payment as PaymentView};
+ghost use Rattle.amo_payments.specs.declared.day.payment.Payment.{Payment as PaymentView};
 ghost use Rattle.amo_payments.specs.Restarts.{has_intent, has_receipt, is_intent, is_receipt, IsParted};
 
+use crate::day::Payment;
 use crate::line::Entry;
-use crate::payment::Payment;
 use std::alloc::{AllocError, Global};
 
 /// The payments of a day after an earlier run of it. Each is in one of the three.
@@ -19,9 +19,10 @@ pub struct Restart {
 }
 
 /// Whether there is an intent of the payment.
-fn has_intent(journal: &[Entry], id: u64) -> bool
-    ensures { result ≡ has_intent journal.now id }
+fn has_intent(journal: &[Entry], payment: &Payment) -> bool
+    ensures { result ≡ has_intent journal.now payment.now.id }
 {
+    let id = payment.id();
     journal.iter().any(
         |entry| -> bool
             ensures { result ≡ is_intent id entry.now }
@@ -30,9 +31,10 @@ fn has_intent(journal: &[Entry], id: u64) -> bool
 }
 
 /// Whether there is a receipt of the payment.
-fn has_receipt(journal: &[Entry], id: u64) -> bool
-    ensures { result ≡ has_receipt journal.now id }
+fn has_receipt(journal: &[Entry], payment: &Payment) -> bool
+    ensures { result ≡ has_receipt journal.now payment.now.id }
 {
+    let id = payment.id();
     journal.iter().any(
         |entry| -> bool
             ensures { result ≡ is_receipt id entry.now }
@@ -46,9 +48,9 @@ impl Restart {
     fn add(&mut self, journal: &[Entry], payment: Payment) -> Result<(), AllocError>
         ensures parted { OnOk result ((payments : List PaymentView) → IsParted journal.now payments self.old → IsParted journal.now (payments ++ payment ∷ []) self.new) }
     {
-        if has_receipt(journal, payment.id) {
+        if has_receipt(journal, &payment) {
             self.made.push(payment)?;
-        } else if has_intent(journal, payment.id) {
+        } else if has_intent(journal, &payment) {
             self.in_doubt.push(payment)?;
         } else {
             self.untried.push(payment)?;

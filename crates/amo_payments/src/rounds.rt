@@ -4,13 +4,13 @@ ghost use Rattle.amo_kk.specs.Givens.{givens_of};
 ghost use Rattle.amo_kk.specs.declared.givens.Givens.{Givens as GivensView};
 ghost use Rattle.amo_crew.specs.Outcomes.{IsOutcome};
 ghost use Rattle.amo_crew.specs.Unsettling.{IsUnsettled};
-ghost use Rattle.amo_payments.specs.declared.payment.Payment.{Payment as PaymentView};
+ghost use Rattle.amo_payments.specs.declared.day.payment.Payment.{Payment as PaymentView};
 ghost use Rattle.amo_payments.specs.Payments.{Answers};
 ghost use Rattle.amo_payments.specs.Sorting.{IsSorted, IsSortingOf};
 ghost use Rattle.amo_payments.specs.Rounds.{IsRound, IsRoundFault};
 
-use crate::bank::Bank;
-use crate::payment::{Answer, Payment};
+use crate::bank::{Answer, Bank};
+use crate::day::Payment;
 use crate::sorting::{Sorted, sort_out};
 use amo_crew::laws::settled_later;
 use amo_crew::{ExecFault, Outcome, StopPlan, Unsettled, execute};

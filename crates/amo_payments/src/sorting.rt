@@ -4,9 +4,10 @@ ghost use Rattle.amo_kk.specs.declared.givens.Givens.{Givens as GivensView};
 ghost use Rattle.amo_crew.specs.Outcomes.{IsOutcome};
 ghost use Rattle.amo_payments.specs.Payments.{Answers};
 ghost use Rattle.amo_payments.specs.Sorting.{is_paid, has_receipt_of, has_free, is_unsure, jobs_upto, IsSorted, IsSortingOf};
-ghost use Rattle.amo_payments.specs.declared.payment.Payment.{Payment as PaymentView};
+ghost use Rattle.amo_payments.specs.declared.day.payment.Payment.{Payment as PaymentView};
 
-use crate::payment::{Answer, Payment};
+use crate::bank::Answer;
+use crate::day::Payment;
 use amo_crew::{Outcome, Output};
 use amo_kk::Givens;
 use std::alloc::Global;

@@ -5,8 +5,9 @@ ghost use Rattle.amo_payments.specs.Faults.{is_of_telling};
 ghost use Rattle.amo_payments.specs.Reports.{AppendsFront, line, lines_of, answer_lines, hand_lines, round_text};
 ghost use Rattle.amo_payments.specs.declared.fault.Fault.TheVariants.{Output as NoOutput};
 
+use crate::bank::Answer;
+use crate::day::Payment;
 use crate::fault::Fault;
-use crate::payment::{Answer, Payment};
 use crate::sorting::Sorted;
 use amo_crew::Output;
 use std::alloc::{AllocError, Global};
@@ -42,7 +43,7 @@ fn push_each(text: &mut String, word: &str, payments: &[Payment]) -> Result<(), 
     ensures { OnOk result (string_bytes text.new ≡ string_bytes text.old ++ lines_of word.now payments.now) }
 {
     for payment in payments {
-        push_line(text, word, payment.id)?;
+        push_line(text, word, payment.id())?;
     }
     Ok(())
 }
@@ -54,7 +55,7 @@ fn push_answers(text: &mut String, outputs: &[Output<Answer>]) -> Result<(), All
     for output in outputs {
         match &output.out {
             Answer::Paid(receipt) => push_line(text, "done", receipt.id())?,
-            Answer::Unpaid(payment) => push_line(text, "doubt", payment.id)?,
+            Answer::Unpaid(payment) => push_line(text, "doubt", payment.id())?,
         }
     }
     Ok(())
@@ -65,7 +66,7 @@ fn push_hands(text: &mut String, in_hand: &[(u32, u32, Payment)]) -> Result<(), 
     ensures { OnOk result (string_bytes text.new ≡ string_bytes text.old ++ hand_lines in_hand.now) }
 {
     for (_, _, payment) in in_hand {
-        push_line(text, "doubt", payment.id)?;
+        push_line(text, "doubt", payment.id())?;
     }
     Ok(())
 }

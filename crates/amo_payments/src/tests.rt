@@ -2,11 +2,10 @@
 ghost use Rattle.std.specs.Prelude.{◌≡◌, vec_len, IfOk};
 
 use crate::bank::Bank;
-use crate::day::read_day;
+use crate::day::{Day, Payment, read_day};
 use crate::fault::Fault;
 use crate::journal::Journal;
 use crate::line::{Entry, Line, line_of};
-use crate::payment::Payment;
 use crate::program::serve;
 use crate::restarting::part;
 use crate::rounds::{Crew, pay_round};
@@ -19,16 +18,11 @@ use std::test::Fail;
 fn payments(alloc: Global, count: u64) -> Result<Vec<Payment>, AllocError>
     ensures { IfOk result (λ v. vec_len v ≡ count) }
 {
-    let mut list = Vec::new(alloc);
+    let mut day = Day::new(alloc);
     for before in 0..count {
-        let id = before + 1;
-        list.push(Payment {
-            id,
-            account: 7,
-            cents: 100,
-        })?;
+        day.add(Line::Pay(before, 100))?;
     }
-    Ok(list)
+    Ok(day.payments)
 }
 
 #[test]
@@ -53,9 +47,9 @@ fn a_broken_line_is_none(rt: HostRuntime) {
 fn an_intent_without_a_receipt_is_not_paid_again(rt: HostRuntime) -> Result<(), Fail> {
     let journal = [Entry::Intent(2), Entry::Intent(1), Entry::Receipt(2)];
     let parts = part(rt.alloc(), payments(rt.alloc(), 3)?, &journal)?;
-    assert!(rt; parts.made.len() == 1 && parts.made[0].id == 2);
-    assert!(rt; parts.in_doubt.len() == 1 && parts.in_doubt[0].id == 1);
-    assert!(rt; parts.untried.len() == 1 && parts.untried[0].id == 3);
+    assert!(rt; parts.made.len() == 1 && parts.made[0].id() == 2);
+    assert!(rt; parts.in_doubt.len() == 1 && parts.in_doubt[0].id() == 1);
+    assert!(rt; parts.untried.len() == 1 && parts.untried[0].id() == 3);
     Ok(())
 }
 
@@ -88,8 +82,13 @@ fn the_flag_stops_after_the_limit(rt: HostRuntime) -> Result<(), Fail> {
 
 #[test]
 fn a_broken_line_refuses_the_day(rt: HostRuntime) {
-    let mut broken = "pay 7 250\ninten 1\n".as_bytes();
-    assert!(rt; matches!(read_day(rt.alloc(), &mut broken), Err(Fault::Line)));
+    for text in ["pay 7 250\ninten 1\n", "pay 7 250\nintent 1"] {
+        let mut broken = text.as_bytes();
+        assert!(rt;
+            matches!(read_day(rt.alloc(), &mut broken), Err(Fault::Line)),
+            "{text}"
+        );
+    }
     let mut whole = "workers 3\npay 7 250\nintent 1\n".as_bytes();
     let Ok(day) = read_day(rt.alloc(), &mut whole) else {
         panic!(rt; "the day was refused")

@@ -1,8 +1,8 @@
 use Rattle.std.proofs.Common.{sym, subst}
 use Rattle.amo_crew.specs.Outcomes.{IsOutcome}
 use Rattle.amo_crew.specs.declared.outcome.Outcome.{Outcome}
-use Rattle.amo_payments.specs.declared.payment.Payment.{Payment}
-use Rattle.amo_payments.specs.declared.payment.Answer.{Answer}
+use Rattle.amo_payments.specs.declared.day.payment.Payment.{Payment}
+use Rattle.amo_payments.specs.declared.bank.Answer.{Answer}
 use Rattle.amo_payments.specs.Payments.{Answers}
 use Rattle.amo_payments.proofs.rounds.sort_twice.Goals as goal
 
