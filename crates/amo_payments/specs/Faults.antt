@@ -3,19 +3,21 @@ use Rattle.std.specs.Prelude.{Bool, true, false}
 use Rattle.amo_payments.specs.declared.fault.Fault.{Fault}
 use Rattle.amo_payments.specs.declared.fault.Fault.TheVariants.{Line, Input, Output, Memory, Unsettled}
 use Rattle.amo_payments.specs.declared.rounds.RoundFault.{RoundFault}
-use Rattle.amo_payments.specs.declared.rounds.RoundFault.TheVariants.{Unpaid, Unsettled as UnsettledRound}
+use Rattle.amo_payments.specs.declared.rounds.RoundFault.TheVariants.{Unpaid, Unsettled as UnsettledRound, Unsorted}
 use Rattle.amo_payments.specs.declared.second.RestFault.{RestFault}
-use Rattle.amo_payments.specs.declared.second.RestFault.TheVariants.{Untried, Unsettled as UnsettledRest}
+use Rattle.amo_payments.specs.declared.second.RestFault.TheVariants.{Untried, Unhired, Unsettled as UnsettledRest}
 
 -- the fault of a round that gave nothing
 abbrev pub fault_of_round : RoundFault → Fault
 fault_of_round (Unpaid back) = Memory
-fault_of_round UnsettledRound = Unsettled
+fault_of_round (UnsettledRound rest) = Unsettled
+fault_of_round (Unsorted outcome) = Unsettled
 
 -- the fault of a floor of one worker that gave nothing
-abbrev pub fault_of_rest : {P : Type 0} → RestFault P → Fault
+abbrev pub fault_of_rest : {P Out : Type 0} → RestFault P Out → Fault
 fault_of_rest (Untried back) = Memory
-fault_of_rest UnsettledRest = Unsettled
+fault_of_rest (Unhired floor book) = Memory
+fault_of_rest (UnsettledRest floor book outputs) = Unsettled
 
 -- the input says no day
 abbrev pub is_of_input : Fault → Bool

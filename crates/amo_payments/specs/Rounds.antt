@@ -1,15 +1,16 @@
 -- Payments that go in rounds.
-use Rattle.std.specs.Prelude.{◌≡◌, ℕ, List, length, filter, replicate, Ok, ⊤}
+use Rattle.std.specs.Prelude.{◌≡◌, ℕ, List, length, replicate, Ok}
 use Rattle.amo_kk.specs.Givens.{givens_of}
 use Rattle.amo_kk.specs.declared.givens.Givens.{Givens}
 use Rattle.amo_crew.specs.declared.outcome.Outcome.{Outcome}
 use Rattle.amo_crew.specs.Outcomes.{IsOutcome}
+use Rattle.amo_crew.specs.Unsettling.{IsUnsettled}
 use Rattle.amo_payments.specs.declared.day.payment.Payment.{Payment}
 use Rattle.amo_payments.specs.declared.bank.Answer.{Answer}
 use Rattle.amo_payments.specs.declared.sorting.Sorted.{Sorted}
 use Rattle.amo_payments.specs.declared.rounds.Crew.{Crew}
 use Rattle.amo_payments.specs.declared.rounds.RoundFault.{RoundFault}
-use Rattle.amo_payments.specs.declared.rounds.RoundFault.TheVariants.{Unpaid, Unsettled}
+use Rattle.amo_payments.specs.declared.rounds.RoundFault.TheVariants.{Unpaid, Unsettled, Unsorted}
 use Rattle.amo_payments.specs.Payments.{Answers}
 use Rattle.amo_payments.specs.Sorting.{IsSorted, IsSortingOf}
 
@@ -22,7 +23,15 @@ pub record IsRound (crew : Crew) (payments : List Payment) (s : Sorted) : Type 0
   pub lists : IsSortingOf givens.jobs outcome s
   pub sorted : IsSorted (length payments) payments s
 
--- nothing was paid and the payments come back, or what the threads left could not be settled
-abbrev pub IsRoundFault : List Payment → RoundFault → Type 0
-IsRoundFault payments (Unpaid back) = back.items ≡ payments
-IsRoundFault payments Unsettled = ⊤
+-- What a run with these givens, payments and budgets gives back that could not be settled or sorted: the payments themselves
+-- where nothing was paid, or what the threads left, or the outcome.
+abbrev pub IsRunFault : Givens → List Payment → List ℕ → RoundFault → Type 0
+IsRunFault g payments budgets (Unpaid back) = back.items ≡ payments
+IsRunFault g payments budgets (Unsettled rest) = IsUnsettled Answers g payments budgets rest
+IsRunFault g payments budgets (Unsorted outcome) = IsOutcome Answers g payments budgets outcome
+
+-- this crew has given it back of a round of these payments
+abbrev pub IsRoundFault : Crew → List Payment → RoundFault → Type 0
+IsRoundFault crew payments (Unpaid back) = back.items ≡ payments
+IsRoundFault crew payments (Unsettled rest) = (g : Givens) × (givens_of (length payments) crew.workers crew.workers ≡ Ok g) × IsUnsettled Answers g payments (replicate crew.workers crew.steps) rest
+IsRoundFault crew payments (Unsorted outcome) = (g : Givens) × (givens_of (length payments) crew.workers crew.workers ≡ Ok g) × IsOutcome Answers g payments (replicate crew.workers crew.steps) outcome

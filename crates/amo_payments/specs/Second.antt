@@ -1,12 +1,16 @@
 -- What a floor of one worker leaves.
-use Rattle.std.specs.Prelude.{◌≡◌, ℕ, not, List, map, filter, All, ⊤}
+use Rattle.std.specs.Prelude.{◌≡◌, ℕ, not, List, map, filter, All, replicate}
 use Rattle.std.specs.List.{enumerate_from}
 use Rattle.amo_sets.specs.Sets.{has, AreDistinct}
+use Rattle.amo_words.specs.declared.rule.Spot.TheVariants.{Home}
+use Rattle.amo_words.specs.declared.floor.settling.Settlement.{Settlement}
+use Rattle.amo_words.specs.Faces.{spots}
+use Rattle.amo_words.specs.Settling.{IsWhole}
 use Rattle.amo_crew.specs.declared.hand.Output.{Output}
 use Rattle.amo_crew.specs.Running.{IsAnswer}
 use Rattle.amo_payments.specs.declared.second.Rest.{Rest}
 use Rattle.amo_payments.specs.declared.second.RestFault.{RestFault}
-use Rattle.amo_payments.specs.declared.second.RestFault.TheVariants.{Untried, Unsettled}
+use Rattle.amo_payments.specs.declared.second.RestFault.TheVariants.{Untried, Unhired, Unsettled}
 
 -- the jobs of these outputs, in their order
 abbrev pub jobs_in : {Out : Type 0} → List (Output Out) → List ℕ
@@ -19,7 +23,10 @@ pub record IsRest {P Out : Type 0} (related : ℕ → ℕ → P → Out → Type
   pub distinct : AreDistinct (jobs_in r.outputs.items)
   pub free : r.free.items ≡ filter (λ t. not (has (jobs_in r.outputs.items) t.0)) (enumerate_from 1 payloads)
 
--- nothing was performed and the payloads come back, or what the worker left could not be settled
-abbrev pub IsRestFault : {P : Type 0} → List P → RestFault P → Type 0
-IsRestFault payloads (Untried back) = back.items ≡ payloads
-IsRestFault payloads Unsettled = ⊤
+-- What is given back of a floor of these payloads: the payloads themselves where nothing was performed, or the floor as it was
+-- opened, or the floor and the answers, which make a whole rest with each settlement of it.
+abbrev pub IsRestFault : {P Out : Type 0} → (ℕ → ℕ → P → Out → Type 0) → List P → RestFault P Out → Type 0
+IsRestFault related payloads (Untried back) = back.items ≡ payloads
+IsRestFault related payloads (Unhired floor book) = (book.table_id ≡ floor.table_id) × (book.view.payloads ≡ payloads) × (spots book ≡ replicate 1 Home)
+IsRestFault {P} {Out} related payloads (Unsettled floor book outputs) = (book.table_id ≡ floor.table_id)
+    × ((s : Settlement P) (r : Rest P Out) → IsWhole book.view.givens book.view.payloads book.view.seen (spots book) s → r.outputs.items ≡ outputs.items → r.free.items ≡ s.free.items → IsRest related payloads r)

@@ -18,7 +18,7 @@ pub enum Fault {
     Output,
     /// Memory was refused, or the crew is outside its ranges.
     Memory,
-    /// A round could not be settled.
+    /// A round or a floor could not be settled or sorted.
     Unsettled,
 }
 
@@ -36,18 +36,18 @@ impl From<RoundFault> for Fault {
     fn from(fault: RoundFault) -> Fault {
         match fault {
             RoundFault::Unpaid(_) => Fault::Memory,
-            RoundFault::Unsettled => Fault::Unsettled,
+            RoundFault::Unsettled(_) | RoundFault::Unsorted(_) => Fault::Unsettled,
         }
     }
 }
 
-impl<P: Drop> From<RestFault<P>> for Fault {
+impl<P: Drop, Out: Drop> From<RestFault<P, Out>> for Fault {
     ghost from_gives = { λ rest fault. fault ≡ fault_of_rest rest };
 
-    fn from(fault: RestFault<P>) -> Fault {
+    fn from(fault: RestFault<P, Out>) -> Fault {
         match fault {
-            RestFault::Untried(_) => Fault::Memory,
-            RestFault::Unsettled => Fault::Unsettled,
+            RestFault::Untried(_) | RestFault::Unhired(_, _) => Fault::Memory,
+            RestFault::Unsettled(_, _, _) => Fault::Unsettled,
         }
     }
 }

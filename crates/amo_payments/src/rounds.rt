@@ -7,7 +7,8 @@ ghost use Rattle.amo_crew.specs.Unsettling.{IsUnsettled};
 ghost use Rattle.amo_payments.specs.declared.day.payment.Payment.{Payment as PaymentView};
 ghost use Rattle.amo_payments.specs.Payments.{Answers};
 ghost use Rattle.amo_payments.specs.Sorting.{IsSorted, IsSortingOf};
-ghost use Rattle.amo_payments.specs.Rounds.{IsRound, IsRoundFault};
+ghost use Rattle.amo_payments.specs.Rounds.{IsRound, IsRunFault, IsRoundFault};
+ghost use Rattle.amo_payments.specs.declared.rounds.RoundFault.TheVariants.{Unsettled as UnsettledRound, Unsorted};
 
 use crate::bank::{Answer, Bank};
 use crate::day::Payment;
@@ -35,9 +36,10 @@ pub struct Crew {
 pub enum RoundFault {
     /// Nothing was paid, and the payments come back in their order: there was no memory, or the crew is outside its ranges.
     Unpaid(Vec<Payment>),
-    /// Memory was refused again and again where the round was to be settled or sorted. What became of its payments stands
-    /// in the journal alone.
-    Unsettled,
+    /// Memory was refused where the round was to be settled, twice. What it left can be settled later.
+    Unsettled(Unsettled<Payment, Answer>),
+    /// Memory was refused where the outcome of the round was to be sorted, twice. It can be sorted later.
+    Unsorted(Outcome<Payment, Answer>),
 }
 
 /// Takes the next round off the payments: their first 4096, or all. Where memory is refused they stay as they are.
@@ -72,13 +74,13 @@ fn sort_twice(
     ensures lists { IfOk result (IsSortingOf givens.jobs outcome) }
     ensures sorted { IfOk result (λ s. (payloads : List PaymentView) (budgets : List ℕ)
         → IsOutcome Answers givens payloads budgets outcome → IsSorted givens.jobs payloads s) }
-    ensures fault { IfErr result (λ f. (payloads : List PaymentView) → IsRoundFault payloads f) }
+    ensures fault { IfErr result (λ f. f ≡ Unsorted outcome) }
 {
     match sort_out(alloc, givens, outcome) {
         Ok(sorted) => Ok(sorted),
         Err(outcome) => match sort_out(alloc, givens, outcome) {
             Ok(sorted) => Ok(sorted),
-            Err(_) => Err(RoundFault::Unsettled),
+            Err(outcome) => Err(RoundFault::Unsorted(outcome)),
         },
     }
 }
@@ -91,12 +93,12 @@ fn settle_again<S: Write + Drop, R: Wait>(
 ) -> Result<Outcome<Payment, Answer>, RoundFault>
     ensures outcome { IfOk result (λ o. (g : GivensView) (payloads : List PaymentView) (budgets : List ℕ)
         → IsUnsettled Answers g payloads budgets rest → IsOutcome Answers g payloads budgets o) }
-    ensures fault { IfErr result (λ f. (payloads : List PaymentView) → IsRoundFault payloads f) }
+    ensures fault { IfErr result (λ f. f ≡ UnsettledRound rest) }
 {
     settled_later(bank);
     match rest.settle(alloc) {
         Ok(outcome) => Ok(outcome),
-        Err(_) => Err(RoundFault::Unsettled),
+        Err(rest) => Err(RoundFault::Unsettled(rest)),
     }
 }
 
@@ -110,7 +112,7 @@ fn run_round<S: Write + Drop + Send, R: Threads + Wait + Sync>(
     payments: Vec<Payment>,
 ) -> Result<Outcome<Payment, Answer>, RoundFault>
     ensures outcome { IfOk result (IsOutcome Answers plan.now.givens payments.items plan.now.budgets) }
-    ensures fault { IfErr result (IsRoundFault payments.items) }
+    ensures fault { IfErr result (IsRunFault plan.now.givens payments.items plan.now.budgets) }
 {
     match execute(rt, alloc, plan.givens(), payments, bank, plan) {
         Ok(outcome) | Err(ExecFault::ThreadRefused(outcome)) => Ok(outcome),
@@ -131,7 +133,7 @@ pub fn pay_round<S: Write + Drop + Send, R: Threads + Wait + Sync>(
 ) -> Result<Sorted, RoundFault>
     requires few { vec_len payments ≤ 4096 }
     ensures sorted { IfOk result (IsRound crew payments.items) }
-    ensures fault { IfErr result (IsRoundFault payments.items) }
+    ensures fault { IfErr result (IsRoundFault crew payments.items) }
 {
     let Some(plan) = plan_of(alloc, payments.len(), crew) else {
         return Err(RoundFault::Unpaid(payments));

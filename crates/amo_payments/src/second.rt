@@ -1,5 +1,5 @@
 //! A second floor, with one worker in the caller's own loop.
-ghost use Rattle.std.specs.Prelude.{◌≡◌, ◌≤◌, [], length, replicate, vec_len, vec_capacity, IfOk, IfErr, IfSome};
+ghost use Rattle.std.specs.Prelude.{◌≡◌, ◌≤◌, [], length, replicate, vec_len, vec_capacity, IfOk, IfErr};
 ghost use Rattle.amo_words.specs.Faces.{spots};
 ghost use Rattle.amo_words.specs.declared.rule.Spot.TheVariants.{Home};
 ghost use Rattle.amo_payments.specs.Second.{IsRest, IsRestFault};
@@ -22,15 +22,17 @@ pub struct Rest<P, Out> {
 
 /// Why a worker in the caller's own loop has left nothing.
 #[derive(Drop)]
-pub enum RestFault<P> {
+pub enum RestFault<P: Drop, Out> {
     /// Nothing was performed, and the payloads come back in their order: there was no memory.
     Untried(Vec<P>),
-    /// Memory was refused to hire the worker or to settle. What became of the payloads stands in the journal alone.
-    Unsettled,
+    /// Memory was refused to hire the worker. Nothing was begun: the floor and its book come back as they were opened.
+    Unhired(Floor<P>, Book<P>),
+    /// Memory was refused at the settling. The floor and its book come back, to be settled later, and the answers.
+    Unsettled(Floor<P>, Book<P>, Vec<Output<Out>>),
 }
 
-/// Hires worker 1 of an open floor of one worker and runs it until the flag is set, then settles. None where memory is
-/// refused.
+/// Hires worker 1 of an open floor of one worker and runs it until the flag is set, then settles. Where memory is
+/// refused floor and book come back.
 fn run_one<P: Drop, W: Work<P>>(
     alloc: Global,
     flag: &AtomicBool,
@@ -38,25 +40,26 @@ fn run_one<P: Drop, W: Work<P>>(
     floor: Floor<P>,
     mut book: Book<P>,
     outputs: Vec<Output<W::Out>>,
-) -> Option<Rest<P, W::Out>>
+) -> Result<Rest<P, W::Out>, RestFault<P, W::Out>>
 where
     W::Out: Drop,
     requires table { book.table_id ≡ floor.table_id }
     requires alone { (book.view.givens.workers ≡ 1) × (spots book ≡ replicate 1 Home) }
     requires room { (outputs.items ≡ []) × (book.view.givens.jobs ≤ vec_capacity outputs) }
-    ensures rest { IfSome result (IsRest (W.related work.now) book.view.payloads) }
+    ensures rest { IfOk result (IsRest (W.related work.now) book.view.payloads) }
+    ensures fault { IfErr result (IsRestFault (W.related work.now) book.view.payloads) }
 {
     let Ok(worker) = book.hire(alloc, &floor, 1) else {
-        return None;
+        return Err(RestFault::Unhired(floor, book));
     };
     let (gone, outputs) = run_until(flag, &floor, work, 1, worker, outputs);
     gone.collect(&floor, &mut book);
     match floor.settle(alloc, book) {
-        Ok(settlement) => Some(Rest {
+        Ok(settlement) => Ok(Rest {
             outputs,
             free: settlement.free,
         }),
-        Err(_) => None,
+        Err((floor, book)) => Err(RestFault::Unsettled(floor, book, outputs)),
     }
 }
 
@@ -67,12 +70,12 @@ pub fn run_alone<P: Drop, W: Work<P>>(
     flag: &AtomicBool,
     work: &W,
     payloads: Vec<P>,
-) -> Result<Rest<P, W::Out>, RestFault<P>>
+) -> Result<Rest<P, W::Out>, RestFault<P, W::Out>>
 where
     W::Out: Drop,
     requires few { vec_len payloads ≤ 4096 }
     ensures rest { IfOk result (IsRest (W.related work.now) payloads.items) }
-    ensures fault { IfErr result (IsRestFault payloads.items) }
+    ensures fault { IfErr result (IsRestFault (W.related work.now) payloads.items) }
 {
     let Ok(givens) = Givens::try_new(payloads.len() as u64, 1, 1) else {
         return Err(RestFault::Untried(payloads));
@@ -81,10 +84,7 @@ where
         return Err(RestFault::Untried(payloads));
     };
     match Floor::try_new(alloc, givens, payloads) {
-        Ok((floor, book)) => match run_one(alloc, flag, work, floor, book, outputs) {
-            Some(rest) => Ok(rest),
-            None => Err(RestFault::Unsettled),
-        },
+        Ok((floor, book)) => run_one(alloc, flag, work, floor, book, outputs),
         Err(OpenFault::WrongCount(payloads) | OpenFault::NoMemory(payloads)) => {
             Err(RestFault::Untried(payloads))
         }
