@@ -7,7 +7,8 @@ use Rattle.amo_payments.specs.declared.line.Entry.{Entry}
 use Rattle.amo_payments.specs.declared.day.payment.Payment.{Payment}
 use Rattle.amo_payments.specs.declared.restarting.Restart.{Restart}
 use Rattle.amo_payments.specs.Restarts.{IsParted, was_made, is_in_doubt, is_untried}
-use Rattle.amo_payments.specs.Reports.{AppendsFront, ArePaid, AreTried, TellsNext, TellsPart, IsReport, Reports, ReportsFront, lines_of}
+use Rattle.amo_payments.specs.Lines.{AppendsFront}
+use Rattle.amo_payments.specs.Reports.{ArePaid, AreTried, TellsNext, TellsPart, IsReport, Reports, ReportsFront, lines_of}
 use Rattle.amo_payments.proofs.Floors.{none}
 use Rattle.amo_payments.proofs.Fronts.{nothing, first, next}
 

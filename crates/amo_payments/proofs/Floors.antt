@@ -7,7 +7,8 @@ use Rattle.std.proofs.KnownBytes.{Appends-nil, Appends-trans}
 use Rattle.std.proofs.lemmas.Grind.{flat_map-append}
 use Rattle.std.proofs.lemmas.List.Elements.{All-nil, All-cons, All-append}
 use Rattle.amo_payments.specs.declared.day.payment.Payment.{Payment}
-use Rattle.amo_payments.specs.Reports.{AppendsFront, AreFloors, TellsNext, TellsPart, payments_of}
+use Rattle.amo_payments.specs.Lines.{AppendsFront}
+use Rattle.amo_payments.specs.Reports.{AreFloors, TellsNext, TellsPart, payments_of}
 use Rattle.amo_payments.proofs.Fronts.{nothing, next as front_next}
 
 module _ {X : Type 0} (Is : List Payment → X → Type 0) (free_in : X → List (ℕ × Payment)) (text_of : X → List ℕ) where

@@ -1,10 +1,13 @@
 -- A text that is written in pieces, and a beginning of it.
-use Rattle.std.proofs.Common.{◌≡◌, ℕ, ◌+◌, ◌≤◌, List, [], ◌++◌, length, take, Option, Result, Ok, Err, OnErr, refl, sym, ap, subst, arith, length-append}
-use Rattle.std.specs.Io.KnownBytes.{Appends}
-use Rattle.std.proofs.KnownBytes.{Appends-nil, Appends-trans}
+use Rattle.std.proofs.Common.{◌≡◌, ℕ, ◌+◌, ◌≤◌, List, [], ◌++◌, length, take, Option, Result, Ok, Err, OnErr, IfErr, refl, sym, ap, ◌∙◌, subst, arith, length-append}
+use Rattle.std.specs.Prelude.{⊤}
+use Rattle.std.specs.Io.KnownBytes.{Appends, Keeps}
+use Rattle.std.proofs.KnownBytes.{Appends-nil, Appends-kept, Appends-trans}
+use Rattle.amo_payments.specs.declared.fault.Fault.{Fault}
+use Rattle.amo_payments.specs.declared.fault.Fault.TheVariants.{Line, Input, Output, Memory, Unsettled}
 use Rattle.std.proofs.Math.Seq.{take-append-add}
 use Rattle.std.proofs.lemmas.List.{take-append-le, take_all}
-use Rattle.amo_payments.specs.Reports.{AppendsFront}
+use Rattle.amo_payments.specs.Lines.{AppendsFront}
 
 pub nothing : (a : Option (List ℕ)) (text : List ℕ) → AppendsFront a a text
 nothing a text = (0, omega arith, Appends-nil a)
@@ -26,3 +29,26 @@ next a b c xs ys h k =
 pub on_err : {T E P : Type 0} (r : Result T E) → P → OnErr r P
 on_err (Ok x) h = tt
 on_err (Err e) h = h
+
+-- what is kept of a whole text is a beginning of it
+pub kept : (a b c : Option (List ℕ)) (text : List ℕ) → Appends a b text → Keeps b c → AppendsFront a c text
+kept a b c text h k = whole a c text (Appends-kept a b c text h k)
+
+output_is_not_memory : Output ≡ Memory → ⊥
+output_is_not_memory e = subst is_output e tt
+  where
+    is_output : Fault → Type 0
+    is_output Line = ⊥
+    is_output Input = ⊥
+    is_output Output = ⊤
+    is_output Memory = ⊥
+    is_output Unsettled = ⊥
+
+abbrev fault_in : {T : Type 0} → Fault → Result T Fault → Fault
+fault_in f (Ok x) = f
+fault_in f (Err e) = e
+
+-- a writer that fails is no want of memory
+pub wrote : {T : Type 0} (a b : Option (List ℕ)) (r : Result T Fault) → IfErr r (λ f. f ≡ Output) → r ≡ Err Memory → Keeps a b
+wrote a b (Ok x) h e = absurd (output_is_not_memory (ap (fault_in Output) e))
+wrote a b (Err f) h e = absurd (output_is_not_memory (sym h ∙ ap (fault_in Output) e))

@@ -1,21 +1,30 @@
 -- The lines of the input and of the journal.
-use Rattle.std.specs.Prelude.{ℕ, ◌^◌, Bool, ◌&&◌, nat_lt, List, [], ◌∷◌, ◌++◌, ◌==◌, length, codes, Option, Some, None, option_and_then, if◌then◌else◌}
+use Rattle.std.specs.Prelude.{ℕ, ◌≤◌, ◌^◌, Bool, ◌&&◌, nat_lt, List, [], ◌∷◌, ◌++◌, ◌==◌, length, take, codes, Option, Some, None, option_and_then, if◌then◌else◌}
 use Rattle.std.specs.Char.{digit_value}
 use Rattle.std.specs.List.{list_all, position_or_len, before_first, after_first}
 use Rattle.std.specs.Fmt.{decimal}
+use Rattle.std.specs.Io.KnownBytes.{Appends}
 use Rattle.std.specs.Str.{bytes_eq}
 use Rattle.std.specs.Str.Parse.{digits_value, without_leading_plus}
 use Rattle.amo_payments.specs.declared.line.Entry.TheVariants.{Intent, Receipt}
 use Rattle.amo_payments.specs.declared.line.Line.{Line}
 use Rattle.amo_payments.specs.declared.line.Line.TheVariants.{Workers, Steps, Limit, Pay, Old}
 
+-- known bytes grow by a beginning of bs
+abbrev pub AppendsFront : Option (List ℕ) → Option (List ℕ) → List ℕ → Type 0
+AppendsFront old new bs = (k : ℕ) × (k ≤ length bs) × Appends old new (take k bs)
+
+-- the line of a word and a number
+abbrev pub line : List ℕ → ℕ → List ℕ
+line word id = (word ++ 32 ∷ decimal id) ++ 10 ∷ []
+
 -- the line of an intent
 abbrev pub intent_line : ℕ → List ℕ
-intent_line id = (codes "intent " ++ decimal id) ++ 10 ∷ []
+intent_line id = line (codes "intent") id
 
 -- the line of a receipt
 abbrev pub receipt_line : ℕ → List ℕ
-receipt_line id = (codes "receipt " ++ decimal id) ++ 10 ∷ []
+receipt_line id = line (codes "receipt") id
 
 -- one digit or more, and nothing else
 abbrev pub are_digits : List ℕ → Bool

@@ -1,6 +1,5 @@
 -- What the program writes of a day.
-use Rattle.std.specs.Prelude.{◌≡◌, ℕ, ◌≤◌, List, [], ◌∷◌, ◌++◌, length, map, filter, take, All, Option, codes}
-use Rattle.std.specs.Fmt.{decimal}
+use Rattle.std.specs.Prelude.{◌≡◌, ℕ, List, [], ◌++◌, map, filter, All, Option, codes}
 use Rattle.std.specs.List.{flat_map}
 use Rattle.std.specs.Io.KnownBytes.{Appends}
 use Rattle.amo_crew.specs.declared.hand.Output.{Output}
@@ -11,18 +10,11 @@ use Rattle.amo_payments.specs.declared.bank.Answer.TheVariants.{Paid, Unpaid}
 use Rattle.amo_payments.specs.declared.rounds.Crew.{Crew}
 use Rattle.amo_payments.specs.declared.second.Rest.{Rest}
 use Rattle.amo_payments.specs.declared.sorting.Sorted.{Sorted}
+use Rattle.amo_payments.specs.Lines.{AppendsFront, line}
 use Rattle.amo_payments.specs.Payments.{Answers}
 use Rattle.amo_payments.specs.Restarts.{was_made, is_in_doubt, is_untried}
 use Rattle.amo_payments.specs.Rounds.{IsRound}
 use Rattle.amo_payments.specs.Second.{IsRest}
-
--- known bytes grow by a beginning of bs
-abbrev pub AppendsFront : Option (List ℕ) → Option (List ℕ) → List ℕ → Type 0
-AppendsFront old new bs = (k : ℕ) × (k ≤ length bs) × Appends old new (take k bs)
-
--- the line of a word and a number
-abbrev pub line : List ℕ → ℕ → List ℕ
-line word id = (word ++ 32 ∷ decimal id) ++ 10 ∷ []
 
 -- a line of this word for each payment
 abbrev pub lines_of : List ℕ → List Payment → List ℕ

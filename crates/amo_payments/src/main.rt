@@ -17,6 +17,7 @@ mod second;
 mod sorting;
 mod stopping;
 mod telling;
+mod writing;
 
 use program::serve;
 use std::process::ExitCode;

@@ -121,7 +121,7 @@ fn pay_day<S: Write + Drop + Send, O: Write, R: Threads + Wait + Sync>(
     tell_each(alloc, out, "before", &parts.made)?;
     tell_each(alloc, out, "doubt", &parts.in_doubt)?;
     let stop = AtomicBool::new(day.limit == 0);
-    let bank = Bank::new(rt, Journal::new(sink), day.limit, &stop);
+    let bank = Bank::new(rt, Journal::new(alloc, sink), day.limit, &stop);
     let free = pay_all(rt, alloc, out, &bank, day.crew, parts.untried)?;
     let left = try_all(alloc, &stop, out, &bank, free)?;
     tell_each(alloc, out, "free", &left)

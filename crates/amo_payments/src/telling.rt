@@ -1,41 +1,31 @@
 //! Writes what became of payments, a line for each.
-ghost use Rattle.std.specs.Prelude.{◌≡◌, ◌++◌, true, IfOk, IfErr, OnOk, OnErr, string_bytes};
-ghost use Rattle.std.specs.Io.KnownBytes.{Appends};
+ghost use Rattle.std.specs.Prelude.{◌≡◌, ◌++◌, true, Err, IfErr, OnOk, OnErr, string_bytes};
+ghost use Rattle.std.specs.Io.KnownBytes.{Appends, Keeps};
 ghost use Rattle.amo_payments.specs.Faults.{is_of_telling};
-ghost use Rattle.amo_payments.specs.Reports.{AppendsFront, line, lines_of, answer_lines, hand_lines, round_text};
-ghost use Rattle.amo_payments.specs.declared.fault.Fault.TheVariants.{Output as NoOutput};
+ghost use Rattle.amo_payments.specs.Lines.{AppendsFront};
+ghost use Rattle.amo_payments.specs.Reports.{lines_of, answer_lines, hand_lines, round_text};
+ghost use Rattle.amo_payments.specs.declared.fault.Fault.TheVariants.{Output as NoOutput, Memory as NoMemory};
 
 use crate::bank::Answer;
 use crate::day::Payment;
 use crate::fault::Fault;
 use crate::sorting::Sorted;
+use crate::writing::{push_line, write_text};
 use amo_crew::Output;
 use std::alloc::{AllocError, Global};
 use std::io::Write;
 
 /// Writes all of the text. Where the writer fails a beginning of it was taken.
-fn write_text<O: Write>(out: &mut O, text: &str) -> Result<(), Fault>
+fn write_out<O: Write>(out: &mut O, text: &str) -> Result<(), Fault>
     ensures whole { OnOk result (Appends (O.contents out.old) (O.contents out.new) text.now) }
     ensures front { OnErr result (AppendsFront (O.contents out.old) (O.contents out.new) text.now) }
     ensures fault { IfErr result (λ fault. fault ≡ NoOutput) }
 {
-    let bytes = text.as_bytes();
-    let mut at = 0;
-    'writing: while at < bytes.len() {
-        let (_, rest) = bytes.split_at(at);
-        match out.write(rest) {
-            Ok(0) | Err(_) => return Err(Fault::Output),
-            Ok(count) => at += count,
-        }
+    if write_text(out, text) {
+        Ok(())
+    } else {
+        Err(Fault::Output)
     }
-    Ok(())
-}
-
-/// Appends the line of a word and a number.
-fn push_line(text: &mut String, word: &str, id: u64) -> Result<(), AllocError>
-    ensures { OnOk result (string_bytes text.new ≡ string_bytes text.old ++ line word.now id) }
-{
-    writeln!(text, "{word} {id}")
 }
 
 /// Appends a line of this word for each payment.
@@ -80,11 +70,12 @@ pub fn tell_each<O: Write>(
 ) -> Result<(), Fault>
     ensures whole { OnOk result (Appends (O.contents out.old) (O.contents out.new) (lines_of word.now payments.now)) }
     ensures front { OnErr result (AppendsFront (O.contents out.old) (O.contents out.new) (lines_of word.now payments.now)) }
+    ensures memory { result ≡ Err NoMemory → Keeps (O.contents out.old) (O.contents out.new) }
     ensures fault { IfErr result (λ fault. is_of_telling fault ≡ true) }
 {
     let mut text = String::new(alloc);
     push_each(&mut text, word, payments)?;
-    write_text(out, text.as_str())
+    write_out(out, text.as_str())
 }
 
 /// Writes a line for each answer: `done` with a receipt, and `doubt` without. Where memory is refused nothing is written.
@@ -95,11 +86,12 @@ pub fn tell_answers<O: Write>(
 ) -> Result<(), Fault>
     ensures whole { OnOk result (Appends (O.contents out.old) (O.contents out.new) (answer_lines outputs.now)) }
     ensures front { OnErr result (AppendsFront (O.contents out.old) (O.contents out.new) (answer_lines outputs.now)) }
+    ensures memory { result ≡ Err NoMemory → Keeps (O.contents out.old) (O.contents out.new) }
     ensures fault { IfErr result (λ fault. is_of_telling fault ≡ true) }
 {
     let mut text = String::new(alloc);
     push_answers(&mut text, outputs)?;
-    write_text(out, text.as_str())
+    write_out(out, text.as_str())
 }
 
 /// Writes a line for each payment of a round that a worker got: `done` with a receipt, and `doubt` without. Where memory is
@@ -107,10 +99,11 @@ pub fn tell_answers<O: Write>(
 pub fn tell_round<O: Write>(alloc: Global, out: &mut O, sorted: &Sorted) -> Result<(), Fault>
     ensures whole { OnOk result (Appends (O.contents out.old) (O.contents out.new) (round_text sorted.now)) }
     ensures front { OnErr result (AppendsFront (O.contents out.old) (O.contents out.new) (round_text sorted.now)) }
+    ensures memory { result ≡ Err NoMemory → Keeps (O.contents out.old) (O.contents out.new) }
     ensures fault { IfErr result (λ fault. is_of_telling fault ≡ true) }
 {
     let mut text = String::new(alloc);
     push_answers(&mut text, &sorted.answers)?;
     push_hands(&mut text, &sorted.in_hand)?;
-    write_text(out, text.as_str())
+    write_out(out, text.as_str())
 }

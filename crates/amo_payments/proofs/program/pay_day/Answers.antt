@@ -1,7 +1,8 @@
 use Rattle.std.proofs.Common.{codes, refl, subst, OnOk, OnErr}
 use Rattle.std.proofs.lemmas.Result.{on_ok_weaker, on_err_weaker}
 use Rattle.std.specs.Io.KnownBytes.{Appends}
-use Rattle.amo_payments.specs.Reports.{AppendsFront, lines_of}
+use Rattle.amo_payments.specs.Lines.{AppendsFront}
+use Rattle.amo_payments.specs.Reports.{lines_of}
 use Rattle.amo_payments.proofs.DayReports.{made_of, doubtful_of, untried_of, at_first, at_before, at_doubt, at_rounds, at_floors, at_last, at_end}
 use Rattle.amo_payments.proofs.Fronts.{on_err}
 use Rattle.amo_payments.proofs.program.pay_day.Goals as goal

@@ -1,6 +1,7 @@
 use Rattle.std.proofs.Common.{subst}
 use Rattle.std.specs.Io.KnownBytes.{Appends}
-use Rattle.amo_payments.specs.Reports.{AppendsFront, answer_lines}
+use Rattle.amo_payments.specs.Lines.{AppendsFront}
+use Rattle.amo_payments.specs.Reports.{answer_lines}
 use Rattle.amo_payments.proofs.Floors.{part_none, part_one, next_one}
 use Rattle.amo_payments.proofs.Fronts.{on_err, whole}
 use Rattle.amo_payments.proofs.program.try_next.Goals as goal

@@ -1,7 +1,7 @@
 use Rattle.std.proofs.Common.{arith}
 use Rattle.std.proofs.Math.Seq.{take-add}
 use Rattle.std.proofs.KnownBytes.{Appends-trans}
-use Rattle.amo_payments.proofs.telling.write_text.Goals as goal
+use Rattle.amo_payments.proofs.writing.write_text.Goals as goal
 
 pub writing-preserved : goal.writing-preserved
 writing-preserved g c =

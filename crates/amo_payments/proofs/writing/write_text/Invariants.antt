@@ -1,6 +1,6 @@
 use Rattle.std.proofs.Common.{◌≡◌, ◌≤◌, ◌-◌, length, take}
 use Rattle.std.specs.Io.KnownBytes.{Appends}
-use Rattle.amo_payments.proofs.telling.write_text.Given as goal
+use Rattle.amo_payments.proofs.writing.write_text.Given as goal
 
 -- the writer took the bytes so far
 abbrev pub invariant-writing : goal.invariant-writing
