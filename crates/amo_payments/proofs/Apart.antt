@@ -1,6 +1,6 @@
 -- A job of which there is an output is not free.
 use Rattle.std.proofs.Common.{◌≡◌, ℕ, zero, suc, ◌-◌, Bool, true, false, cond, eqb, ◌||◌, List, [], ◌∷◌, ◌++◌, map, Some, slice_get, get_or, refl, sym, ap, ◌∙◌, subst, arith}
-use Rattle.std.proofs.lemmas.Bool.{true≢false, eqb-true, eq-eqb}
+use Rattle.std.proofs.lemmas.Bool.{or_right, true≢false, eqb-true, eq-eqb}
 use Rattle.amo_sets.specs.Sets.{has}
 use Rattle.amo_sets.proofs.Numbers.{has-append}
 use Rattle.amo_kk.specs.declared.givens.Givens.{Givens}
@@ -22,10 +22,6 @@ use Rattle.amo_payments.specs.declared.day.payment.Payment.{Payment}
 use Rattle.amo_payments.specs.declared.bank.Answer.{Answer}
 use Rattle.amo_payments.specs.Second.{jobs_in}
 use Rattle.amo_payments.specs.Sorting.{has_free}
-
-or_right : (a b : Bool) → b ≡ true → a || b ≡ true
-or_right true b h = refl
-or_right false b h = h
 
 -- a free job is claimed by nobody
 pub free_is_unclaimed : (all : List Process) (i : ℕ) (xs : List Payment) (j : ℕ) → has_free (free_of all i xs) j ≡ true → is_claimed all j ≡ false

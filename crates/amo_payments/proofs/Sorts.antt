@@ -1,6 +1,6 @@
 -- How the jobs of a run are sorted.
 use Rattle.std.proofs.Common.{◌≡◌, ℕ, zero, suc, ◌+◌, ◌-◌, ◌≤◌, Bool, true, false, cond, not, eqb, ◌&&◌, ◌||◌, List, [], ◌∷◌, map, filter, All, Some, slice_get, refl, sym, ap, ◌∙◌, subst, arith}
-use Rattle.std.proofs.lemmas.Bool.{true≢false, eqb-true, eqb-false}
+use Rattle.std.proofs.lemmas.Bool.{or_right, true≢false, eqb-true, eqb-false}
 use Rattle.std.proofs.lemmas.List.Elements.{All-cons, All-nil}
 use Rattle.std.specs.List.{range_with_len}
 use Rattle.amo_sets.specs.Sets.{has}
@@ -62,10 +62,6 @@ pub one_of : (a b c : Bool) → c ≡ not (a || b) → (a ≡ true → b ≡ fal
 one_of true b c e n = (n refl, e)
 one_of false true c e n = e
 one_of false false c e n = e
-
-or_right : (a b : Bool) → b ≡ true → a || b ≡ true
-or_right true b h = refl
-or_right false b h = h
 
 either : (a c b d : Bool) → (a ≡ true → c ≡ true) → (b ≡ true → d ≡ true) → a || b ≡ true → c || d ≡ true
 either true c b d f g h = ap (λ e. e || d) (f refl)

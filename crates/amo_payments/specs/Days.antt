@@ -54,13 +54,9 @@ pub record IsDayWith (b : Day) (line : Line) (c : Day) : Type 0 where
   pub payments : c.payments.items ≡ b.payments.items ++ payments_in (length b.payments.items + 1) line
   pub journal : c.journal.items ≡ b.journal.items ++ entries_in line
 
--- the accounts and amounts of the payments, in their order
+-- the accounts and amounts of the payments that a line adds
 abbrev pub paid_in : Line → List (ℕ × ℕ)
-paid_in (Pay account cents) = (account, cents) ∷ []
-paid_in (Workers n) = []
-paid_in (Steps n) = []
-paid_in (Limit n) = []
-paid_in (Old e) = []
+paid_in line = map (λ p. (p.account, p.cents)) (payments_in 1 line)
 
 -- What a day without lines is: one worker, and no limit.
 abbrev pub first_crew : Crew
