@@ -97,8 +97,8 @@ fn day_of(alloc: Global, text: &str) -> Result<Day, Fault>
     Ok(day)
 }
 
-/// Reads all of the input, and the day that it says. A line that is none, or whose end is missing, refuses the whole day. Input is refused where it
-/// can't be read, or is no text.
+/// Reads all of the input, and the day that it says. A line that is none, or whose end is missing, refuses the whole day.
+/// Input is refused where it can't be read, or is no text.
 pub fn read_day<B: Read>(alloc: Global, input: &mut B) -> Result<Day, Fault>
     ensures day { IfOk result (λ day. IfSome (B.remaining input.old) (λ text. IsDayOf text day)) }
     ensures line { result ≡ Err BrokenLine → IfSome (B.remaining input.old) (λ text. has_broken_line text ≡ true) }
