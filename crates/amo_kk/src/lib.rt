@@ -15,6 +15,3 @@ pub use givens::{Givens, GivensFault};
 pub use local::Local;
 pub use model::{Object, Process, Record, World};
 pub use phase::{Phase, Want};
-
-#[cfg(test)]
-mod tests;

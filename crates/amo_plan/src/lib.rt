@@ -35,6 +35,3 @@ pub use reading::read_plan;
 pub use result::result_of;
 pub use task::Task;
 pub use text::Text;
-
-#[cfg(test)]
-mod tests;

@@ -45,6 +45,3 @@ pub use stops::stops_text;
 pub use streamed::Streamed;
 pub use streams::{Failed, Sink, Source};
 pub use tallies::{push_performed, push_performed_words};
-
-#[cfg(test)]
-mod tests;

@@ -21,6 +21,3 @@ pub use picturing::{picture, picture_text};
 pub use step::{Act, Fact, Step};
 pub use steps::steps_of;
 pub use tracing::{trace, trace_text};
-
-#[cfg(test)]
-mod tests;

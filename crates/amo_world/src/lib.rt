@@ -13,6 +13,3 @@ pub use amo_kk::Event;
 pub use answer::{Alone, Turned, Verdict};
 pub use judging::judge;
 pub use world::World;
-
-#[cfg(test)]
-mod tests;

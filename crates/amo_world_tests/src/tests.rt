@@ -1,6 +1,6 @@
 //! Worked schedules, judged lists, the largest world, and out of memory.
-use super::*;
 use amo_kk::{Givens, Leaving, Move};
+use amo_world::{Event, Turned, World};
 use std::alloc::{AllocError, Global};
 use std::process::Abort;
 use std::test::Fail;

@@ -4,6 +4,7 @@ use Event::{Claimed, Done, Ended, Halted};
 use Move::{Halt, Turn};
 use Part::{Then, Works};
 use amo_kk::Phase;
+use amo_world::Alone;
 
 #[test]
 fn nobody_works_without_jobs(rt: HostRuntime) -> Result<(), Fail> {

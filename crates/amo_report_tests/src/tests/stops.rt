@@ -1,5 +1,6 @@
 //! Texts of stops.
 use super::*;
+use amo_report::stops_text;
 
 /// Two jobs, two workers and four turns of the first; the rounds have no part in its stops.
 const FOUR_TURNS: &str =

@@ -1,6 +1,7 @@
 //! What a plan says.
 use super::*;
 use amo_kk::Move;
+use amo_plan::{Heads, Plan};
 use std::test::Fail;
 
 /// What a plan of version 1 is to say.

@@ -2,6 +2,7 @@
 use super::*;
 use Event::{Claimed, Done, Ended, Halted, Left};
 use Verdict::{FirstBad, Lawful};
+use amo_world::{Verdict, judge};
 use std::alloc::AllocError;
 
 /// What the judge says with so many jobs, two workers and the threshold 2.

@@ -1,5 +1,5 @@
 //! Worked values of the givens and of the local machine.
-use super::*;
+use amo_kk::{Givens, GivensFault, Local, Phase, Shown, Want};
 use std::alloc::{AllocError, Global};
 use std::process::Abort;
 use std::test::Fail;

@@ -1,9 +1,11 @@
 //! Reports of worked plans, from their bytes.
 ghost use Rattle.std.specs.Prelude.{◌≡◌, false};
 
-use super::*;
 use amo_kk::GivensFault;
 use amo_plan::{Plan, PlanFault, read_plan};
+use amo_report::{
+    Bytes, ReplayFault, Room, check, explore_plan, fault_text, read_source, replay, stops_plan,
+};
 use std::alloc::{AllocError, Global};
 use std::process::Abort;
 

@@ -2,6 +2,7 @@
 use super::*;
 use amo_crew::{End, Outcome, Output, Settlement};
 use amo_plan::{Answer, Block, Text};
+use amo_report::outcome_text;
 
 /// What an answer says.
 #[derive(Clone, Copy)]

@@ -1,5 +1,6 @@
 //! Texts of the explorer.
 use super::*;
+use amo_report::{MOST_FIRST, explore};
 
 /// Two jobs, two workers and five rounds, which follow what is explored; the plan's own schedule doesn't.
 const TWO_JOBS: &str =

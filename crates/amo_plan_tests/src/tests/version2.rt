@@ -1,6 +1,7 @@
 //! Version 2: blocks, and the words of leaving.
 use super::*;
 use amo_kk::{GivensFault, Move};
+use amo_plan::Plan;
 use std::test::Fail;
 
 /// A plan of version 2 of so many jobs with names of their own.

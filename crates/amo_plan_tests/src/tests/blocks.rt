@@ -1,5 +1,6 @@
 //! Answers, and tasks in blocks.
 use super::*;
+use amo_plan::{Answer, Block, answer_block, answer_of, blocks_of};
 use std::test::Fail;
 
 /// Five tasks: three texts, a sum, and one that doesn't fit.

@@ -1,9 +1,9 @@
 //! Traces and pictures of worked plans, from their bytes.
 ghost use Rattle.std.specs.Prelude.{◌≡◌, false};
 
-use super::*;
 use amo_plan::{PlanFault, read_plan};
 use amo_report::{Bytes, ReplayFault, Room};
+use amo_trace::{Fact, picture, picture_text, steps_of, trace, trace_text};
 use std::alloc::Global;
 use std::process::Abort;
 

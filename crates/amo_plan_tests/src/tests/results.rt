@@ -1,5 +1,6 @@
 //! The results of tasks, and the small types.
 use super::*;
+use amo_plan::result_of;
 use std::test::Fail;
 
 /// The result of a task, which is empty where the task doesn't fit.

@@ -1,6 +1,6 @@
 //! What no clause says: which texts the definition takes and refuses, by examples.
-use super::*;
 use amo_kk::Move;
+use amo_plan::{Items, PlanFault, Task, Text, read_plan};
 use std::alloc::{AllocError, Global};
 use std::process::Abort;
 

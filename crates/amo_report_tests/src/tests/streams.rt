@@ -2,6 +2,7 @@
 ghost use Rattle.std.specs.Prelude.{◌≡◌, false};
 
 use super::*;
+use amo_report::{Failed, ReadFault, Sink, Source, Streamed, read_all, write_all};
 use std::io;
 use std::io::{Cursor, ErrorKind, Read, Write};
 

@@ -1,6 +1,7 @@
 //! Check texts, fault texts, and reports of worlds that were run by hand.
 use super::*;
 use amo_kk::Move;
+use amo_report::{check_text, report_text};
 use amo_world::World;
 
 #[test]
