@@ -4,7 +4,7 @@ use Rattle.std.specs.Prelude.{⊤}
 use Rattle.std.specs.Io.KnownBytes.{Appends, Keeps}
 use Rattle.std.proofs.KnownBytes.{Appends-nil, Appends-kept, Appends-trans}
 use Rattle.amo_payments.specs.declared.fault.Fault.{Fault}
-use Rattle.amo_payments.specs.declared.fault.Fault.TheVariants.{Line, Input, Output, Memory, Unsettled}
+use Rattle.amo_payments.specs.declared.fault.Fault.TheVariants.{Line, Input, Crew, Output, Memory, Unsettled}
 use Rattle.std.proofs.Math.Seq.{take-append-add}
 use Rattle.std.proofs.lemmas.List.{take-append-le, take_all}
 use Rattle.amo_payments.specs.Lines.{AppendsFront}
@@ -40,6 +40,7 @@ output_is_not_memory e = subst is_output e tt
     is_output : Fault → Type 0
     is_output Line = ⊥
     is_output Input = ⊥
+    is_output Crew = ⊥
     is_output Output = ⊤
     is_output Memory = ⊥
     is_output Unsettled = ⊥

@@ -1,7 +1,7 @@
 -- What a fault can be of.
 use Rattle.std.specs.Prelude.{Bool, true, false}
 use Rattle.amo_payments.specs.declared.fault.Fault.{Fault}
-use Rattle.amo_payments.specs.declared.fault.Fault.TheVariants.{Line, Input, Output, Memory, Unsettled}
+use Rattle.amo_payments.specs.declared.fault.Fault.TheVariants.{Line, Input, Crew, Output, Memory, Unsettled}
 use Rattle.amo_payments.specs.declared.rounds.RoundFault.{RoundFault}
 use Rattle.amo_payments.specs.declared.rounds.RoundFault.TheVariants.{Unpaid, Unsettled as UnsettledRound, Unsorted}
 use Rattle.amo_payments.specs.declared.second.RestFault.{RestFault}
@@ -23,6 +23,7 @@ fault_of_rest (UnsettledRest floor book outputs) = Unsettled
 abbrev pub is_of_input : Fault → Bool
 is_of_input Line = true
 is_of_input Input = true
+is_of_input Crew = true
 is_of_input Output = false
 is_of_input Memory = false
 is_of_input Unsettled = false
@@ -31,6 +32,7 @@ is_of_input Unsettled = false
 abbrev pub is_of_reading : Fault → Bool
 is_of_reading Line = true
 is_of_reading Input = true
+is_of_reading Crew = true
 is_of_reading Output = false
 is_of_reading Memory = true
 is_of_reading Unsettled = false
@@ -39,6 +41,7 @@ is_of_reading Unsettled = false
 abbrev pub is_of_telling : Fault → Bool
 is_of_telling Line = false
 is_of_telling Input = false
+is_of_telling Crew = false
 is_of_telling Output = true
 is_of_telling Memory = true
 is_of_telling Unsettled = false
@@ -47,6 +50,7 @@ is_of_telling Unsettled = false
 abbrev pub is_of_paying : Fault → Bool
 is_of_paying Line = false
 is_of_paying Input = false
+is_of_paying Crew = false
 is_of_paying Output = true
 is_of_paying Memory = true
 is_of_paying Unsettled = true

@@ -1,5 +1,5 @@
 -- Payments that go in rounds.
-use Rattle.std.specs.Prelude.{◌≡◌, ℕ, List, length, replicate, Ok}
+use Rattle.std.specs.Prelude.{◌≡◌, ℕ, Bool, ◌&&◌, List, length, replicate, nat_le, Ok}
 use Rattle.amo_kk.specs.Givens.{givens_of}
 use Rattle.amo_kk.specs.declared.givens.Givens.{Givens}
 use Rattle.amo_crew.specs.declared.outcome.Outcome.{Outcome}
@@ -13,6 +13,10 @@ use Rattle.amo_payments.specs.declared.rounds.RoundFault.{RoundFault}
 use Rattle.amo_payments.specs.declared.rounds.RoundFault.TheVariants.{Unpaid, Unsettled, Unsorted}
 use Rattle.amo_payments.specs.Payments.{Answers}
 use Rattle.amo_payments.specs.Sorting.{IsSorted, IsSortingOf}
+
+-- the crew is from 1 to 16 workers, and each takes at most 10,000,000 steps
+abbrev pub is_fit : Crew → Bool
+is_fit crew = nat_le 1 crew.workers && nat_le crew.workers 16 && nat_le crew.steps 10000000
 
 -- The round was executed by this crew, each worker with its steps, and its jobs are sorted.
 pub record IsRound (crew : Crew) (payments : List Payment) (s : Sorted) : Type 0 where

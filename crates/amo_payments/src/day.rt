@@ -1,9 +1,11 @@
 //! What the input says: a day's payments, and the journal of an earlier run of it.
-ghost use Rattle.std.specs.Prelude.{◌≡◌, true, [], Err, map, IfOk, IfErr, IfSome, OnOk};
+ghost use Rattle.std.specs.Prelude.{◌≡◌, true, false, [], Err, map, IfOk, IfErr, IfSome, OnOk};
 ghost use Rattle.std.specs.Str.Lines.{lines};
 ghost use Rattle.amo_payments.specs.Days.{IsDay, IsDayOf, IsDayWith, has_broken_line, is_ended};
 ghost use Rattle.amo_payments.specs.Faults.{is_of_reading};
-ghost use Rattle.amo_payments.specs.declared.fault.Fault.TheVariants.{Line as BrokenLine, Input as NoInput};
+ghost use Rattle.amo_payments.specs.Rounds.{is_fit};
+ghost use Rattle.amo_payments.specs.declared.day.Day.{Day as DayView};
+ghost use Rattle.amo_payments.specs.declared.fault.Fault.TheVariants.{Line as BrokenLine, Input as NoInput, Crew as UnfitCrew};
 
 use crate::fault::Fault;
 use crate::line::{Entry, Line, line_of};
@@ -81,6 +83,7 @@ fn day_of(alloc: Global, text: &str) -> Result<Day, Fault>
     ensures day { IfOk result (IsDayOf text.now) }
     ensures line { result ≡ Err BrokenLine → has_broken_line text.now ≡ true }
     ensures input { result ≡ Err NoInput → ⊥ }
+    ensures crew { result ≡ Err UnfitCrew → ⊥ }
     ensures fault { IfErr result (λ fault. is_of_reading fault ≡ true) }
 {
     if !is_ended(text) {
@@ -97,16 +100,22 @@ fn day_of(alloc: Global, text: &str) -> Result<Day, Fault>
     Ok(day)
 }
 
-/// Reads all of the input, and the day that it says. A line that is none, or whose end is missing, refuses the whole day.
-/// Input is refused where it can't be read, or is no text.
+/// Reads all of the input, and the day that it says. A line that is none, or whose end is missing, refuses the whole day, as
+/// does a crew that is outside its ranges. Input is refused where it can't be read, or is no text.
 pub fn read_day<B: Read>(alloc: Global, input: &mut B) -> Result<Day, Fault>
     ensures day { IfOk result (λ day. IfSome (B.remaining input.old) (λ text. IsDayOf text day)) }
+    ensures fit { IfOk result (λ day. is_fit day.crew ≡ true) }
     ensures line { result ≡ Err BrokenLine → IfSome (B.remaining input.old) (λ text. has_broken_line text ≡ true) }
+    ensures crew { result ≡ Err UnfitCrew → IfSome (B.remaining input.old) (λ text. (day : DayView) × IsDayOf text day × (is_fit day.crew ≡ false)) }
     ensures fault { IfErr result (λ fault. is_of_reading fault ≡ true) }
 {
     let mut text = String::new(alloc);
     if input.read_to_string(&mut text).is_err() {
         return Err(Fault::Input);
     }
-    day_of(alloc, text.as_str())
+    let day = day_of(alloc, text.as_str())?;
+    if !day.crew.is_fit() {
+        return Err(Fault::Crew);
+    }
+    Ok(day)
 }

@@ -14,9 +14,11 @@ pub enum Fault {
     Line,
     /// The input can't be read.
     Input,
+    /// The crew that the input says is outside its ranges.
+    Crew,
     /// Standard output can't be written.
     Output,
-    /// Memory was refused, or the crew is outside its ranges.
+    /// Memory was refused.
     Memory,
     /// A round or a floor could not be settled or sorted.
     Unsettled,

@@ -1,10 +1,11 @@
 //! A day from its input to its report.
-ghost use Rattle.std.specs.Prelude.{◌≡◌, ◌⊎◌, ◌<◌, true, List, [], Err, vec_len, IfOk, IfErr, IfSome, OnOk, OnErr};
+ghost use Rattle.std.specs.Prelude.{◌≡◌, ◌⊎◌, ◌<◌, true, false, List, [], Err, vec_len, IfOk, IfErr, IfSome, OnOk, OnErr};
 ghost use Rattle.std.specs.Io.KnownBytes.{Keeps};
 ghost use Rattle.amo_payments.specs.declared.day.Day.{Day as DayView};
-ghost use Rattle.amo_payments.specs.declared.fault.Fault.TheVariants.{Line as BrokenLine};
+ghost use Rattle.amo_payments.specs.declared.fault.Fault.TheVariants.{Line as BrokenLine, Crew as UnfitCrew};
 ghost use Rattle.amo_payments.specs.Days.{IsDayOf, has_broken_line};
 ghost use Rattle.amo_payments.specs.Faults.{is_of_input, is_of_paying};
+ghost use Rattle.amo_payments.specs.Rounds.{is_fit};
 ghost use Rattle.amo_payments.specs.Reports.{ArePaid, AreTried, TellsPart, TellsNext, Reports, ReportsFront};
 
 use crate::bank::Bank;
@@ -141,6 +142,7 @@ pub fn serve<B: Read, S: Write + Drop + Send, O: Write, R: Threads + Wait + Sync
         ⊎ ((day : DayView) × IfSome (B.remaining input.old) (λ text. IsDayOf text day) × ReportsFront day (O.contents out.old) (O.contents out.new))) }
     ensures no_day { IfErr result (λ fault. is_of_input fault ≡ true → Keeps (O.contents out.old) (O.contents out.new)) }
     ensures line { result ≡ Err BrokenLine → IfSome (B.remaining input.old) (λ text. has_broken_line text ≡ true) }
+    ensures crew { result ≡ Err UnfitCrew → IfSome (B.remaining input.old) (λ text. (day : DayView) × IsDayOf text day × (is_fit day.crew ≡ false)) }
 {
     let day = read_day(alloc, input)?;
     pay_day(rt, alloc, sink, out, day)

@@ -7,7 +7,7 @@ ghost use Rattle.amo_crew.specs.Unsettling.{IsUnsettled};
 ghost use Rattle.amo_payments.specs.declared.day.payment.Payment.{Payment as PaymentView};
 ghost use Rattle.amo_payments.specs.Payments.{Answers};
 ghost use Rattle.amo_payments.specs.Sorting.{IsSorted, IsSortingOf};
-ghost use Rattle.amo_payments.specs.Rounds.{IsRound, IsRunFault, IsRoundFault};
+ghost use Rattle.amo_payments.specs.Rounds.{is_fit, IsRound, IsRunFault, IsRoundFault};
 ghost use Rattle.amo_payments.specs.declared.rounds.RoundFault.TheVariants.{Unsettled as UnsettledRound, Unsorted};
 
 use crate::bank::{Answer, Bank};
@@ -29,6 +29,15 @@ pub struct Crew {
     pub workers: u64,
     /// At most 10,000,000.
     pub steps: u64,
+}
+
+impl Crew {
+    /// Whether both numbers are within their ranges.
+    pub fn is_fit(self) -> bool
+        ensures { result ≡ is_fit self }
+    {
+        1 <= self.workers && self.workers <= 16 && self.steps <= 10_000_000
+    }
 }
 
 /// Why a round gives no sorted jobs.

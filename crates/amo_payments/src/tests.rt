@@ -241,10 +241,13 @@ fn nobody_is_paid_after_a_failure(rt: HostRuntime) -> Result<(), Fail> {
 
 #[test]
 fn each_fault_says_what_failed(rt: HostRuntime) -> Result<(), Fail> {
-    let rows: [(&[u8], Fault); 4] = [
+    let rows: [(&[u8], Fault); 7] = [
         (b"pay 7 250", Fault::Line),
         (b"pay \xff 1\n", Fault::Input),
-        (b"workers 17\npay 7 250\n", Fault::Memory),
+        (b"workers 0\npay 7 250\n", Fault::Crew),
+        (b"workers 17\npay 7 250\n", Fault::Crew),
+        (b"steps 10000001\npay 7 250\n", Fault::Crew),
+        (b"workers 16\nsteps 10000000\npay 7 250\n", Fault::Output),
         (b"limit 0\npay 7 250\n", Fault::Output),
     ];
     for (mut input, fault) in rows {
