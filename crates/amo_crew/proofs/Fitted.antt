@@ -1,12 +1,11 @@
 -- What comes of a run fits its givens: the lists and ends are those of all workers, and whatever is named is a job.
-use Rattle.std.proofs.Common.{◌≡◌, ℕ, zero, suc, ◌+◌, ◌-◌, ◌<◌, ◌≤◌, Bool, true, false, cond, eqb, ◌||◌, List, [], ◌∷◌, ◌++◌, length, map, get_or, All, Vec, Global, Option, Some, None, refl, sym, ap, ◌∙◌, subst, arith}
+use Rattle.std.proofs.Common.{◌≡◌, ℕ, zero, suc, ◌-◌, Bool, true, false, cond, eqb, ◌||◌, List, [], ◌∷◌, length, map, get_or, All, Vec, Global, Option, Some, refl, sym, ap, ◌∙◌, subst, arith}
 use Rattle.std.specs.Prelude.{slice_get, ◌==◌}
-use Rattle.std.proofs.lemmas.Bool.{true≢false, eq-eqb, or_left}
+use Rattle.std.proofs.lemmas.Bool.{true≢false, eq-eqb}
 use Rattle.std.proofs.lemmas.List.{length-map}
 use Rattle.std.proofs.lemmas.List.Elements.{All-cons, All-nil}
 use mathlib.Core.Option.{some, some-injective, some-ne-none}
 use lib.ListN.{get_elem?}
-use Rattle.amo_sets.specs.Lists.{numbered}
 use Rattle.amo_sets.specs.Sets.{has}
 use Rattle.amo_sets.proofs.Numbers.{has-append, is_itself}
 use Rattle.amo_kk.specs.Givens.{IsJob, IsWorker}
@@ -30,7 +29,7 @@ use Rattle.amo_words.proofs.Meetings.{stands_back, worker_back}
 use Rattle.amo_crew.specs.declared.hand.Output.{Output}
 use Rattle.amo_crew.specs.declared.outcome.Outcome.{Outcome}
 use Rattle.amo_crew.specs.Mailbox.{of}
-use Rattle.amo_crew.specs.Outcomes.{spot_of, dones_in, AreOutputs, IsOutcome}
+use Rattle.amo_crew.specs.Outcomes.{spot_of, dones_in, IsOutcome}
 use Rattle.amo_crew.specs.Fitting.{FitsGivens}
 use Rattle.amo_crew.proofs.Crews.{all_at}
 
@@ -81,7 +80,7 @@ back_at [] k l e = absurd cc
 back_at (x ∷ xs) zero l e = ap (λ (s : Spot). let o : Option Spot = Some s in o) e
 back_at (x ∷ xs) (suc k) l e = back_at xs k l e
 
-is_back : (spots : List Spot) (p : ℕ) (l : LocalView) → spot_of spots p ≡ Back l → IsBack spots p l
+pub is_back : (spots : List Spot) (p : ℕ) (l : LocalView) → spot_of spots p ≡ Back l → IsBack spots p l
 is_back spots zero l e = absurd cc
 is_back spots (suc k) l e = let place : k ≡ suc k - 1 = omega arith in (omega arith, subst (λ i. slice_get spots i ≡ Some (Back l)) place (back_at spots k l e))
 

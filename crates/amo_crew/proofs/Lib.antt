@@ -13,3 +13,4 @@ pub mod Large
 pub mod Outputs
 pub mod Zips
 pub mod Fitted
+pub mod Once

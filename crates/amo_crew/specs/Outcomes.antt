@@ -76,6 +76,18 @@ pub record IsOutcome {P Out : Type 0} (related : ℕ → ℕ → P → Out → T
   pub whole : IsWhole g payloads seen spots o.settlement
   pub run : HaveRun related g payloads budgets spots o.ends.items o.outputs.items o.in_hand.items
 
+-- the jobs that have an answer
+abbrev pub answered : {P Out : Type 0} → Outcome P Out → List ℕ
+answered o = map (λ x. x.job) o.outputs.items
+
+-- the jobs that came back in a worker's hand
+abbrev pub in_hand : {P Out : Type 0} → Outcome P Out → List ℕ
+in_hand o = map (λ t. t.1) o.in_hand.items
+
+-- the jobs that nobody began
+abbrev pub free_jobs : {P Out : Type 0} → Outcome P Out → List ℕ
+free_jobs o = map (λ t. t.0) o.settlement.free.items
+
 -- every thread was started
 abbrev pub AllStarted : List End → Type 0
 AllStarted ends = All (λ e. e ≢ NotStarted) ends

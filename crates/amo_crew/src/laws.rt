@@ -1,11 +1,12 @@
 //! What callers may lean on. Nothing here runs: each function's contract is a law.
-ghost use Rattle.std.specs.Prelude.{ℕ, List, All};
+ghost use Rattle.std.specs.Prelude.{◌≡◌, ℕ, true, false, List, All};
+ghost use Rattle.amo_sets.specs.Sets.{has, AreDistinct};
 ghost use Rattle.amo_kk.specs.Givens.{IsWorker};
 ghost use Rattle.amo_kk.specs.declared.givens.Givens.{Givens};
 ghost use Rattle.amo_crew.specs.declared.outcome.Outcome.{Outcome};
 ghost use Rattle.amo_crew.specs.declared.hand.Output.{Output};
 ghost use Rattle.amo_crew.specs.Fitting.{FitsGivens};
-ghost use Rattle.amo_crew.specs.Outcomes.{IsOutcome};
+ghost use Rattle.amo_crew.specs.Outcomes.{IsOutcome, answered, in_hand, free_jobs};
 ghost use Rattle.amo_crew.specs.Unsettling.{UnsettledView, IsUnsettled, IsSettledOf};
 
 use amo_claims::Work;
@@ -22,4 +23,16 @@ pub fn outcome_fits<P, W: Work<P>>(_work: &W)
         → IsOutcome (W.related _work.now) g payloads budgets o → FitsGivens g o }
     ensures workers { (g : Givens) (payloads : List P) (budgets : List ℕ) (o : Outcome P W.Out)
         → IsOutcome (W.related _work.now) g payloads budgets o → All (λ (x : Output W.Out). IsWorker g x.worker) o.outputs.items }
+{}
+
+/// In each outcome no job has two answers, none that has an answer is in a hand, and none of these is free.
+pub fn each_job_is_answered_once<P, W: Work<P>>(_work: &W)
+    ensures once { (g : Givens) (payloads : List P) (budgets : List ℕ) (o : Outcome P W.Out)
+        → IsOutcome (W.related _work.now) g payloads budgets o → AreDistinct (answered o) }
+    ensures hand { (g : Givens) (payloads : List P) (budgets : List ℕ) (o : Outcome P W.Out) (j : ℕ)
+        → IsOutcome (W.related _work.now) g payloads budgets o → has (answered o) j ≡ true → has (in_hand o) j ≡ false }
+    ensures free { (g : Givens) (payloads : List P) (budgets : List ℕ) (o : Outcome P W.Out) (j : ℕ)
+        → IsOutcome (W.related _work.now) g payloads budgets o → has (answered o) j ≡ true → has (free_jobs o) j ≡ false }
+    ensures kept { (g : Givens) (payloads : List P) (budgets : List ℕ) (o : Outcome P W.Out) (j : ℕ)
+        → IsOutcome (W.related _work.now) g payloads budgets o → has (in_hand o) j ≡ true → has (free_jobs o) j ≡ false }
 {}
