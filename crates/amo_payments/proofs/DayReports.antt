@@ -11,6 +11,7 @@ use Rattle.amo_payments.specs.Lines.{AppendsFront}
 use Rattle.amo_payments.specs.Reports.{ArePaid, AreTried, TellsNext, TellsPart, IsReport, Reports, ReportsFront, lines_of}
 use Rattle.amo_payments.proofs.Floors.{none}
 use Rattle.amo_payments.proofs.Fronts.{nothing, first, next}
+use Rattle.amo_payments.proofs.Tellings.{each_is_told}
 
 -- what was parted is what the journal says
 pub made_of : (day : Day) (journal : List Entry) (parts : Restart) (xs : List Payment) → IsParted journal day.payments.items parts → journal ≡ day.journal.items → xs ≡ parts.made.items
@@ -101,8 +102,9 @@ module _ (day : Day) (made doubtful untried : List Payment) (made_is : made ≡ 
   -- the whole report
   pub at_end : (free left : List Payment) (a b c d e f : Option (List ℕ)) → Appends a b before_lines → Appends b c doubt_lines → TellsNext (ArePaid day.crew) untried [] [] free c d
       → TellsNext AreTried free [] [] left d e → Appends e f (free_lines left) → Reports day a f
-  at_end free left a b c d e f h k p q l = (
+  at_end free left a b c d e f h k p q l = let whole = report [] [] free left p.1 q.1 (paid_to free p.0 p.1 p.2 p.3) (tried_to free left q.0 q.1 q.2 q.3) in (
     _,
-    report [] [] free left p.1 q.1 (paid_to free p.0 p.1 p.2 p.3) (tried_to free left q.0 q.1 q.2 q.3),
+    whole,
+    each_is_told day _ whole,
     Appends-trans a b f before_lines _ h (Appends-trans b c f doubt_lines _ k (Appends-trans c d f p.1 _ p.4 (Appends-trans d e f q.1 _ q.4 l))),
   )

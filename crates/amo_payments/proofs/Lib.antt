@@ -1,5 +1,4 @@
 pub mod Filters
-pub mod Apart
 pub mod Sorts
 pub mod Stops
 pub mod RoundLemmas
@@ -9,4 +8,6 @@ pub mod Seconds
 pub mod Fronts
 pub mod Floors
 pub mod DayLemmas
+pub mod HasLines
+pub mod Tellings
 pub mod DayReports

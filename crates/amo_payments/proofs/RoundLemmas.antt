@@ -1,5 +1,5 @@
 -- What a round is sorted into.
-use Rattle.std.proofs.Common.{◌≡◌, ℕ, List, length, replicate, Ok, Err, IfOk, IfErr, subst, sym, ap, ◌∙◌}
+use Rattle.std.proofs.Common.{◌≡◌, ℕ, List, length, replicate, Ok, Err, IfOk, IfErr, subst, sym}
 use Rattle.std.specs.Prelude.{Result}
 use Rattle.amo_kk.specs.Givens.{givens_of}
 use Rattle.amo_kk.specs.declared.givens.Givens.{Givens}
@@ -13,21 +13,21 @@ use Rattle.amo_payments.specs.declared.rounds.Crew.{Crew}
 use Rattle.amo_payments.specs.declared.rounds.RoundFault.{RoundFault}
 use Rattle.amo_payments.specs.declared.rounds.RoundFault.TheVariants.{Unpaid, Unsettled, Unsorted}
 use Rattle.amo_payments.specs.Payments.{Answers}
-use Rattle.amo_payments.specs.Sorting.{IsSorted, IsSortingOf}
+use Rattle.amo_payments.specs.Sorting.{ids_of, IsSorted, IsSortingOf}
 use Rattle.amo_payments.specs.Rounds.{IsRound, IsRunFault, IsRoundFault}
 
-pub round_of : (crew : Crew) (g h : Givens) (n : ℕ) (payments : List Payment) (budgets : List ℕ) (o : Outcome Payment Answer) (r : Result Sorted RoundFault)
-    → h ≡ g → n ≡ length payments → g.jobs ≡ n → givens_of n crew.workers crew.workers ≡ Ok g → budgets ≡ replicate crew.workers crew.steps → IsOutcome Answers g payments budgets o
-    → IfOk r (IsSortingOf h.jobs o) → IfOk r (λ s. (xs : List Payment) (bs : List ℕ) → IsOutcome Answers h xs bs o → IsSorted h.jobs xs s) → IfOk r (IsRound crew payments)
-round_of crew g h n payments budgets o (Ok s) same size count givens all is lists sorted = record {
+pub round_of : (crew : Crew) (g : Givens) (n : ℕ) (payments : List Payment) (ids : List ℕ) (budgets : List ℕ) (o : Outcome Payment Answer) (r : Result Sorted RoundFault)
+    → n ≡ length payments → ids ≡ ids_of payments → givens_of n crew.workers crew.workers ≡ Ok g → budgets ≡ replicate crew.workers crew.steps → IsOutcome Answers g payments budgets o
+    → IfOk r (IsSortingOf ids o) → IfOk r (λ s. (h : Givens) (xs : List Payment) (bs : List ℕ) → IsOutcome Answers h xs bs o → ids ≡ ids_of xs → IsSorted xs s) → IfOk r (IsRound crew payments)
+round_of crew g n payments ids budgets o (Ok s) size named givens all is lists sorted = record {
   givens = g;
   givens_are = subst (λ k. givens_of k crew.workers crew.workers ≡ Ok g) size givens;
   outcome = o;
   has_come = subst (λ bs. IsOutcome Answers g payments bs o) all is;
-  lists = subst (λ (x : Givens). IsSortingOf x.jobs o s) same lists;
-  sorted = subst (λ k. IsSorted k payments s) (ap (λ (x : Givens). x.jobs) same ∙ count ∙ size) (sorted payments budgets (subst (λ (x : Givens). IsOutcome Answers x payments budgets o) (sym same) is));
+  lists = subst (λ l. IsSortingOf l o s) named lists;
+  sorted = sorted g payments budgets is named;
 }
-round_of crew g h n payments budgets o (Err f) same size count givens all is lists sorted = tt
+round_of crew g n payments ids budgets o (Err f) size named givens all is lists sorted = tt
 
 pub run_fault : (crew : Crew) (g : Givens) (n : ℕ) (payments : List Payment) (budgets : List ℕ) (f : RoundFault)
     → n ≡ length payments → givens_of n crew.workers crew.workers ≡ Ok g → budgets ≡ replicate crew.workers crew.steps → IsRunFault g payments budgets f → IsRoundFault crew payments f

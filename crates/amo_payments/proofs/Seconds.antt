@@ -22,7 +22,8 @@ use Rattle.amo_crew.specs.declared.hand.Output.{Output}
 use Rattle.amo_crew.specs.Running.{IsAnswer}
 use Rattle.amo_crew.proofs.Hires.{fresh_first}
 use Rattle.amo_payments.specs.declared.second.Rest.{Rest}
-use Rattle.amo_payments.specs.Second.{IsRest, jobs_in}
+use Rattle.amo_payments.specs.Second.{IsRest}
+use Rattle.amo_payments.specs.Sorting.{jobs_in}
 use Rattle.amo_payments.specs.Stopping.{HasPaid, IsEmpty}
 
 -- where there is one worker, what is claimed is what it has claimed

@@ -1,6 +1,6 @@
 -- What the lines of the input say together.
 use Rattle.std.specs.Prelude.{◌≡◌, ℕ, ◌+◌, ◌-◌, ◌^◌, Bool, true, not, ◌==◌, ◌||◌, List, [], ◌∷◌, ◌++◌, length, map, fold, slice_index, Some, is_none}
-use Rattle.std.specs.List.{flat_map, list_any}
+use Rattle.std.specs.List.{flat_map, list_any, range_with_len}
 use Rattle.std.specs.Str.Lines.{lines}
 use Rattle.amo_payments.specs.declared.line.Entry.{Entry}
 use Rattle.amo_payments.specs.declared.line.Line.{Line}
@@ -9,7 +9,7 @@ use Rattle.amo_payments.specs.declared.day.Day.{Day}
 use Rattle.amo_payments.specs.declared.day.payment.Payment.{Payment}
 use Rattle.amo_payments.specs.declared.rounds.Crew.{Crew}
 use Rattle.amo_payments.specs.Lines.{line_in}
-use Rattle.amo_payments.specs.Sorting.{jobs_upto}
+use Rattle.amo_payments.specs.Sorting.{ids_of}
 
 -- the payments that a line adds, the next number being id
 abbrev pub payments_in : ℕ → Line → List Payment
@@ -43,9 +43,13 @@ limit_after limit (Steps n) = limit
 limit_after limit (Pay account cents) = limit
 limit_after limit (Old e) = limit
 
+-- the numbers 1..n
+abbrev pub numbers_upto : ℕ → List ℕ
+numbers_upto n = map (λ k. k + 1) (range_with_len 0 n)
+
 -- the payments are numbered from 1, in their order
 abbrev pub AreNumbered : List Payment → Type 0
-AreNumbered payments = map (λ p. p.id) payments ≡ jobs_upto (length payments)
+AreNumbered payments = ids_of payments ≡ numbers_upto (length payments)
 
 -- The day c is the day b and one line more.
 pub record IsDayWith (b : Day) (line : Line) (c : Day) : Type 0 where

@@ -1,5 +1,5 @@
 -- What a fault can be of.
-use Rattle.std.specs.Prelude.{Bool, true, false}
+use Rattle.std.specs.Prelude.{◌≡◌, ◌⊎◌, Bool, true, false}
 use Rattle.amo_payments.specs.declared.fault.Fault.{Fault}
 use Rattle.amo_payments.specs.declared.fault.Fault.TheVariants.{Line, Input, Crew, Output, Memory, Unsettled}
 use Rattle.amo_payments.specs.declared.rounds.RoundFault.{RoundFault}
@@ -28,29 +28,14 @@ is_of_input Output = false
 is_of_input Memory = false
 is_of_input Unsettled = false
 
--- reading can end with it
-abbrev pub is_of_reading : Fault → Bool
-is_of_reading Line = true
-is_of_reading Input = true
-is_of_reading Crew = true
-is_of_reading Output = false
-is_of_reading Memory = true
-is_of_reading Unsettled = false
+-- reading can end with it: the input says no day, or there was no memory
+abbrev pub IsOfReading : Fault → Type 0
+IsOfReading fault = (is_of_input fault ≡ true) ⊎ (fault ≡ Memory)
 
 -- writing a text can end with it
-abbrev pub is_of_telling : Fault → Bool
-is_of_telling Line = false
-is_of_telling Input = false
-is_of_telling Crew = false
-is_of_telling Output = true
-is_of_telling Memory = true
-is_of_telling Unsettled = false
+abbrev pub IsOfTelling : Fault → Type 0
+IsOfTelling fault = (fault ≡ Output) ⊎ (fault ≡ Memory)
 
--- paying can end with it
-abbrev pub is_of_paying : Fault → Bool
-is_of_paying Line = false
-is_of_paying Input = false
-is_of_paying Crew = false
-is_of_paying Output = true
-is_of_paying Memory = true
-is_of_paying Unsettled = true
+-- paying can end with it: what the input says is no matter there
+abbrev pub IsOfPaying : Fault → Type 0
+IsOfPaying fault = is_of_input fault ≡ false

@@ -1,5 +1,5 @@
 -- What the program writes of a day.
-use Rattle.std.specs.Prelude.{◌≡◌, ℕ, List, [], ◌++◌, map, filter, All, Option, codes}
+use Rattle.std.specs.Prelude.{◌≡◌, ◌⊎◌, ℕ, true, List, [], ◌++◌, map, filter, All, Option, codes}
 use Rattle.std.specs.List.{flat_map}
 use Rattle.std.specs.Io.KnownBytes.{Appends}
 use Rattle.amo_crew.specs.declared.hand.Output.{Output}
@@ -10,6 +10,7 @@ use Rattle.amo_payments.specs.declared.bank.Answer.TheVariants.{Paid, Unpaid}
 use Rattle.amo_payments.specs.declared.rounds.Crew.{Crew}
 use Rattle.amo_payments.specs.declared.second.Rest.{Rest}
 use Rattle.amo_payments.specs.declared.sorting.Sorted.{Sorted}
+use Rattle.amo_payments.specs.Days.{is_ended}
 use Rattle.amo_payments.specs.Lines.{AppendsFront, line}
 use Rattle.amo_payments.specs.Payments.{Answers}
 use Rattle.amo_payments.specs.Restarts.{was_made, is_in_doubt, is_untried}
@@ -20,6 +21,11 @@ use Rattle.amo_payments.specs.Second.{IsRest}
 abbrev pub lines_of : List ℕ → List Payment → List ℕ
 lines_of word payments = flat_map (λ p. line word p.id) payments
 
+-- the line of each payment of which there is a receipt
+abbrev pub done_line : Answer → List ℕ
+done_line (Paid r) = line (codes "done") r.id
+done_line (Unpaid p) = []
+
 -- the line of an answer: `done` with a receipt, and `doubt` without
 abbrev pub answer_line : Answer → List ℕ
 answer_line (Paid r) = line (codes "done") r.id
@@ -29,13 +35,17 @@ answer_line (Unpaid p) = line (codes "doubt") p.id
 abbrev pub answer_lines : List (Output Answer) → List ℕ
 answer_lines outputs = flat_map (λ x. answer_line x.out) outputs
 
--- a line for each payment that came back from a worker's hand
-abbrev pub hand_lines : List (ℕ × ℕ × Payment) → List ℕ
-hand_lines in_hand = flat_map (λ t. line (codes "doubt") t.2.id) in_hand
+-- a line for each answer with a receipt
+abbrev pub done_lines : List (Output Answer) → List ℕ
+done_lines outputs = flat_map (λ x. done_line x.out) outputs
 
--- what is written of a round: a line for each payment that a worker got
+-- a line for each job that is in doubt, with its payment's number
+abbrev pub doubt_lines : List (ℕ × ℕ) → List ℕ
+doubt_lines in_doubt = flat_map (λ t. line (codes "doubt") t.1) in_doubt
+
+-- what is written of a round: a line for each payment that is not free
 abbrev pub round_text : Sorted → List ℕ
-round_text s = answer_lines s.answers.items ++ hand_lines s.in_hand.items
+round_text s = done_lines s.answers.items ++ doubt_lines s.in_doubt.items
 
 -- what is written of a floor of one worker
 abbrev pub rest_text : Rest Payment Answer → List ℕ
@@ -85,9 +95,20 @@ pub record IsReport (day : Day) (waiting late : List Payment) (text : List ℕ) 
       ++ (lines_of (codes "doubt") (filter (is_in_doubt day.journal.items) day.payments.items)
       ++ (rounds_text ++ (floors_text ++ lines_of (codes "free") left)))
 
--- the report of a day, whole
+-- In the text stands the line of this word and this number: before it the text is empty, or a line has ended.
+pub record HasLine (text word : List ℕ) (id : ℕ) : Type 0 where
+  pub before : List ℕ
+  pub after : List ℕ
+  pub ended : is_ended before ≡ true
+  pub text_is : text ≡ before ++ (line word id ++ after)
+
+-- the payment has a line there that says what became of it
+abbrev pub IsTold : List ℕ → Payment → Type 0
+IsTold text p = HasLine text (codes "before") p.id ⊎ (HasLine text (codes "done") p.id ⊎ (HasLine text (codes "doubt") p.id ⊎ HasLine text (codes "free") p.id))
+
+-- the report of a day, whole: each payment has a line in it
 abbrev pub Reports : Day → Option (List ℕ) → Option (List ℕ) → Type 0
-Reports day old new = (text : List ℕ) × IsReport day [] [] text × Appends old new text
+Reports day old new = (text : List ℕ) × IsReport day [] [] text × All (IsTold text) day.payments.items × Appends old new text
 
 -- a beginning of the report of what became of some of it
 abbrev pub ReportsFront : Day → Option (List ℕ) → Option (List ℕ) → Type 0

@@ -12,7 +12,7 @@ use Rattle.amo_payments.specs.declared.rounds.Crew.{Crew}
 use Rattle.amo_payments.specs.declared.rounds.RoundFault.{RoundFault}
 use Rattle.amo_payments.specs.declared.rounds.RoundFault.TheVariants.{Unpaid, Unsettled, Unsorted}
 use Rattle.amo_payments.specs.Payments.{Answers}
-use Rattle.amo_payments.specs.Sorting.{IsSorted, IsSortingOf}
+use Rattle.amo_payments.specs.Sorting.{ids_of, IsSorted, IsSortingOf}
 
 -- the crew is from 1 to 16 workers, and each takes at most 10,000,000 steps
 abbrev pub is_fit : Crew → Bool
@@ -24,8 +24,8 @@ pub record IsRound (crew : Crew) (payments : List Payment) (s : Sorted) : Type 0
   pub givens_are : givens_of (length payments) crew.workers crew.workers ≡ Ok givens
   pub outcome : Outcome Payment Answer
   pub has_come : IsOutcome Answers givens payments (replicate crew.workers crew.steps) outcome
-  pub lists : IsSortingOf givens.jobs outcome s
-  pub sorted : IsSorted (length payments) payments s
+  pub lists : IsSortingOf (ids_of payments) outcome s
+  pub sorted : IsSorted payments s
 
 -- What a run with these givens, payments and budgets gives back that could not be settled or sorted: the payments themselves
 -- where nothing was paid, or what the threads left, or the outcome.

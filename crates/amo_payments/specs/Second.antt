@@ -1,20 +1,16 @@
 -- What a floor of one worker leaves.
-use Rattle.std.specs.Prelude.{◌≡◌, ℕ, not, List, map, filter, All, replicate}
+use Rattle.std.specs.Prelude.{◌≡◌, ℕ, not, List, filter, All, replicate}
 use Rattle.std.specs.List.{enumerate_from}
 use Rattle.amo_sets.specs.Sets.{has, AreDistinct}
 use Rattle.amo_words.specs.declared.rule.Spot.TheVariants.{Home}
 use Rattle.amo_words.specs.declared.floor.settling.Settlement.{Settlement}
 use Rattle.amo_words.specs.Faces.{spots}
 use Rattle.amo_words.specs.Settling.{IsWhole}
-use Rattle.amo_crew.specs.declared.hand.Output.{Output}
 use Rattle.amo_crew.specs.Running.{IsAnswer}
+use Rattle.amo_payments.specs.Sorting.{jobs_in}
 use Rattle.amo_payments.specs.declared.second.Rest.{Rest}
 use Rattle.amo_payments.specs.declared.second.RestFault.{RestFault}
 use Rattle.amo_payments.specs.declared.second.RestFault.TheVariants.{Untried, Unhired, Unsettled}
-
--- the jobs of these outputs, in their order
-abbrev pub jobs_in : {Out : Type 0} → List (Output Out) → List ℕ
-jobs_in outputs = map (λ x. x.job) outputs
 
 -- Each answer is that of its job's payload, no job has two, and the others come back, each with its own payload, in the order of
 -- their numbers. None is in doubt.

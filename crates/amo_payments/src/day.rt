@@ -2,7 +2,7 @@
 ghost use Rattle.std.specs.Prelude.{◌≡◌, true, false, [], Err, map, IfOk, IfErr, IfSome, OnOk};
 ghost use Rattle.std.specs.Str.Lines.{lines};
 ghost use Rattle.amo_payments.specs.Days.{IsDay, IsDayOf, IsDayWith, has_broken_line, is_ended};
-ghost use Rattle.amo_payments.specs.Faults.{is_of_reading};
+ghost use Rattle.amo_payments.specs.Faults.{IsOfReading};
 ghost use Rattle.amo_payments.specs.Rounds.{is_fit};
 ghost use Rattle.amo_payments.specs.declared.day.Day.{Day as DayView};
 ghost use Rattle.amo_payments.specs.declared.fault.Fault.TheVariants.{Line as BrokenLine, Input as NoInput, Crew as UnfitCrew};
@@ -84,7 +84,7 @@ fn day_of(alloc: Global, text: &str) -> Result<Day, Fault>
     ensures line { result ≡ Err BrokenLine → has_broken_line text.now ≡ true }
     ensures input { result ≡ Err NoInput → ⊥ }
     ensures crew { result ≡ Err UnfitCrew → ⊥ }
-    ensures fault { IfErr result (λ fault. is_of_reading fault ≡ true) }
+    ensures fault { IfErr result IsOfReading }
 {
     if !is_ended(text) {
         return Err(Fault::Line);
@@ -107,7 +107,7 @@ pub fn read_day<B: Read>(alloc: Global, input: &mut B) -> Result<Day, Fault>
     ensures fit { IfOk result (λ day. is_fit day.crew ≡ true) }
     ensures line { result ≡ Err BrokenLine → IfSome (B.remaining input.old) (λ text. has_broken_line text ≡ true) }
     ensures crew { result ≡ Err UnfitCrew → IfSome (B.remaining input.old) (λ text. (day : DayView) × IsDayOf text day × (is_fit day.crew ≡ false)) }
-    ensures fault { IfErr result (λ fault. is_of_reading fault ≡ true) }
+    ensures fault { IfErr result IsOfReading }
 {
     let mut text = String::new(alloc);
     if input.read_to_string(&mut text).is_err() {

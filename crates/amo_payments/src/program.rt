@@ -4,7 +4,7 @@ ghost use Rattle.std.specs.Io.KnownBytes.{Keeps};
 ghost use Rattle.amo_payments.specs.declared.day.Day.{Day as DayView};
 ghost use Rattle.amo_payments.specs.declared.fault.Fault.TheVariants.{Line as BrokenLine, Crew as UnfitCrew};
 ghost use Rattle.amo_payments.specs.Days.{IsDayOf, has_broken_line};
-ghost use Rattle.amo_payments.specs.Faults.{is_of_input, is_of_paying};
+ghost use Rattle.amo_payments.specs.Faults.{is_of_input, IsOfPaying};
 ghost use Rattle.amo_payments.specs.Rounds.{is_fit};
 ghost use Rattle.amo_payments.specs.Reports.{ArePaid, AreTried, TellsPart, TellsNext, Reports, ReportsFront};
 
@@ -35,7 +35,7 @@ fn pay_next<S: Write + Drop + Send, O: Write, R: Threads + Wait + Sync>(
     ensures told { OnOk result (TellsNext (ArePaid crew) payments.old.items payments.new.items free.old.items free.new.items (O.contents out.old) (O.contents out.new)) }
     ensures fewer { OnOk result (0 < vec_len payments.old → vec_len payments.new < vec_len payments.old) }
     ensures part { OnErr result (TellsPart (ArePaid crew) payments.old.items (O.contents out.old) (O.contents out.new)) }
-    ensures fault { IfErr result (λ fault. is_of_paying fault ≡ true) }
+    ensures fault { IfErr result IsOfPaying }
 {
     let round = next_round(payments)?;
     let sorted = pay_round(rt, alloc, bank, crew, round)?;
@@ -55,7 +55,7 @@ fn pay_all<S: Write + Drop + Send, O: Write, R: Threads + Wait + Sync>(
 ) -> Result<Vec<Payment>, Fault>
     ensures told { IfOk result (λ free. TellsNext (ArePaid crew) payments.items [] [] free.items (O.contents out.old) (O.contents out.new)) }
     ensures part { OnErr result (TellsPart (ArePaid crew) payments.items (O.contents out.old) (O.contents out.new)) }
-    ensures fault { IfErr result (λ fault. is_of_paying fault ≡ true) }
+    ensures fault { IfErr result IsOfPaying }
 {
     let mut free = Vec::new(alloc);
     'paying: while !payments.is_empty() {
@@ -77,7 +77,7 @@ fn try_next<S: Write + Drop, O: Write, R: Wait>(
     ensures told { OnOk result (TellsNext AreTried payments.old.items payments.new.items left.old.items left.new.items (O.contents out.old) (O.contents out.new)) }
     ensures fewer { OnOk result (0 < vec_len payments.old → vec_len payments.new < vec_len payments.old) }
     ensures part { OnErr result (TellsPart AreTried payments.old.items (O.contents out.old) (O.contents out.new)) }
-    ensures fault { IfErr result (λ fault. is_of_paying fault ≡ true) }
+    ensures fault { IfErr result IsOfPaying }
 {
     let round = next_round(payments)?;
     let rest = run_alone(alloc, flag, bank, round)?;
@@ -96,7 +96,7 @@ fn try_all<S: Write + Drop, O: Write, R: Wait>(
 ) -> Result<Vec<Payment>, Fault>
     ensures told { IfOk result (λ left. TellsNext AreTried payments.items [] [] left.items (O.contents out.old) (O.contents out.new)) }
     ensures part { OnErr result (TellsPart AreTried payments.items (O.contents out.old) (O.contents out.new)) }
-    ensures fault { IfErr result (λ fault. is_of_paying fault ≡ true) }
+    ensures fault { IfErr result IsOfPaying }
 {
     let mut left = Vec::new(alloc);
     'trying: while !payments.is_empty() {
@@ -116,7 +116,7 @@ fn pay_day<S: Write + Drop + Send, O: Write, R: Threads + Wait + Sync>(
 ) -> Result<(), Fault>
     ensures whole { OnOk result (Reports day (O.contents out.old) (O.contents out.new)) }
     ensures front { OnErr result (ReportsFront day (O.contents out.old) (O.contents out.new)) }
-    ensures fault { IfErr result (λ fault. is_of_paying fault ≡ true) }
+    ensures fault { IfErr result IsOfPaying }
 {
     let parts = part(alloc, day.payments, &day.journal)?;
     tell_each(alloc, out, "before", &parts.made)?;

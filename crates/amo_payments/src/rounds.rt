@@ -1,12 +1,12 @@
 //! Payments go in rounds, since a floor has at most 4096 jobs.
-ghost use Rattle.std.specs.Prelude.{◌≡◌, ◌≤◌, ◌++◌, ℕ, List, Ok, min, map, replicate, vec_len, IfOk, IfErr, IfSome, OnOk, OnErr};
+ghost use Rattle.std.specs.Prelude.{◌≡◌, ◌≤◌, ◌++◌, ℕ, List, Ok, length, min, map, replicate, vec_len, IfOk, IfErr, IfSome, OnOk, OnErr};
 ghost use Rattle.amo_kk.specs.Givens.{givens_of};
 ghost use Rattle.amo_kk.specs.declared.givens.Givens.{Givens as GivensView};
 ghost use Rattle.amo_crew.specs.Outcomes.{IsOutcome};
 ghost use Rattle.amo_crew.specs.Unsettling.{IsUnsettled};
 ghost use Rattle.amo_payments.specs.declared.day.payment.Payment.{Payment as PaymentView};
 ghost use Rattle.amo_payments.specs.Payments.{Answers};
-ghost use Rattle.amo_payments.specs.Sorting.{IsSorted, IsSortingOf};
+ghost use Rattle.amo_payments.specs.Sorting.{ids_of, IsSorted, IsSortingOf};
 ghost use Rattle.amo_payments.specs.Rounds.{is_fit, IsRound, IsRunFault, IsRoundFault};
 ghost use Rattle.amo_payments.specs.declared.rounds.RoundFault.TheVariants.{Unsettled as UnsettledRound, Unsorted};
 
@@ -74,20 +74,35 @@ fn plan_of(alloc: Global, jobs: usize, crew: Crew) -> Option<StopPlan>
     StopPlan::try_new(alloc, givens, &budgets).ok()
 }
 
+/// The numbers of these payments.
+fn ids_of(alloc: Global, payments: &[Payment]) -> Result<Vec<u64>, AllocError>
+    ensures { IfOk result (λ ids. ids.items ≡ ids_of payments.now) }
+{
+    payments
+        .iter()
+        .map(
+            |payment| -> u64
+                ensures { result ≡ payment.now.id }
+            { payment.id() },
+        )
+        .collect(alloc)
+}
+
 /// Sorts what came of a round. Memory that is refused is asked for once more.
 fn sort_twice(
     alloc: Global,
-    givens: Givens,
+    ids: &[u64],
     outcome: Outcome<Payment, Answer>,
 ) -> Result<Sorted, RoundFault>
-    ensures lists { IfOk result (IsSortingOf givens.jobs outcome) }
-    ensures sorted { IfOk result (λ s. (payloads : List PaymentView) (budgets : List ℕ)
-        → IsOutcome Answers givens payloads budgets outcome → IsSorted givens.jobs payloads s) }
+    requires few { length ids.now ≤ 4096 }
+    ensures lists { IfOk result (IsSortingOf ids.now outcome) }
+    ensures sorted { IfOk result (λ s. (givens : GivensView) (payloads : List PaymentView) (budgets : List ℕ)
+        → IsOutcome Answers givens payloads budgets outcome → ids.now ≡ ids_of payloads → IsSorted payloads s) }
     ensures fault { IfErr result (λ f. f ≡ Unsorted outcome) }
 {
-    match sort_out(alloc, givens, outcome) {
+    match sort_out(alloc, ids, outcome) {
         Ok(sorted) => Ok(sorted),
-        Err(outcome) => match sort_out(alloc, givens, outcome) {
+        Err(outcome) => match sort_out(alloc, ids, outcome) {
             Ok(sorted) => Ok(sorted),
             Err(outcome) => Err(RoundFault::Unsorted(outcome)),
         },
@@ -147,8 +162,11 @@ pub fn pay_round<S: Write + Drop + Send, R: Threads + Wait + Sync>(
     let Some(plan) = plan_of(alloc, payments.len(), crew) else {
         return Err(RoundFault::Unpaid(payments));
     };
+    let Ok(ids) = ids_of(alloc, &payments) else {
+        return Err(RoundFault::Unpaid(payments));
+    };
     match run_round(rt, alloc, bank, &plan, payments) {
-        Ok(outcome) => sort_twice(alloc, plan.givens(), outcome),
+        Ok(outcome) => sort_twice(alloc, &ids, outcome),
         Err(fault) => Err(fault),
     }
 }

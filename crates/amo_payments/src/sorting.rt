@@ -1,15 +1,15 @@
 //! What is certain of each payment after a run.
-ghost use Rattle.std.specs.Prelude.{◌≡◌, ◌<◌, ◌≤◌, ◌+◌, ℕ, List, [], ◌∷◌, ◌++◌, filter, vec_len, vec_capacity, IfOk, IfErr};
+ghost use Rattle.std.specs.Prelude.{◌≡◌, ◌<◌, ◌≤◌, ◌+◌, ℕ, List, [], ◌∷◌, ◌++◌, length, filter, vec_len, vec_capacity, IfOk, IfErr};
+ghost use Rattle.std.specs.List.{enumerate_from};
 ghost use Rattle.amo_kk.specs.declared.givens.Givens.{Givens as GivensView};
 ghost use Rattle.amo_crew.specs.Outcomes.{IsOutcome};
 ghost use Rattle.amo_payments.specs.Payments.{Answers};
-ghost use Rattle.amo_payments.specs.Sorting.{is_paid, has_receipt_of, has_free, is_unsure, jobs_upto, IsSorted, IsSortingOf};
+ghost use Rattle.amo_payments.specs.Sorting.{is_paid, has_receipt_of, has_job, is_unsure, ids_of, IsSorted, IsSortingOf};
 ghost use Rattle.amo_payments.specs.declared.day.payment.Payment.{Payment as PaymentView};
 
 use crate::bank::Answer;
 use crate::day::Payment;
 use amo_crew::{Outcome, Output};
-use amo_kk::Givens;
 use std::alloc::Global;
 
 /// The jobs of a run, sorted by what is certain of their payments. Each job has a receipt among the answers, or is free, or
@@ -20,9 +20,9 @@ pub struct Sorted {
     pub answers: Vec<Output<Answer>>,
     /// Those that nobody began, each with its payment. They may be handed to a new floor.
     pub free: Vec<(u32, Payment)>,
-    /// Those that were claimed, and of which there is no receipt. They must not be made again.
-    pub in_doubt: Vec<u32>,
-    /// The payments that came back of those in doubt, with worker and job, to be shown to a person.
+    /// All others, each with its payment's number, to be shown to a person. They must not be made again.
+    pub in_doubt: Vec<(u32, u64)>,
+    /// The payments that came back of those in doubt, with worker and job.
     pub in_hand: Vec<(u32, u32, Payment)>,
 }
 
@@ -44,55 +44,62 @@ fn has_receipt_of(answers: &[Output<Answer>], job: u32) -> bool
 
 /// Whether the job is free.
 fn has_free(free: &[(u32, Payment)], job: u32) -> bool
-    ensures { result ≡ has_free free.now job }
+    ensures { result ≡ has_job free.now job }
 {
     free.iter().any(|entry| entry.0 == job)
 }
 
-/// Lists the job where there is no receipt of it, and it is not free.
+/// Lists the job with its payment's number where there is no receipt of it, and it is not free.
 #[tactic(auto, using(crate::proofs::Filters::passed, crate::proofs::Filters::skipped))]
-fn add_unsure(job: u32, answers: &[Output<Answer>], free: &[(u32, Payment)], unsure: &mut Vec<u32>)
+fn add_unsure(
+    job: (u32, u64),
+    answers: &[Output<Answer>],
+    free: &[(u32, Payment)],
+    unsure: &mut Vec<(u32, u64)>,
+)
     requires room { vec_len unsure.old < vec_capacity unsure.old }
-    ensures listed { (jobs : List ℕ) → unsure.old.items ≡ filter (is_unsure answers.now free.now) jobs → unsure.new.items ≡ filter (is_unsure answers.now free.now) (jobs ++ job ∷ []) }
+    ensures listed { (jobs : List (ℕ × ℕ)) → unsure.old.items ≡ filter (λ t. is_unsure answers.now free.now t.0) jobs
+        → unsure.new.items ≡ filter (λ t. is_unsure answers.now free.now t.0) (jobs ++ job ∷ []) }
     ensures len { vec_len unsure.new ≤ vec_len unsure.old + 1 }
     ensures capacity { vec_capacity unsure.new ≡ vec_capacity unsure.old }
 {
-    if !has_receipt_of(answers, job) && !has_free(free, job) {
+    if !has_receipt_of(answers, job.0) && !has_free(free, job.0) {
         unsure.push_reserved(job);
     }
 }
 
-/// Lists the jobs up to the last of which there is no receipt, and which are not free.
+/// Lists the jobs, from 1, of payments with these numbers of which there is no receipt, and which are not free.
 fn list_unsure(
-    jobs: u32,
+    ids: &[u64],
     answers: &[Output<Answer>],
     free: &[(u32, Payment)],
-    unsure: &mut Vec<u32>,
+    unsure: &mut Vec<(u32, u64)>,
 )
     requires empty { unsure.old.items ≡ [] }
-    requires room { (vec_len unsure.old ≡ 0) × (jobs ≤ vec_capacity unsure.old) }
-    requires small { jobs ≤ 4096 }
-    ensures { unsure.new.items ≡ filter (is_unsure answers.now free.now) (jobs_upto jobs) }
+    requires room { (vec_len unsure.old ≡ 0) × (length ids.now ≤ vec_capacity unsure.old) }
+    requires small { length ids.now ≤ 4096 }
+    ensures { unsure.new.items ≡ filter (λ t. is_unsure answers.now free.now t.0) (enumerate_from 1 ids.now) }
 {
-    for before in 0..jobs {
-        add_unsure(before + 1, answers, free, unsure);
+    for before in 0..ids.len() {
+        add_unsure((before as u32 + 1, ids[before]), answers, free, unsure);
     }
 }
 
-/// Sorts the jobs of a run by what is certain of their payments. The givens have to be those of the run. Where memory is
-/// refused the outcome comes back as it was. For each job it goes through the answers and then through the free jobs until
-/// it is found: in a round of 4096 jobs up to 16 million comparisons.
+/// Sorts the jobs of a run of payments with these numbers, at most 4096, by what is certain of each. Where memory is refused
+/// the outcome comes back as it was. For each job it goes through the answers and then through the free jobs until it is
+/// found: in a round of 4096 jobs up to 16 million comparisons.
 pub fn sort_out(
     alloc: Global,
-    givens: Givens,
+    ids: &[u64],
     outcome: Outcome<Payment, Answer>,
 ) -> Result<Sorted, Outcome<Payment, Answer>>
-    ensures lists { IfOk result (IsSortingOf givens.jobs outcome) }
-    ensures sorted { IfOk result (λ s. (payloads : List PaymentView) (budgets : List ℕ)
-        → IsOutcome Answers givens payloads budgets outcome → IsSorted givens.jobs payloads s) }
+    requires few { length ids.now ≤ 4096 }
+    ensures lists { IfOk result (IsSortingOf ids.now outcome) }
+    ensures sorted { IfOk result (λ s. (givens : GivensView) (payloads : List PaymentView) (budgets : List ℕ)
+        → IsOutcome Answers givens payloads budgets outcome → ids.now ≡ ids_of payloads → IsSorted payloads s) }
     ensures refused { IfErr result (λ o. o ≡ outcome) }
 {
-    let Ok(mut in_doubt) = Vec::with_capacity(alloc, givens.jobs() as usize) else {
+    let Ok(mut in_doubt) = Vec::with_capacity(alloc, ids.len()) else {
         return Err(outcome);
     };
     let Outcome {
@@ -102,7 +109,7 @@ pub fn sort_out(
         in_hand,
     } = outcome;
     let free = settlement.free;
-    list_unsure(givens.jobs(), &answers, &free, &mut in_doubt);
+    list_unsure(ids, &answers, &free, &mut in_doubt);
     Ok(Sorted {
         answers,
         free,

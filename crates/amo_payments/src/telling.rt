@@ -1,9 +1,9 @@
 //! Writes what became of payments, a line for each.
 ghost use Rattle.std.specs.Prelude.{◌≡◌, ◌++◌, true, Err, IfErr, OnOk, OnErr, string_bytes};
 ghost use Rattle.std.specs.Io.KnownBytes.{Appends, Keeps};
-ghost use Rattle.amo_payments.specs.Faults.{is_of_telling};
+ghost use Rattle.amo_payments.specs.Faults.{IsOfTelling};
 ghost use Rattle.amo_payments.specs.Lines.{AppendsFront};
-ghost use Rattle.amo_payments.specs.Reports.{lines_of, answer_lines, hand_lines, round_text};
+ghost use Rattle.amo_payments.specs.Reports.{lines_of, answer_lines, done_lines, doubt_lines, round_text};
 ghost use Rattle.amo_payments.specs.declared.fault.Fault.TheVariants.{Output as NoOutput, Memory as NoMemory};
 
 use crate::bank::Answer;
@@ -51,12 +51,24 @@ fn push_answers(text: &mut String, outputs: &[Output<Answer>]) -> Result<(), All
     Ok(())
 }
 
-/// Appends a line for each payment that came back from a worker's hand.
-fn push_hands(text: &mut String, in_hand: &[(u32, u32, Payment)]) -> Result<(), AllocError>
-    ensures { OnOk result (string_bytes text.new ≡ string_bytes text.old ++ hand_lines in_hand.now) }
+/// Appends a line for each answer with a receipt.
+fn push_done(text: &mut String, outputs: &[Output<Answer>]) -> Result<(), AllocError>
+    ensures { OnOk result (string_bytes text.new ≡ string_bytes text.old ++ done_lines outputs.now) }
 {
-    for (_, _, payment) in in_hand {
-        push_line(text, "doubt", payment.id())?;
+    for output in outputs {
+        if let Answer::Paid(receipt) = &output.out {
+            push_line(text, "done", receipt.id())?;
+        }
+    }
+    Ok(())
+}
+
+/// Appends a line for each job in doubt, with its payment's number.
+fn push_doubts(text: &mut String, in_doubt: &[(u32, u64)]) -> Result<(), AllocError>
+    ensures { OnOk result (string_bytes text.new ≡ string_bytes text.old ++ doubt_lines in_doubt.now) }
+{
+    for (_, id) in in_doubt {
+        push_line(text, "doubt", *id)?;
     }
     Ok(())
 }
@@ -71,7 +83,7 @@ pub fn tell_each<O: Write>(
     ensures whole { OnOk result (Appends (O.contents out.old) (O.contents out.new) (lines_of word.now payments.now)) }
     ensures front { OnErr result (AppendsFront (O.contents out.old) (O.contents out.new) (lines_of word.now payments.now)) }
     ensures memory { result ≡ Err NoMemory → Keeps (O.contents out.old) (O.contents out.new) }
-    ensures fault { IfErr result (λ fault. is_of_telling fault ≡ true) }
+    ensures fault { IfErr result IsOfTelling }
 {
     let mut text = String::new(alloc);
     push_each(&mut text, word, payments)?;
@@ -87,23 +99,23 @@ pub fn tell_answers<O: Write>(
     ensures whole { OnOk result (Appends (O.contents out.old) (O.contents out.new) (answer_lines outputs.now)) }
     ensures front { OnErr result (AppendsFront (O.contents out.old) (O.contents out.new) (answer_lines outputs.now)) }
     ensures memory { result ≡ Err NoMemory → Keeps (O.contents out.old) (O.contents out.new) }
-    ensures fault { IfErr result (λ fault. is_of_telling fault ≡ true) }
+    ensures fault { IfErr result IsOfTelling }
 {
     let mut text = String::new(alloc);
     push_answers(&mut text, outputs)?;
     write_out(out, text.as_str())
 }
 
-/// Writes a line for each payment of a round that a worker got: `done` with a receipt, and `doubt` without. Where memory is
+/// Writes a line for each payment of a round that is not free: `done` with a receipt, and `doubt` without. Where memory is
 /// refused nothing is written.
 pub fn tell_round<O: Write>(alloc: Global, out: &mut O, sorted: &Sorted) -> Result<(), Fault>
     ensures whole { OnOk result (Appends (O.contents out.old) (O.contents out.new) (round_text sorted.now)) }
     ensures front { OnErr result (AppendsFront (O.contents out.old) (O.contents out.new) (round_text sorted.now)) }
     ensures memory { result ≡ Err NoMemory → Keeps (O.contents out.old) (O.contents out.new) }
-    ensures fault { IfErr result (λ fault. is_of_telling fault ≡ true) }
+    ensures fault { IfErr result IsOfTelling }
 {
     let mut text = String::new(alloc);
-    push_answers(&mut text, &sorted.answers)?;
-    push_hands(&mut text, &sorted.in_hand)?;
+    push_done(&mut text, &sorted.answers)?;
+    push_doubts(&mut text, &sorted.in_doubt)?;
     write_out(out, text.as_str())
 }

@@ -7,5 +7,5 @@ use Rattle.amo_payments.specs.Payments.{Answers}
 use Rattle.amo_payments.proofs.rounds.sort_twice.Goals as goal
 
 pub returns-in-Ok-sort_out-clause-sorted : goal.returns-in-Ok-sort_out-clause-sorted
-returns-in-Ok-sort_out-clause-sorted c payloads budgets is =
-    c.in-Ok-sort_out.ensures.sorted payloads budgets (subst (λ (o : Outcome Payment Answer). IsOutcome Answers c.args.givens payloads budgets o) (sym c.in-Err.ensures.refused) is)
+returns-in-Ok-sort_out-clause-sorted c givens payloads budgets is named =
+    c.in-Ok-sort_out.ensures.sorted givens payloads budgets (subst (λ (o : Outcome Payment Answer). IsOutcome Answers givens payloads budgets o) (sym c.in-Err.ensures.refused) is) named

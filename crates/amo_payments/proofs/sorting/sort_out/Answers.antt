@@ -3,4 +3,4 @@ use Rattle.amo_payments.proofs.Sorts.{sorted}
 use Rattle.amo_payments.proofs.sorting.sort_out.Goals as goal
 
 pub returns-clause-sorted : goal.returns-clause-sorted
-returns-clause-sorted c payloads budgets is = sorted _ payloads budgets _ _ is (search rules) (search rules) (search rules)
+returns-clause-sorted c givens payloads budgets is named = sorted givens payloads _ budgets _ _ is named (search rules) (search rules) (search rules)
