@@ -21,7 +21,7 @@ use Rattle.amo_words.proofs.Meetings.{stands_back, worker_back, claims_apart}
 use Rattle.amo_crew.specs.declared.hand.Output.{Output}
 use Rattle.amo_crew.specs.declared.outcome.Outcome.{Outcome}
 use Rattle.amo_crew.specs.Mailbox.{of}
-use Rattle.amo_crew.specs.Outcomes.{spot_of, dones_in, hand_in, hands_upto, IsOutcome, answered, in_hand, free_jobs}
+use Rattle.amo_crew.specs.Outcomes.{spot_of, dones_in, hand_in, hands_upto, jobs_of, IsOutcome, answered, in_hand, free_jobs}
 use Rattle.amo_crew.proofs.Fitted.{is_back}
 
 -- ---- lists of numbers
@@ -62,9 +62,6 @@ distinct_apart (x ∷ xs) ys j h e k = go (λ f. distinct_apart xs ys j h.1 f k)
 -- ---- outputs, each with its worker
 
 module _ {Out : Type 0} where
-  abbrev jobs_of : List (Output Out) → List ℕ
-  jobs_of xs = map (λ (x : Output Out). x.job) xs
-
   -- an output stands among those of its worker
   of_more : (x : Output Out) (xs : List (Output Out)) (p j : ℕ) → has (jobs_of (of p xs)) j ≡ true → has (jobs_of (of p (x ∷ xs))) j ≡ true
   of_more x xs p j h = go (eqb x.worker p)

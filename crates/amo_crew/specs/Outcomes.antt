@@ -57,10 +57,14 @@ pub record AreInHand {P : Type 0} (payloads : List P) (spots : List Spot) (i : �
   pub jobs : map (λ t. (t.0, t.1)) in_hand ≡ hands_upto spots i
   pub own : All (λ t. slice_get payloads (t.1 - 1) ≡ Some t.2) in_hand
 
+-- the jobs of these outputs, in their order
+abbrev pub jobs_of : {Out : Type 0} → List (Output Out) → List ℕ
+jobs_of outputs = map (λ x. x.job) outputs
+
 -- The outputs of each worker are of its dones, in their order; there are no others; each answer is related to its job
 -- and to the job's payload.
 pub record AreOutputs {P Out : Type 0} (related : ℕ → ℕ → P → Out → Type 0) (payloads : List P) (spots : List Spot) (outputs : List (Output Out)) : Type 0 where
-  pub jobs : (p : ℕ) → map (λ x. x.job) (of p outputs) ≡ dones_in (spot_of spots p)
+  pub jobs : (p : ℕ) → jobs_of (of p outputs) ≡ dones_in (spot_of spots p)
   pub answers : All (IsAnswer related payloads) outputs
 
 -- What the threads leave, where the book has these spots.
@@ -78,7 +82,7 @@ pub record IsOutcome {P Out : Type 0} (related : ℕ → ℕ → P → Out → T
 
 -- the jobs that have an answer
 abbrev pub answered : {P Out : Type 0} → Outcome P Out → List ℕ
-answered o = map (λ x. x.job) o.outputs.items
+answered o = jobs_of o.outputs.items
 
 -- the jobs that came back in a worker's hand
 abbrev pub in_hand : {P Out : Type 0} → Outcome P Out → List ℕ

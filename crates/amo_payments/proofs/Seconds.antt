@@ -1,5 +1,5 @@
 -- What one worker leaves on a floor of its own.
-use Rattle.std.proofs.Common.{◌≡◌, ℕ, suc, ◌+◌, ◌-◌, Bool, true, false, cond, not, ◌||◌, List, [], ◌∷◌, ◌++◌, length, filter, replicate, slice_get, slice_set, refl, sym, ap, ◌∙◌, subst, arith, append-nil}
+use Rattle.std.proofs.Common.{◌≡◌, ℕ, ◌+◌, ◌-◌, Bool, true, false, not, ◌||◌, List, [], ◌∷◌, ◌++◌, length, filter, replicate, slice_get, slice_set, refl, sym, ap, ◌∙◌, subst, arith, append-nil}
 use Rattle.std.specs.Prelude.{All}
 use Rattle.std.specs.List.{enumerate_from}
 use Rattle.amo_sets.specs.Lists.{numbered}
@@ -15,16 +15,17 @@ use Rattle.amo_words.specs.Faces.{Seated, machine, spots}
 use Rattle.amo_words.specs.Hiring.{HasHired, HasCollected}
 use Rattle.amo_words.specs.Logs.{world_after, machine_after, is_claimed}
 use Rattle.amo_words.specs.Looking.{IsBack}
-use Rattle.amo_words.specs.Settling.{IsWhole, free_of}
+use Rattle.amo_words.specs.Settling.{IsWhole}
 use Rattle.amo_words.proofs.Worlds.{lawful}
 use Rattle.amo_words.proofs.Meetings.{stands_back, worker_back}
 use Rattle.amo_crew.specs.declared.hand.Output.{Output}
+use Rattle.amo_crew.specs.Outcomes.{jobs_of}
 use Rattle.amo_crew.specs.Running.{IsAnswer}
 use Rattle.amo_crew.proofs.Hires.{fresh_first}
 use Rattle.amo_payments.specs.declared.second.Rest.{Rest}
 use Rattle.amo_payments.specs.Second.{IsRest}
-use Rattle.amo_payments.specs.Sorting.{jobs_in}
 use Rattle.amo_payments.specs.Stopping.{HasPaid, IsEmpty}
+use Rattle.amo_payments.proofs.Filters.{free_filtered}
 
 -- where there is one worker, what is claimed is what it has claimed
 single : (all : List Process) → length all ≡ 1 → (j : ℕ) → is_claimed all j ≡ has (numbered nobody all 1).local.claimed j
@@ -35,26 +36,6 @@ single (a ∷ []) n j = none (has a.local.claimed j)
     none true = refl
     none false = refl
 single (a ∷ b ∷ more) n j = absurd (omega (arith, n))
-
--- what is free is what is not claimed
-free_filtered : {P : Type 0} (all : List Process) (jobs : List ℕ) → ((j : ℕ) → is_claimed all j ≡ has jobs j) → (i : ℕ) (xs : List P)
-    → free_of all i xs ≡ filter (λ (t : ℕ × P). not (has jobs t.0)) (enumerate_from i xs)
-free_filtered all jobs h i [] = refl
-free_filtered {P} all jobs h i (x ∷ xs) =
-    ap (λ b. cond b (free_of all (suc i) xs) ((i, x) ∷ free_of all (suc i) xs)) (h i) ∙ go (has jobs i) (free_of all (suc i) xs) rest (free_filtered all jobs h (suc i) xs ∙ ap (λ n. filter test (enumerate_from n xs)) next)
-  where
-    test : ℕ × P → Bool
-    test t = not (has jobs t.0)
-
-    next : suc i ≡ i + 1
-    next = omega arith
-
-    rest : List (ℕ × P)
-    rest = filter test (enumerate_from (i + 1) xs)
-
-    go : (b : Bool) (t r : List (ℕ × P)) → t ≡ r → cond b t ((i, x) ∷ t) ≡ cond (not b) ((i, x) ∷ r) r
-    go true t r e = e
-    go false t r e = ap (λ l. (i, x) ∷ l) e
 
 -- the one worker that was hired and collected
 module _ {P Out : Type 0} (related : ℕ → ℕ → P → Out → Type 0) (b c d w gone : Seated P) (outputs : List (Output Out)) (s : Settlement P)
@@ -79,10 +60,10 @@ module _ {P Out : Type 0} (related : ℕ → ℕ → P → Out → Type 0) (b c 
   sound = subst (λ (l : LocalView). IsSoundRecord d.view.givens 1 l.state) (sym same)
       ((lawful d.view.givens whole.log).lawful.sound 1 (worker_back d.view.givens whole.log (spots d) whole.stand 1 (machine gone) back)).local
 
-  done : (machine gone).state.dones ≡ jobs_in outputs
-  done = paid.dones ∙ ap (λ l. l ++ jobs_in outputs) (fresh_first w b.view.givens 1 hired.worker.machine_is).dones
+  done : (machine gone).state.dones ≡ jobs_of outputs
+  done = paid.dones ∙ ap (λ l. l ++ jobs_of outputs) (fresh_first w b.view.givens 1 hired.worker.machine_is).dones
 
-  claimed : (machine gone).state.claimed ≡ jobs_in outputs
+  claimed : (machine gone).state.claimed ≡ jobs_of outputs
   claimed = sound.claims ∙ ap (λ l. (machine gone).state.dones ++ l) empty ∙ append-nil (machine gone).state.dones ∙ done
 
   givens : d.view.givens ≡ b.view.givens
@@ -94,14 +75,14 @@ module _ {P Out : Type 0} (related : ℕ → ℕ → P → Out → Type 0) (b c 
   one : length (world_after d.view.givens whole.log).processes ≡ 1
   one = (lawful d.view.givens whole.log).size ∙ ap (λ (x : Givens). x.workers) givens ∙ alone
 
-  only : (j : ℕ) → is_claimed (world_after d.view.givens whole.log).processes j ≡ has (jobs_in outputs) j
+  only : (j : ℕ) → is_claimed (world_after d.view.givens whole.log).processes j ≡ has (jobs_of outputs) j
   only j = single (world_after d.view.givens whole.log).processes one j ∙ ap (λ (l : LocalView). has l.state.claimed j) (sym same) ∙ ap (λ l. has l j) claimed
 
   pub rest_of : (r : Rest P Out) → r.outputs.items ≡ outputs → r.free.items ≡ s.free.items → IsRest related b.view.payloads r
   rest_of r is free = record {
     answers = subst (λ l. All (IsAnswer related b.view.payloads) l) (sym is) (subst (λ xs. All (IsAnswer related xs) outputs) hired.worker.payloads paid.answers);
-    distinct = subst AreDistinct (claimed ∙ ap jobs_in (sym is)) sound.distinct;
-    free = free ∙ whole.free ∙ free_filtered (world_after d.view.givens whole.log).processes (jobs_in outputs) only 1 d.view.payloads
-        ∙ ap (λ xs. filter (λ (t : ℕ × P). not (has (jobs_in outputs) t.0)) (enumerate_from 1 xs)) payloads
-        ∙ ap (λ (l : List (Output Out)). filter (λ (t : ℕ × P). not (has (jobs_in l) t.0)) (enumerate_from 1 b.view.payloads)) (sym is);
+    distinct = subst AreDistinct (claimed ∙ ap jobs_of (sym is)) sound.distinct;
+    free = free ∙ whole.free ∙ free_filtered (world_after d.view.givens whole.log).processes (has (jobs_of outputs)) only 1 d.view.payloads
+        ∙ ap (λ xs. filter (λ (t : ℕ × P). not (has (jobs_of outputs) t.0)) (enumerate_from 1 xs)) payloads
+        ∙ ap (λ (l : List (Output Out)). filter (λ (t : ℕ × P). not (has (jobs_of l) t.0)) (enumerate_from 1 b.view.payloads)) (sym is);
   }

@@ -12,13 +12,14 @@ use Rattle.amo_words.specs.Logs.{world_after, is_claimed}
 use Rattle.amo_crew.specs.declared.hand.Output.{Output}
 use Rattle.amo_crew.specs.declared.outcome.Outcome.{Outcome}
 use Rattle.amo_crew.specs.Running.{IsAnswer}
-use Rattle.amo_crew.specs.Outcomes.{IsOutcome}
+use Rattle.amo_crew.specs.Outcomes.{jobs_of, IsOutcome}
 use Rattle.amo_payments.specs.declared.day.payment.Payment.{Payment}
 use Rattle.amo_payments.specs.declared.bank.Answer.{Answer}
 use Rattle.amo_payments.specs.declared.sorting.Sorted.{Sorted}
-use Rattle.amo_payments.specs.Sorting.{jobs_in, is_paid, has_receipt_of, has_job, is_unsure, ids_of, IsOneOf, IsOwn, IsNumberOf, IsSorted}
+use Rattle.amo_payments.specs.Sorting.{is_paid, has_receipt_of, has_job, is_unsure, ids_of, IsOneOf, IsOwn, IsNumberOf, IsSorted}
 use Rattle.amo_payments.specs.Payments.{Answers}
 use Rattle.amo_crew.proofs.Once.{answered_once, answered_not_free}
+use Rattle.amo_payments.proofs.Filters.{free_filtered}
 
 -- ---- jobs that come with something
 
@@ -103,21 +104,9 @@ and_left true b h = refl
 and_left false b h = h
 
 -- of which there is a receipt, of that there is an answer
-receipt_has : (xs : List (Output Answer)) (j : ℕ) → has_receipt_of xs j ≡ true → has (jobs_in xs) j ≡ true
+receipt_has : (xs : List (Output Answer)) (j : ℕ) → has_receipt_of xs j ≡ true → has (jobs_of xs) j ≡ true
 receipt_has [] j h = h
-receipt_has (x ∷ xs) j h = either (eqb x.job j && is_paid x.out) (eqb x.job j) (has_receipt_of xs j) (has (jobs_in xs) j) (and_left (eqb x.job j) (is_paid x.out)) (receipt_has xs j) h
-
--- what nobody has claimed are those that pass
-free_passes : (all : List Process) (i : ℕ) (xs : List Payment) → free_of all i xs ≡ passing (λ j. not (is_claimed all j)) (enumerate_from i xs)
-free_passes all i [] = refl
-free_passes all i (x ∷ xs) = go (is_claimed all i) (free_passes all (suc i) xs ∙ ap (λ n. passing (λ j. not (is_claimed all j)) (enumerate_from n xs)) next)
-  where
-    next : suc i ≡ i + 1
-    next = omega arith
-
-    go : (b : Bool) {t r : List (ℕ × Payment)} → t ≡ r → cond b t ((i, x) ∷ t) ≡ cond (not b) ((i, x) ∷ r) r
-    go true e = e
-    go false e = ap (λ l. (i, x) ∷ l) e
+receipt_has (x ∷ xs) j h = either (eqb x.job j && is_paid x.out) (eqb x.job j) (has_receipt_of xs j) (has (jobs_of xs) j) (and_left (eqb x.job j) (is_paid x.out)) (receipt_has xs j) h
 
 -- the lists that come of a run
 pub sorted : (g : Givens) (payloads : List Payment) (ids : List ℕ) (budgets : List ℕ) (o : Outcome Payment Answer) (s : Sorted) → IsOutcome Answers g payloads budgets o → ids ≡ ids_of payloads
@@ -126,9 +115,9 @@ sorted g payloads ids budgets o s is named all free doubt = record {
   one = λ j low high. one_of (has_receipt_of s.answers.items j) (has_job s.free.items j) (has_job s.in_doubt.items j)
       (ap (λ xs. has_job xs j) doubt ∙ listed unsure (enumerate_from 1 ids) j (has_all 1 ids j low (size j high)))
       (apart j);
-  distinct = subst (λ xs. AreDistinct (jobs_in xs)) (sym all) (answered_once Answers g payloads budgets o is);
+  distinct = subst (λ xs. AreDistinct (jobs_of xs)) (sym all) (answered_once Answers g payloads budgets o is);
   answers = subst (All (IsAnswer Answers payloads)) (sym all) is.run.outputs_are.answers;
-  own = subst (All (IsOwn payloads)) (sym all_free) (subst (All (IsOwn payloads)) (sym (free_passes processes 1 payloads))
+  own = subst (All (IsOwn payloads)) (sym all_free) (subst (All (IsOwn payloads)) (sym (free_filtered processes (is_claimed processes) (λ j. refl) 1 payloads))
       (All-filter (λ (t : ℕ × Payment). not (is_claimed processes t.0)) (IsOwn payloads) (enumerate_from 1 payloads) (at_places payloads 1 payloads (λ k x e. place k x e))));
   numbers = subst (All (IsNumberOf payloads)) (sym doubt) (All-filter (λ (t : ℕ × ℕ). unsure t.0) (IsNumberOf payloads) (enumerate_from 1 ids)
       (subst (λ l. All (IsNumberOf payloads) (enumerate_from 1 l)) (sym named) (at_places (ids_of payloads) 1 (ids_of payloads) (λ k x e. number k x e))));

@@ -8,6 +8,7 @@ use Rattle.std.proofs.lemmas.List.Elements.{All-nil, All-head, All-tail, All-app
 use Rattle.std.proofs.lemmas.Option.{slice_get-get_or, slice_get-map}
 use Rattle.amo_sets.specs.Sets.{has}
 use Rattle.amo_crew.specs.declared.hand.Output.{Output}
+use Rattle.amo_crew.specs.Outcomes.{jobs_of}
 use Rattle.amo_crew.specs.Running.{IsAnswer}
 use Rattle.amo_payments.specs.declared.day.Day.{Day}
 use Rattle.amo_payments.specs.declared.day.payment.Payment.{Payment}
@@ -21,7 +22,7 @@ use Rattle.amo_payments.specs.Payments.{Answers}
 use Rattle.amo_payments.specs.Lines.{line}
 use Rattle.amo_payments.specs.Days.{is_ended}
 use Rattle.amo_payments.specs.Restarts.{has_intent, has_receipt, was_made, is_in_doubt, is_untried}
-use Rattle.amo_payments.specs.Sorting.{jobs_in, is_paid, has_receipt_of, has_job, ids_of, IsOneOf, IsOwn, IsNumberOf}
+use Rattle.amo_payments.specs.Sorting.{is_paid, has_receipt_of, has_job, ids_of, IsOneOf, IsOwn, IsNumberOf}
 use Rattle.amo_payments.specs.Rounds.{IsRound}
 use Rattle.amo_payments.specs.Second.{IsRest}
 use Rattle.amo_payments.specs.Reports.{AreFloors, HasLine, IsTold, IsReport, answer_line, answer_lines, done_line, done_lines, doubt_lines, round_text, rest_text, payments_of, lines_of}
@@ -133,7 +134,7 @@ module _ (payments : List Payment) (j : ℕ) (p : Payment) (at : slice_get payme
       go more false e n = more n
 
   -- that has an answer
-  answered : (xs : List (Output Answer)) → All (IsAnswer Answers payments) xs → has (jobs_in xs) j ≡ true → IsTold (answer_lines xs) p
+  answered : (xs : List (Output Answer)) → All (IsAnswer Answers payments) xs → has (jobs_of xs) j ≡ true → IsTold (answer_lines xs) p
   answered [] all h = absurd (true≢false (sym h))
   answered (x ∷ xs) all h = go (λ n. told_after (answer_line x.out) (answer_lines xs) p (ended_answer x) (answered xs (All-tail (IsAnswer Answers payments) x xs all) n)) (eqb x.job j) refl h
     where
@@ -144,7 +145,7 @@ module _ (payments : List Payment) (j : ℕ) (p : Payment) (at : slice_get payme
       here (Paid r) y e is = inr (inl (subst (λ id. HasLine (line (codes "done") r.id ++ answer_lines xs) (codes "done") id) (is.id ∙ ap (λ (q : Payment). q.id) e) (line_here (codes "done") r.id (answer_lines xs))))
       here (Unpaid q) y e is = inr (inr (inl (subst (λ (o : Payment). HasLine (line (codes "doubt") q.id ++ answer_lines xs) (codes "doubt") o.id) (is ∙ e) (line_here (codes "doubt") q.id (answer_lines xs)))))
 
-      go : (has (jobs_in xs) j ≡ true → IsTold (answer_lines (x ∷ xs)) p) → (b : Bool) → eqb x.job j ≡ b → b || has (jobs_in xs) j ≡ true → IsTold (answer_lines (x ∷ xs)) p
+      go : (has (jobs_of xs) j ≡ true → IsTold (answer_lines (x ∷ xs)) p) → (b : Bool) → eqb x.job j ≡ b → b || has (jobs_of xs) j ≡ true → IsTold (answer_lines (x ∷ xs)) p
       go more true e n = let first = All-head (IsAnswer Answers payments) x xs all in here x.out first.0 (own first.0 (eqb-true x.job j e) first.1) first.2
       go more false e n = more n
 
@@ -178,16 +179,16 @@ of_round crew Q payments s is free_are told k d within =
     go false h false i false l one = absurd (true≢false (sym one))
 
 of_rest : (Q : Payment → Type 0) (payments : List Payment) (r : Rest Payment Answer) → IsRest Answers payments r → All Q (payments_of r.free.items) → ((p : Payment) → IsTold (rest_text r) p → Q p) → All Q payments
-of_rest Q payments r is free_are told k d within = go (has (jobs_in r.outputs.items) (k + 1)) refl
+of_rest Q payments r is free_are told k d within = go (has (jobs_of r.outputs.items) (k + 1)) refl
   where
     p : Payment
     p = get_or payments k d
 
-    go : (b : Bool) → has (jobs_in r.outputs.items) (k + 1) ≡ b → Q p
+    go : (b : Bool) → has (jobs_of r.outputs.items) (k + 1) ≡ b → Q p
     go true h = told p (answered payments (k + 1) p (place_of payments k d within) r.outputs.items is.answers h)
     go false h =
         let same : k + 1 ≡ 1 + k = omega arith in
-        of_free Q (λ j. not (has (jobs_in r.outputs.items) j)) 1 payments (subst (λ l. All Q (payments_of l)) is.free free_are) k d within (ap (λ j. not (has (jobs_in r.outputs.items) j)) (sym same) ∙ ap not h)
+        of_free Q (λ j. not (has (jobs_of r.outputs.items) j)) 1 payments (subst (λ l. All Q (payments_of l)) is.free free_are) k d within (ap (λ j. not (has (jobs_of r.outputs.items) j)) (sym same) ∙ ap not h)
 
 -- ---- all floors together
 

@@ -6,8 +6,8 @@ use Rattle.amo_words.specs.declared.rule.Spot.TheVariants.{Home}
 use Rattle.amo_words.specs.declared.floor.settling.Settlement.{Settlement}
 use Rattle.amo_words.specs.Faces.{spots}
 use Rattle.amo_words.specs.Settling.{IsWhole}
+use Rattle.amo_crew.specs.Outcomes.{jobs_of}
 use Rattle.amo_crew.specs.Running.{IsAnswer}
-use Rattle.amo_payments.specs.Sorting.{jobs_in}
 use Rattle.amo_payments.specs.declared.second.Rest.{Rest}
 use Rattle.amo_payments.specs.declared.second.RestFault.{RestFault}
 use Rattle.amo_payments.specs.declared.second.RestFault.TheVariants.{Untried, Unhired, Unsettled}
@@ -16,8 +16,8 @@ use Rattle.amo_payments.specs.declared.second.RestFault.TheVariants.{Untried, Un
 -- their numbers. None is in doubt.
 pub record IsRest {P Out : Type 0} (related : ℕ → ℕ → P → Out → Type 0) (payloads : List P) (r : Rest P Out) : Type 0 where
   pub answers : All (IsAnswer related payloads) r.outputs.items
-  pub distinct : AreDistinct (jobs_in r.outputs.items)
-  pub free : r.free.items ≡ filter (λ t. not (has (jobs_in r.outputs.items) t.0)) (enumerate_from 1 payloads)
+  pub distinct : AreDistinct (jobs_of r.outputs.items)
+  pub free : r.free.items ≡ filter (λ t. not (has (jobs_of r.outputs.items) t.0)) (enumerate_from 1 payloads)
 
 -- What is given back of a floor of these payloads: the payloads themselves where nothing was performed, or the floor as it was
 -- opened, or the floor and the answers, which make a whole rest with each settlement of it.

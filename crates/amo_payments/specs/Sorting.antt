@@ -8,12 +8,9 @@ use Rattle.amo_payments.specs.declared.day.payment.Payment.{Payment}
 use Rattle.amo_payments.specs.declared.bank.Answer.{Answer}
 use Rattle.amo_payments.specs.declared.bank.Answer.TheVariants.{Paid, Unpaid}
 use Rattle.amo_payments.specs.declared.sorting.Sorted.{Sorted}
+use Rattle.amo_crew.specs.Outcomes.{jobs_of}
 use Rattle.amo_crew.specs.Running.{IsAnswer}
 use Rattle.amo_payments.specs.Payments.{Answers}
-
--- the jobs of these outputs, in their order
-abbrev pub jobs_in : {Out : Type 0} → List (Output Out) → List ℕ
-jobs_in outputs = map (λ x. x.job) outputs
 
 -- it is a receipt
 abbrev pub is_paid : Answer → Bool
@@ -63,7 +60,7 @@ pub record IsSortingOf (ids : List ℕ) (o : Outcome Payment Answer) (s : Sorted
 -- payment, and what is in doubt with its own payment's number.
 pub record IsSorted (payloads : List Payment) (s : Sorted) : Type 0 where
   pub one : (j : ℕ) → 1 ≤ j → j ≤ length payloads → IsOneOf (has_receipt_of s.answers.items j) (has_job s.free.items j) (has_job s.in_doubt.items j)
-  pub distinct : AreDistinct (jobs_in s.answers.items)
+  pub distinct : AreDistinct (jobs_of s.answers.items)
   pub answers : All (IsAnswer Answers payloads) s.answers.items
   pub own : All (IsOwn payloads) s.free.items
   pub numbers : All (IsNumberOf payloads) s.in_doubt.items
