@@ -12,6 +12,3 @@ mod work;
 
 pub use states::{After, Go, Gone, Held, Performed, Ready, begin};
 pub use work::Work;
-
-#[cfg(test)]
-mod tests;

@@ -31,6 +31,3 @@ pub use outcome::{End, Outcome};
 pub use plan::{StopFault, StopPlan};
 pub use queue::{Inlet, Outlet, Queue, outlets};
 pub use unsettled::Unsettled;
-
-#[cfg(test)]
-mod tests;

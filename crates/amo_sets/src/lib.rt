@@ -4,8 +4,6 @@
 
 mod job_set;
 mod lists;
-#[cfg(test)]
-mod tests;
 
 pub use job_set::JobSet;
 pub use lists::filled;

@@ -7,21 +7,21 @@ ghost use Rattle.amo_words.specs.Logs.{word_count};
 use amo_kk::Givens;
 
 /// How many words there are: the book word, and for each worker its announcement, its count of claims and its row.
-pub(crate) fn word_count(givens: Givens) -> usize
+pub fn word_count(givens: Givens) -> usize
     ensures { result ≡ word_count givens }
 {
     (givens.workers() * (givens.jobs() + 3) + 1) as usize
 }
 
 /// The place of the announcement of p.
-pub(crate) fn next_word(p: u32) -> usize
+pub fn next_word(p: u32) -> usize
     ensures { result ≡ next_word p }
 {
     p as usize
 }
 
 /// The place of the count of p's claims.
-pub(crate) fn claim_word(givens: Givens, p: u32) -> usize
+pub fn claim_word(givens: Givens, p: u32) -> usize
     requires { IsWorker givens p }
     ensures { result ≡ claim_word givens p }
 {
@@ -29,7 +29,7 @@ pub(crate) fn claim_word(givens: Givens, p: u32) -> usize
 }
 
 /// The place of the k-th entry of p's row, k from 1 to one more than the jobs.
-pub(crate) fn done_word(givens: Givens, p: u32, k: u32) -> usize
+pub fn done_word(givens: Givens, p: u32, k: u32) -> usize
     requires worker { IsWorker givens p }
     requires place { k ≤ givens.jobs + 1 }
     ensures { result ≡ done_word givens p k }

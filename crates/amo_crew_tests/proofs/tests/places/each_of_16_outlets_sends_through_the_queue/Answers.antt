@@ -1,0 +1,11 @@
+use Rattle.std.proofs.Common.{ℕ, Some}
+use Rattle.std.proofs.lemmas.List.Elements.{All-pop}
+use Rattle.amo_crew.specs.declared.queue.outlet.Outlet.{Outlet}
+use Rattle.amo_crew.specs.Ends.{IsOutletOf}
+use Rattle.amo_crew_tests.proofs.tests.places.each_of_16_outlets_sends_through_the_queue.Goals as goal
+
+pub put_jobs-requires : goal.put_jobs-requires
+put_jobs-requires g c = (All-pop (λ (o : Outlet ℕ). IsOutletOf c.in_ok-queue.queue o) c.loop-outlet.all.items c.pop.new.self.items (Some c.in-Some.outlet) c.in-Some.ensures.items c.loop-outlet.invariant).1
+
+pub loop-outlet-preserved : goal.loop-outlet-preserved
+loop-outlet-preserved g c = (All-pop (λ (o : Outlet ℕ). IsOutletOf c.in_ok-queue.queue o) c.loop-outlet.all.items c.pop.new.self.items (Some c.in-Some.outlet) c.in-Some.ensures.items c.loop-outlet.invariant).0

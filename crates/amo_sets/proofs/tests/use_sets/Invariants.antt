@@ -1,5 +1,0 @@
-use Rattle.std.proofs.Common.{◌≡◌, length}
-use Rattle.amo_sets.proofs.tests.use_sets.Given as goal
-
-abbrev pub invariant-loop-round : goal.invariant-loop-round
-invariant-loop-round g l = (length l.set ≡ 130) × (length l.other ≡ 130)

@@ -1,0 +1,120 @@
+"""The crates of the repository, as crates.txt lists them, and how rattle checks one."""
+
+import os
+import re
+import shutil
+
+PARTS = ("src", "specs", "proofs")
+NO_KIT = "`rt` is not on the path; README.md says what has to be installed"
+
+
+def kit():
+    """The toolchain's folder, or None where `rt` is not on the path."""
+    found = shutil.which("rt")
+    return found and os.path.dirname(os.path.dirname(os.path.realpath(found)))
+
+
+def files_of(folder):
+    """The files of a crate that a check reads."""
+    for part in PARTS:
+        for place, folders, names in os.walk(f"{folder}/{part}"):
+            folders.sort()
+            yield from (f"{place}/{name}" for name in sorted(names))
+
+
+def lines_of(folder, ending):
+    total = 0
+    for file in files_of(folder):
+        if file.endswith(ending):
+            with open(file, "rb") as held:
+                total += held.read().count(b"\n")
+    return total
+
+
+class Crate:
+    """A crate with the crates that it stands on: those of the repository, and the names of the toolchain's."""
+
+    def __init__(self, kit, root, name, deps, of_kit):
+        self.kit, self.name, self.deps, self.of_kit = kit, name, deps, of_kit
+        self.folder = f"{root}/crates/{name}"
+        self.is_program = os.path.isfile(f"{self.folder}/src/main.rt")
+        self.rlib = f"{self.folder}/out/rlib/{name}.rlib"
+
+    def below(self):
+        """The repository's crates below this one, each after those that it stands on."""
+        found = []
+        for dep in self.deps:
+            found += [it for it in [*dep.below(), dep] if it not in found]
+        return found
+
+    def check(self, kept):
+        """The words of a check of this crate, in a folder that holds its files, over what earlier checks kept."""
+        words = [f"{self.kit}/bin/rattle", "check", "--crate-name", self.name]
+        words += ["src/main.rt" if self.is_program else "src/lib.rt"]
+        for name in ["std", *self.of_kit]:
+            words += ["--extern", f"{name}={self.kit}/rlibs/{name}.rlib"]
+        words += ["-L", f"dependency={self.kit}/rlibs"]
+        for dep in self.deps:
+            words += ["--extern", f"{dep.name}={dep.rlib}"]
+        for dep in self.below():
+            words += ["-L", f"dependency={os.path.dirname(dep.rlib)}"]
+        words += ["--antt-project", f"{self.kit}/rattle/logic/antt-project.json"]
+        words += ["--logic-built", f"{self.kit}/logic_built", "--jobs", "1", "--links", f"{self.name}="]
+        return [*words, "--incremental", kept]
+
+    def size(self):
+        return sum(lines_of(self.folder, it) for it in (".rt", ".antt"))
+
+    def need(self):
+        """The most memory that a check is likely to take, in bytes, by lines of code and of proof, as measured."""
+        own = 1_000_000 * lines_of(self.folder, ".rt") + 200_000 * lines_of(self.folder, ".antt")
+        below = 80_000 * sum(lines_of(it.folder, ".rt") for it in self.below())
+        named = {name for it in [self, *self.below()] for name in it.of_kit}
+        archives = [f"{self.kit}/rlibs/{it}.rlib/toolchain/checked.a" for it in named]
+        loaded = sum(os.path.getsize(it) for it in archives if os.path.isfile(it))
+        return 1_000_000_000 + own + below + min(5 * loaded, 2_500_000_000)
+
+    def is_current(self):
+        """Whether the library that stands in out/ was written after each file that it was made of had come there, and
+        after the libraries below it. The folder's time is that of its making; a file's that at which the system saw it."""
+        try:
+            made = time_of(self.rlib)
+            return os.path.isfile(f"{self.rlib}/format") and all(os.stat(it).st_ctime_ns < made for it in files_of(self.folder))
+        except OSError:
+            return False
+
+    def is_made(self):
+        """Whether the library is current, and so are those below it, and none is older than one that it stands on."""
+        return self.is_current() and all(it.is_made() and time_of(it.rlib) <= time_of(self.rlib) for it in self.deps)
+
+    def is_over(self):
+        """Whether each library below is made."""
+        return all(it.is_made() for it in self.deps)
+
+
+def time_of(file):
+    return os.stat(file).st_mtime_ns
+
+
+def free_memory():
+    with open("/proc/meminfo", encoding="ascii") as held:
+        return next(1024 * int(it.split()[1]) for it in held if it.startswith("MemAvailable:"))
+
+
+def crates_of(kit, root):
+    """All crates of crates.txt, lowest first."""
+    with open(f"{root}/crates.txt", encoding="utf-8") as held:
+        rows = [it.partition("#")[0].strip() for it in held]
+    listed = {}
+    for row in filter(None, rows):
+        head, _, uses = row.partition(":")
+        listed[head.split()[0]] = re.split(r"[\s,]+", uses.strip()) if uses.strip() else []
+    made = {}
+
+    def make(name):
+        if name not in made:
+            deps = [make(it) for it in listed[name] if it in listed]
+            made[name] = Crate(kit, root, name, deps, [it for it in listed[name] if it not in listed])
+        return made[name]
+
+    return sorted(map(make, listed), key=lambda it: len(it.below()))

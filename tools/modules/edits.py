@@ -1,0 +1,117 @@
+"""The edits and the twins of a crate: what each changes, line by line, and in which functions."""
+
+import os
+import re
+
+FOLDER = "wrong-bodies"
+
+
+class Body:
+    """A wrong body, or a harmless twin. `lines` are the new texts of lines, by file and number from 1."""
+
+    def __init__(self, crate, file):
+        self.file, self.name = file, os.path.basename(file)
+        self.is_twin = file.endswith(".twin")
+        self.label = f"{crate.name}/{self.name}"
+        self.lines, self.functions, self.trouble = {}, [], None
+        self.verdict, self.why, self.tries = None, "", []
+
+    def read(self, folder, functions):
+        """Reads the file, and finds the functions that it changes. `trouble` says why it can't be applied."""
+        try:
+            with open(self.file, encoding="utf-8") as held:
+                was, now = applied(held.read(), folder)
+        except (OSError, ValueError) as fault:
+            self.trouble = str(fault)
+            return
+        for path, text in now.items():
+            pairs = zip(was[path].split("\n"), text.split("\n"))
+            self.lines.update({(path, number): new for number, (old, new) in enumerate(pairs, 1) if old != new})
+        if not self.lines:
+            self.trouble = "it changes nothing"
+        for path, number in self.lines:
+            held = [it for it in functions if it.file == path and it.has(number)][-1:]
+            line = was[path].split("\n")[number - 1]
+            # (of a constant the functions that read it)
+            constant = re.match(r"\s*(?:pub(?:\(\w+\))? )?const (\w+)", line)
+            held = held or [it for it in functions if constant and constant[1] in it.words]
+            self.functions += [it for it in held if it not in self.functions]
+            if not held and not line.lstrip().startswith("ghost use "):
+                self.trouble = f"{path}:{number} stands in no function"
+        if not self.functions and not self.trouble:
+            self.trouble = "it changes no function"
+
+    def changes_head(self):
+        """Whether it changes a line of a function's head, so that callers see another contract."""
+        return any(it.file == path and it.first <= number <= it.opens for it in self.functions for path, number in self.lines)
+
+    def may_call(self, other):
+        """Whether a function that this body changes may call one that the other changes."""
+        named = {it.name for it in other.functions}
+        words = {word for text in self.lines.values() for word in re.findall(r"\w+", text)}
+        return bool(named & words.union(*(it.words for it in self.functions)))
+
+    def meets(self, other):
+        """Whether the two can't stand in one copy."""
+        same = set(map(id, self.functions)) & set(map(id, other.functions)) or self.lines.keys() & other.lines.keys()
+        calls, called = self.may_call(other), other.may_call(self)
+        # (two that call one another are a cycle, which is refused before any proof)
+        return bool(same or calls and called or calls and other.changes_head() or called and self.changes_head())
+
+    def has(self, path, number):
+        return any(it.file == path and it.has(number) for it in self.functions)
+
+
+def applied(text, folder):
+    """The texts of the files that an edit names, before and after it."""
+    path, old, was, now, pairs = None, None, {}, {}, 0
+    for line in text.split("\n"):
+        if line.startswith("file: "):
+            path = line.removeprefix("file: ").strip()
+            if os.path.normpath(path) != path or not path.startswith("src/"):
+                raise ValueError("a 'file:' line names no file below src/")
+            if path not in was:
+                with open(f"{folder}/{path}", encoding="utf-8") as held:
+                    was[path] = now[path] = held.read()
+        elif line.startswith("old: "):
+            old = line.removeprefix("old: ")
+        elif line.startswith("new:"):
+            if path is None or not old:
+                raise ValueError("a 'new:' line stands before any 'file:' or 'old:' line")
+            if now[path].count(old) != 1:
+                raise ValueError(f"an 'old:' text is in {path} {now[path].count(old)} times, and not once")
+            now[path] = now[path].replace(old, line.removeprefix("new:").removeprefix(" "))
+            old, pairs = None, pairs + 1
+        elif line.strip():
+            raise ValueError(f"a line begins with none of 'file: ', 'old: ' and 'new:': {line.strip()[:60]}")
+    if not pairs:
+        raise ValueError("it has no 'old:' and 'new:' pair")
+    return was, now
+
+
+def bodies_of(crate, functions):
+    """The crate's edits and twins, by name, and the files of the folder that are neither."""
+    place, found, strange = f"{crate.folder}/{FOLDER}", [], []
+    for name in sorted(os.listdir(place)) if os.path.isdir(place) else []:
+        if name.endswith((".edit", ".twin")):
+            body = Body(crate, f"{place}/{name}")
+            body.read(crate.folder, functions)
+            found.append(body)
+        else:
+            strange.append(f"{crate.name}/{FOLDER}/{name}")
+    return found, strange
+
+
+def rounds_of(bodies, most, apart=False):
+    """Parts bodies into as few groups as they fall into in turn, no two of a group meeting; with `apart` no two of which one
+    may call the other."""
+    rounds = []
+    for it in bodies:
+        fits = (held for held in rounds if len(held) < most and not any(
+            it.meets(other) or apart and (it.may_call(other) or other.may_call(it)) for other in held))
+        place = next(fits, None)
+        if place is None:
+            rounds.append([it])
+        else:
+            place.append(it)
+    return rounds

@@ -1,0 +1,140 @@
+"""The functions of a crate's sources, found in rattle's own tokens."""
+
+import json
+import os
+import re
+import subprocess
+
+WORD = re.compile(r"\w+\Z")
+OPENS, CLOSES = "([{", ")]}"
+
+
+class Function:
+    """A function: its name, the type and the trait of its impl, its module, and where it stands, in lines from 1."""
+
+    def __init__(self, file, name, block, cycle, lines, words):
+        self.file, self.name, self.block, self.cycle = file, name, block, cycle
+        self.first, self.opens, self.last = lines
+        self.words = set(words)
+
+    def module(self):
+        inside = self.file.removeprefix("src/").removesuffix(".rt").split("/")
+        return [] if inside in (["lib"], ["main"]) else [it for it in inside if it != "mod"]
+
+    def has(self, line):
+        return self.first <= line <= self.last
+
+    def symbols(self, crate, told):
+        """Which of these names of a check are this function's: `crate::module::Type::name`, of a trait's method with both
+        names in one word, below the type's own module."""
+        ending = [it for it in told if it.startswith(f"{crate}::") and it.split("::")[-1] == self.name]
+        if not self.block:
+            whole = "::".join([crate, *self.module(), self.name])
+            return [it for it in ending if it == whole]
+        owner = lambda it: it.split("::")[-2]
+        if self.block.trait:
+            plain = lambda word: word.replace("_", "").replace("+", "").lower()
+            found = [it for it in ending if all(plain(word) in plain(owner(it)) for word in self.block.words)]
+        else:
+            found = [it for it in ending if owner(it).partition("+")[0] == self.block.type]
+        near = [it for it in found if it.split("::")[1:-2] == self.module()]
+        return near or found
+
+    def is_by_hand(self, folder, crate, told):
+        """Whether a part of its proof is written by hand."""
+        places = ["/".join(it.split("::")[1:]) for it in self.symbols(crate, told)]
+        places += ["/".join([*self.module(), f"+{self.cycle}"])] * bool(self.cycle)
+        names = ("Answers", "Invariants", "Proof")
+        return any(os.path.isfile(f"{folder}/proofs/{place}/{name}.antt") for place in places for name in names)
+
+
+class Block:
+    """The head of an impl or a trait: the type that it is of, and the words of both names."""
+
+    def __init__(self, keyword, head):
+        past = past_angles(head) if head[:1] == ["<"] else 0
+        generics, head = head[:past], head[past:]
+        head = head[: head.index("where")] if "where" in head else head
+        cut = head.index("for") if keyword == "impl" and "for" in head else None
+        named = head if cut is None else head[cut + 1:]
+        self.trait = cut is not None or keyword == "trait"
+        self.type = last_name(named)
+        self.words = [it for it in head if WORD.match(it) and it not in (*generics, "for", "mut", "dyn")]
+
+
+def past_angles(words):
+    depth = 0
+    for at, it in enumerate(words):
+        depth += (it == "<") - (it == ">" and words[at - 1] != "-")
+        if depth == 0:
+            return at + 1
+    return len(words)
+
+
+def last_name(words):
+    """The last name of a path, before its arguments."""
+    plain = words[: words.index("<")] if "<" in words else words
+    names = [it for it in plain if WORD.match(it) and it not in ("mut", "dyn")]
+    return names[-1] if names else ""
+
+
+def tokens(rattle, folder, file):
+    """The line and the text of each token of code, those of contracts left out."""
+    ran = subprocess.run([rattle, "fmt", "--tokens", f"{folder}/{file}"], capture_output=True, encoding="utf-8", check=True)
+    rows = [it.split(" ", 4) for it in ran.stdout.split("\n")[1:] if it]
+    return [(int(row[0]), json.loads(row[4])) for row in rows if row[3] in ("Code", "Literal")]
+
+
+def end_of(rows, at):
+    """The place of the bracket that closes the one here."""
+    depth = 0
+    for place in range(at, len(rows)):
+        text = rows[place][1]
+        depth += text in OPENS and len(text) == 1
+        depth -= text in CLOSES and len(text) == 1
+        if depth == 0:
+            return place
+    return len(rows) - 1
+
+
+def opening(rows, at):
+    """The place of the `{` of a body, or of the `;` that stands where there is none."""
+    while at < len(rows) and rows[at][1] not in ("{", ";"):
+        at = end_of(rows, at) + 1 if rows[at][1] in ("(", "[") else at + 1
+    return at
+
+
+def functions_in(file, rows, at=0, end=None, block=None):
+    """The functions of these tokens, an inner one after that which holds it."""
+    end, cycle = len(rows) if end is None else end, None
+    while at < end:
+        line, text = rows[at]
+        cycle = rows[at + 2][1] if [it for _, it in rows[at - 1: at + 2]] == ["[", "cycle", "("] else cycle
+        is_item = text in ("fn", "impl", "trait", "mod") and (at == 0 or rows[at - 1][1] not in (":", "&", "<", "->"))
+        if not is_item or not WORD.match(rows[at + 1][1] if text in ("fn", "mod") else "x"):
+            at += 1
+            continue
+        opens = opening(rows, at)
+        closes = end_of(rows, opens) if rows[opens][1] == "{" else opens
+        inside = (opens + 1, closes)
+        if text == "fn":
+            body = [it for _, it in rows[opens + 1: closes]]
+            yield Function(file, rows[at + 1][1], block, cycle, (line, rows[opens][0], rows[closes][0]), body)
+            yield from functions_in(file, rows, *inside, None)
+            cycle = None
+        elif rows[opens][1] == "{":
+            held = Block(text, [it for _, it in rows[at + 1: opens]]) if text != "mod" else block
+            yield from functions_in(file, rows, *inside, held)
+        at = closes + 1
+
+
+def functions_of(rattle, folder):
+    """All functions of a crate's src/, its tests left out."""
+    found = []
+    for place, folders, files in os.walk(f"{folder}/src"):
+        folders[:] = sorted(it for it in folders if it != "tests")
+        for name in sorted(files):
+            if name.endswith(".rt") and name != "tests.rt":
+                file = os.path.relpath(f"{place}/{name}", folder)
+                found += functions_in(file, tokens(rattle, folder, file))
+    return found
