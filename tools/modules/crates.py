@@ -5,7 +5,7 @@ import re
 import shutil
 
 PARTS = ("src", "specs", "proofs")
-NO_KIT = "`rt` is not on the path; README.md says what has to be installed"
+NO_KIT = "`rt` is not on the path; README.md says under 'Build and run' what has to be installed"
 
 
 def kit():
