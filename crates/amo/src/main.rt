@@ -4,16 +4,8 @@
 //! each of its first moves.
 #![tactic(auto)]
 
-mod block_work;
-mod commands;
-mod program;
-mod request;
-mod running;
-mod started;
-mod working;
-
 use amo_report::Streamed;
-use program::serve_words;
+use amo_work::serve_words;
 use std::process::ExitCode;
 
 fn main(rt: HostRuntime) -> ExitCode {
@@ -23,6 +15,3 @@ fn main(rt: HostRuntime) -> ExitCode {
     let mut err = Streamed::new(rt.stderr());
     serve_words(&rt, rt.alloc(), words, &mut reader, &mut out, &mut err)
 }
-
-#[cfg(test)]
-mod tests;

@@ -2,12 +2,8 @@
 //! `amo_show picture` a picture of it.
 #![tactic(auto)]
 
-mod program;
-mod request;
-mod working;
-
 use amo_report::Streamed;
-use program::serve_words;
+use amo_show_work::serve_words;
 use std::process::ExitCode;
 
 fn main(rt: HostRuntime) -> ExitCode {
@@ -17,6 +13,3 @@ fn main(rt: HostRuntime) -> ExitCode {
     let mut err = Streamed::new(rt.stderr());
     serve_words(rt.alloc(), words, &mut reader, &mut out, &mut err)
 }
-
-#[cfg(test)]
-mod tests;

@@ -1,0 +1,9 @@
+//! A run of a plan, from the plan's bytes to the text of what came of it: its jobs are executed in threads, block by block.
+#![tactic(auto)]
+
+mod block_work;
+mod running;
+mod started;
+
+pub use running::run_plan;
+pub use started::Started;

@@ -1,0 +1,52 @@
+//! The program on what the system gives it: all its words and three streams.
+ghost use Rattle.std.specs.Prelude.{◌≡◌, ◌≤◌, false, None, map, OnErr, IfOk, string_bytes};
+ghost use Rattle.std.specs.Process.{exit_status};
+ghost use Rattle.std.specs.Vec.Iter.{into_iter_items};
+ghost use Rattle.amo_ends.specs.Endings.{Tells, change};
+ghost use Rattle.amo_ends.specs.declared.fault.Fault.TheVariants.{NoMemory};
+ghost use Rattle.amo_show_work.specs.Statuses.{Ends};
+ghost use Rattle.amo_show_work.specs.Words.{asked_after_name};
+
+use super::working::work;
+use amo_ends::{Fault, listed, refuse};
+use amo_report::{Sink, Source};
+use std::alloc::{AllocError, Global};
+use std::env::Args;
+use std::io;
+use std::process::ExitCode;
+
+/// The whole program on the words that the system gives it, its own name first, and its streams: does what the words
+/// after the name ask for, and answers the exit status: 0 where it was done, 1 where the plan was refused, 2 where the words
+/// are no command, 3 where memory was refused, 4 where a read or a write failed. With each but 0 one line is written to `err`
+/// and passed on; that this fails changes nothing. Where the words are no command nothing is read or written to `out`. Where
+/// the system can't give the words, since memory for them is refused or one of them isn't UTF-8, that is out of memory,
+/// before anything is read. Neither `reader` nor `out` may have failed.
+pub fn serve_words<S: Source, W: Sink, E: Sink>(
+    alloc: Global,
+    words: io::Result<Args>,
+    reader: &mut S,
+    out: &mut W,
+    err: &mut E,
+) -> ExitCode
+    requires reader { S.failed reader.old ≡ false }
+    requires out { W.failed out.old ≡ false }
+    ensures ends { IfOk words (λ all. Ends (asked_after_name (map string_bytes (into_iter_items all)))
+        (change (S.remaining reader.old) (S.remaining reader.new) (S.failed reader.new))
+        (change (W.contents out.old) (W.contents out.new) (W.failed out.new))
+        (change (E.contents err.old) (E.contents err.new) (E.failed err.new)) (exit_status result)) }
+    ensures passed { exit_status result ≡ 0 → W.waiting out.new ≡ false }
+    ensures heard { 1 ≤ exit_status result → E.failed err.new ≡ false → E.waiting err.new ≡ false }
+    ensures untouched { IfOk words (λ all. asked_after_name (map string_bytes (into_iter_items all)) ≡ None
+        → (reader.new ≡ reader.old) × (out.new ≡ out.old)) }
+    ensures no_words { OnErr words (Tells NoMemory (change (E.contents err.old) (E.contents err.new) (E.failed err.new)) (exit_status result)) }
+    ensures no_words_untouched { OnErr words ((reader.new ≡ reader.old) × (out.new ≡ out.old)) }
+{
+    let status = match words {
+        Ok(words) => match listed(alloc, words) {
+            Ok(words) => work(alloc, &words, reader, out, err),
+            Err(AllocError) => refuse(alloc, err, Fault::NoMemory),
+        },
+        Err(_) => refuse(alloc, err, Fault::NoMemory),
+    };
+    ExitCode::from(status)
+}
