@@ -9,7 +9,8 @@ import tempfile
 
 from crates import PARTS
 
-FUNCTION = re.compile(r"(?:fn|struct|enum|impl|trait|const) (\S+): (.*)")
+# (what is proved of a function that may wait or abort is said so)
+FUNCTION = re.compile(r"(?:fn|struct|enum|impl|trait|const) (\S+): (proved|.*?)(?:, may [\w ,+]+)?")
 PLACE = re.compile(r"(?:note: )?(?:\./)?(\S+?):(\d+):\d+: (.*)")
 # A function that calls one that isn't proved, passes it on, or is made of it.
 OTHERS = re.compile(r"(; )?(it calls|it passes|it waits for the proof of|a call of) .*")

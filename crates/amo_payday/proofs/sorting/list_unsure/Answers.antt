@@ -1,0 +1,10 @@
+use Rattle.std.proofs.Common.{filter, ap, ◌∙◌, sym, arith}
+use Rattle.amo_payday.specs.Sorting.{is_unsure}
+use Rattle.amo_payday.proofs.Sorts.{enumerate_more}
+use Rattle.amo_payday.proofs.sorting.list_unsure.Goals as goal
+
+pub loop-before-preserved : goal.loop-before-preserved
+loop-before-preserved c =
+    let before = c.loop-before.invariant in
+    let more = enumerate_more 1 c.args.ids.now c.loop-before.before 0 (omega arith) in
+    (c.add_unsure.ensures.listed _ before.0 ∙ ap (filter (λ t. is_unsure c.args.answers.now c.args.free.now t.0)) (sym more), omega (arith, before.1, c.add_unsure.ensures.len), c.add_unsure.ensures.capacity ∙ before.2)

@@ -1,0 +1,76 @@
+-- The lines of the input and of the journal.
+use Rattle.std.specs.Prelude.{ℕ, ◌≤◌, ◌^◌, Bool, ◌&&◌, nat_lt, List, [], ◌∷◌, ◌++◌, ◌==◌, length, take, codes, Option, Some, None, option_and_then, if◌then◌else◌}
+use Rattle.std.specs.Char.{digit_value}
+use Rattle.std.specs.List.{list_all, position_or_len, before_first, after_first}
+use Rattle.std.specs.Fmt.{decimal}
+use Rattle.std.specs.Io.KnownBytes.{Appends}
+use Rattle.std.specs.Str.{bytes_eq}
+use Rattle.std.specs.Str.Parse.{digits_value, without_leading_plus}
+use Rattle.amo_payday.specs.declared.line.Entry.TheVariants.{Intent, Receipt}
+use Rattle.amo_payday.specs.declared.line.Line.{Line}
+use Rattle.amo_payday.specs.declared.line.Line.TheVariants.{Workers, Steps, Limit, Pay, Old}
+
+-- known bytes grow by a beginning of bs
+abbrev pub AppendsFront : Option (List ℕ) → Option (List ℕ) → List ℕ → Type 0
+AppendsFront old new bs = (k : ℕ) × (k ≤ length bs) × Appends old new (take k bs)
+
+-- the line of a word and a number
+abbrev pub line : List ℕ → ℕ → List ℕ
+line word id = (word ++ 32 ∷ decimal id) ++ 10 ∷ []
+
+-- the line of an intent
+abbrev pub intent_line : ℕ → List ℕ
+intent_line id = line (codes "intent") id
+
+-- the line of a receipt
+abbrev pub receipt_line : ℕ → List ℕ
+receipt_line id = line (codes "receipt") id
+
+-- one digit or more, and nothing else
+abbrev pub are_digits : List ℕ → Bool
+are_digits text = nat_lt 0 (length text) && list_all (λ c. nat_lt (digit_value c) 10) text
+
+-- the number that these digits say, where it is below 2 ^ 64
+abbrev pub number_of_digits : List ℕ → Option ℕ
+number_of_digits digits = if are_digits digits && nat_lt (digits_value 10 digits) (2 ^ 64) then Some (digits_value 10 digits) else None
+
+-- the number that a text says: its digits, before which a plus may stand
+abbrev pub number_in : List ℕ → Option ℕ
+number_in text = number_of_digits (without_leading_plus text)
+
+-- whether there is a blank in the text
+abbrev pub has_blank : List ℕ → Bool
+has_blank text = nat_lt (position_or_len (λ b. b == 32) text) (length text)
+
+-- what stands before the first blank, and what stands after it
+abbrev pub first_word : List ℕ → List ℕ
+first_word text = before_first (λ b. b == 32) text
+
+abbrev pub other_words : List ℕ → List ℕ
+other_words text = after_first (λ b. b == 32) text
+
+-- the line of this kind with the number that the text says
+abbrev pub with_number : (ℕ → Line) → List ℕ → Option Line
+with_number kind text = option_and_then (λ n. Some (kind n)) (number_in text)
+
+-- what two numbers with a blank between them say after `pay`: the account and the amount
+abbrev pub payment_in : List ℕ → Option Line
+payment_in text =
+    if has_blank text
+    then option_and_then (λ account. option_and_then (λ cents. Some (Pay account cents)) (number_in (other_words text))) (number_in (first_word text))
+    else None
+
+-- what a line of this word and this rest says
+abbrev pub line_of_word : List ℕ → List ℕ → Option Line
+line_of_word word rest =
+    if bytes_eq word (codes "workers") then with_number Workers rest
+    else (if bytes_eq word (codes "steps") then with_number Steps rest
+    else (if bytes_eq word (codes "limit") then with_number Limit rest
+    else (if bytes_eq word (codes "pay") then payment_in rest
+    else (if bytes_eq word (codes "intent") then with_number (λ id. Old (Intent id)) rest
+    else (if bytes_eq word (codes "receipt") then with_number (λ id. Old (Receipt id)) rest
+    else None)))))
+
+-- what a line says, or None where it is no line
+abbrev pub line_in : List ℕ → Option Line
+line_in text = if has_blank text then line_of_word (first_word text) (other_words text) else None

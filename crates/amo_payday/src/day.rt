@@ -1,0 +1,121 @@
+//! What the input says: a day's payments, and the journal of an earlier run of it.
+ghost use Rattle.std.specs.Prelude.{◌≡◌, true, false, [], Err, map, IfOk, IfErr, IfSome, OnOk};
+ghost use Rattle.std.specs.Str.Lines.{lines};
+ghost use Rattle.amo_payday.specs.Days.{IsDay, IsDayOf, IsDayWith, has_broken_line, is_ended};
+ghost use Rattle.amo_payday.specs.Faults.{IsOfReading};
+ghost use Rattle.amo_payday.specs.Rounds.{is_fit};
+ghost use Rattle.amo_payday.specs.declared.day.Day.{Day as DayView};
+ghost use Rattle.amo_payday.specs.declared.fault.Fault.TheVariants.{Line as BrokenLine, Input as NoInput, Crew as UnfitCrew};
+
+use crate::fault::Fault;
+use crate::line::{Entry, Line, line_of};
+use crate::rounds::Crew;
+use std::alloc::{AllocError, Global};
+use std::io::Read;
+
+mod payment;
+
+pub use payment::Payment;
+
+/// A day.
+#[derive(Drop)]
+pub struct Day {
+    pub crew: Crew,
+    /// After so many payments the workers of the second floor are asked to stop.
+    pub limit: u64,
+    /// Numbered from 1 in their order, so that the journal can name them.
+    pub payments: Vec<Payment>,
+    /// The journal of an earlier run, in its order.
+    pub journal: Vec<Entry>,
+}
+
+impl Day {
+    /// A day without payments, with one worker and no limit.
+    pub fn new(alloc: Global) -> Day
+        ensures { IsDay [] result }
+    {
+        Day {
+            crew: Crew {
+                workers: 1,
+                steps: 10_000_000,
+            },
+            limit: u64::MAX,
+            payments: Vec::new(alloc),
+            journal: Vec::new(alloc),
+        }
+    }
+
+    /// Adds what a line says. Where memory is refused the day is of no use.
+    pub fn add(&mut self, line: Line) -> Result<(), AllocError>
+        ensures { OnOk result (IsDayWith self.old line self.new) }
+    {
+        match line {
+            Line::Workers(workers) => self.crew.workers = workers,
+            Line::Steps(steps) => self.crew.steps = steps,
+            Line::Limit(limit) => self.limit = limit,
+            Line::Pay(account, cents) => {
+                let id = self.payments.len() as u64 + 1;
+                self.payments.push(Payment::new(id, account, cents))?;
+            }
+            Line::Old(entry) => self.journal.push(entry)?,
+        }
+        Ok(())
+    }
+}
+
+/// The lines of a text.
+fn lines_of(alloc: Global, text: &str) -> Result<Vec<&str>, AllocError>
+    ensures { IfOk result (λ all. map (λ line. line.now) all.items ≡ lines text.now) }
+{
+    text.lines().collect(alloc)
+}
+
+/// Whether the last line of the text has its end.
+fn is_ended(text: &str) -> bool
+    ensures { result ≡ is_ended text.now }
+{
+    text.is_empty() || text.ends_with('\n')
+}
+
+/// The day that a text says. A line that is none, or whose end is missing, refuses the whole day: it may be half an intent,
+/// and a payment of which the journal can't be read must not be made.
+fn day_of(alloc: Global, text: &str) -> Result<Day, Fault>
+    ensures day { IfOk result (IsDayOf text.now) }
+    ensures line { result ≡ Err BrokenLine → has_broken_line text.now ≡ true }
+    ensures input { result ≡ Err NoInput → ⊥ }
+    ensures crew { result ≡ Err UnfitCrew → ⊥ }
+    ensures fault { IfErr result IsOfReading }
+{
+    if !is_ended(text) {
+        return Err(Fault::Line);
+    }
+    let lines = lines_of(alloc, text)?;
+    let mut day = Day::new(alloc);
+    for words in &lines {
+        let Some(line) = line_of(words) else {
+            return Err(Fault::Line);
+        };
+        day.add(line)?;
+    }
+    Ok(day)
+}
+
+/// Reads all of the input, and the day that it says. A line that is none, or whose end is missing, refuses the whole day, as
+/// does a crew that is outside its ranges. Input is refused where it can't be read, or is no text.
+pub fn read_day<B: Read>(alloc: Global, input: &mut B) -> Result<Day, Fault>
+    ensures day { IfOk result (λ day. IfSome (B.remaining input.old) (λ text. IsDayOf text day)) }
+    ensures fit { IfOk result (λ day. is_fit day.crew ≡ true) }
+    ensures line { result ≡ Err BrokenLine → IfSome (B.remaining input.old) (λ text. has_broken_line text ≡ true) }
+    ensures crew { result ≡ Err UnfitCrew → IfSome (B.remaining input.old) (λ text. (day : DayView) × IsDayOf text day × (is_fit day.crew ≡ false)) }
+    ensures fault { IfErr result IsOfReading }
+{
+    let mut text = String::new(alloc);
+    if input.read_to_string(&mut text).is_err() {
+        return Err(Fault::Input);
+    }
+    let day = day_of(alloc, text.as_str())?;
+    if !day.crew.is_fit() {
+        return Err(Fault::Crew);
+    }
+    Ok(day)
+}

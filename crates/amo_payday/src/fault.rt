@@ -1,0 +1,55 @@
+//! Why a day ends early.
+ghost use Rattle.std.specs.Prelude.{◌≡◌};
+ghost use Rattle.amo_payday.specs.Faults.{fault_of_round, fault_of_rest};
+ghost use Rattle.amo_payday.specs.declared.fault.Fault.TheVariants.{Memory};
+
+use crate::rounds::RoundFault;
+use crate::second::RestFault;
+use std::alloc::AllocError;
+
+/// Why a day ends early. What was paid by then stands in the journal.
+#[derive(Clone, Copy, Debug, PartialEq, Eq)]
+pub enum Fault {
+    /// A line of the input is none of those that there are, or its last line has no end.
+    Line,
+    /// The input can't be read.
+    Input,
+    /// The crew that the input says is outside its ranges.
+    Crew,
+    /// The report can't be written.
+    Output,
+    /// Memory was refused.
+    Memory,
+    /// A round or a floor could not be settled or sorted.
+    Unsettled,
+}
+
+impl From<AllocError> for Fault {
+    ghost from_gives = { λ _ fault. fault ≡ Memory };
+
+    fn from(_: AllocError) -> Fault {
+        Fault::Memory
+    }
+}
+
+impl From<RoundFault> for Fault {
+    ghost from_gives = { λ round fault. fault ≡ fault_of_round round };
+
+    fn from(fault: RoundFault) -> Fault {
+        match fault {
+            RoundFault::Unpaid(_) => Fault::Memory,
+            RoundFault::Unsettled(_) | RoundFault::Unsorted(_) => Fault::Unsettled,
+        }
+    }
+}
+
+impl<P: Drop, Out: Drop> From<RestFault<P, Out>> for Fault {
+    ghost from_gives = { λ rest fault. fault ≡ fault_of_rest rest };
+
+    fn from(fault: RestFault<P, Out>) -> Fault {
+        match fault {
+            RestFault::Untried(_) | RestFault::Unhired(_, _) => Fault::Memory,
+            RestFault::Unsettled(_, _, _) => Fault::Unsettled,
+        }
+    }
+}

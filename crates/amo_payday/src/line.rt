@@ -1,0 +1,66 @@
+//! The lines of the input.
+ghost use Rattle.std.specs.Prelude.{◌≡◌};
+ghost use Rattle.amo_payday.specs.Lines.{number_in, payment_in, line_of_word, line_in};
+
+/// A line of a journal.
+#[derive(Clone, Copy, Debug, PartialEq, Eq)]
+pub enum Entry {
+    /// The payment of this number is about to be made.
+    Intent(u64),
+    /// It was made.
+    Receipt(u64),
+}
+
+/// A line of the input.
+#[derive(Clone, Copy, Debug, PartialEq, Eq)]
+pub enum Line {
+    /// How many workers there are.
+    Workers(u64),
+    /// After how many steps each worker is halted, in a round.
+    Steps(u64),
+    /// After how many payments the program is asked to stop.
+    Limit(u64),
+    /// An account, and the amount that it gets.
+    Pay(u64, u64),
+    /// A line of the journal of an earlier run.
+    Old(Entry),
+}
+
+/// The number that the text says, which may have a plus before its digits.
+#[tactic(auto, using(crate::proofs::NumberTexts::number_is))]
+fn number(text: &str) -> Option<u64>
+    ensures { result ≡ number_in text.now }
+{
+    text.parse::<u64>().ok()
+}
+
+/// Two numbers, with a blank between them.
+fn pay(text: &str) -> Option<Line>
+    ensures { result ≡ payment_in text.now }
+{
+    let (account, cents) = text.split_once(' ')?;
+    Some(Line::Pay(number(account)?, number(cents)?))
+}
+
+/// What a line of this word and this rest says.
+fn line_of_word(word: &str, rest: &str) -> Option<Line>
+    ensures { result ≡ line_of_word word.now rest.now }
+{
+    match word {
+        "workers" => Some(Line::Workers(number(rest)?)),
+        "steps" => Some(Line::Steps(number(rest)?)),
+        "limit" => Some(Line::Limit(number(rest)?)),
+        "pay" => pay(rest),
+        "intent" => Some(Line::Old(Entry::Intent(number(rest)?))),
+        "receipt" => Some(Line::Old(Entry::Receipt(number(rest)?))),
+        _ => None,
+    }
+}
+
+/// What the line says, or None where it is none of these: then nobody may go on, since it may be a broken intent.
+pub fn line_of(text: &str) -> Option<Line>
+    ensures { result ≡ line_in text.now }
+{
+    let (word, rest) = text.split_once(' ')?;
+    line_of_word(word, rest)
+}
