@@ -1,4 +1,5 @@
 //! Where each shared word stands. The book word is word 0, since a split and a join of seats load that word.
+//! Public for who reads the words of a floor by another way than its workers do.
 ghost use Rattle.std.specs.Prelude.{◌≡◌, ◌≤◌, ◌+◌};
 ghost use Rattle.amo_kk.specs.Givens.{IsWorker};
 ghost use Rattle.amo_kk.specs.Words.{next_word, claim_word, done_word};
