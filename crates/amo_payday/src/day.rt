@@ -20,6 +20,7 @@ pub use payment::Payment;
 /// A day.
 #[derive(Drop)]
 pub struct Day {
+    /// Who pays in each round.
     pub crew: Crew,
     /// After so many payments the workers of the second floor are asked to stop.
     pub limit: u64,

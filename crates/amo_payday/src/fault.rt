@@ -14,7 +14,7 @@ pub enum Fault {
     Line,
     /// The input can't be read.
     Input,
-    /// The crew that the input says is outside its ranges.
+    /// The crew that the input says is outside its ranges: from 1 to 16 workers, and at most 10,000,000 steps.
     Crew,
     /// The report can't be written.
     Output,

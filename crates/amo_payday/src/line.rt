@@ -18,7 +18,7 @@ pub enum Line {
     Workers(u64),
     /// After how many steps each worker is halted, in a round.
     Steps(u64),
-    /// After how many payments the program is asked to stop.
+    /// After how many payments the workers of the second floor are asked to stop.
     Limit(u64),
     /// An account, and the amount that it gets.
     Pay(u64, u64),

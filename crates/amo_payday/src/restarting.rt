@@ -60,7 +60,7 @@ impl Restart {
 }
 
 /// Parts the payments by what the journal of an earlier run says of them. Nothing else is known of that run. Where memory
-/// is refused the payments are dropped: nothing was paid, and the program has to end.
+/// is refused the payments are dropped: nothing was paid, and the day has to end.
 pub fn part(alloc: Global, payments: Vec<Payment>, journal: &[Entry]) -> Result<Restart, AllocError>
     ensures { IfOk result (IsParted journal.now payments.items) }
 {

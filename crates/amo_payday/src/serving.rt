@@ -128,8 +128,9 @@ fn pay_day<S: Write + Drop + Send, O: Write, R: Threads + Wait + Sync>(
     tell_each(alloc, out, "free", &left)
 }
 
-/// Reads a day, pays it, and writes what became of each payment. Where the input says no day nothing is written and nothing
-/// is paid. After another fault a beginning of the report was written, and the journal alone says what was paid.
+/// Reads a day, pays it, and writes its journal to the sink, and to `out` what became of each payment. Where the input says no
+/// day nothing is written and nothing is paid. After another fault a beginning of the report was written, and the journal alone
+/// says what was paid. No clause says what the sink holds then. May wait.
 pub fn serve<B: Read, S: Write + Drop + Send, O: Write, R: Threads + Wait + Sync>(
     rt: &R,
     alloc: Global,

@@ -116,9 +116,9 @@ fn a_broken_line_refuses_the_day(rt: HostRuntime) -> Result<(), Fail> {
         let mut out = Vec::new(rt.alloc());
         assert!(rt;
             serve(&rt, rt.alloc(), &mut input, &mut journal, &mut out) == Err(Fault::Line),
-            "{broken} is a line"
+            "{broken:?} is a line"
         );
-        assert!(rt; journal.is_empty() && out.is_empty(), "{broken}");
+        assert!(rt; journal.is_empty() && out.is_empty(), "{broken:?}");
     }
     Ok(())
 }
