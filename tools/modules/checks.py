@@ -9,8 +9,8 @@ import tempfile
 
 from crates import PARTS
 
-# (what is proved of a function that may wait or abort is said so)
-FUNCTION = re.compile(r"(?:fn|struct|enum|impl|trait|const) (\S+): (proved|.*?)(?:, may [\w ,+]+)?")
+# Of what is proved it may be said too that it may wait, or, of a closure, that it is so where its callers give what it asks.
+FUNCTION = re.compile(r"(?:fn|struct|enum|impl|trait|const) (\S+): (?:(proved)(?:,? .*)?|(.*))")
 PLACE = re.compile(r"(?:note: )?(?:\./)?(\S+?):(\d+):\d+: (.*)")
 # A function that calls one that isn't proved, passes it on, or is made of it.
 OTHERS = re.compile(r"(; )?(it calls|it passes|it waits for the proof of|a call of) .*")
@@ -27,7 +27,7 @@ class Said:
     def __init__(self, text, status):
         self.text, self.status = text, status
         lines = text.rstrip("\n").split("\n")
-        self.told = {found[1]: found[2] for found in map(FUNCTION.fullmatch, lines) if found}
+        self.told = {found[1]: found[2] or found[3] for found in map(FUNCTION.fullmatch, lines) if found}
         self.places = [(found[1], int(found[2]), line) for line in lines for found in [PLACE.match(line)] if found]
         self.waiting = {found[1].split("::")[-1] for found in map(WAITS.match, lines) if found}
         self.is_stale = bool(STALE.search(text))
