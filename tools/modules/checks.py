@@ -114,6 +114,11 @@ def judge_symbol(body, function, symbol, said):
 
 
 def strangers(crate, bodies, said):
-    """The functions and types that no body changes, and that are refused for a reason of their own."""
-    changed = {it for body in bodies for function in body.functions for it in function.symbols(crate.name, said.told)}
-    return [f"{it}: {reason}" for it, reason in said.told.items() if it not in changed and said.own_reason(it)]
+    """The functions and types that no body changes, and that are refused for a reason of their own. That may be a contract
+    which a body changes, of a function that they call."""
+    symbols_of = lambda body: {it for function in body.functions for it in function.symbols(crate.name, said.told)}
+    changed = set().union(*map(symbols_of, bodies))
+    contracts = set().union(*(symbols_of(it) for it in bodies if it.changes_head()))
+    calls = lambda reason: contracts & set(re.findall(r"`([\w:+]+)`", reason))
+    refused = [(it, reason) for it, reason in said.told.items() if it not in changed and said.own_reason(it)]
+    return [f"{it}: {reason}" for it, reason in refused if not calls(reason)]
