@@ -1,9 +1,9 @@
 /* Refuses requests for memory, or counts them: preloaded into a program, it lets malloc, calloc or realloc answer NULL at the
    request whose number stands in REFUSED_REQUEST, from 1, and tells of it by one byte on descriptor 3; where REFUSED_FROM has
-   a number it refuses that request and all later ones. It sets errno as malloc does, since the C library, where it starts a
-   thread, ends the program if it finds another. Where COUNTED_REQUESTS is set instead, it grants each request and tells of
-   each by one byte. Where HELD_BLOCKS names a file, it writes there, when the program ends, how many blocks were given and
-   not taken back. */
+   a number it refuses that request and all later ones, and where REFUSED_PAIR has one, that request and the next. It sets errno
+   as malloc does, since the C library, where it starts a thread, ends the program if it finds another. Where COUNTED_REQUESTS
+   is set instead, it grants each request and tells of each by one byte. Where HELD_BLOCKS names a file, it writes there, when
+   the program ends, how many blocks were given and not taken back. */
 #include <errno.h>
 #include <fcntl.h>
 #include <stdio.h>
@@ -17,7 +17,7 @@ extern void *__libc_realloc(void *old, size_t size);
 extern void __libc_free(void *old);
 
 static int counts;
-static long refused_request, refused_from;
+static long refused_request, refused_from, refused_pair;
 static long requests, held;
 
 static long number_of(const char *name) {
@@ -28,6 +28,7 @@ static long number_of(const char *name) {
 __attribute__((constructor)) static void begin(void) {
   refused_request = number_of("REFUSED_REQUEST");
   refused_from = number_of("REFUSED_FROM");
+  refused_pair = number_of("REFUSED_PAIR");
   counts = getenv("COUNTED_REQUESTS") != NULL;
 }
 
@@ -54,10 +55,11 @@ static int tell(void) { return write(3, "!", 1) == 1; }
 static int is_refused(void) {
   if (counts && !tell())
     abort();
-  if (!refused_request && !refused_from)
+  if (!refused_request && !refused_from && !refused_pair)
     return 0;
   long number = __sync_add_and_fetch(&requests, 1);
-  return (number == refused_request || (refused_from && refused_from <= number)) && tell();
+  int in_pair = refused_pair && (number == refused_pair || number == refused_pair + 1);
+  return (number == refused_request || (refused_from && refused_from <= number) || in_pair) && tell();
 }
 
 static void *refuse(void) {
