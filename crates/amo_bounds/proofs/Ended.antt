@@ -4,11 +4,16 @@ use Rattle.std.specs.Prelude.{if◌then◌else◌}
 use Rattle.std.proofs.lemmas.Bool.{cases_eq, or_parts, eqb-false}
 use Rattle.amo_sets.specs.Sets.{has}
 use Rattle.amo_sets.specs.Rank.{count}
-use Rattle.amo_sets.proofs.Numbers.{count_has}
+use Rattle.amo_sets.proofs.Numbers.{count_has, numbered-put_same}
 use Rattle.amo_sets.proofs.Tables.{numbered-table}
 use Rattle.amo_kk.specs.Givens.{IsWorker}
-use Rattle.amo_kk.specs.Record.{empty_record, is_over, wants_nothing}
-use Rattle.amo_kk.specs.World.{nobody, process, world_after_turn, world_after_move, world_after_moves, worker_of, first_process, opening_world}
+use Rattle.amo_kk.specs.Record.{empty_record, is_over, wants_nothing, can_leave}
+use Rattle.amo_kk.specs.Step.{record_after_leave}
+use Rattle.amo_kk.specs.declared.phase.Phase.{Phase}
+use Rattle.amo_kk.specs.declared.phase.Phase.TheVariants.{Announcing, Trying, Reading, Claiming, Holding, Over, Left}
+use Rattle.amo_kk.specs.declared.phase.Want.TheVariants.{StoreNext}
+use Rattle.amo_kk.specs.declared.event.Event.TheVariants.{Left as EventLeft}
+use Rattle.amo_kk.specs.World.{nobody, process, world_after_turn, world_after_move, world_after_moves, world_after_leave, world_with, process_after, worker_of, first_process, opening_world}
 use Rattle.amo_kk.specs.Lawful.{IsLawful}
 use Rattle.amo_kk.specs.declared.givens.Givens.{Givens}
 use Rattle.amo_kk.specs.declared.model.Record.{Record}
@@ -75,6 +80,79 @@ opening_ended g p o = subst (λ (x : Process). x.gone ≡ true → is_over x.loc
 pub gone_ended : (g : Givens) (ms : List Move) (p : ℕ) → IsWorker g p → has (stopped ms) p ≡ false → has (leavers ms) p ≡ false
     → (process (world_of g ms) p).gone ≡ true → is_over (process (world_of g ms) p).local.phase ≡ true
 gone_ended g ms p o goes_on stays = moves_ended g (opening_world g) ms p (opening_lawful g g.limits) goes_on stays (opening_ended g p o)
+
+-- if p is gone it has ended or left
+abbrev RestsIfGone : World → ℕ → Type 0
+RestsIfGone w p = (process w p).gone ≡ true → wants_nothing (process w p).local.phase ≡ true
+
+over_rests : (f : Phase) → is_over f ≡ true → wants_nothing f ≡ true
+over_rests (Announcing j) h = h
+over_rests (Trying j q) h = h
+over_rests (Reading j q) h = h
+over_rests (Claiming j) h = h
+over_rests (Holding j) h = h
+over_rests Over h = refl
+over_rests Left h = refl
+
+rests_over : (f : Phase) → wants_nothing f ≡ true → f ≢ Left → is_over f ≡ true
+rests_over (Announcing j) h n = h
+rests_over (Trying j q) h n = h
+rests_over (Reading j q) h n = h
+rests_over (Claiming j) h n = h
+rests_over (Holding j) h n = h
+rests_over Over h n = refl
+rests_over Left h n = absurd (n refl)
+
+turn_rests : (g : Givens) (w : World) (q p : ℕ) → IsLawful g w → RestsIfGone w p → RestsIfGone (world_after_turn g w q) p
+turn_rests g w q p law h = go (process w q).gone refl
+  where
+    go : (b : Bool) → (process w q).gone ≡ b → RestsIfGone (world_after_turn g w q) p
+    go true e = subst (λ v. RestsIfGone v p) (sym (idle g w q e)) h
+    go false e =
+        let t = after_turn g w q law e in
+        ⊎_elim
+        (λ (same : p ≡ q). subst (λ k. RestsIfGone (world_after_turn g w q) k) (sym same)
+        (λ gone. over_rests (process (world_after_turn g w q) q).local.phase (ap (λ (x : Record). is_over x.phase) t.local ∙ sym t.gone ∙ gone)))
+        (λ n. subst (λ (x : Process). x.gone ≡ true → wants_nothing x.local.phase ≡ true) (sym (t.others p n)) h)
+        (cases_eq p q)
+
+leave_rests : (g : Givens) (w : World) (p : ℕ) → IsLawful g w → IsWorker g p → RestsIfGone w p → RestsIfGone (world_after_leave w p) p
+leave_rests g w p law o h = go (process w p).gone (can_leave (process w p).local.phase)
+  where
+    left : Process
+    left = process_after (StoreNext 0) (process w p) (record_after_leave (process w p).local)
+
+    here : process (world_with w p left (EventLeft p ∷ [])) p ≡ left
+    here = let size = law.size in let high = o.high in numbered-put_same nobody left w.processes p o.low (omega (arith, size, high))
+
+    go : (b c : Bool) → RestsIfGone (if b then w else (if c then world_with w p left (EventLeft p ∷ []) else w)) p
+    go true c = h
+    go false true = subst (λ (x : Process). x.gone ≡ true → wants_nothing x.local.phase ≡ true) (sym here) (λ gone. gone)
+    go false false = h
+
+other_rests : (g : Givens) (w : World) (m : Move) (p : ℕ) → p ≢ worker_of m → RestsIfGone w p → RestsIfGone (world_after_move g w m) p
+other_rests g w m p other h = subst (λ (x : Process). x.gone ≡ true → wants_nothing x.local.phase ≡ true) (sym (move_other g w m p other)) h
+
+moves_rest : (g : Givens) (w : World) (ms : List Move) (p : ℕ) → IsLawful g w → IsWorker g p → has (stopped ms) p ≡ false → RestsIfGone w p → RestsIfGone (world_after_moves g w ms) p
+moves_rest g w [] p law o goes_on h = h
+moves_rest g w (Turn q ∷ ms) p law o goes_on h = moves_rest g (world_after_move g w (Turn q)) ms p (move_lawful g w (Turn q) g.limits law) o goes_on (turn_rests g w q p law h)
+moves_rest g w (Halt q ∷ ms) p law o goes_on h =
+    let parts = or_parts _ (has (stopped ms) p) goes_on in
+    moves_rest g (world_after_move g w (Halt q)) ms p (move_lawful g w (Halt q) g.limits law) o parts.1 (other_rests g w (Halt q) p (λ e. eqb-false q p parts.0 (sym e)) h)
+moves_rest g w (Leave q ∷ ms) p law o goes_on h =
+    moves_rest g (world_after_move g w (Leave q)) ms p (move_lawful g w (Leave q) g.limits law) o goes_on
+    (⊎_elim
+    (λ (same : p ≡ q). subst (λ k. RestsIfGone (world_after_leave w k) p) same (leave_rests g w p law o h))
+    (λ n. other_rests g w (Leave q) p n h)
+    (cases_eq p q))
+
+opening_rests : (g : Givens) (p : ℕ) → IsWorker g p → RestsIfGone (opening_world g) p
+opening_rests g p o = subst (λ (x : Process). x.gone ≡ true → wants_nothing x.local.phase ≡ true) (sym (numbered-table nobody (first_process g) g.workers p o.low o.high)) (λ gone. gone)
+
+-- whoever is gone, wasn't stopped and hasn't left has ended, also one that was asked to leave
+pub stayed_ended : (g : Givens) (ms : List Move) (p : ℕ) → IsWorker g p → has (stopped ms) p ≡ false → (process (world_of g ms) p).gone ≡ true
+    → (process (world_of g ms) p).local.phase ≢ Left → is_over (process (world_of g ms) p).local.phase ≡ true
+stayed_ended g ms p o goes_on gone stays = rests_over (process (world_of g ms) p).local.phase (moves_rest g (opening_world g) ms p (opening_lawful g g.limits) o goes_on (opening_rests g p o) gone) stays
 
 -- moves that come to an end let nobody leave
 pub nobody_leaves : (g : Givens) (ms : List Move) (p : ℕ) → ComesToEnd g ms → has (leavers ms) p ≡ false

@@ -1,5 +1,5 @@
 -- Whoever keeps getting turns ends; so in rounds everyone does.
-use Rattle.std.proofs.Common.{◌≡◌, ⊎_elim, ℕ, zero, suc, ◌<◌, ◌≤◌, Bool, true, false, List, [], ◌∷◌, ◌++◌, refl, ap, ◌∙◌, arith}
+use Rattle.std.proofs.Common.{◌≡◌, ◌≢◌, ⊎_elim, ℕ, zero, suc, ◌<◌, ◌≤◌, Bool, true, false, List, [], ◌∷◌, ◌++◌, refl, ap, ◌∙◌, arith}
 use Rattle.std.specs.Prelude.{if◌then◌else◌}
 use Rattle.std.proofs.lemmas.Bool.{cases_eq, eq-eqb}
 use Rattle.amo_sets.specs.Lists.{table}
@@ -7,13 +7,14 @@ use Rattle.amo_sets.specs.Sets.{has}
 use Rattle.amo_kk.specs.Givens.{IsWorker}
 use Rattle.amo_kk.specs.Record.{is_over}
 use Rattle.amo_kk.specs.World.{process}
+use Rattle.amo_kk.specs.declared.phase.Phase.TheVariants.{Left}
 use Rattle.amo_kk.specs.declared.givens.Givens.{Givens}
 use Rattle.amo_kk.specs.declared.event.Move.{Move}
 use Rattle.amo_kk.specs.declared.event.Move.TheVariants.{Turn}
 use Rattle.amo_bounds.specs.Fewest.{world_of, stopped, leavers}
 use Rattle.amo_bounds.specs.Rest.{turns_of, rounds}
 use Rattle.amo_bounds.proofs.Rest.{turns-append, always_gone}
-use Rattle.amo_bounds.proofs.Ended.{stopped-append, leavers-append, gone_ended}
+use Rattle.amo_bounds.proofs.Ended.{stopped-append, leavers-append, gone_ended, stayed_ended}
 
 -- nobody is stopped in rounds, and nobody leaves
 
@@ -65,3 +66,8 @@ rounds_end g = let most = always_gone g in (suc most.0, λ p o. over_after g mos
 pub always_ends : (g : Givens) → (k : ℕ) × ((ms : List Move) (p : ℕ) → IsWorker g p → k < turns_of p ms → has (stopped ms) p ≡ false → has (leavers ms) p ≡ false
     → is_over (process (world_of g ms) p).local.phase ≡ true)
 always_ends g = let most = always_gone g in (most.0, λ ms p o many goes_on stays. gone_ended g ms p o goes_on stays (most.1 ms p many))
+
+-- the same of whoever was asked to leave, and stayed
+pub always_stays : (g : Givens) → (k : ℕ) × ((ms : List Move) (p : ℕ) → IsWorker g p → k < turns_of p ms → has (stopped ms) p ≡ false → (process (world_of g ms) p).local.phase ≢ Left
+    → is_over (process (world_of g ms) p).local.phase ≡ true)
+always_stays g = let most = always_gone g in (most.0, λ ms p o many goes_on stays. stayed_ended g ms p o goes_on (most.1 ms p many) stays)

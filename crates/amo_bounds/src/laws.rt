@@ -1,12 +1,13 @@
 //! The theorems over the definitions of `amo_kk`. Nothing here runs: each function's contract is a law.
 //!
 //! The moves are any turns, stops and leavings, in any order, unless a law says which.
-ghost use Rattle.std.specs.Prelude.{◌≡◌, ◌<◌, ◌≤◌, ◌+◌, ℕ, true, false, List, ◌∷◌};
+ghost use Rattle.std.specs.Prelude.{◌≡◌, ◌≢◌, ◌<◌, ◌≤◌, ◌+◌, ℕ, true, false, List, ◌∷◌};
 ghost use Rattle.amo_sets.specs.Sets.{has};
 ghost use Rattle.amo_kk.specs.Givens.{IsWorker};
 ghost use Rattle.amo_kk.specs.Record.{is_over};
 ghost use Rattle.amo_kk.specs.World.{process, world_after_moves, opening_world};
 ghost use Rattle.amo_kk.specs.Lawful.{IsLawful};
+ghost use Rattle.amo_kk.specs.declared.phase.Phase.{Phase};
 ghost use Rattle.amo_kk.specs.declared.givens.Givens.{Givens};
 ghost use Rattle.amo_kk.specs.declared.event.Move.{Move};
 ghost use Rattle.amo_kk.specs.declared.event.Move.TheVariants.{Turn};
@@ -36,12 +37,15 @@ pub fn effectiveness_is_fewest()
 
 /// Everyone comes to rest. For all givens there is a number such that in no list of moves more turns are taken by workers
 /// that aren't gone, and one such that whoever is given more turns is gone, whatever the others do and whoever is stopped.
-/// So whoever keeps getting turns ends by its own choice, if it isn't stopped and doesn't leave.
+/// So whoever keeps getting turns ends by its own choice, if it isn't stopped and doesn't leave: also one that was asked to
+/// leave, and stayed.
 pub fn everyone_rests()
     ensures all { (g : Givens) → (k : ℕ) × ((ms : List Move) → turns_taken g (opening_world g) ms ≤ k) }
     ensures each { (g : Givens) → (k : ℕ) × ((ms : List Move) (p : ℕ) → k < turns_of p ms → (process (world_of g ms) p).gone ≡ true) }
     ensures ends { (g : Givens) → (k : ℕ) × ((ms : List Move) (p : ℕ) → IsWorker g p → k < turns_of p ms
         → has (stopped ms) p ≡ false → has (leavers ms) p ≡ false → is_over (process (world_of g ms) p).local.phase ≡ true) }
+    ensures stayed { (g : Givens) → (k : ℕ) × ((ms : List Move) (p : ℕ) → IsWorker g p → k < turns_of p ms
+        → has (stopped ms) p ≡ false → (process (world_of g ms) p).local.phase ≢ Phase.Left → is_over (process (world_of g ms) p).local.phase ≡ true) }
 {}
 
 /// For all givens there is a number of rounds after which each worker has ended by its own choice.

@@ -35,7 +35,7 @@ use Rattle.amo_crew.specs.Ends.{IsOutletOf, given}
 use Rattle.amo_crew.specs.Running.{EndsSo, IsInHand, HasRun}
 use Rattle.amo_crew.specs.Crew.{HasFinished}
 use Rattle.amo_crew.specs.Outcomes.{spot_of, dones_in, hand_in, IsBare, EndsAs, hands_upto}
-use Rattle.amo_crew.specs.Collecting.{OutletFits, dones_upto, AreCollected, hand_of, Collects}
+use Rattle.amo_crew.specs.Collecting.{OutletFits, dones_upto, AreCollected, hand_of, Collects, IsBackAs}
 
 -- lists
 
@@ -192,3 +192,15 @@ module _ {P Out : Type 0} (related : ℕ → ℕ → P → Out → Type 0) (queu
       (subst (λ (x : List (Outlet Out)). AreCollected related queue table g payloads budgets (suc i) b x es' hs') (sym did.1)
       (subst (λ (x : List End). AreCollected related queue table g payloads budgets (suc i) b os x hs') (sym did.2)
       (subst (λ (x : List (ℕ × ℕ × P)). AreCollected related queue table g payloads budgets (suc i) b os (es ++ NotStarted ∷ []) x) (sym did.3) skips)))
+
+  -- who ran is in the book again, as those who were stay
+  pub now_back : (f : Finish P Out) (c : Seated P) (os' : List (Outlet Out)) (es' : List End) (hs' : List (ℕ × ℕ × P)) → HasFinished related queue table g payloads (suc i) (numbered 0 budgets (suc i)) f
+      → Collects (suc i) f b os es hs c os' es' hs' → IsBackAs (spots c) (suc i) f
+  now_back (HasRan r) c os' es' hs' ran did = here r ran c did.0
+  now_back (WasNotStarted u) c os' es' hs' ran did = tt
+
+  pub stays_back : (f : Finish P Out) (c : Seated P) (os' : List (Outlet Out)) (es' : List End) (hs' : List (ℕ × ℕ × P)) → HasFinished related queue table g payloads (suc i) (numbered 0 budgets (suc i)) f
+      → Collects (suc i) f b os es hs c os' es' hs' → (p : ℕ) → p ≢ suc i → (e : Finish P Out) → IsBackAs (spots b) p e → IsBackAs (spots c) p e
+  stays_back f c os' es' hs' ran did p n (WasNotStarted u) back = tt
+  stays_back (HasRan r) c os' es' hs' ran did p n (HasRan x) back = other r ran c did.0 p n ∙ back
+  stays_back (WasNotStarted u) c os' es' hs' ran did p n (HasRan x) back = ap (λ (y : Seated P). spot_of (spots y) p) did.0 ∙ back

@@ -14,3 +14,5 @@ pub mod Outputs
 pub mod Zips
 pub mod Fitted
 pub mod Once
+pub mod Told
+pub mod Places

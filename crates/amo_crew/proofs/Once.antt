@@ -1,5 +1,5 @@
 -- In an outcome no job is answered twice, and what is answered is in no hand and not free.
-use Rattle.std.proofs.Common.{◌≡◌, ◌≢◌, ◌⊎◌, inl, inr, ℕ, zero, suc, Bool, true, false, cond, eqb, ◌||◌, List, [], ◌∷◌, ◌++◌, map, refl, sym, ap, ◌∙◌, subst}
+use Rattle.std.proofs.Common.{◌≡◌, ◌≢◌, ◌⊎◌, inl, inr, ℕ, zero, suc, ◌≤◌, arith, Bool, true, false, cond, eqb, ◌||◌, List, [], ◌∷◌, ◌++◌, map, refl, sym, ap, ◌∙◌, subst}
 use Rattle.std.proofs.lemmas.Bool.{or_right, true≢false, eqb-true, eqb-false, eq-eqb}
 use Rattle.std.proofs.lemmas.List.{map-append}
 use Rattle.amo_sets.specs.Sets.{has, AreDistinct}
@@ -26,20 +26,20 @@ use Rattle.amo_crew.proofs.Fitted.{is_back}
 
 -- ---- lists of numbers
 
-has_front : (xs ys : List ℕ) (j : ℕ) → has xs j ≡ true → has (xs ++ ys) j ≡ true
+pub has_front : (xs ys : List ℕ) (j : ℕ) → has xs j ≡ true → has (xs ++ ys) j ≡ true
 has_front xs ys j h = has-append xs ys j ∙ ap (λ b. b || has ys j) h
 
-has_back : (xs ys : List ℕ) (j : ℕ) → has ys j ≡ true → has (xs ++ ys) j ≡ true
+pub has_back : (xs ys : List ℕ) (j : ℕ) → has ys j ≡ true → has (xs ++ ys) j ≡ true
 has_back xs ys j h = has-append xs ys j ∙ or_right (has xs j) (has ys j) h
 
-had_by : (xs ys : List ℕ) (j : ℕ) → has (xs ++ ys) j ≡ true → (has xs j ≡ true) ⊎ (has ys j ≡ true)
+pub had_by : (xs ys : List ℕ) (j : ℕ) → has (xs ++ ys) j ≡ true → (has xs j ≡ true) ⊎ (has ys j ≡ true)
 had_by xs ys j h = go (has xs j) refl (sym (has-append xs ys j) ∙ h)
   where
     go : (b : Bool) → has xs j ≡ b → b || has ys j ≡ true → (has xs j ≡ true) ⊎ (has ys j ≡ true)
     go true e k = inl e
     go false e k = inr k
 
-not_both : (b : Bool) → b ≡ true → b ≡ false → ⊥
+pub not_both : (b : Bool) → b ≡ true → b ≡ false → ⊥
 not_both b h k = absurd (true≢false (sym h ∙ k))
 
 -- the front of a list without repetition has none, and shares nothing with the back
@@ -58,6 +58,26 @@ distinct_apart (x ∷ xs) ys j h e k = go (λ f. distinct_apart xs ys j h.1 f k)
     go : (has xs j ≡ true → ⊥) → (b : Bool) → eqb x j ≡ b → b || has xs j ≡ true → ⊥
     go rest true same f = not_both (has (xs ++ ys) x) (has_back xs ys x (ap (has ys) (eqb-true x j same) ∙ k)) h.0
     go rest false same f = rest f
+
+distinct_rear : (xs ys : List ℕ) → AreDistinct (xs ++ ys) → AreDistinct ys
+distinct_rear [] ys h = h
+distinct_rear (x ∷ xs) ys h = distinct_rear xs ys h.1
+
+distinct_both : (xs ys : List ℕ) → AreDistinct xs → AreDistinct ys → ((j : ℕ) → has xs j ≡ true → has ys j ≡ true → ⊥) → AreDistinct (xs ++ ys)
+distinct_both [] ys a b apart = b
+distinct_both (x ∷ xs) ys a b apart = (has-append xs ys x ∙ go (has ys x) refl, distinct_both xs ys a.1 b (λ j h k. apart j (or_right (eqb x j) (has xs j) h) k))
+  where
+    itself : eqb x x || has xs x ≡ true
+    itself = ap (λ c. c || has xs x) (eq-eqb x x refl)
+
+    go : (c : Bool) → has ys x ≡ c → has xs x || has ys x ≡ false
+    go true e = absurd (apart x itself e)
+    go false e = ap (λ c. c || has ys x) a.0 ∙ e
+
+-- the jobs of pairs that one number was put before
+pub numbers : (i : ℕ) (xs : List ℕ) → map (λ (e : ℕ × ℕ). e.1) (map (λ (k : ℕ). (i, k)) xs) ≡ xs
+numbers i [] = refl
+numbers i (x ∷ xs) = ap (λ l. x ∷ l) (numbers i xs)
 
 -- ---- outputs, each with its worker
 
@@ -110,7 +130,7 @@ module _ {Out : Type 0} where
 -- ---- workers that have come back
 
 module _ (g : Givens) (log : List Move) (spots : List Spot) (stand : AllStand g log spots) where
-  sound : (p : ℕ) (l : LocalView) → IsBack spots p l → IsSoundRecord g p l.state
+  pub sound : (p : ℕ) (l : LocalView) → IsBack spots p l → IsSoundRecord g p l.state
   sound p l back =
       subst (λ (m : LocalView). IsSoundRecord g p m.state) (sym (stands_back g log spots stand p l back)) ((lawful g log).lawful.sound p (worker_back g log spots stand p l back)).local
 
@@ -120,7 +140,7 @@ module _ (g : Givens) (log : List Move) (spots : List Spot) (stand : AllStand g 
   done_back p j Away e h = absurd (true≢false (sym h))
   done_back p j (Back l) e h = (l, is_back spots p l e, h)
 
-  hand_back : (p j : ℕ) (s : Spot) → spot_of spots p ≡ s → has (hand_in s) j ≡ true → (l : LocalView) × IsBack spots p l × (has (jobs_in_hand l.state.phase) j ≡ true)
+  pub hand_back : (p j : ℕ) (s : Spot) → spot_of spots p ≡ s → has (hand_in s) j ≡ true → (l : LocalView) × IsBack spots p l × (has (jobs_in_hand l.state.phase) j ≡ true)
   hand_back p j Home e h = absurd (true≢false (sym h))
   hand_back p j Away e h = absurd (true≢false (sym h))
   hand_back p j (Back l) e h = (l, is_back spots p l e, h)
@@ -128,7 +148,7 @@ module _ (g : Givens) (log : List Move) (spots : List Spot) (stand : AllStand g 
   claimed_if_done : (p j : ℕ) (l : LocalView) → IsBack spots p l → has l.state.dones j ≡ true → has l.state.claimed j ≡ true
   claimed_if_done p j l back h = ap (λ c. has c j) (sound p l back).claims ∙ has_front l.state.dones (jobs_in_hand l.state.phase) j h
 
-  claimed_if_in_hand : (p j : ℕ) (l : LocalView) → IsBack spots p l → has (jobs_in_hand l.state.phase) j ≡ true → has l.state.claimed j ≡ true
+  pub claimed_if_in_hand : (p j : ℕ) (l : LocalView) → IsBack spots p l → has (jobs_in_hand l.state.phase) j ≡ true → has l.state.claimed j ≡ true
   claimed_if_in_hand p j l back h = ap (λ c. has c j) (sound p l back).claims ∙ has_back l.state.dones (jobs_in_hand l.state.phase) j h
 
   is_claimed_by : (p j : ℕ) (l : LocalView) → IsBack spots p l → has l.state.claimed j ≡ true → is_claimed (world_after g log).processes j ≡ true
@@ -158,20 +178,35 @@ module _ (g : Givens) (log : List Move) (spots : List Spot) (stand : AllStand g 
           not_both (has c.0.state.claimed j) (claimed_if_in_hand q j c.0 c.1 c.2) (claims_apart g log spots stand p q j a.0 c.0 a.1 c.1 (eqb-false q p e) (claimed_if_done p j a.0 a.1 a.2))
 
   -- a job in hand is in some worker's
-  hand_of : (i j : ℕ) → has (map (λ (e : ℕ × ℕ). e.1) (hands_upto spots i)) j ≡ true → (p : ℕ) × (has (hand_in (spot_of spots p)) j ≡ true)
+  pub hand_of : (i j : ℕ) → has (map (λ (e : ℕ × ℕ). e.1) (hands_upto spots i)) j ≡ true → (p : ℕ) × (p ≤ i) × (has (hand_in (spot_of spots p)) j ≡ true)
   hand_of zero j h = absurd (true≢false (sym h))
   hand_of (suc p) j h =
       go (had_by (map (λ (e : ℕ × ℕ). e.1) (hands_upto spots p)) (map (λ (e : ℕ × ℕ). e.1) (map (λ (k : ℕ). (suc p, k)) (hand_in (spot_of spots (suc p))))) j
       (ap (λ l. has l j) (sym (map-append (λ (e : ℕ × ℕ). e.1) (hands_upto spots p) (map (λ (k : ℕ). (suc p, k)) (hand_in (spot_of spots (suc p)))))) ∙ h)) (hand_of p j)
     where
-      numbers : (xs : List ℕ) → map (λ (e : ℕ × ℕ). e.1) (map (λ (k : ℕ). (suc p, k)) xs) ≡ xs
-      numbers [] = refl
-      numbers (x ∷ xs) = ap (λ l. x ∷ l) (numbers xs)
-
       go : (has (map (λ (e : ℕ × ℕ). e.1) (hands_upto spots p)) j ≡ true) ⊎ (has (map (λ (e : ℕ × ℕ). e.1) (map (λ (k : ℕ). (suc p, k)) (hand_in (spot_of spots (suc p))))) j ≡ true)
-          → (has (map (λ (e : ℕ × ℕ). e.1) (hands_upto spots p)) j ≡ true → (q : ℕ) × (has (hand_in (spot_of spots q)) j ≡ true)) → (q : ℕ) × (has (hand_in (spot_of spots q)) j ≡ true)
-      go (inl k) rest = rest k
-      go (inr k) rest = (suc p, ap (λ l. has l j) (sym (numbers (hand_in (spot_of spots (suc p))))) ∙ k)
+          → (has (map (λ (e : ℕ × ℕ). e.1) (hands_upto spots p)) j ≡ true → (q : ℕ) × (q ≤ p) × (has (hand_in (spot_of spots q)) j ≡ true)) → (q : ℕ) × (q ≤ suc p) × (has (hand_in (spot_of spots q)) j ≡ true)
+      go (inl k) rest = let r = rest k in let low = r.1 in (r.0, omega (arith, low), r.2)
+      go (inr k) rest = (suc p, omega arith, ap (λ l. has l j) (sym (numbers (suc p) (hand_in (spot_of spots (suc p))))) ∙ k)
+
+  own_hand : (p : ℕ) (s : Spot) → spot_of spots p ≡ s → AreDistinct (hand_in s)
+  own_hand p Home e = tt
+  own_hand p Away e = tt
+  own_hand p (Back l) e = let of_it = sound p l (is_back spots p l e) in distinct_rear l.state.dones (jobs_in_hand l.state.phase) (subst AreDistinct of_it.claims of_it.distinct)
+
+  -- no two workers have one job in hand
+  hands_apart : (p q j : ℕ) → q ≢ p → has (hand_in (spot_of spots p)) j ≡ true → has (hand_in (spot_of spots q)) j ≡ true → ⊥
+  hands_apart p q j differ h k =
+      let a = hand_back p j (spot_of spots p) refl h in
+      let b = hand_back q j (spot_of spots q) refl k in
+      not_both (has b.0.state.claimed j) (claimed_if_in_hand q j b.0 b.1 b.2) (claims_apart g log spots stand p q j a.0 b.0 a.1 b.1 differ (claimed_if_in_hand p j a.0 a.1 a.2))
+
+  hands_once : (i : ℕ) → AreDistinct (map (λ (e : ℕ × ℕ). e.1) (hands_upto spots i))
+  hands_once zero = tt
+  hands_once (suc i) = subst AreDistinct (sym (map-append (λ (e : ℕ × ℕ). e.1) (hands_upto spots i) (map (λ (k : ℕ). (suc i, k)) (hand_in (spot_of spots (suc i))))))
+      (distinct_both (map (λ (e : ℕ × ℕ). e.1) (hands_upto spots i)) (map (λ (e : ℕ × ℕ). e.1) (map (λ (k : ℕ). (suc i, k)) (hand_in (spot_of spots (suc i))))) (hands_once i)
+      (subst AreDistinct (sym (numbers (suc i) (hand_in (spot_of spots (suc i))))) (own_hand (suc i) (spot_of spots (suc i)) refl))
+      (λ j h k. let f = hand_of i j h in let low = f.1 in hands_apart f.0 (suc i) j (λ e. omega (arith, low, e)) f.2 (ap (λ l. has l j) (sym (numbers (suc i) (hand_in (spot_of spots (suc i))))) ∙ k)))
 
 -- a free job is claimed by nobody
 free_is_unclaimed : {P : Type 0} (all : List Process) (i : ℕ) (xs : List P) (j : ℕ) → has (map (λ (t : ℕ × P). t.0) (free_of all i xs)) j ≡ true → is_claimed all j ≡ false
@@ -189,6 +224,37 @@ free_is_unclaimed {P} all i (x ∷ xs) j h = go (free_is_unclaimed all (suc i) x
     go more true c n = more n
     go more false c n = here more (eqb i j) refl c n
 
+-- the free jobs rise
+free_low : {P : Type 0} (all : List Process) (i : ℕ) (xs : List P) (j : ℕ) → has (map (λ (t : ℕ × P). t.0) (free_of all i xs)) j ≡ true → i ≤ j
+free_low all i [] j h = absurd (true≢false (sym h))
+free_low {P} all i (x ∷ xs) j h = go (free_low all (suc i) xs j) (is_claimed all i) h
+  where
+    rest : List (ℕ × P)
+    rest = free_of all (suc i) xs
+
+    here : (has (map (λ (t : ℕ × P). t.0) rest) j ≡ true → suc i ≤ j) → (b : Bool) → eqb i j ≡ b → b || has (map (λ (t : ℕ × P). t.0) rest) j ≡ true → i ≤ j
+    here more true e n = let s = eqb-true i j e in omega (arith, s)
+    here more false e n = let m = more n in omega (arith, m)
+
+    go : (has (map (λ (t : ℕ × P). t.0) rest) j ≡ true → suc i ≤ j) → (b : Bool) → has (map (λ (t : ℕ × P). t.0) (cond b rest ((i, x) ∷ rest))) j ≡ true → i ≤ j
+    go more true n = let m = more n in omega (arith, m)
+    go more false n = here more (eqb i j) refl n
+
+free_distinct : {P : Type 0} (all : List Process) (i : ℕ) (xs : List P) → AreDistinct (map (λ (t : ℕ × P). t.0) (free_of all i xs))
+free_distinct all i [] = tt
+free_distinct {P} all i (x ∷ xs) = go (free_distinct all (suc i) xs) (is_claimed all i)
+  where
+    rest : List (ℕ × P)
+    rest = free_of all (suc i) xs
+
+    fresh : (b : Bool) → has (map (λ (t : ℕ × P). t.0) rest) i ≡ b → b ≡ false
+    fresh true e = absurd (let l = free_low all (suc i) xs i e in omega (arith, l))
+    fresh false e = refl
+
+    go : AreDistinct (map (λ (t : ℕ × P). t.0) rest) → (b : Bool) → AreDistinct (map (λ (t : ℕ × P). t.0) (cond b rest ((i, x) ∷ rest)))
+    go h true = h
+    go h false = (fresh (has (map (λ (t : ℕ × P). t.0) rest) i) refl, h)
+
 -- ---- an outcome
 
 module _ {P Out : Type 0} (related : ℕ → ℕ → P → Out → Type 0) (g : Givens) (payloads : List P) (budgets : List ℕ) (o : Outcome P Out) (is : IsOutcome related g payloads budgets o) where
@@ -196,13 +262,16 @@ module _ {P Out : Type 0} (related : ℕ → ℕ → P → Out → Type 0) (g : 
   answer_of : (j : ℕ) → has (answered o) j ≡ true → (p : ℕ) × (has (dones_in (spot_of is.spots p)) j ≡ true)
   answer_of j h = let found = output_of o.outputs.items j h in (found.0, ap (λ l. has l j) (sym (is.run.outputs_are.jobs found.0)) ∙ found.1)
 
+  pairs : (ts : List (ℕ × ℕ × P)) → map (λ (e : ℕ × ℕ). e.1) (map (λ (t : ℕ × ℕ × P). (t.0, t.1)) ts) ≡ map (λ (t : ℕ × ℕ × P). t.1) ts
+  pairs [] = refl
+  pairs (t ∷ ts) = ap (λ l. t.1 ∷ l) (pairs ts)
+
+  pub in_hand_is : in_hand o ≡ map (λ (e : ℕ × ℕ). e.1) (hands_upto is.spots g.workers)
+  in_hand_is = sym (pairs o.in_hand.items) ∙ ap (map (λ (e : ℕ × ℕ). e.1)) is.run.hands_are.jobs
+
   -- in whose hand a job is
   holder_of : (j : ℕ) → has (in_hand o) j ≡ true → (p : ℕ) × (has (hand_in (spot_of is.spots p)) j ≡ true)
-  holder_of j h = hand_of g is.whole.log is.spots is.whole.stand g.workers j (ap (λ l. has l j) (ap (map (λ (e : ℕ × ℕ). e.1)) (sym is.run.hands_are.jobs) ∙ pairs o.in_hand.items) ∙ h)
-    where
-      pairs : (ts : List (ℕ × ℕ × P)) → map (λ (e : ℕ × ℕ). e.1) (map (λ (t : ℕ × ℕ × P). (t.0, t.1)) ts) ≡ map (λ (t : ℕ × ℕ × P). t.1) ts
-      pairs [] = refl
-      pairs (t ∷ ts) = ap (λ l. t.1 ∷ l) (pairs ts)
+  holder_of j h = let f = hand_of g is.whole.log is.spots is.whole.stand g.workers j (ap (λ l. has l j) (sym in_hand_is) ∙ h) in (f.0, f.2)
 
   pub answered_once : AreDistinct (answered o)
   answered_once = once o.outputs.items (λ p. subst AreDistinct (sym (is.run.outputs_are.jobs p)) (own_dones g is.whole.log is.spots is.whole.stand p (spot_of is.spots p) refl))
@@ -235,3 +304,9 @@ module _ {P Out : Type 0} (related : ℕ → ℕ → P → Out → Type 0) (g : 
       let a = holder_of j h in
       let l = hand_back g is.whole.log is.spots is.whole.stand a.0 j (spot_of is.spots a.0) refl a.1 in
       claimed_not_free j (is_claimed_by g is.whole.log is.spots is.whole.stand a.0 j l.0 l.1 (claimed_if_in_hand g is.whole.log is.spots is.whole.stand a.0 j l.0 l.1 l.2))
+
+  pub in_hand_once : AreDistinct (in_hand o)
+  in_hand_once = subst AreDistinct (sym in_hand_is) (hands_once g is.whole.log is.spots is.whole.stand g.workers)
+
+  pub free_once : AreDistinct (free_jobs o)
+  free_once = subst (λ (l : List (ℕ × P)). AreDistinct (map (λ (t : ℕ × P). t.0) l)) (sym is.whole.free) (free_distinct (world_after g is.whole.log).processes 1 payloads)

@@ -11,7 +11,7 @@ use Rattle.amo_kk.specs.declared.givens.Givens.{Givens}
 use Rattle.amo_words.specs.declared.rule.Spot.{Spot}
 use Rattle.amo_words.specs.declared.rule.Spot.TheVariants.{Home}
 use Rattle.amo_words.specs.Rule.{AllStand}
-use Rattle.amo_words.specs.Faces.{Seated, spots}
+use Rattle.amo_words.specs.Faces.{Seated, ClosedView, spots}
 use Rattle.amo_crew.specs.declared.queue.Queue.{Queue}
 use Rattle.amo_crew.specs.declared.queue.outlet.Outlet.{Outlet}
 use Rattle.amo_crew.specs.declared.member.Member.{Member}
@@ -20,7 +20,9 @@ use Rattle.amo_crew.specs.Outcomes.{spot_of, IsBare, HaveRun, IsOutcome}
 use Rattle.amo_crew.specs.Plans.{IsPlan, AreSmall}
 use Rattle.amo_crew.specs.Hired.{AreOutlets, AreHired}
 use Rattle.std.specs.Prelude.{Result, Ok, Err, IfOk, IfErr}
-use Rattle.amo_words.specs.Settling.{IsWhole}
+use Rattle.amo_words.specs.Settling.{HasClosed}
+use Rattle.amo_crew.specs.declared.hand.Output.{Output}
+use Rattle.amo_crew.specs.declared.outcome.End.{End}
 use Rattle.amo_crew.specs.declared.outcome.Outcome.{Outcome}
 use Rattle.amo_crew.specs.declared.fault.ExecFault.{ExecFault}
 use Rattle.amo_crew.specs.declared.fault.ExecFault.TheVariants.{WrongCount, NoMemory, ThreadRefused, Unsettled}
@@ -93,15 +95,27 @@ hired_bare queue table g payloads budgets b crew h all (suc k) = ⊎_elim
 pub outlets_len : {Out : Type 0} (m : ℕ) (os : List (Outlet Out)) → map (λ o. o.worker) os ≡ map (λ k. k + 1) (range_with_len 0 m) → length os ≡ m
 outlets_len {Out} m os e = sym (length-map os (λ (o : Outlet Out). o.worker)) ∙ ap length e ∙ length-map-range_with_len (λ k. k + 1) 0 m
 
+-- what a run left, where its floor was closed with its book
+pub unsettled : {P Out : Type 0} (related : ℕ → ℕ → P → Out → Type 0) (g : Givens) (payloads : List P) (budgets : List ℕ) (b : Seated P) (c : ClosedView P) (ends : List End) (outputs : List (Output Out)) (in_hand : List (ℕ × ℕ × P))
+    → HasClosed b.view.givens b.view.payloads b.view.seen (spots b) c → b.view.givens ≡ g → b.view.payloads ≡ payloads → HaveRun related g payloads budgets (spots b) ends outputs in_hand
+    → IsUnsettled related g payloads budgets record { floor = c; ends = ends; outputs = outputs; in_hand = in_hand }
+unsettled {P} {Out} related g payloads budgets b c ends outputs in_hand closed givens own run = record {
+  seen = b.view.seen;
+  closed = subst (λ (x : List Spot). HasClosed g payloads b.view.seen x c) (sym closed.spots_are)
+      (subst (λ (x : List P). HasClosed g x b.view.seen (spots b) c) own
+      (subst (λ (x : Givens). HasClosed x b.view.payloads b.view.seen (spots b) c) givens closed));
+  run = subst (λ (x : List Spot). HaveRun related g payloads budgets x ends outputs in_hand) (sym closed.spots_are) run;
+}
+
 -- an outcome from what was held
 pub settled_outcome : {P Out : Type 0} (related : ℕ → ℕ → P → Out → Type 0) (g : Givens) (payloads : List P) (budgets : List ℕ) (u : UnsettledView P Out) (o : Outcome P Out) → IsUnsettled related g payloads budgets u → IsSettledOf u o → IsOutcome related g payloads budgets o
 settled_outcome {P} {Out} related g payloads budgets u o h s = record {
-  seen = u.book.view.seen;
-  spots = spots u.book;
-  whole = subst (λ x. IsWhole x payloads u.book.view.seen (spots u.book) o.settlement) h.givens (subst (λ x. IsWhole u.book.view.givens x u.book.view.seen (spots u.book) o.settlement) h.payloads_are s.whole);
-  run = subst (λ x. HaveRun related g payloads budgets (spots u.book) x o.outputs.items o.in_hand.items) (sym s.ends)
-      (subst (λ x. HaveRun related g payloads budgets (spots u.book) u.ends x o.in_hand.items) (sym s.outputs)
-      (subst (λ x. HaveRun related g payloads budgets (spots u.book) u.ends u.outputs x) (sym s.in_hand) h.run));
+  seen = h.seen;
+  spots = u.floor.spots;
+  whole = s.whole g payloads h.seen u.floor.spots h.closed;
+  run = subst (λ x. HaveRun related g payloads budgets u.floor.spots x o.outputs.items o.in_hand.items) (sym s.ends)
+      (subst (λ x. HaveRun related g payloads budgets u.floor.spots u.ends x o.in_hand.items) (sym s.outputs)
+      (subst (λ x. HaveRun related g payloads budgets u.floor.spots u.ends u.outputs x) (sym s.in_hand) h.run));
 }
 
 pub if_ok : {A B : Type 0} (r : Result A B) (S T : A → Type 0) → ((x : A) → S x → T x) → IfOk r S → IfOk r T

@@ -1,20 +1,25 @@
 -- While the workers are collected, in the order of their numbers.
-use Rattle.std.specs.Prelude.{◌≡◌, ◌⊎◌, ℕ, zero, suc, ◌+◌, ◌<◌, false, ◌≤◌, List, [], ◌∷◌, ◌++◌, length, map, sum_by, All, Option, Some, None, vec_len, vec_capacity, ⊤}
+use Rattle.std.specs.Prelude.{◌≡◌, ◌⊎◌, ℕ, zero, suc, ◌+◌, ◌-◌, ◌<◌, false, ◌≤◌, List, [], ◌∷◌, ◌++◌, length, map, sum_by, All, Option, Some, None, vec_len, vec_capacity, ⊤}
+use Rattle.std.specs.List.{AllZip}
 use mathlib.Core.Option.{some}
 use lib.ListN.{get_elem?}
 use Rattle.atomic_table.specs.Seated.{TableId}
 use Rattle.amo_kk.specs.declared.givens.Givens.{Givens}
 use Rattle.amo_words.specs.declared.rule.Spot.{Spot}
+use Rattle.amo_words.specs.declared.rule.Spot.TheVariants.{Back}
 use Rattle.amo_words.specs.Rule.{AllStand}
-use Rattle.amo_words.specs.Faces.{Seated, spots}
+use Rattle.amo_words.specs.Faces.{Seated, machine, spots}
 use Rattle.amo_words.specs.Hiring.{HasCollected}
 use Rattle.amo_crew.specs.declared.queue.Queue.{Queue}
 use Rattle.amo_crew.specs.declared.queue.outlet.Outlet.{Outlet}
 use Rattle.amo_crew.specs.declared.outcome.End.{End}
 use Rattle.amo_crew.specs.declared.outcome.End.TheVariants.{NotStarted}
 use Rattle.amo_crew.specs.declared.collecting.Yield.{Yield}
+use Rattle.amo_crew.specs.declared.member.Member.{Member}
 use Rattle.amo_crew.specs.declared.member.Finish.{Finish}
 use Rattle.amo_crew.specs.declared.member.Finish.TheVariants.{Ran as HasRan, NotStarted as WasNotStarted}
+use Rattle.amo_crew.specs.Crew.{EachAt, IsFinishOf}
+use Rattle.amo_crew.specs.Unsettling.{UnsettledView}
 use Rattle.amo_crew.specs.Ends.{IsOutletOf, given, has_worker}
 use Rattle.amo_crew.specs.Running.{IsAnswer}
 use Rattle.amo_crew.specs.Outcomes.{spot_of, dones_in, IsBare, AreEnds, AreInHand}
@@ -81,3 +86,27 @@ pub record HasRoomFor {P Out : Type 0} (n : ℕ) (a : Yield P Out) : Type 0 wher
   pub outlets_room : vec_len a.outlets + n ≤ vec_capacity a.outlets
   pub ends_room : vec_len a.ends + n ≤ vec_capacity a.ends
   pub hand_room : vec_len a.in_hand + n ≤ vec_capacity a.in_hand
+
+-- what is told of a worker of which this became
+abbrev pub end_in : {P Out : Type 0} → Finish P Out → End
+end_in (HasRan r) = r.end
+end_in (WasNotStarted u) = NotStarted
+
+-- the ends of these, in the order of the workers: the last of them is of worker 1
+abbrev pub ends_in : {P Out : Type 0} → List (Finish P Out) → List End
+ends_in [] = []
+ends_in (f ∷ fs) = ends_in fs ++ end_in f ∷ []
+
+-- a worker that ran is in the book again, with the record that it came back with
+abbrev pub IsBackAs : {P Out : Type 0} → List Spot → ℕ → Finish P Out → Type 0
+IsBackAs spots p (HasRan r) = spot_of spots p ≡ Back (machine r.gone)
+IsBackAs spots p (WasNotStarted u) = ⊤
+
+-- so is each of these, the last of which is worker 1
+abbrev pub AreBack : {P Out : Type 0} → Givens → List Spot → List (Finish P Out) → Type 0
+AreBack {P} {Out} g spots finishes = EachAt (λ k (f : Finish P Out). IsBackAs spots (g.workers - k) f) finishes
+
+-- The ends of an unsettled run are those of what became of its crew.
+abbrev pub TellsCrew : {P Out : Type 0} → (ℕ → ℕ → P → Out → Type 0) → Queue Out → TableId → Givens → List (Member P Out) → UnsettledView P Out → Type 0
+TellsCrew {P} {Out} related queue table g crew u =
+    (fs : List (Finish P Out)) × AllZip (IsFinishOf related queue table) crew fs × (u.ends ≡ ends_in fs) × AreBack g u.floor.spots fs

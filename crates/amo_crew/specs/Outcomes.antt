@@ -1,6 +1,7 @@
 -- What comes of a run.
-use Rattle.std.specs.Prelude.{◌≡◌, ◌≢◌, ℕ, zero, suc, ◌+◌, ◌-◌, List, [], ◌++◌, length, map, All, Some, slice_get}
+use Rattle.std.specs.Prelude.{◌≡◌, ◌≢◌, ◌⊎◌, true, ℕ, zero, suc, ◌+◌, ◌-◌, ◌≤◌, List, [], ◌++◌, length, map, All, Some, slice_get}
 use Rattle.amo_sets.specs.Lists.{numbered}
+use Rattle.amo_sets.specs.Sets.{has}
 use Rattle.amo_kk.specs.Record.{jobs_in_hand}
 use Rattle.amo_kk.specs.Machine.{LocalView}
 use Rattle.amo_kk.specs.declared.givens.Givens.{Givens}
@@ -99,3 +100,23 @@ AllStarted ends = All (λ e. e ≢ NotStarted) ends
 -- some thread could not be started
 abbrev pub SomeRefused : List End → Type 0
 SomeRefused ends = (k : ℕ) × (slice_get ends k ≡ Some NotStarted)
+
+-- the job is answered, in a hand, or free
+abbrev pub HasAPlace : {P Out : Type 0} → Outcome P Out → ℕ → Type 0
+HasAPlace o j = (has (answered o) j ≡ true) ⊎ ((has (in_hand o) j ≡ true) ⊎ (has (free_jobs o) j ≡ true))
+
+-- the thread of worker p was started
+abbrev pub HasStarted : {P Out : Type 0} → Outcome P Out → ℕ → Type 0
+HasStarted o p = numbered NotStarted o.ends.items p ≢ NotStarted
+
+-- the claims that the settlement has of worker p
+abbrev pub settled_claims : {P Out : Type 0} → Outcome P Out → ℕ → List ℕ
+settled_claims o p = numbered [] (map (λ v. v.items) o.settlement.claims.items) p
+
+-- the settlement has the job among the claims of a worker whose thread could not be started
+abbrev pub IsOfNoThread : {P Out : Type 0} → Outcome P Out → ℕ → Type 0
+IsOfNoThread o j = (p : ℕ) × (1 ≤ p) × (p ≤ length o.ends.items) × (numbered NotStarted o.ends.items p ≡ NotStarted) × (has (settled_claims o p) j ≡ true)
+
+-- the dones that the settlement has of worker p
+abbrev pub settled_dones : {P Out : Type 0} → Outcome P Out → ℕ → List ℕ
+settled_dones o p = numbered [] (map (λ v. v.items) o.settlement.dones.items) p

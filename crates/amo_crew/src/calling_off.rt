@@ -114,7 +114,7 @@ where
         ends,
         in_hand,
     } = into;
-    match floor.settle(alloc, book) {
+    match floor.close(book).settle(alloc) {
         Ok(settlement) => {
             let Settlement {
                 claims: _,
@@ -124,10 +124,10 @@ where
             } = settlement;
             ExecFault::NoMemory(payloads_of(free, spare))
         }
-        Err((floor, book)) => {
+        Err(closed) => {
             let ends = none_started(givens.workers(), ends);
             let outputs = Vec::new(alloc);
-            ExecFault::Unsettled(Unsettled::new(floor, book, ends, outputs, in_hand))
+            ExecFault::Unsettled(Unsettled::new(closed, ends, outputs, in_hand))
         }
     }
 }

@@ -1,9 +1,9 @@
 //! How workers come back to the book.
-ghost use Rattle.std.specs.Prelude.{ℕ, List, ◌≡◌, ◌+◌, ◌-◌, ◌<◌, ◌≤◌, [], length, vec_len, vec_capacity, All};
+ghost use Rattle.std.specs.Prelude.{ℕ, List, ◌≡◌, ◌+◌, ◌-◌, ◌<◌, ◌≤◌, ◌++◌, [], length, vec_len, vec_capacity, All};
 ghost use Rattle.amo_kk.specs.declared.givens.Givens.{Givens};
 ghost use Rattle.amo_words.specs.Faces.{Seated, spots};
 ghost use Rattle.amo_crew.specs.Crew.{AreFinished};
-ghost use Rattle.amo_crew.specs.Collecting.{AreCollected, Collects, RanAt, HasRoomOf, HasRoomFor};
+ghost use Rattle.amo_crew.specs.Collecting.{AreBack, AreCollected, Collects, RanAt, HasRoomOf, HasRoomFor, ends_in};
 
 use crate::member::{Finish, Ran};
 use crate::outcome::End;
@@ -55,7 +55,8 @@ fn collect_one<P: Drop, Out: Drop>(
     }
 }
 
-/// Collects the workers whose threads ran, in the order of their numbers.
+/// Collects the workers whose threads ran, in the order of their numbers, and tells of each worker how it ended: each one
+/// whose thread ran is back, with the end that it came back with.
 pub(crate) fn collect_all<P: Drop, W: Work<P>>(
     floor: &Floor<P>,
     book: &mut Book<P>,
@@ -73,6 +74,10 @@ where
     ensures collected { (g : Givens) (payloads : List P) (budgets : List ℕ) → AreFinished (W.related _work.now) _queue.now floor.now.table_id g payloads budgets finishes.items → vec_len finishes ≡ g.workers
         → AreCollected (W.related _work.now) _queue.now floor.now.table_id g payloads budgets 0 book.old into.old.outlets.items into.old.ends.items into.old.in_hand.items
         → AreCollected (W.related _work.now) _queue.now floor.now.table_id g payloads budgets g.workers book.new into.new.outlets.items into.new.ends.items into.new.in_hand.items }
+    ensures ends { into.new.ends.items ≡ into.old.ends.items ++ ends_in finishes.items }
+    ensures back { (g : Givens) (payloads : List P) (budgets : List ℕ) → AreFinished (W.related _work.now) _queue.now floor.now.table_id g payloads budgets finishes.items → vec_len finishes ≡ g.workers
+        → AreCollected (W.related _work.now) _queue.now floor.now.table_id g payloads budgets 0 book.old into.old.outlets.items into.old.ends.items into.old.in_hand.items
+        → AreBack g (spots book.new) finishes.items }
     ensures table { book.new.table_id ≡ book.old.table_id }
 {
     let count = finishes.len();

@@ -1,8 +1,8 @@
 //! A crew's run, from its hired workers to what is left to settle.
 ghost use Rattle.std.specs.Prelude.{◌≡◌, ◌≤◌};
-ghost use Rattle.amo_words.specs.Faces.{spots};
 ghost use Rattle.amo_crew.specs.Gears.{IsGeared};
 ghost use Rattle.amo_crew.specs.Unsettling.{IsUnsettled};
+ghost use Rattle.amo_crew.specs.Collecting.{TellsCrew};
 
 use crate::collecting::{Yield, collect_all};
 use crate::member::{Finish, Member};
@@ -37,7 +37,8 @@ pub(crate) fn run_crew<P: Send + Drop, W: Work<P> + Sync, R: Threads + Wait + Sy
 where
     W::Out: Send + Drop,
     requires { IsGeared floor.table_id floor.givens book _plan.now.budgets gear }
-    ensures { IsUnsettled (W.related work.now) floor.givens book.view.payloads _plan.now.budgets result }
+    ensures unsettled { IsUnsettled (W.related work.now) floor.givens book.view.payloads _plan.now.budgets result }
+    ensures crew { TellsCrew (W.related work.now) gear.queue floor.table_id floor.givens gear.crew.items result }
 {
     let Gear {
         queue,
@@ -54,5 +55,5 @@ where
         in_hand,
     } = into;
     let outputs = inlet.gather(rt, queue, outlets);
-    Unsettled::new(floor, book, ends, outputs, in_hand)
+    Unsettled::new(floor.close(book), ends, outputs, in_hand)
 }

@@ -1,12 +1,13 @@
 //! What callers may lean on. Nothing here runs: each function's contract is a law.
-ghost use Rattle.std.specs.Prelude.{◌≡◌, ℕ, true, false, List, All};
+ghost use Rattle.std.specs.Prelude.{◌≡◌, ◌⊎◌, ℕ, true, false, List, All};
 ghost use Rattle.amo_sets.specs.Sets.{has, AreDistinct};
-ghost use Rattle.amo_kk.specs.Givens.{IsWorker};
+ghost use Rattle.amo_kk.specs.Givens.{IsJob, IsWorker};
 ghost use Rattle.amo_kk.specs.declared.givens.Givens.{Givens};
 ghost use Rattle.amo_crew.specs.declared.outcome.Outcome.{Outcome};
 ghost use Rattle.amo_crew.specs.declared.hand.Output.{Output};
 ghost use Rattle.amo_crew.specs.Fitting.{FitsGivens};
-ghost use Rattle.amo_crew.specs.Outcomes.{IsOutcome, answered, in_hand, free_jobs};
+ghost use Rattle.amo_crew.specs.Outcomes.{IsOutcome, AllStarted, HasAPlace, HasStarted, IsOfNoThread, answered, in_hand, free_jobs, jobs_of, settled_dones};
+ghost use Rattle.amo_crew.specs.Mailbox.{of};
 ghost use Rattle.amo_crew.specs.Unsettling.{UnsettledView, IsUnsettled, IsSettledOf};
 
 use amo_claims::Work;
@@ -35,4 +36,20 @@ pub fn each_job_is_answered_once<P, W: Work<P>>(_work: &W)
         → IsOutcome (W.related _work.now) g payloads budgets o → has (answered o) j ≡ true → has (free_jobs o) j ≡ false }
     ensures kept { (g : Givens) (payloads : List P) (budgets : List ℕ) (o : Outcome P W.Out) (j : ℕ)
         → IsOutcome (W.related _work.now) g payloads budgets o → has (in_hand o) j ≡ true → has (free_jobs o) j ≡ false }
+{}
+
+/// Nothing vanishes: each job is answered, in a hand, free, or was claimed by a worker whose thread could not be started;
+/// so where each thread was started it is one of the first three. In each outcome no job is in two hands, none is free twice,
+/// and the jobs of the outputs of a worker whose thread was started are the dones that the settlement has of it, in their order.
+pub fn each_job_has_a_place<P, W: Work<P>>(_work: &W)
+    ensures place { (g : Givens) (payloads : List P) (budgets : List ℕ) (o : Outcome P W.Out) (j : ℕ)
+        → IsOutcome (W.related _work.now) g payloads budgets o → AllStarted o.ends.items → IsJob g j → HasAPlace o j }
+    ensures unstarted { (g : Givens) (payloads : List P) (budgets : List ℕ) (o : Outcome P W.Out) (j : ℕ)
+        → IsOutcome (W.related _work.now) g payloads budgets o → IsJob g j → HasAPlace o j ⊎ IsOfNoThread o j }
+    ensures hands { (g : Givens) (payloads : List P) (budgets : List ℕ) (o : Outcome P W.Out)
+        → IsOutcome (W.related _work.now) g payloads budgets o → AreDistinct (in_hand o) }
+    ensures free { (g : Givens) (payloads : List P) (budgets : List ℕ) (o : Outcome P W.Out)
+        → IsOutcome (W.related _work.now) g payloads budgets o → AreDistinct (free_jobs o) }
+    ensures told { (g : Givens) (payloads : List P) (budgets : List ℕ) (o : Outcome P W.Out) (p : ℕ)
+        → IsOutcome (W.related _work.now) g payloads budgets o → HasStarted o p → jobs_of (of p o.outputs.items) ≡ settled_dones o p }
 {}

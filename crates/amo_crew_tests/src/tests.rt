@@ -16,6 +16,7 @@ mod memory;
 mod places;
 mod plans;
 mod runs;
+mod sizes;
 
 /// Gives the payload back.
 struct Echo;

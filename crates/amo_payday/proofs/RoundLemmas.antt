@@ -15,6 +15,7 @@ use Rattle.amo_payday.specs.declared.rounds.RoundFault.TheVariants.{Unpaid, Unse
 use Rattle.amo_payday.specs.Payments.{Answers}
 use Rattle.amo_payday.specs.Sorting.{ids_of, IsSorted, IsSortingOf}
 use Rattle.amo_payday.specs.Rounds.{IsRound, IsRunFault, IsRoundFault}
+use Rattle.amo_payday.proofs.Sorts.{may_be_unsure}
 
 pub round_of : (crew : Crew) (g : Givens) (n : ℕ) (payments : List Payment) (ids : List ℕ) (budgets : List ℕ) (o : Outcome Payment Answer) (r : Result Sorted RoundFault)
     → n ≡ length payments → ids ≡ ids_of payments → givens_of n crew.workers crew.workers ≡ Ok g → budgets ≡ replicate crew.workers crew.steps → IsOutcome Answers g payments budgets o
@@ -26,6 +27,7 @@ round_of crew g n payments ids budgets o (Ok s) size named givens all is lists s
   has_come = subst (λ bs. IsOutcome Answers g payments bs o) all is;
   lists = subst (λ l. IsSortingOf l o s) named lists;
   sorted = sorted g payments budgets is named;
+  doubts = may_be_unsure g payments ids budgets o s is named lists;
 }
 round_of crew g n payments ids budgets o (Err f) size named givens all is lists sorted = tt
 

@@ -1,5 +1,5 @@
 -- How the jobs of a run are sorted.
-use Rattle.std.proofs.Common.{◌≡◌, ℕ, suc, ◌+◌, ◌-◌, ◌<◌, ◌≤◌, Bool, true, false, cond, not, eqb, ◌&&◌, ◌||◌, List, [], ◌∷◌, ◌++◌, length, take, get_or, map, filter, All, Some, slice_get, refl, sym, ap, ◌∙◌, subst, arith}
+use Rattle.std.proofs.Common.{◌≡◌, ◌⊎◌, inl, inr, ℕ, suc, ◌+◌, ◌-◌, ◌<◌, ◌≤◌, Bool, true, false, cond, not, eqb, ◌&&◌, ◌||◌, List, [], ◌∷◌, ◌++◌, length, take, get_or, map, filter, All, Some, slice_get, refl, sym, ap, ◌∙◌, subst, arith}
 use Rattle.std.proofs.lemmas.Bool.{or_right, true≢false, eqb-true, eqb-false}
 use Rattle.std.proofs.lemmas.List.Elements.{All-cons, All-nil, All-filter}
 use Rattle.std.proofs.lemmas.List.{length-map, length-take, take_more}
@@ -12,13 +12,14 @@ use Rattle.amo_words.specs.Logs.{world_after, is_claimed}
 use Rattle.amo_crew.specs.declared.hand.Output.{Output}
 use Rattle.amo_crew.specs.declared.outcome.Outcome.{Outcome}
 use Rattle.amo_crew.specs.Running.{IsAnswer}
-use Rattle.amo_crew.specs.Outcomes.{jobs_of, IsOutcome}
+use Rattle.amo_crew.specs.Outcomes.{jobs_of, IsOutcome, HasAPlace, IsOfNoThread}
 use Rattle.amo_payday.specs.declared.day.payment.Payment.{Payment}
 use Rattle.amo_payday.specs.declared.bank.Answer.{Answer}
 use Rattle.amo_payday.specs.declared.sorting.Sorted.{Sorted}
-use Rattle.amo_payday.specs.Sorting.{is_paid, has_receipt_of, has_job, is_unsure, ids_of, IsOneOf, IsOwn, IsNumberOf, IsSorted}
+use Rattle.amo_payday.specs.Sorting.{is_paid, has_receipt_of, has_job, is_unsure, ids_of, IsOneOf, IsOwn, IsNumberOf, IsSorted, IsSortingOf, MayBeUnsure}
 use Rattle.amo_payday.specs.Payments.{Answers}
 use Rattle.amo_crew.proofs.Once.{answered_once, answered_not_free}
+use Rattle.amo_crew.proofs.Places.{count, has_a_place_or}
 use Rattle.amo_payday.proofs.Filters.{free_filtered}
 
 -- ---- jobs that come with something
@@ -55,6 +56,26 @@ module _ {X : Type 0} (p : ℕ → Bool) where
       go rest false true e h n = ap (λ c. c || has_job (passing ts) j) e ∙ rest n
       go rest false false e h n = rest n
 
+  -- what passes was there
+  kept : (ts : List (ℕ × X)) (j : ℕ) → has_job (passing ts) j ≡ true → has_job ts j ≡ true
+  kept [] j h = h
+  kept (t ∷ ts) j h = go (kept ts j) (p t.0) h
+    where
+      first : (has_job (passing ts) j ≡ true → has_job ts j ≡ true) → (b : Bool) → b || has_job (passing ts) j ≡ true → b || has_job ts j ≡ true
+      first rest true k = refl
+      first rest false k = rest k
+
+      go : (has_job (passing ts) j ≡ true → has_job ts j ≡ true) → (b : Bool) → has_job (cond b (t ∷ passing ts) (passing ts)) j ≡ true → eqb t.0 j || has_job ts j ≡ true
+      go rest true k = first rest (eqb t.0 j) k
+      go rest false k = or_right (eqb t.0 j) (has_job ts j) (rest k)
+
+  passes : (ts : List (ℕ × X)) (j : ℕ) → has_job (passing ts) j ≡ true → p j ≡ true
+  passes ts j h = go (p j) refl
+    where
+      go : (b : Bool) → p j ≡ b → p j ≡ true
+      go true e = e
+      go false e = absurd (true≢false (sym h ∙ unlisted ts j e))
+
 ≤-apart : (a b : ℕ) → a ≤ b → (a ≡ b → ⊥) → a + 1 ≤ b
 ≤-apart a b le ne = omega (arith, le, ne)
 
@@ -66,6 +87,15 @@ has_all i (x ∷ xs) j low high = go (λ less. has_all (i + 1) xs j less (omega 
     go : (i + 1 ≤ j → has_job (enumerate_from (i + 1) xs) j ≡ true) → (b : Bool) → eqb i j ≡ b → b || has_job (enumerate_from (i + 1) xs) j ≡ true
     go rest true e = refl
     go rest false e = rest (≤-apart i j low (eqb-false i j e))
+
+-- and no others have
+has_within : {X : Type 0} (i : ℕ) (xs : List X) (j : ℕ) → has_job (enumerate_from i xs) j ≡ true → (i ≤ j) × (j < i + length xs)
+has_within i [] j h = absurd (true≢false (sym h))
+has_within i (x ∷ xs) j h = go (has_within (i + 1) xs j) (eqb i j) refl h
+  where
+    go : (has_job (enumerate_from (i + 1) xs) j ≡ true → (i + 1 ≤ j) × (j < i + 1 + length xs)) → (b : Bool) → eqb i j ≡ b → b || has_job (enumerate_from (i + 1) xs) j ≡ true → (i ≤ j) × (j < i + suc (length xs))
+    go rest true e k = let same = eqb-true i j e in (omega (arith, same), omega (arith, same))
+    go rest false e k = let r = rest k in let low = r.0 in let high = r.1 in (omega (arith, low), omega (arith, high))
 
 -- one thing more
 enumerate_push : {X : Type 0} (n : ℕ) (xs : List X) (x : X) → enumerate_from n (xs ++ x ∷ []) ≡ enumerate_from n xs ++ (n + length xs, x) ∷ []
@@ -144,3 +174,31 @@ sorted g payloads ids budgets o s is named all free doubt = record {
     apart : (j : ℕ) → has_receipt_of s.answers.items j ≡ true → has_job s.free.items j ≡ false
     apart j h = ap (λ xs. has_job xs j) free ∙ has_job_is o.settlement.free.items j
         ∙ answered_not_free Answers g payloads budgets o is j (receipt_has o.outputs.items j (ap (λ xs. has_receipt_of xs j) (sym all) ∙ h))
+
+-- what is in doubt was performed, is in a hand, or is with a worker that was not started
+pub may_be_unsure : (g : Givens) (payloads : List Payment) (ids : List ℕ) (budgets : List ℕ) (o : Outcome Payment Answer) (s : Sorted) → IsOutcome Answers g payloads budgets o → ids ≡ ids_of payloads → IsSortingOf ids o s
+    → (j : ℕ) → has_job s.in_doubt.items j ≡ true → MayBeUnsure o j
+may_be_unsure g payloads ids budgets o s is named lists j h = go (has_a_place_or Answers g payloads budgets o is j (record { low = within.0; high = high }))
+  where
+    unsure : ℕ → Bool
+    unsure i = is_unsure s.answers.items s.free.items i
+
+    there : has_job (filter (λ (t : ℕ × ℕ). unsure t.0) (enumerate_from 1 ids)) j ≡ true
+    there = ap (λ xs. has_job xs j) (sym lists.in_doubt) ∙ h
+
+    within : (1 ≤ j) × (j < 1 + length ids)
+    within = has_within 1 ids j (kept unsure (enumerate_from 1 ids) j there)
+
+    high : j ≤ g.jobs
+    high = let w = within.1 in let size = ap length named ∙ length-map payloads (λ (p : Payment). p.id) in let jobs = count Answers g payloads budgets o is in omega (arith, w, size, jobs)
+
+    not_free : (a b : Bool) → not (a || b) ≡ true → b ≡ true → ⊥
+    not_free true b n e = true≢false (sym n)
+    not_free false true n e = true≢false (sym n)
+    not_free false false n e = true≢false (sym e)
+
+    go : HasAPlace o j ⊎ IsOfNoThread o j → MayBeUnsure o j
+    go (inl (inl a)) = inl a
+    go (inl (inr (inl k))) = inr (inl k)
+    go (inl (inr (inr f))) = absurd (not_free (has_receipt_of s.answers.items j) (has_job s.free.items j) (passes unsure (enumerate_from 1 ids) j there) (ap (λ xs. has_job xs j) lists.free ∙ has_job_is o.settlement.free.items j ∙ f))
+    go (inr n) = inr (inr n)

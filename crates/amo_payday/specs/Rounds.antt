@@ -1,5 +1,5 @@
 -- Payments that go in rounds.
-use Rattle.std.specs.Prelude.{◌≡◌, ℕ, Bool, ◌&&◌, List, length, replicate, nat_le, Ok}
+use Rattle.std.specs.Prelude.{◌≡◌, ℕ, Bool, true, ◌&&◌, List, length, replicate, nat_le, Ok}
 use Rattle.amo_kk.specs.Givens.{givens_of}
 use Rattle.amo_kk.specs.declared.givens.Givens.{Givens}
 use Rattle.amo_crew.specs.declared.outcome.Outcome.{Outcome}
@@ -12,7 +12,7 @@ use Rattle.amo_payday.specs.declared.rounds.Crew.{Crew}
 use Rattle.amo_payday.specs.declared.rounds.RoundFault.{RoundFault}
 use Rattle.amo_payday.specs.declared.rounds.RoundFault.TheVariants.{Unpaid, Unsettled, Unsorted}
 use Rattle.amo_payday.specs.Payments.{Answers}
-use Rattle.amo_payday.specs.Sorting.{ids_of, IsSorted, IsSortingOf}
+use Rattle.amo_payday.specs.Sorting.{has_job, ids_of, IsSorted, IsSortingOf, MayBeUnsure}
 
 -- the crew is from 1 to 16 workers, and each takes at most 10,000,000 steps
 abbrev pub is_fit : Crew → Bool
@@ -26,6 +26,8 @@ pub record IsRound (crew : Crew) (payments : List Payment) (s : Sorted) : Type 0
   pub has_come : IsOutcome Answers givens payments (replicate crew.workers crew.steps) outcome
   pub lists : IsSortingOf (ids_of payments) outcome s
   pub sorted : IsSorted payments s
+  -- what is in doubt was performed and has no receipt, or came back in a hand, or was with a worker that was not started
+  pub doubts : (j : ℕ) → has_job s.in_doubt.items j ≡ true → MayBeUnsure outcome j
 
 -- What a run with these givens, payments and budgets gives back that could not be settled or sorted: the payments themselves
 -- where nothing was paid, or what the threads left, or the outcome.

@@ -1,14 +1,14 @@
 -- What is certain of a payment after a run.
-use Rattle.std.specs.Prelude.{◌≡◌, ℕ, ◌-◌, ◌≤◌, Bool, true, false, not, ◌==◌, ◌&&◌, ◌||◌, List, length, map, filter, All, Some, slice_get}
+use Rattle.std.specs.Prelude.{◌≡◌, ◌⊎◌, ℕ, ◌-◌, ◌≤◌, Bool, true, false, not, ◌==◌, ◌&&◌, ◌||◌, List, length, map, filter, All, Some, slice_get}
 use Rattle.std.specs.List.{list_any, enumerate_from}
-use Rattle.amo_sets.specs.Sets.{AreDistinct}
+use Rattle.amo_sets.specs.Sets.{has, AreDistinct}
 use Rattle.amo_crew.specs.declared.hand.Output.{Output}
 use Rattle.amo_crew.specs.declared.outcome.Outcome.{Outcome}
 use Rattle.amo_payday.specs.declared.day.payment.Payment.{Payment}
 use Rattle.amo_payday.specs.declared.bank.Answer.{Answer}
 use Rattle.amo_payday.specs.declared.bank.Answer.TheVariants.{Paid, Unpaid}
 use Rattle.amo_payday.specs.declared.sorting.Sorted.{Sorted}
-use Rattle.amo_crew.specs.Outcomes.{jobs_of}
+use Rattle.amo_crew.specs.Outcomes.{jobs_of, answered, in_hand, IsOfNoThread}
 use Rattle.amo_crew.specs.Running.{IsAnswer}
 use Rattle.amo_payday.specs.Payments.{Answers}
 
@@ -28,6 +28,10 @@ has_job list j = list_any (λ t. t.0 == j) list
 -- there is no receipt of a job, and it is not free
 abbrev pub is_unsure : List (Output Answer) → List (ℕ × Payment) → ℕ → Bool
 is_unsure answers free j = not (has_receipt_of answers j || has_job free j)
+
+-- What can be in doubt: the job was performed, or is in a hand, or was claimed by a worker whose thread could not be started.
+abbrev pub MayBeUnsure : Outcome Payment Answer → ℕ → Type 0
+MayBeUnsure o j = (has (answered o) j ≡ true) ⊎ ((has (in_hand o) j ≡ true) ⊎ IsOfNoThread o j)
 
 -- the numbers of these payments
 abbrev pub ids_of : List Payment → List ℕ

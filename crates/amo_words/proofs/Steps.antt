@@ -113,7 +113,7 @@ module _ {P : Type 0} (k : Key P) (slots id : ℕ) (me : Me (Option P) (View P))
         tt,
         turns.move_kept g xs s h id me.0 l at is (Turn p) refl refl (machine_turned l 0) (now s h at 0 saw goes) refl (set s.words i new)
             (wrote s.words ∙ ap (λ y. words_after l.givens p y s.words) (sym wants) ∙ sym (words_now s h at goes)) s.homes (slots_as g xs (world_after g h.log) (world_after g (h.log ++ Turn p ∷ [])) s.homes (still s h at calm goes) h.slots),
-        (turned_by s h at 0 saw, refl),
+        (turned_by s h at 0 saw, refl, refl),
       )
 
   -- an announcement or an entry of a row is loaded
@@ -163,6 +163,7 @@ module _ {P : Type 0} (k : Key P) (slots id : ℕ) (me : Me (Option P) (View P))
         (
           turned_by s h at 0 saw,
           subst (λ ro. TakenBy me.0.payloads me.1 ro ((j - 1, Some y.0) ∷ me.1)) (sym is) (subst (λ z. TakesIn me.0.payloads me.1 z ((j - 1, Some y.0) ∷ me.1)) (sym phase) (y.0, ap (λ l. get_elem? l (j - 1)) mine.0.1 ∙ y.1, refl)),
+          refl,
         ),
       )
 
@@ -181,5 +182,5 @@ module _ {P : Type 0} (k : Key P) (slots id : ℕ) (me : Me (Option P) (View P))
             (ap (λ (u : World). machine_in g u p) more ∙ left_machine g w p (lawful g h.log) there can ∙ (λ c. machine_left (sym m c))) refl (set s.words i 0)
             (sym (ap (λ (u : World). words_of u.processes) more ∙ leave_writes g w (lawful g h.log) p there can ∙ (λ c. set (sym h.words c) (sym word c) 0))) s.homes
             (slots_as g xs w (world_after g (h.log ++ Leave p ∷ [])) s.homes (λ j. ap (λ (u : World). is_claimed u.processes j) more ∙ left_claims g w p (lawful g h.log) there can j) h.slots),
-        (subst (λ ro. LeftBy me.0 ro (view_after me.0 (b s h at) (Leave p) (machine_left l))) (sym is) (record { between = b s h at; others = turns.others_only g xs s h id me.0 l at is; own = seen_own s h at; leads = refl }), refl),
+        (subst (λ ro. LeftBy me.0 ro (view_after me.0 (b s h at) (Leave p) (machine_left l))) (sym is) (record { between = b s h at; others = turns.others_only g xs s h id me.0 l at is; own = seen_own s h at; leads = refl }), refl, refl),
       )

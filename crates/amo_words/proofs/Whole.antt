@@ -30,7 +30,8 @@ use Rattle.amo_words.specs.declared.rule.Key.{Key}
 use Rattle.amo_words.specs.Logs.{world_after, is_claimed}
 use Rattle.amo_words.specs.Rule.{AllStand, HoldsAll, IsOf, IsKept, home_of}
 use Rattle.amo_words.specs.Looking.{IsBack}
-use Rattle.amo_words.specs.Settling.{AreShown, HasFree, AreMarked, IsClosed, any_has, claims_of, dones_of, free_of, job_count, book_view}
+use Rattle.amo_words.specs.Settling.{HasFree, AreMarked, IsClosed, any_has, claims_of, dones_of, free_of, job_count, book_view}
+use Rattle.amo_words.specs.Faces.{AreShown}
 use Rattle.amo_words.proofs.Meetings.{late_back}
 use Rattle.amo_words.proofs.Worlds.{lawful}
 use Rattle.amo_words.proofs.Turns.{some_at}

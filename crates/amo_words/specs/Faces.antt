@@ -1,9 +1,12 @@
 -- Floor, book and worker as contracts see them, and what holds of their fields.
-use Rattle.std.specs.Prelude.{◌≡◌, ℕ, List, []}
+use Rattle.std.specs.Prelude.{◌≡◌, ℕ, List, [], length, Option}
+use Rattle.amo_sets.specs.Lists.{numbered}
 use Rattle.atomic_table.specs.Seated.{TableId}
 use Rattle.amo_kk.specs.Givens.{IsWorker}
 use Rattle.amo_kk.specs.World.{nobody}
-use Rattle.amo_kk.specs.Lawful.{IsSoundRecord}
+use Rattle.amo_kk.specs.Words.{words_of}
+use Rattle.amo_kk.specs.Lawful.{IsSoundRecord, IsSoundProcess}
+use Rattle.amo_kk.specs.declared.model.Process.{Process}
 use Rattle.amo_kk.specs.Machine.{LocalView}
 use Rattle.amo_kk.specs.declared.givens.Givens.{Givens}
 use Rattle.amo_words.specs.declared.rule.Role.{Role}
@@ -70,3 +73,16 @@ pub record IsBook {P : Type 0} (v : View P) (id : TableId) (g : Givens) (spots :
   pub turns : AreOwn g v.seen
   pub stand : AllStand g v.seen spots
   pub exact : room ≡ g.workers
+
+-- The words are those of these processes, each of which is sound.
+pub record AreShown (g : Givens) (all : List Process) (words : List ℕ) : Type 0 where
+  pub size : length all ≡ g.workers
+  pub sound : (p : ℕ) → IsWorker g p → IsSoundProcess g p (numbered nobody all p)
+  pub shown : words ≡ words_of all
+
+-- A closed floor: the givens, the spots of its book from worker 1, and its words and slots as they stood.
+pub record ClosedView (P : Type 0) : Type 0 where
+  pub givens : Givens
+  pub spots : List Spot
+  pub words : List ℕ
+  pub slots : List (Option P)

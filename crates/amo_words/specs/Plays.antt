@@ -94,7 +94,7 @@ TakenBy payloads out (Opening m b) out' = ⊤
 
 -- the store of an announcement or of a performance
 abbrev pub told_by_store : {P : Type 0} → Step (Option P) → Me (Option P) (View P) → ℕ → Me (Option P) (View P) → Type 0
-told_by_store st me n me' = TurnedBy me.0 me.0.role 0 me'.0 × (me'.1 ≡ me.1)
+told_by_store st me n me' = TurnedBy me.0 me.0.role 0 me'.0 × (me'.1 ≡ me.1) × (n ≡ st.first)
 
 -- the load of an announcement or of an entry of a row
 abbrev pub told_by_load : {P : Type 0} → Step (Option P) → Me (Option P) (View P) → ℕ → Me (Option P) (View P) → Type 0
@@ -102,11 +102,11 @@ told_by_load st me n me' = TurnedBy me.0 me.0.role n me'.0 × MayLoadBy me.0.rol
 
 -- the store of a count of claims, which takes a slot
 abbrev pub told_by_claim : {P : Type 0} → Step (Option P) → Me (Option P) (View P) → ℕ → Me (Option P) (View P) → Type 0
-told_by_claim st me n me' = TurnedBy me.0 me.0.role 0 me'.0 × TakenBy me.0.payloads me.1 me.0.role me'.1
+told_by_claim st me n me' = TurnedBy me.0 me.0.role 0 me'.0 × TakenBy me.0.payloads me.1 me.0.role me'.1 × (n ≡ st.first)
 
 -- the store of 0 to an announcement, by which a worker leaves
 abbrev pub told_by_leave : {P : Type 0} → Step (Option P) → Me (Option P) (View P) → ℕ → Me (Option P) (View P) → Type 0
-told_by_leave st me n me' = LeftBy me.0 me.0.role me'.0 × (me'.1 ≡ me.1)
+told_by_leave st me n me' = LeftBy me.0 me.0.role me'.0 × (me'.1 ≡ me.1) × (n ≡ st.first)
 
 -- how views are cut and joined
 

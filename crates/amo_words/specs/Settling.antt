@@ -1,17 +1,15 @@
 -- What the closed words and slots show, and what a settlement says.
-use Rattle.std.specs.Prelude.{◌≡◌, ℕ, suc, ◌+◌, ◌<◌, ◌≤◌, Bool, true, false, ◌||◌, if◌then◌else◌, List, [], ◌∷◌, length, map, get_or, Option, Some, vec_capacity}
+use Rattle.std.specs.Prelude.{◌≡◌, ◌==◌, replicate, ℕ, zero, suc, ◌+◌, ◌<◌, ◌≤◌, Bool, true, false, ◌||◌, if◌then◌else◌, List, [], ◌∷◌, ◌++◌, length, map, get_or, Option, Some, vec_capacity}
 use Rattle.std.proofs.Common.{Vec, Global}
 use mathlib.Core.Option.{some}
 use lib.ListN.{get_elem?}
 use Rattle.std.specs.List.{sum_by}
 use Rattle.atomic_table.specs.Table.{Final, Seen}
-use Rattle.amo_sets.specs.Lists.{numbered}
+use Rattle.amo_sets.specs.Lists.{numbered, table}
 use Rattle.amo_sets.specs.Sets.{has}
-use Rattle.amo_kk.specs.Givens.{IsWorker, bound}
+use Rattle.amo_kk.specs.Givens.{bound}
 use Rattle.amo_kk.specs.Record.{is_over}
-use Rattle.amo_kk.specs.World.{nobody}
-use Rattle.amo_kk.specs.Words.{words_of}
-use Rattle.amo_kk.specs.Lawful.{IsSoundProcess}
+use Rattle.amo_kk.specs.Words.{words_of, next_word, claim_word, done_word}
 use Rattle.amo_kk.specs.declared.givens.Givens.{Givens}
 use Rattle.amo_kk.specs.declared.event.Move.{Move}
 use Rattle.amo_kk.specs.declared.model.Process.{Process}
@@ -26,13 +24,35 @@ use Rattle.amo_words.specs.declared.rule.View.{View}
 use Rattle.amo_words.specs.declared.rule.Key.{Key}
 use Rattle.amo_words.specs.Rule.{AllStand, IsKept}
 use Rattle.amo_words.specs.Looking.{IsBack}
+use Rattle.amo_words.specs.Faces.{AreShown, ClosedView}
 use Rattle.amo_kk.specs.Machine.{LocalView}
 
--- The words are those of these processes, each of which is sound.
-pub record AreShown (g : Givens) (all : List Process) (words : List ℕ) : Type 0 where
-  pub size : length all ≡ g.workers
-  pub sound : (p : ℕ) → IsWorker g p → IsSoundProcess g p (numbered nobody all p)
-  pub shown : words ≡ words_of all
+-- What the words say of each worker.
+
+-- a word before these: none of them where it is 0
+abbrev pub unless_zero : ℕ → List ℕ → List ℕ
+unless_zero zero xs = []
+unless_zero (suc x) xs = suc x ∷ xs
+
+-- the n words from the place i on, up to the first 0
+abbrev pub row_from : List ℕ → ℕ → ℕ → List ℕ
+row_from words i zero = []
+row_from words i (suc n) = unless_zero (get_or words i 0) (row_from words (suc i) n)
+
+-- the row of p up to its first 0
+abbrev pub row_in : Givens → List ℕ → ℕ → List ℕ
+row_in g words p = row_from words (done_word g p 1) (g.jobs + 1)
+
+-- the announcement of p, where its count of claims is one more than its row has jobs
+abbrev pub hand_in_words : Givens → List ℕ → ℕ → List ℕ
+hand_in_words g words p = if get_or words (claim_word g p) 0 == length (row_in g words p) + 1 then get_or words (next_word p) 0 ∷ [] else []
+
+-- what these words say of the dones and of the claims of all workers, from 1
+abbrev pub dones_in_words : Givens → List ℕ → List (List ℕ)
+dones_in_words g words = table g.workers (λ p. row_in g words p)
+
+abbrev pub claims_in_words : Givens → List ℕ → List (List ℕ)
+claims_in_words g words = table g.workers (λ p. row_in g words p ++ hand_in_words g words p)
 
 -- from the place i on, the lists are empty and have this room
 abbrev pub HaveRoom : ℕ → ℕ → List (Vec ℕ Global) → Type 0
@@ -102,6 +122,9 @@ pub record IsWhole {P : Type 0} (g : Givens) (payloads : List P) (seen : List Mo
   pub begins : StartsWith log seen
   pub shown : words ≡ words_of (world_after g log).processes
   pub stand : AllStand g log spots
+  -- the lists are what these words say of each worker
+  pub told_claims : map (λ (v : Vec ℕ Global). v.items) s.claims.items ≡ claims_in_words g words
+  pub told_dones : map (λ (v : Vec ℕ Global). v.items) s.dones.items ≡ dones_in_words g words
   pub claims : map (λ (v : Vec ℕ Global). v.items) s.claims.items ≡ claims_of (world_after g log).processes
   pub dones : map (λ (v : Vec ℕ Global). v.items) s.dones.items ≡ dones_of (world_after g log).processes
   pub ends : s.ends.items ≡ map end_of spots
@@ -109,3 +132,40 @@ pub record IsWhole {P : Type 0} (g : Givens) (payloads : List P) (seen : List Mo
   -- where a worker has come back that ended, so many jobs are done
   pub enough : (p : ℕ) (l : LocalView) → IsBack spots p l → is_over l.state.phase ≡ true
       → bound g ≤ job_count (map (λ (v : Vec ℕ Global). v.items) s.dones.items)
+
+-- The floor whose book had these spots and had seen these moves was closed, and c is what stood: the words and slots of the
+-- table between two steps, where the book's seat knew what the book knew. They show a world that the book's moves lead to.
+pub record HasClosed {P : Type 0} (g : Givens) (payloads : List P) (seen : List Move) (spots : List Spot) (c : ClosedView P) : Type 0 where
+  pub givens : c.givens ≡ g
+  pub spots_are : c.spots ≡ spots
+  pub key : Key P
+  pub seat : ℕ
+  pub closed : Final (Seen (IsKept key) seat (book_view g payloads seen spots)) c.words c.slots
+  pub world : IsClosed g payloads seen spots c.words c.slots
+
+-- The settlement is whole for each book with which this floor can have been closed.
+abbrev pub IsWholeOf : {P : Type 0} → ClosedView P → Settlement P → Type 0
+IsWholeOf {P} c s = (g : Givens) (payloads : List P) (seen : List Move) (spots : List Spot) → HasClosed g payloads seen spots c → IsWhole g payloads seen spots s
+
+-- The settlement is read from the closed floor: the lists of each worker are what the words say of it, a worker that is
+-- lost or not; the ends are by the spots; and the free jobs are those that the words give to nobody.
+pub record IsReadFrom {P : Type 0} (c : ClosedView P) (s : Settlement P) : Type 0 where
+  pub claims : map (λ (v : Vec ℕ Global). v.items) s.claims.items ≡ claims_in_words c.givens c.words
+  pub dones : map (λ (v : Vec ℕ Global). v.items) s.dones.items ≡ dones_in_words c.givens c.words
+  pub ends : s.ends.items ≡ map end_of c.spots
+  pub free : (all : List Process) (payloads : List P) → AreShown c.givens all c.words → HasFree c.givens all payloads c.slots → s.free.items ≡ free_of all 1 payloads
+
+-- what a settlement says of worker p
+abbrev pub settled_dones : {P : Type 0} → Settlement P → ℕ → List ℕ
+settled_dones s p = numbered [] (map (λ (v : Vec ℕ Global). v.items) s.dones.items) p
+
+abbrev pub settled_claims : {P : Type 0} → Settlement P → ℕ → List ℕ
+settled_claims s p = numbered [] (map (λ (v : Vec ℕ Global). v.items) s.claims.items) p
+
+-- empty lists, with the room that a settlement takes, and a mark for each job
+pub record IsBlank {P : Type 0} (g : Givens) (s : Settlement P) (marks : List Bool) : Type 0 where
+  pub claims : (length s.claims.items ≡ g.workers) × HaveRoom (g.jobs + 1) 0 s.claims.items
+  pub dones : (length s.dones.items ≡ g.workers) × HaveRoom (g.jobs + 1) 0 s.dones.items
+  pub ends : (s.ends.items ≡ []) × (g.workers ≤ vec_capacity s.ends)
+  pub free : (s.free.items ≡ []) × (g.jobs ≤ vec_capacity s.free)
+  pub marks_are : marks ≡ replicate g.jobs false

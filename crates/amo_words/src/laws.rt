@@ -1,5 +1,5 @@
 //! The theorems over the rule and the book that callers may lean on. Nothing here runs: each function's contract is a law.
-ghost use Rattle.std.specs.Prelude.{◌≡◌, ◌≢◌, ◌≤◌, ℕ, List, true, false, Option};
+ghost use Rattle.std.specs.Prelude.{◌≡◌, ◌≢◌, ◌≤◌, ◌++◌, ℕ, List, [], get_or, true, false, Option};
 ghost use mathlib.Core.Option.{some};
 ghost use lib.ListN.{get_elem?};
 ghost use Rattle.atomic_table.specs.Table.{State};
@@ -7,22 +7,27 @@ ghost use Rattle.amo_sets.specs.Sets.{has};
 ghost use Rattle.amo_kk.specs.Givens.{IsWorker, bound};
 ghost use Rattle.amo_kk.specs.Record.{is_over};
 ghost use Rattle.amo_kk.specs.World.{done_count};
-ghost use Rattle.amo_kk.specs.Words.{words_of};
+ghost use Rattle.amo_kk.specs.Words.{words_of, claim_word, done_word};
+ghost use Rattle.amo_words.specs.Faces.{ClosedView};
+ghost use Rattle.amo_words.specs.Settling.{IsReadFrom, row_in, hand_in_words, settled_claims, settled_dones};
 ghost use Rattle.amo_kk.specs.Lawful.{IsLawful};
 ghost use Rattle.amo_kk.specs.Machine.{LocalView};
 ghost use Rattle.amo_kk.specs.declared.givens.Givens.{Givens};
 ghost use Rattle.amo_kk.specs.declared.event.Move.{Move};
 ghost use Rattle.amo_words.specs.declared.rule.Spot.{Spot};
+ghost use Rattle.amo_words.specs.declared.rule.Role.{Role};
+ghost use Rattle.amo_words.specs.declared.floor.settling.Settlement.{Settlement};
 ghost use Rattle.amo_words.specs.declared.rule.Key.{Key};
 ghost use Rattle.amo_words.specs.declared.rule.View.{View};
-ghost use Rattle.amo_words.specs.Logs.{world_after, machine_after, AreOwn, StartsWith};
+ghost use Rattle.amo_words.specs.Logs.{world_after, machine_after, moves_of, AreOwn, StartsWith};
 ghost use Rattle.amo_words.specs.Rule.{AllStand, Has, HasWhole, IsOpen, SlotsFit, spent_view};
 ghost use Rattle.amo_words.specs.Looking.{IsBack, back_count};
 
 /// What the rule says of an open table: its words are those of a lawful world, reached by a list of turns and leavings.
 /// Some seat has seen, or was told, that whole list, and what any other has seen is a beginning of it. Each worker's
-/// record is in the view of one seat, as it is in that world. The slot of a job is at home, with its payload, just until
-/// the job is claimed.
+/// record is in the view of one seat alone, as it is in that world; a worker that is out has seen all its own moves. All views
+/// but spent ones have the floor's givens and payloads, and what they were told are beginnings of the list too. The slot of a
+/// job is at home, with its payload, just until the job is claimed.
 pub fn floors_show_worlds<P>()
     ensures world { (k : Key P) (s : State (Option P) (View P)) (h : IsOpen k s)
         → (s.words ≡ words_of (world_after k.givens h.log).processes) × IsLawful k.givens (world_after k.givens h.log) × AreOwn k.givens h.log }
@@ -30,6 +35,14 @@ pub fn floors_show_worlds<P>()
         → HasWhole h.log s.views × ((id : ℕ) (v : View P) → get_elem? s.views id ≡ some v → v ≢ spent_view → StartsWith h.log v.seen) }
     ensures found { (k : Key P) (s : State (Option P) (View P)) (h : IsOpen k s) (p : ℕ) → IsWorker k.givens p
         → (v : View P) × (get_elem? s.views (h.seat p) ≡ some v) × Has v.role (machine_after k.givens h.log p) }
+    ensures only { (k : Key P) (s : State (Option P) (View P)) (h : IsOpen k s) (p id : ℕ) (v : View P) → IsWorker k.givens p
+        → get_elem? s.views id ≡ some v → Has v.role (machine_after k.givens h.log p) → h.seat p ≡ id }
+    ensures out { (k : Key P) (s : State (Option P) (View P)) (h : IsOpen k s) (id : ℕ) (v : View P) (l : LocalView) → get_elem? s.views id ≡ some v
+        → v.role ≡ Role.Working l → (l ≡ machine_after k.givens h.log l.number) × (moves_of l.number h.log ≡ moves_of l.number v.seen) }
+    ensures book { (k : Key P) (s : State (Option P) (View P)) (h : IsOpen k s) (id : ℕ) (v : View P) (spots : List Spot) → get_elem? s.views id ≡ some v
+        → v.role ≡ Role.Keeping spots → AllStand k.givens h.log spots }
+    ensures known { (k : Key P) (s : State (Option P) (View P)) (h : IsOpen k s) (id : ℕ) (v : View P) → get_elem? s.views id ≡ some v
+        → v ≢ spent_view → (v.givens ≡ k.givens) × (v.payloads ≡ k.payloads.value.items) × StartsWith h.log v.told }
     ensures slots { (k : Key P) (s : State (Option P) (View P)) (h : IsOpen k s) → SlotsFit (world_after k.givens h.log) k.payloads.value.items s.homes }
 {}
 
@@ -61,4 +74,15 @@ pub fn met_ends_come_late()
 pub fn seen_lists_begin()
     ensures later { (log seen first : List Move) → StartsWith log seen → StartsWith seen first → StartsWith log first }
     ensures turns { (g : Givens) (log seen : List Move) → AreOwn g log → StartsWith log seen → AreOwn g seen }
+{}
+
+/// What a settlement that was read from a closed floor says of each worker is what its words said as they stood: so of one
+/// that is lost its row up to the first 0, and its announcement as a claim where its count of claims is one more. Of a
+/// worker whose words are 0 it says nothing.
+pub fn settlements_say_what_words_say<P>()
+    ensures dones { (c : ClosedView P) (s : Settlement P) (p : ℕ) → IsReadFrom c s → IsWorker c.givens p → settled_dones s p ≡ row_in c.givens c.words p }
+    ensures claims { (c : ClosedView P) (s : Settlement P) (p : ℕ) → IsReadFrom c s → IsWorker c.givens p
+        → settled_claims s p ≡ row_in c.givens c.words p ++ hand_in_words c.givens c.words p }
+    ensures idle { (c : ClosedView P) (s : Settlement P) (p : ℕ) → IsReadFrom c s → IsWorker c.givens p
+        → get_or c.words (done_word c.givens p 1) 0 ≡ 0 → get_or c.words (claim_word c.givens p) 0 ≡ 0 → (settled_claims s p ≡ []) × (settled_dones s p ≡ []) }
 {}

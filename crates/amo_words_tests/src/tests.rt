@@ -3,7 +3,8 @@ ghost use Rattle.std.specs.Prelude.{◌≡◌, IfOk};
 
 use amo_kk::{Givens, Leaving};
 use amo_words::{
-    Book, Filed, Floor, HireFault, OpenFault, Place, Settlement, Step, Worker, WorkerEnd,
+    Book, ClosedFloor, Filed, Floor, HireFault, OpenFault, Place, Settlement, Step, Worker,
+    WorkerEnd,
 };
 use std::alloc::{AllocError, Global};
 use std::process::Abort;
@@ -12,7 +13,9 @@ use std::test::Fail;
 mod limits;
 mod memory;
 mod rows;
+mod sizes;
 mod threads;
+mod waiting;
 
 /// The letters from `a`, one for each job.
 fn letters(alloc: Global, count: u32) -> Result<Vec<char>, AllocError> {
@@ -23,6 +26,15 @@ fn letters(alloc: Global, count: u32) -> Result<Vec<char>, AllocError> {
                 return Err(AllocError);
             };
         }
+    }
+    Ok(payloads)
+}
+
+/// The numbers from 1, one for each job.
+fn numbers(alloc: Global, count: u32) -> Result<Vec<u32>, AllocError> {
+    let mut payloads = Vec::new(alloc);
+    for before in 0..count {
+        payloads.push(before.wrapping_add(1))?;
     }
     Ok(payloads)
 }

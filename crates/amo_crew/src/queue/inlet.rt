@@ -1,5 +1,5 @@
 //! The end of the queue at which outputs are taken.
-ghost use Rattle.std.specs.Prelude.{◌≤◌, vec_capacity};
+ghost use Rattle.std.specs.Prelude.{◌≡◌, vec_capacity};
 ghost use Rattle.amo_crew.specs.Ports.{InletView};
 
 use crate::hand::Output;
@@ -20,7 +20,7 @@ impl<Out> Model for Inlet<Out> {
 
     ghost view = { λ i. record { pass = i.pass; taken = i.taken.items; room = i.room } };
 
-    ghost invariant = { λ i. i.room ≤ vec_capacity i.taken };
+    ghost invariant = { λ i. i.room ≡ vec_capacity i.taken };
 }
 
 impl<Out> Inlet<Out> {

@@ -1,5 +1,5 @@
 //! The end of the queue at which a worker's outputs are put.
-ghost use Rattle.std.specs.Prelude.{◌≤◌, vec_capacity};
+ghost use Rattle.std.specs.Prelude.{◌≡◌, vec_capacity};
 ghost use Rattle.amo_crew.specs.Ports.{OutletView};
 
 use crate::hand::Output;
@@ -22,7 +22,7 @@ impl<Out> Model for Outlet<Out> {
 
     ghost view = { λ o. record { pass = o.pass; worker = o.worker; kept = o.kept.items; put_count = o.put_count; room = o.room } };
 
-    ghost invariant = { λ o. o.room ≤ vec_capacity o.kept };
+    ghost invariant = { λ o. o.room ≡ vec_capacity o.kept };
 }
 
 impl<Out: Drop> Outlet<Out> {
@@ -43,7 +43,7 @@ impl<Out: Drop> Outlet<Out> {
     ) -> Outlet<Out>
         requires pass { IsPassOf _queue.now.ring pass }
         requires view { view pass ≡ Sends worker [] }
-        requires kept { (kept.items ≡ []) × (room ≤ vec_capacity kept) }
+        requires kept { (kept.items ≡ []) × (room ≡ vec_capacity kept) }
         ensures new { IsNewOutletOf _queue.now room result }
         ensures worker { result.worker ≡ worker }
     {

@@ -84,6 +84,50 @@ fn refused_run(rt: HostRuntime) -> Result<(), Fail> {
     Ok(())
 }
 
+/// The payloads of so many jobs came back, in their order.
+fn expect_payloads(rt: &impl Abort, back: &[u32], jobs: usize) {
+    assert_eq!(rt; back.len(), jobs);
+    for (before, payload) in back.iter().enumerate() {
+        assert_eq!(rt; *payload as usize, before.wrapping_add(10_001));
+    }
+}
+
+/// Settles what a run of 20 jobs left: where there is memory now nothing is lacking, whatever was refused before.
+fn settle_once_there_is_memory(rt: &impl Abort, alloc: Global, rest: Unsettled<u32, u32>) {
+    let hands = rest.in_hand().len();
+    let has_memory = has_memory(alloc);
+    match rest.settle(alloc) {
+        Ok(outcome) => {
+            assert_eq!(rt; outcome.in_hand.len(), hands);
+            expect_each_once(rt, &outcome, 20);
+        }
+        Err(_) => assert!(rt; !has_memory, "there was memory to settle"),
+    }
+}
+
+#[test]
+fn refused_twice_in_a_run(rt: HostRuntime) -> Result<(), Fail> {
+    // each of the five workers stops with its first job in hand
+    let givens = Givens::try_new(20, 5, 5)?;
+    let Ok(payloads) = payloads_for(rt.alloc(), 20) else {
+        return Ok(());
+    };
+    let Ok(plan) = StopPlan::try_new(rt.alloc(), givens, &[10; 5]) else {
+        return Ok(());
+    };
+    match execute(&rt, rt.alloc(), givens, payloads, &Echo, &plan) {
+        Ok(outcome) => {
+            assert_eq!(rt; outcome.in_hand.len(), 5);
+            expect_each_once(&rt, &outcome, 20);
+        }
+        Err(ExecFault::NoMemory(back)) => expect_payloads(&rt, &back, 20),
+        Err(ExecFault::ThreadRefused(outcome)) => expect_each_once(&rt, &outcome, 20),
+        Err(ExecFault::Unsettled(rest)) => settle_once_there_is_memory(&rt, rt.alloc(), rest),
+        Err(ExecFault::WrongCount(_)) => panic!(rt; "there are twenty payloads"),
+    }
+    Ok(())
+}
+
 /// Makes a queue. Where it is used, one output goes through it, one is left to be gathered.
 fn use_queue<R: Abort + Wait>(rt: &R, alloc: Global, used: bool) -> Result<(), Fail> {
     let (queue, mut inlet, mut ends) = outlets::<u32>(alloc, Givens::try_new(2, 1, 1)?)?;

@@ -45,7 +45,7 @@ impl Work<u32> for Gate {
 }
 
 /// Executes so many jobs with so many workers, that threshold and these budgets.
-fn run<W: Work<u32> + Sync, R: Threads + Wait + Abort + Sync>(
+pub(super) fn run<W: Work<u32> + Sync, R: Threads + Wait + Abort + Sync>(
     rt: &R,
     alloc: Global,
     numbers: (u32, u32, u32),

@@ -93,12 +93,8 @@ fn employ(rt: &impl Abort, alloc: Global, floor: &Floor<u32>, book: &mut Book<u3
 
 #[test]
 fn the_largest_floor_is_settled(rt: HostRuntime) -> Result<(), Fail> {
-    let mut payloads = Vec::new(rt.alloc());
-    for job in 1..4097u32 {
-        payloads.push(job)?;
-    }
     let givens = Givens::try_new(4096, 16, 16)?;
-    let (floor, mut book) = open(&rt, rt.alloc(), givens, payloads);
+    let (floor, mut book) = open(&rt, rt.alloc(), givens, numbers(rt.alloc(), 4096)?);
     for p in 1..17 {
         employ(&rt, rt.alloc(), &floor, &mut book, p);
     }

@@ -82,6 +82,47 @@ fn refused_floor(rt: HostRuntime) -> Result<(), Fail> {
     Ok(())
 }
 
+/// Settles a closed floor after a refusal: not while there is no memory.
+fn settle_closed_again(
+    rt: &impl Abort,
+    alloc: Global,
+    closed: ClosedFloor<char>,
+    expected: &Expected<'_>,
+) {
+    let granted = has_memory(alloc);
+    match closed.settle(alloc) {
+        Ok(end) => expected.is(rt, end),
+        Err(_) => assert!(rt; !granted),
+    }
+}
+
+#[test]
+fn refused_closed_floor(rt: HostRuntime) -> Result<(), Fail> {
+    let givens = Givens::try_new(3, 2, 2)?;
+    let Ok(payloads) = letters(rt.alloc(), 3) else {
+        return Ok(());
+    };
+    let Ok((floor, mut book)) = Floor::try_new(rt.alloc(), givens, payloads) else {
+        return Ok(());
+    };
+    let Ok(mut first) = book.hire(rt.alloc(), &floor, 1) else {
+        return Ok(());
+    };
+    run(&floor, &mut first, 4);
+    drop(first);
+    let expected = Expected {
+        claims: &[&[1], &[]],
+        dones: &[&[], &[]],
+        ends: &[WorkerEnd::Lost, WorkerEnd::NeverHired],
+        free: &[(2, 'b'), (3, 'c')],
+    };
+    match floor.close(book).settle(rt.alloc()) {
+        Ok(end) => expected.is(&rt, end),
+        Err(closed) => settle_closed_again(&rt, rt.alloc(), closed, &expected),
+    }
+    Ok(())
+}
+
 /// Opens a floor and hires its two workers. Where they are used, both make each call that takes no memory: one does a job,
 /// holds another and is collected, the other leaves and is collected.
 fn use_floor(rt: &impl Abort, alloc: Global, used: bool) -> Result<(), Fail> {

@@ -172,3 +172,71 @@ fn the_book_says_what_came_back(rt: HostRuntime) -> Result<(), Fail> {
     assert!(rt; ended && claimed == done && look(givens, &book, 3) == None);
     Ok(())
 }
+
+/// The announcement, the count of claims and the first entry of the row of worker p, as they stood.
+fn words_of(closed: &ClosedFloor<char>, p: u32) -> Option<(u64, u64, u64)> {
+    if p == 0 || p > closed.givens().workers() {
+        return None;
+    }
+    Some((
+        closed.announcement(p),
+        closed.claim_count(p),
+        closed.entry(p, 1),
+    ))
+}
+
+/// Worker 1 alone takes k accesses and is dropped; these words stand then, and the settlement says no more than they do.
+fn close_after(
+    rt: &impl Abort,
+    alloc: Global,
+    k: u32,
+    words: (u64, u64, u64),
+    expected: &Expected<'_>,
+) -> Result<(), Fail> {
+    let (floor, mut book) = open_letters(rt, alloc, (5, 2, 2))?;
+    let mut first = hire(rt, alloc, &floor, &mut book, 1);
+    run(&floor, &mut first, k);
+    drop(first);
+    let closed = floor.close(book);
+    assert!(rt; words_of(&closed, 1) == Some(words));
+    assert!(rt; words_of(&closed, 2) == Some((0, 0, 0)) && words_of(&closed, 3) == None);
+    let Ok(end) = closed.settle(alloc) else {
+        panic!(rt; "the closed floor was not settled")
+    };
+    expected.is(rt, end);
+    Ok(())
+}
+
+#[test]
+fn a_lost_worker_is_settled_by_its_words(rt: HostRuntime) -> Result<(), Fail> {
+    let ends = [WorkerEnd::Lost, WorkerEnd::NeverHired];
+    let nothing = Expected {
+        claims: &[&[], &[]],
+        dones: &[&[], &[]],
+        ends: &ends,
+        free: &[(1, 'a'), (2, 'b'), (3, 'c'), (4, 'd'), (5, 'e')],
+    };
+    close_after(&rt, rt.alloc(), 0, (0, 0, 0), &nothing)?;
+    close_after(&rt, rt.alloc(), 1, (1, 0, 0), &nothing)?;
+    let claimed = Expected {
+        claims: &[&[1], &[]],
+        dones: &[&[], &[]],
+        ends: &ends,
+        free: &[(2, 'b'), (3, 'c'), (4, 'd'), (5, 'e')],
+    };
+    close_after(&rt, rt.alloc(), 4, (1, 1, 0), &claimed)?;
+    let done = Expected {
+        claims: &[&[1], &[]],
+        dones: &[&[1], &[]],
+        ends: &ends,
+        free: &[(2, 'b'), (3, 'c'), (4, 'd'), (5, 'e')],
+    };
+    close_after(&rt, rt.alloc(), 5, (1, 1, 1), &done)
+}
+
+#[test]
+fn a_closed_floor_may_be_dropped(rt: HostRuntime) -> Result<(), Fail> {
+    let (floor, book) = open_letters(&rt, rt.alloc(), (5, 2, 2))?;
+    drop(floor.close(book));
+    Ok(())
+}

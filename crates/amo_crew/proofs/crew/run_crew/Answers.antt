@@ -1,9 +1,12 @@
-use Rattle.std.proofs.Common.{◌≡◌, vec_len, refl, sym, ◌∙◌, subst, arith}
+use Rattle.std.proofs.Common.{◌≡◌, List, ◌++◌, vec_len, refl, sym, ap, ◌∙◌, subst, arith}
+use Rattle.amo_words.specs.declared.rule.Spot.{Spot}
 use Rattle.amo_words.specs.Faces.{spots}
 use Rattle.amo_crew.specs.Crew.{IsFinishOf}
 use Rattle.amo_crew.specs.Unsettling.{IsUnsettled}
+use Rattle.amo_crew.specs.Collecting.{AreBack, TellsCrew, ends_in}
 use Rattle.amo_crew.proofs.Crews.{zip_length, all_may_run, all_finished, all_ran_at, starts}
 use Rattle.amo_crew.proofs.Outputs.{gathered, few_given}
+use Rattle.amo_crew.proofs.Starts.{unsettled}
 use Rattle.amo_crew.proofs.crew.run_crew.Goals as goal
 
 pub run_all-inlet-requires-clause-crew : goal.run_all-inlet-requires-clause-crew
@@ -41,20 +44,30 @@ gather-outputs-requires-clause-room g c = let is = c.requires in
     (starts (g.W.Work.related c.args.work.now) c.args.gear.queue c.args.floor.table_id c.args.floor.givens c.args.book.view.payloads c.args._plan.now.budgets c.args.book _ _ _ is.tied is.givens refl is.size is.stand is.bare is.no_outlets is.no_ends is.no_hands) in
     let given = few_given (g.W.Work.related c.args.work.now) _ _ _ _ _ _ _ _ _ all in let room = c.run_all-inlet.ensures.same_room in let n = is.inlet_room in omega arith
 
-pub returns : goal.returns
-returns g c = let is = c.requires in
+pub returns-clause-unsettled : goal.returns-clause-unsettled
+returns-clause-unsettled g c = let is = c.requires in
     let len : vec_len c.run_all-inlet.result.1 ≡ c.args.floor.givens.workers = c.run_all-inlet.result.1.ok.0 ∙ zip_length (IsFinishOf (g.W.Work.related c.args.work.now) c.args.gear.queue c.args.floor.table_id) c.args.gear.crew.items c.run_all-inlet.result.1.items c.run_all-inlet.ensures.each ∙ is.count in
     let all = c.collect_all.ensures.collected c.args.floor.givens c.args.book.view.payloads c.args._plan.now.budgets
     (all_finished (g.W.Work.related c.args.work.now) c.args.gear.queue c.args.floor.table_id c.args.floor.givens c.args.book.view.payloads c.args._plan.now.budgets c.args.gear.crew.items c.run_all-inlet.result.1.items is.members c.run_all-inlet.ensures.each)
     len
     (starts (g.W.Work.related c.args.work.now) c.args.gear.queue c.args.floor.table_id c.args.floor.givens c.args.book.view.payloads c.args._plan.now.budgets c.args.book _ _ _ is.tied is.givens refl is.size is.stand is.bare is.no_outlets is.no_ends is.no_hands) in
     subst (IsUnsettled (g.W.Work.related c.args.work.now) c.args.floor.givens c.args.book.view.payloads c.args._plan.now.budgets) (sym c.new.ensures)
-    (record {
-      givens = all.givens;
-      payloads_are = all.payloads_are;
-      run = record {
-        ends_are = all.ends_are;
-        outputs_are = gathered (g.W.Work.related c.args.work.now) c.args.book.view.payloads (spots c.collect_all.new.book) c.collect_all.new.into.outlets.items c.gather-outputs.result.items all.fits c.gather-outputs.ensures.each c.gather-outputs.ensures.only;
-        hands_are = all.hands_are;
-      };
-    })
+    (unsettled _ _ _ _ c.collect_all.new.book c.close.result _ _ _ c.close.ensures.closed all.givens all.payloads_are (record {
+      ends_are = all.ends_are;
+      outputs_are = gathered (g.W.Work.related c.args.work.now) c.args.book.view.payloads (spots c.collect_all.new.book) c.collect_all.new.into.outlets.items c.gather-outputs.result.items all.fits c.gather-outputs.ensures.each c.gather-outputs.ensures.only;
+      hands_are = all.hands_are;
+    }))
+
+pub returns-clause-crew : goal.returns-clause-crew
+returns-clause-crew g c = let is = c.requires in
+    let len : vec_len c.run_all-inlet.result.1 ≡ c.args.floor.givens.workers = c.run_all-inlet.result.1.ok.0 ∙ zip_length (IsFinishOf (g.W.Work.related c.args.work.now) c.args.gear.queue c.args.floor.table_id) c.args.gear.crew.items c.run_all-inlet.result.1.items c.run_all-inlet.ensures.each ∙ is.count in
+    let back = c.collect_all.ensures.back c.args.floor.givens c.args.book.view.payloads c.args._plan.now.budgets
+    (all_finished (g.W.Work.related c.args.work.now) c.args.gear.queue c.args.floor.table_id c.args.floor.givens c.args.book.view.payloads c.args._plan.now.budgets c.args.gear.crew.items c.run_all-inlet.result.1.items is.members c.run_all-inlet.ensures.each)
+    len
+    (starts (g.W.Work.related c.args.work.now) c.args.gear.queue c.args.floor.table_id c.args.floor.givens c.args.book.view.payloads c.args._plan.now.budgets c.args.book _ _ _ is.tied is.givens refl is.size is.stand is.bare is.no_outlets is.no_ends is.no_hands) in
+    subst (TellsCrew (g.W.Work.related c.args.work.now) c.args.gear.queue c.args.floor.table_id c.args.floor.givens c.args.gear.crew.items) (sym c.new.ensures) (
+      c.run_all-inlet.result.1.items,
+      c.run_all-inlet.ensures.each,
+      c.collect_all.ensures.ends ∙ ap (λ l. l ++ ends_in c.run_all-inlet.result.1.items) is.no_ends,
+      subst (λ (x : List Spot). AreBack c.args.floor.givens x c.run_all-inlet.result.1.items) (sym c.close.ensures.closed.spots_are) back,
+    )

@@ -36,11 +36,11 @@ run_crew-requires-after_bounds g c κs within = let is = c.requires in let kit =
 pub returns-in-Ok-clause-done : goal.returns-in-Ok-clause-done
 returns-in-Ok-clause-done g c = let related = g.W.Work.related c.args.work.now in
     let rest = subst (λ (x : Givens). IsUnsettled related x c.args.book.view.payloads c.args.plan.now.budgets c.run_crew.result) c.requires.tied.1
-    (subst (λ (x : List g.row.P.Denot). IsUnsettled related c.args.floor.givens x c.args.plan.now.budgets c.run_crew.result) c.hire_all.ensures.payloads c.run_crew.ensures) in
+    (subst (λ (x : List g.row.P.Denot). IsUnsettled related c.args.floor.givens x c.args.plan.now.budgets c.run_crew.result) c.hire_all.ensures.payloads c.run_crew.ensures.unsettled) in
     if_ok c.conclude.result _ _ (λ o h. (settled_outcome related c.args.plan.now.givens c.args.book.view.payloads c.args.plan.now.budgets c.run_crew.result o rest h.0, h.1)) c.conclude.ensures.done
 
 pub returns-in-Ok-clause-refused : goal.returns-in-Ok-clause-refused
 returns-in-Ok-clause-refused g c = let related = g.W.Work.related c.args.work.now in
     let rest = subst (λ (x : Givens). IsUnsettled related x c.args.book.view.payloads c.args.plan.now.budgets c.run_crew.result) c.requires.tied.1
-    (subst (λ (x : List g.row.P.Denot). IsUnsettled related c.args.floor.givens x c.args.plan.now.budgets c.run_crew.result) c.hire_all.ensures.payloads c.run_crew.ensures) in
+    (subst (λ (x : List g.row.P.Denot). IsUnsettled related c.args.floor.givens x c.args.plan.now.budgets c.run_crew.result) c.hire_all.ensures.payloads c.run_crew.ensures.unsettled) in
     if_err c.conclude.result _ _ (λ f h. concluded related c.args.plan.now.givens c.args.book.view.payloads c.args.plan.now.budgets c.run_crew.result f rest h) c.conclude.ensures.refused

@@ -1,0 +1,87 @@
+//! Floors of all sizes, where there is memory: each is opened, hires its workers and is settled.
+ghost use Rattle.std.specs.Prelude.{◌≡◌};
+
+use super::*;
+
+/// Numbers of jobs at the limits, at the borders of a word of 64 bits, and between.
+const JOBS: [u32; 9] = [0, 1, 63, 64, 65, 1000, 1001, 4095, 4096];
+/// Numbers of workers at the limits and between.
+const WORKERS: [u32; 6] = [1, 2, 3, 8, 15, 16];
+
+/// The free jobs rise, each comes with its own payload, and with those that were claimed they are all jobs.
+fn expect_all_told(rt: &impl Abort, end: &Settlement<u32>, givens: Givens) {
+    let mut told = end.free.len();
+    for list in &end.claims {
+        told = told.saturating_add(list.len());
+    }
+    assert_eq!(rt; told, givens.jobs() as usize);
+    let mut last = 0;
+    for (job, payload) in &end.free {
+        assert!(rt; last < *job && job == payload);
+        last = *job;
+    }
+    assert_eq!(rt; end.ends.len(), givens.workers() as usize);
+}
+
+/// The floor is settled where nobody was hired.
+fn settle_at_once(rt: &impl Abort, alloc: Global, givens: Givens) -> Result<(), Fail> {
+    let (floor, book) = open(rt, alloc, givens, numbers(alloc, givens.jobs())?);
+    let end = settle(rt, alloc, floor, book);
+    expect_all_told(rt, &end, givens);
+    assert_eq!(rt; end.free.len(), givens.jobs() as usize);
+    for one in &end.ends {
+        assert!(rt; *one == WorkerEnd::NeverHired);
+    }
+    Ok(())
+}
+
+/// Hires worker p and lets it take 40 accesses. Each second one is collected, the others are dropped.
+fn employ(rt: &impl Abort, alloc: Global, floor: &Floor<u32>, book: &mut Book<u32>, p: u32)
+    requires { book.old.table_id ≡ floor.now.table_id }
+    ensures { book.new.table_id ≡ book.old.table_id }
+{
+    let mut worker = hire(rt, alloc, floor, book, p);
+    run(floor, &mut worker, 40);
+    if p % 2 == 1 {
+        book.collect(floor, worker);
+    }
+}
+
+/// The floor hires one worker after the other, also after one is back, and is settled.
+fn settle_after_work(rt: &impl Abort, alloc: Global, givens: Givens) -> Result<(), Fail> {
+    let (floor, mut book) = open(rt, alloc, givens, numbers(alloc, givens.jobs())?);
+    for before in 0..givens.workers() {
+        employ(rt, alloc, &floor, &mut book, before + 1);
+    }
+    let end = settle(rt, alloc, floor, book);
+    expect_all_told(rt, &end, givens);
+    for (k, one) in end.ends.iter().enumerate() {
+        assert_eq!(rt; *one == WorkerEnd::Lost, k % 2 == 1);
+    }
+    Ok(())
+}
+
+/// Floors with so many jobs and workers, and thresholds at both limits and between.
+fn settle_each_threshold(
+    rt: &impl Abort,
+    alloc: Global,
+    jobs: u32,
+    workers: u32,
+) -> Result<(), Fail> {
+    for beta in [workers as u64, workers as u64 + 1, 65535] {
+        let givens = Givens::try_new(jobs as u64, workers as u64, beta)?;
+        settle_at_once(rt, alloc, givens)?;
+        settle_after_work(rt, alloc, givens)?;
+    }
+    Ok(())
+}
+
+#[test]
+fn a_floor_of_each_size_is_settled(rt: HostRuntime) -> Result<(), Fail> {
+    for jobs in JOBS {
+        for workers in WORKERS {
+            settle_each_threshold(&rt, rt.alloc(), jobs, workers)?;
+        }
+    }
+    Ok(())
+}
