@@ -17,7 +17,7 @@ use Rattle.amo_kk.specs.declared.model.Process.{Process}
 use Rattle.amo_words.specs.declared.rule.Spot.{Spot}
 use Rattle.amo_words.specs.declared.rule.Spot.TheVariants.{Back}
 use Rattle.amo_words.specs.Logs.{world_after, machine_after, is_claimed}
-use Rattle.amo_words.specs.Settling.{free_of}
+use Rattle.amo_words.specs.Settling.{free_of, settled_dones}
 use Rattle.amo_words.proofs.Worlds.{lawful}
 use Rattle.amo_words.proofs.Turns.{some_at}
 use Rattle.amo_words.proofs.Whole.{settles}
@@ -27,7 +27,7 @@ use Rattle.amo_crew.specs.declared.outcome.End.{End}
 use Rattle.amo_crew.specs.declared.outcome.End.TheVariants.{Ended, Halted, NotStarted}
 use Rattle.amo_crew.specs.declared.outcome.Outcome.{Outcome}
 use Rattle.amo_crew.specs.Mailbox.{of}
-use Rattle.amo_crew.specs.Outcomes.{spot_of, dones_in, hand_in, hands_upto, jobs_of, EndsAs, IsOutcome, AllStarted, HasAPlace, HasStarted, IsOfNoThread, settled_dones, answered, in_hand, free_jobs}
+use Rattle.amo_crew.specs.Outcomes.{spot_of, dones_in, hand_in, hands_upto, jobs_of, EndsAs, IsOutcome, AllStarted, HasAPlace, HasStarted, IsOfNoThread, answered, in_hand, free_jobs}
 use Rattle.std.proofs.lemmas.List.Elements.{All-get_or}
 use Rattle.amo_words.proofs.Settles.{get_or_at}
 use Rattle.amo_crew.proofs.Fitted.{is_back}
@@ -154,7 +154,7 @@ module _ {P Out : Type 0} (related : ℕ → ℕ → P → Out → Type 0) (g : 
   has_a_place all j job = ⊎_elim (λ h. h) (λ n. absurd (none_left o.ends.items all n.0 n.1 n.2 n.3)) (has_a_place_or j job)
 
   -- the outputs of who came back are the dones that the settlement has of it
-  pub outputs_told : (p : ℕ) → HasStarted o p → jobs_of (of p o.outputs.items) ≡ settled_dones o p
+  pub outputs_told : (p : ℕ) → HasStarted o p → jobs_of (of p o.outputs.items) ≡ settled_dones o.settlement p
   outputs_told zero n = absurd (n refl)
   outputs_told (suc k) n = let size = is.run.ends_are.size in let many = (lawful g log).size in
       ⊎_elim

@@ -8,7 +8,7 @@ use Rattle.amo_kk.specs.declared.givens.Givens.{Givens}
 use Rattle.amo_kk.specs.declared.event.Move.{Move}
 use Rattle.amo_words.specs.declared.rule.Spot.{Spot}
 use Rattle.amo_words.specs.declared.rule.Spot.TheVariants.{Home, Out, Back}
-use Rattle.amo_words.specs.Settling.{IsWhole}
+use Rattle.amo_words.specs.Settling.{IsWhole, settled_claims}
 use Rattle.amo_crew.specs.declared.hand.Output.{Output}
 use Rattle.amo_crew.specs.declared.outcome.End.{End}
 use Rattle.amo_crew.specs.declared.outcome.End.TheVariants.{Ended, Halted, NotStarted}
@@ -109,14 +109,6 @@ HasAPlace o j = (has (answered o) j ≡ true) ⊎ ((has (in_hand o) j ≡ true) 
 abbrev pub HasStarted : {P Out : Type 0} → Outcome P Out → ℕ → Type 0
 HasStarted o p = numbered NotStarted o.ends.items p ≢ NotStarted
 
--- the claims that the settlement has of worker p
-abbrev pub settled_claims : {P Out : Type 0} → Outcome P Out → ℕ → List ℕ
-settled_claims o p = numbered [] (map (λ v. v.items) o.settlement.claims.items) p
-
 -- the settlement has the job among the claims of a worker whose thread could not be started
 abbrev pub IsOfNoThread : {P Out : Type 0} → Outcome P Out → ℕ → Type 0
-IsOfNoThread o j = (p : ℕ) × (1 ≤ p) × (p ≤ length o.ends.items) × (numbered NotStarted o.ends.items p ≡ NotStarted) × (has (settled_claims o p) j ≡ true)
-
--- the dones that the settlement has of worker p
-abbrev pub settled_dones : {P Out : Type 0} → Outcome P Out → ℕ → List ℕ
-settled_dones o p = numbered [] (map (λ v. v.items) o.settlement.dones.items) p
+IsOfNoThread o j = (p : ℕ) × (1 ≤ p) × (p ≤ length o.ends.items) × (numbered NotStarted o.ends.items p ≡ NotStarted) × (has (settled_claims o.settlement p) j ≡ true)

@@ -3,10 +3,11 @@ ghost use Rattle.std.specs.Prelude.{◌≡◌, ◌⊎◌, ℕ, true, false, List
 ghost use Rattle.amo_sets.specs.Sets.{has, AreDistinct};
 ghost use Rattle.amo_kk.specs.Givens.{IsJob, IsWorker};
 ghost use Rattle.amo_kk.specs.declared.givens.Givens.{Givens};
+ghost use Rattle.amo_words.specs.Settling.{settled_dones};
 ghost use Rattle.amo_crew.specs.declared.outcome.Outcome.{Outcome};
 ghost use Rattle.amo_crew.specs.declared.hand.Output.{Output};
 ghost use Rattle.amo_crew.specs.Fitting.{FitsGivens};
-ghost use Rattle.amo_crew.specs.Outcomes.{IsOutcome, AllStarted, HasAPlace, HasStarted, IsOfNoThread, answered, in_hand, free_jobs, jobs_of, settled_dones};
+ghost use Rattle.amo_crew.specs.Outcomes.{IsOutcome, AllStarted, HasAPlace, HasStarted, IsOfNoThread, answered, in_hand, free_jobs, jobs_of};
 ghost use Rattle.amo_crew.specs.Mailbox.{of};
 ghost use Rattle.amo_crew.specs.Unsettling.{UnsettledView, IsUnsettled, IsSettledOf};
 
@@ -51,5 +52,5 @@ pub fn each_job_has_a_place<P, W: Work<P>>(_work: &W)
     ensures free { (g : Givens) (payloads : List P) (budgets : List ℕ) (o : Outcome P W.Out)
         → IsOutcome (W.related _work.now) g payloads budgets o → AreDistinct (free_jobs o) }
     ensures told { (g : Givens) (payloads : List P) (budgets : List ℕ) (o : Outcome P W.Out) (p : ℕ)
-        → IsOutcome (W.related _work.now) g payloads budgets o → HasStarted o p → jobs_of (of p o.outputs.items) ≡ settled_dones o p }
+        → IsOutcome (W.related _work.now) g payloads budgets o → HasStarted o p → jobs_of (of p o.outputs.items) ≡ settled_dones o.settlement p }
 {}
