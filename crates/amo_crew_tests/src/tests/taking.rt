@@ -1,4 +1,5 @@
 //! What stands in the queue is taken before each thread is joined.
+ghost use Rattle.std.specs.Prelude.{◌≡◌};
 
 use super::runs::run;
 use super::*;
