@@ -17,6 +17,7 @@ mod places;
 mod plans;
 mod runs;
 mod sizes;
+mod taking;
 
 /// Gives the payload back.
 struct Echo;

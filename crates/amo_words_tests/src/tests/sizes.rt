@@ -23,15 +23,24 @@ fn expect_all_told(rt: &impl Abort, end: &Settlement<u32>, givens: Givens) {
     assert_eq!(rt; end.ends.len(), givens.workers() as usize);
 }
 
-/// The floor is settled where nobody was hired.
-fn settle_at_once(rt: &impl Abort, alloc: Global, givens: Givens) -> Result<(), Fail> {
-    let (floor, book) = open(rt, alloc, givens, numbers(alloc, givens.jobs())?);
-    let end = settle(rt, alloc, floor, book);
-    expect_all_told(rt, &end, givens);
+/// Nobody was hired, and all jobs are free.
+fn expect_untouched(rt: &impl Abort, end: &Settlement<u32>, givens: Givens) {
+    expect_all_told(rt, end, givens);
     assert_eq!(rt; end.free.len(), givens.jobs() as usize);
     for one in &end.ends {
         assert!(rt; *one == WorkerEnd::NeverHired);
     }
+}
+
+/// A floor is settled where nobody was hired, and so is one that was closed.
+fn settle_at_once(rt: &impl Abort, alloc: Global, givens: Givens) -> Result<(), Fail> {
+    let (floor, book) = open(rt, alloc, givens, numbers(alloc, givens.jobs())?);
+    expect_untouched(rt, &settle(rt, alloc, floor, book), givens);
+    let (floor, book) = open(rt, alloc, givens, numbers(alloc, givens.jobs())?);
+    let Ok(end) = floor.close(book).settle(alloc) else {
+        panic!(rt; "the closed floor was not settled")
+    };
+    expect_untouched(rt, &end, givens);
     Ok(())
 }
 

@@ -1,0 +1,102 @@
+//! What stands in the queue is taken before each thread is joined.
+ghost use Rattle.std.specs.Prelude.{◌≡◌};
+
+use super::runs::run;
+use super::*;
+use std::sync::atomic::{AtomicU64, Ordering};
+
+/// How many jobs worker 3 does, more than go into the queue.
+const THIRD: u64 = 120;
+/// How many jobs worker 2 does, which go into an empty queue and not into one that holds a few.
+const SECOND: u64 = 60;
+/// The most looks of a worker at how far another one is.
+const MOST_LOOKS: u64 = 1_000_000_000;
+
+/// Three workers, one after the other: worker 3 goes on once all three have a job in hand, worker 2 once that begins its last job,
+/// worker 1 once worker 2 begins its own. Each looks around before it goes on, while the calling thread does its part.
+#[derive(Drop)]
+struct Relay {
+    begun: Vec<AtomicU64>,
+    looks: u64,
+}
+
+impl Relay {
+    /// Looks so many times whether this worker has begun so many jobs, or until it has.
+    fn watch(&self, worker: usize, jobs: u64, looks: u64) {
+        let Some(begun) = self.begun.get(worker) else {
+            return;
+        };
+        for _ in 0..looks {
+            if begun.load(Ordering::SeqCst) >= jobs {
+                return;
+            }
+        }
+    }
+
+    /// Waits until it is this worker's turn. Nobody is worker 0.
+    fn wait(&self, worker: u32) {
+        match worker {
+            1 => self.watch(2, SECOND, MOST_LOOKS),
+            2 => self.watch(3, THIRD, MOST_LOOKS),
+            _ => {
+                self.watch(1, 1, MOST_LOOKS);
+                self.watch(2, 1, MOST_LOOKS);
+            }
+        }
+        self.watch(0, 1, self.looks);
+    }
+}
+
+impl Work<u32> for Relay {
+    type Out = u32;
+
+    ghost related = { λ w p j x o. o ≡ x };
+
+    fn perform(&self, worker: u32, _job: u32, payload: u32) -> u32 {
+        if let Some(count) = self.begun.get(worker as usize) {
+            if count.fetch_add(1, Ordering::SeqCst) == 0 {
+                self.wait(worker);
+            }
+        }
+        payload
+    }
+}
+
+/// How many outputs of worker 2 stand before that of worker 1, where each looks around so many times.
+fn run_relay<R: Threads + Wait + Abort + Sync>(
+    rt: &R,
+    alloc: Global,
+    looks: u64,
+) -> Result<usize, Fail> {
+    let mut begun = Vec::new(alloc);
+    for _ in 0..4 {
+        begun.push(AtomicU64::new(0))?;
+    }
+    // a job takes an announcement, two loads of announcements, two of rows, the claim and its filing; worker 2 reads all of
+    // worker 3's row too
+    let budgets = [7, 7 * SECOND + THIRD, 7 * THIRD];
+    let outcome = run(rt, alloc, (600, 3, 3), &budgets, &Relay { begun, looks })?;
+    expect_each_once(rt, &outcome, 600);
+    let mut of_second: usize = 0;
+    for output in &outcome.outputs {
+        match output.worker {
+            1 => return Ok(of_second),
+            2 => of_second = of_second.saturating_add(1),
+            _ => {}
+        }
+    }
+    Ok(0)
+}
+
+#[test]
+fn what_stands_in_the_queue_is_taken_before_each_join(rt: HostRuntime) -> Result<(), Fail> {
+    // The queue is full of worker 3's outputs where that ends. If it is emptied before worker 2 is joined, all of that one's go
+    // in, and stand before worker 1's; else some are kept, and then those of worker 1 come before them. So one run that shows
+    // the order is enough, and where the calling thread came late the next one gives it more time.
+    for looks in [1_000_000, 10_000_000, 30_000_000, 30_000_000] {
+        if run_relay(&rt, rt.alloc(), looks)? == SECOND as usize {
+            return Ok(());
+        }
+    }
+    panic!(rt; "the outputs of worker 2 never went through the queue")
+}
