@@ -307,8 +307,8 @@ fn own_words_tell_where_to_go_on(rt: HostRuntime) -> Result<(), Fail> {
 #[test]
 fn the_longest_rows_are_taken_up(rt: HostRuntime) -> Result<(), Fail> {
     let mut row = Vec::new(rt.alloc());
-    for job in 1..4097 {
-        row.push(job as u64)?;
+    for job in 1u64..4097 {
+        row.push(job)?;
     }
     let all = begun_again(rt.alloc(), &rt, (4096, 16, 16), 16, (4096, 4096, &row))?;
     match all {
