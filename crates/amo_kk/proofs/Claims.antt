@@ -59,7 +59,7 @@ claim-new (Halted q ∷ es) p j = claim-new es p j
 claim-new (Left q ∷ es) p j = claim-new es p j
 
 -- who has claimed a job has it among the claimed ones
-claim-claimed : (es : List Event) (p j : ℕ) → has_claimed es p j ≡ true → has (claimed_jobs es) j ≡ true
+pub claim-claimed : (es : List Event) (p j : ℕ) → has_claimed es p j ≡ true → has (claimed_jobs es) j ≡ true
 claim-claimed [] p j h = absurd (true≢false (sym h))
 claim-claimed (Claimed q i ∷ es) p j h = step (q == p) (i == j) (has_claimed es p j) (has (claimed_jobs es) j) (claim-claimed es p j) h
   where
@@ -71,15 +71,15 @@ claim-claimed (Halted q ∷ es) p j h = claim-claimed es p j h
 claim-claimed (Left q ∷ es) p j h = claim-claimed es p j h
 
 -- what holds after some events
-record IsKept (g : Givens) (past : List Event) (s : Object) : Type 0 where
-  size : length s.in_hand ≡ g.workers
-  claims : AreDistinct (claimed_jobs past)
-  dones : AreDistinct (done_jobs past)
-  apart : (j : ℕ) → has s.unclaimed j ≡ true → has (claimed_jobs past) j ≡ false
-  held : (p j : ℕ) → 1 ≤ j → numbered 0 s.in_hand p ≡ j → (has_claimed past p j ≡ true) × (has (done_jobs past) j ≡ false)
-  once : (p q j : ℕ) → 1 ≤ j → numbered 0 s.in_hand p ≡ j → numbered 0 s.in_hand q ≡ j → p ≡ q
-  claimed : (j : ℕ) → has (done_jobs past) j ≡ true → has (claimed_jobs past) j ≡ true
-  performed : length s.performed ≡ length (done_jobs past)
+pub record IsKept (g : Givens) (past : List Event) (s : Object) : Type 0 where
+  pub size : length s.in_hand ≡ g.workers
+  pub claims : AreDistinct (claimed_jobs past)
+  pub dones : AreDistinct (done_jobs past)
+  pub apart : (j : ℕ) → has s.unclaimed j ≡ true → has (claimed_jobs past) j ≡ false
+  pub held : (p j : ℕ) → 1 ≤ j → numbered 0 s.in_hand p ≡ j → (has_claimed past p j ≡ true) × (has (done_jobs past) j ≡ false)
+  pub once : (p q j : ℕ) → 1 ≤ j → numbered 0 s.in_hand p ≡ j → numbered 0 s.in_hand q ≡ j → p ≡ q
+  pub claimed : (j : ℕ) → has (done_jobs past) j ≡ true → has (claimed_jobs past) j ≡ true
+  pub performed : length s.performed ≡ length (done_jobs past)
 
 -- what a step needs
 pub record Needs (g : Givens) (s : Object) (p j : ℕ) : Type 0 where
@@ -110,7 +110,7 @@ done_parts g s p j h =
     let e = here_parts g s p a.0 in
     (record { low = e.0; high = e.1; job = leb-true 1 j c.0 }, eqb-true (numbered 0 s.in_hand p) j b.1)
 
-end_parts : (g : Givens) (s : Object) (p : ℕ) → is_step g s (Ended p) ≡ true → g.jobs + 2 ≤ length s.performed + g.beta + g.workers
+pub end_parts : (g : Givens) (s : Object) (p : ℕ) → is_step g s (Ended p) ≡ true → g.jobs + 2 ≤ length s.performed + g.beta + g.workers
 end_parts g s p h =
     let a = and_parts (is_here g s p) (has_in_hand s p 0 && nat_le (g.jobs + 2) (length s.performed + g.beta + g.workers)) h in
     let b = and_parts (has_in_hand s p 0) (nat_le (g.jobs + 2) (length s.performed + g.beta + g.workers)) a.1 in
@@ -232,7 +232,7 @@ kept_leave g past s e gone no_claim no_done k =
     d : done_jobs (past ++ e ∷ []) ≡ done_jobs past
     d = done-append past (e ∷ []) ∙ ap (λ l. done_jobs past ++ l) no_done ∙ append-nil (done_jobs past)
 
-kept_step : (g : Givens) (past : List Event) (s : Object) (e : Event) → IsKept g past s → is_step g s e ≡ true → IsKept g (past ++ e ∷ []) (object_after s e)
+pub kept_step : (g : Givens) (past : List Event) (s : Object) (e : Event) → IsKept g past s → is_step g s e ≡ true → IsKept g (past ++ e ∷ []) (object_after s e)
 kept_step g past s (Claimed p j) k h = kept_claim g past s p j k h
 kept_step g past s (Done p j) k h = kept_done g past s p j k h
 kept_step g past s (Ended p) k h = kept_leave g past s (Ended p) (put s.gone p true) refl refl k
@@ -243,7 +243,7 @@ kept_run : (g : Givens) (past es : List Event) (s : Object) → IsKept g past s 
 kept_run g past [] s k h = subst (λ l. IsKept g l s) (sym (append-nil past)) k
 kept_run g past (e ∷ es) s k h = subst (λ l. IsKept g l (object_after_all (object_after s e) es)) (append_assoc past (e ∷ []) es) (kept_run g (past ++ e ∷ []) es (object_after s e) (kept_step g past s e k h.0) h.1)
 
-whole_kept : (g : Givens) → IsKept g [] (first_object g)
+pub whole_kept : (g : Givens) → IsKept g [] (first_object g)
 whole_kept g =
     record {
       size = length-table (λ _. 0) g.workers;

@@ -8,6 +8,7 @@ use Rattle.amo_kk.specs.Givens.{AreGivens, IsJob, IsWorker, IsOther, next_other,
 use Rattle.amo_kk.specs.Record.{empty_record, jobs_in_hand}
 use Rattle.amo_kk.specs.Choice.{chosen_job, record_after_choice, record_after_check, first_record}
 use Rattle.amo_kk.specs.Step.{want_in, want, with_announced, record_at_row, record_after_phase, record_after, record_after_leave, MayLoad}
+use Rattle.amo_kk.specs.Again.{set_of, are_new, record_of_dones}
 use Rattle.amo_kk.specs.Lawful.{FitsPhase, IsSoundRecord}
 use Rattle.amo_kk.specs.declared.givens.Givens.{Givens}
 use Rattle.amo_kk.specs.declared.phase.Phase.{Phase}
@@ -17,6 +18,7 @@ use Rattle.amo_sets.proofs.Numbers.{numbered-put_same, numbered-put_other, lengt
 use Rattle.amo_kk.proofs.Choice.{chosen_is_job, choice_cases, check_cases, to_row_cases, to_announcement_cases, next_other_differs, next_other_above}
 use Rattle.amo_kk.proofs.Kept.{noted_length, noted_cases, others_room, others_next}
 use Rattle.amo_kk.proofs.Worlds.{numbered-table_same}
+use Rattle.amo_kk.proofs.Again.{has-set_of, AreNew, new_are}
 
 module _ (g : Givens) (ok : AreGivens g) (p : ℕ) (o : IsWorker g p) where
   -- the same lists of claims and dones, another phase, and other sets
@@ -144,6 +146,45 @@ module _ (g : Givens) (ok : AreGivens g) (p : ℕ) (o : IsWorker g p) where
       b : IsBefore (empty_record g)
       b = record { claims = refl; distinct = tt; jobs = λ j h. absurd (true≢false (sym h)); own = λ j h. h; tried_few = ok.some; tried_jobs = λ j h. absurd (true≢false (sym h)); fronts = length-table (λ _. 0) g.workers; front = λ q. let z : numbered {X = ℕ} 0 (table g.workers (λ _. 0)) q ≡ 0 = numbered-table_same 0 g.workers q in omega arith }
 
+  -- a record that begins again by words that can be so
+
+  dones_before : (dones : List ℕ) → are_new g [] dones ≡ true → IsBefore (record_of_dones g dones)
+  dones_before dones h =
+      let new : AreNew g [] dones = new_are g [] dones h in
+      record {
+        claims = refl;
+        distinct = new.distinct;
+        jobs = new.jobs;
+        own = λ j t. has-set_of dones j ∙ t;
+        tried_few = ok.some;
+        tried_jobs = λ j t. absurd (true≢false (sym t));
+        fronts = length-table (λ _. 0) g.workers;
+        front = λ q. let z : numbered {X = ℕ} 0 (table g.workers (λ _. 0)) q ≡ 0 = numbered-table_same 0 g.workers q in omega arith;
+      }
+
+  pub rested_fit : (dones : List ℕ) → are_new g [] dones ≡ true → IsSoundRecord g p (record_after_choice g p (record_of_dones g dones))
+  rested_fit dones h =
+      let b = dones_before dones h in
+      choice_cases g p (record_of_dones g dones) (λ x. IsSoundRecord g p x)
+      (λ few. placed (record_of_dones g dones) Over 0 b refl few)
+      (λ many. placed (record_of_dones g dones) (Announcing (chosen_job g p (record_of_dones g dones))) 0 b refl (chosen_is_job g p (record_of_dones g dones) o ok.beta_low ok.some many, refl))
+
+  pub doubted_fit : (next : ℕ) (dones : List ℕ) → are_new g [] dones ≡ true → IsJob g next → has (set_of dones) next ≡ false
+      → IsSoundRecord g p (record (record_of_dones g dones) { phase = Holding next; claimed = dones ++ next ∷ [] })
+  doubted_fit next dones h job fresh =
+      let b = dones_before dones h in
+      record {
+        claims = refl;
+        distinct = distinct_push dones next b.distinct (sym (has-set_of dones next) ∙ fresh);
+        jobs = λ i t. ⊎_elim (λ x. b.jobs i x) (λ (e : next ≡ i). subst (λ x. IsJob g x) e job) (has_push_cases dones next i t);
+        own = b.own;
+        tried_few = b.tried_few;
+        tried_jobs = b.tried_jobs;
+        fronts = b.fronts;
+        front = b.front;
+        stands = (job, fresh, refl);
+      }
+
 -- claims and dones fit into lists of n
 pub claims_fit : (g : Givens) (p : ℕ) (r : Record) → IsSoundRecord g p r → (length r.claimed ≤ g.jobs) × (length r.dones ≤ g.jobs)
 claims_fit g p r f =
@@ -151,3 +192,17 @@ claims_fit g p r f =
     let most = count_le_all (has r.claimed) g.jobs in
     let parts = ap length f.claims ∙ length-append r.dones (jobs_in_hand r.phase) in
     (omega arith, omega arith)
+
+-- whoever has made its first choice knows nothing, and has claimed, done and read nothing
+pub record IsUnstepped (g : Givens) (r : Record) : Type 0 where
+  pub known : r.known ≡ []
+  pub tried : r.tried ≡ []
+  pub claimed : r.claimed ≡ []
+  pub dones : r.dones ≡ []
+  pub fronts : r.fronts ≡ table g.workers (λ _. 0)
+
+pub first_unstepped : (g : Givens) (p : ℕ) → IsUnstepped g (first_record g p)
+first_unstepped g p =
+    choice_cases g p (empty_record g) (λ x. IsUnstepped g x)
+    (λ few. record { known = refl; tried = refl; claimed = refl; dones = refl; fronts = refl })
+    (λ many. record { known = refl; tried = refl; claimed = refl; dones = refl; fronts = refl })

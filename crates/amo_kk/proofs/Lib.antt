@@ -21,6 +21,7 @@ pub mod Moves
 pub mod OwnTurns
 pub mod Words
 pub mod Bits
+pub mod Again
 -- a worker alone:
 pub mod Alone
 pub mod Attempts

@@ -31,7 +31,7 @@ total_less (suc n) q f h a b l rest = ⊎_elim
     (λ m. let below = total_less n q f h a (omega arith) l rest in let here = rest (suc n) (λ x. m (sym x)) in omega arith)
     (cases_eq q (suc n))
 
-front_distinct : (xs ys : List ℕ) → AreDistinct (xs ++ ys) → AreDistinct xs
+pub front_distinct : (xs ys : List ℕ) → AreDistinct (xs ++ ys) → AreDistinct xs
 front_distinct [] ys d = tt
 front_distinct (x ∷ xs) ys d = (false_from_ne_true (has xs x) (λ t. true≢false (sym (has-append xs ys x ∙ or_left (has xs x) (has ys x) t) ∙ d.0)), front_distinct xs ys d.1)
 

@@ -9,9 +9,9 @@ use Rattle.amo_sets.specs.Rank.{count}
 use Rattle.amo_kk.specs.Givens.{AreGivens, IsJob, IsWorker, next_other}
 use Rattle.amo_kk.specs.Object.{first_object, object_after}
 use Rattle.amo_kk.specs.Run.{object_after_all, IsRun}
-use Rattle.amo_kk.specs.Record.{empty_record, is_open, is_over, wants_nothing, can_leave, job_in_hand, jobs_in_hand}
+use Rattle.amo_kk.specs.Record.{empty_record, is_open, is_over, wants_nothing, can_leave, job_in_hand}
 use Rattle.amo_kk.specs.Choice.{record_after_choice, record_after_check, first_record}
-use Rattle.amo_kk.specs.Step.{want, with_announced, record_at_row, record_at_announcement, record_after_phase, record_after, record_after_leave, shown, events_of}
+use Rattle.amo_kk.specs.Step.{want, with_announced, record_at_row, record_at_announcement, record_after_phase, record_after, record_after_leave, shown, events_of, ended_if_over}
 use Rattle.amo_kk.specs.World.{nobody, process, loaded_value, process_after, world_with, world_after_step, world_after_turn, world_after_halt, world_after_leave, world_after_move, world_after_moves, first_process, opening_world}
 use Rattle.amo_kk.specs.Lawful.{IsSoundProcess, AreLawful, IsLawful, jobs_of, Agrees, object_of, HasRun, GoesOn}
 use Rattle.amo_kk.specs.declared.givens.Givens.{Givens}
@@ -115,9 +115,6 @@ claimed_or_done p (Holding j) = Done p j ∷ []
 claimed_or_done p Over = []
 claimed_or_done p Left = []
 
-abbrev ended_if_over : ℕ → Phase → List Event
-ended_if_over p phase = if is_over phase then Ended p ∷ [] else []
-
 shows : (g : Givens) (p v : ℕ) (r : Record) → wants_nothing r.phase ≡ false → events_of p (shown r.phase (record_after g p v r).phase) ≡ claimed_or_done p r.phase ++ ended_if_over p (record_after g p v r).phase
 shows g p v r wants = go r.phase refl
   where
@@ -148,9 +145,9 @@ IsRun-append g s [] fs h k = k
 IsRun-append g s (e ∷ es) fs h k = (h.0, IsRun-append g (object_after s e) es fs h.1 k)
 
 -- some events from s on, which lead to a state that agrees
-record Goes (g : Givens) (at : ℕ → Process) (s : Object) (es : List Event) : Type 0 where
-  run : IsRun g s es
-  agrees : Agrees g at (object_after_all s es)
+pub record Goes (g : Givens) (at : ℕ → Process) (s : Object) (es : List Event) : Type 0 where
+  pub run : IsRun g s es
+  pub agrees : Agrees g at (object_after_all s es)
 
 goes_on : (g : Givens) (at now : ℕ → Process) (s : Object) (es fs : List Event) → Goes g at s es → Goes g now (object_after_all s es) fs → Goes g now s (es ++ fs)
 goes_on g at now s es fs h k = record { run = IsRun-append g s es fs h.run k.run; agrees = subst (λ x. Agrees g now x) (sym (object_after_all-append s es fs)) k.agrees }
@@ -193,7 +190,7 @@ module _ (g : Givens) (ok : AreGivens g) (at : ℕ → Process) (law : AreLawful
       go Left e d = record { run = tt; agrees = quiet d (ap job_in_hand e) }
 
 -- the end of a worker, where it is over
-ending_goes : (g : Givens) (at : ℕ → Process) (s : Object) (p : ℕ) (a : Process) (now : ℕ → Process) → AreGivens g → AreLawful g now → IsWorker g p
+pub ending_goes : (g : Givens) (at : ℕ → Process) (s : Object) (p : ℕ) (a : Process) (now : ℕ → Process) → AreGivens g → AreLawful g now → IsWorker g p
     → Agrees g at s → (at p).gone ≡ false → at p ≡ record a { gone = false } → a.gone ≡ is_over a.local.phase → now p ≡ a → ((q : ℕ) → q ≢ p → now q ≡ at q)
     → Goes g now s (ended_if_over p a.local.phase)
 ending_goes g at s p a now ok law o agrees here was gone is_now others = go (is_over a.local.phase) refl

@@ -47,12 +47,12 @@ module _ {X : Type 0} (f : X → List ℕ) (size : ℕ) where
       ∙ ap (λ n. f x ++ set (flat_map f xs) n v) (omega arith)
       ∙ ap (λ l. f x ++ l) (set-rows xs i k v d y (λ j m. even (suc j) (omega arith)) (omega arith) l is)
 
-flat_map-set_same : {X : Type 0} (f : X → List ℕ) (xs : List X) (i : ℕ) (y d : X) → f y ≡ f (get_or xs i d) → flat_map f (set xs i y) ≡ flat_map f xs
+pub flat_map-set_same : {X : Type 0} (f : X → List ℕ) (xs : List X) (i : ℕ) (y d : X) → f y ≡ f (get_or xs i d) → flat_map f (set xs i y) ≡ flat_map f xs
 flat_map-set_same f [] i y d e = refl
 flat_map-set_same f (x ∷ xs) zero y d e = ap (λ l. l ++ flat_map f xs) e
 flat_map-set_same f (x ∷ xs) (suc i) y d e = ap (λ l. f x ++ l) (flat_map-set_same f xs i y d e)
 
-map-set_same : {X : Type 0} (f : X → ℕ) (xs : List X) (i : ℕ) (y d : X) → f y ≡ f (get_or xs i d) → map f (set xs i y) ≡ map f xs
+pub map-set_same : {X : Type 0} (f : X → ℕ) (xs : List X) (i : ℕ) (y d : X) → f y ≡ f (get_or xs i d) → map f (set xs i y) ≡ map f xs
 map-set_same f [] i y d e = refl
 map-set_same f (x ∷ xs) zero y d e = ap (λ n. n ∷ map f xs) e
 map-set_same f (x ∷ xs) (suc i) y d e = ap (λ l. f x ∷ l) (map-set_same f xs i y d e)

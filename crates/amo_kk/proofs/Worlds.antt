@@ -54,7 +54,7 @@ hears w Nothing = tt
 pub put_here : (g : Givens) (w : World) (p : ℕ) (a : Process) → length w.processes ≡ g.workers → IsWorker g p → numbered nobody (put w.processes p a) p ≡ a
 put_here g w p a size o = numbered-put_same nobody a w.processes p o.low (let h = o.high in omega arith)
 
-kept_lawful : (g : Givens) (w v : World) (p : ℕ) (a : Process) → IsLawful g w → IsWorker g p → IsKept g (process w) p a → v.processes ≡ put w.processes p a → IsLawful g v
+pub kept_lawful : (g : Givens) (w v : World) (p : ℕ) (a : Process) → IsLawful g w → IsWorker g p → IsKept g (process w) p a → v.processes ≡ put w.processes p a → IsLawful g v
 kept_lawful g w v p a law o kept is =
     record {
       size = ap length is ∙ length-put a w.processes p ∙ law.size;

@@ -7,6 +7,7 @@ pub mod Choice
 pub mod Step
 pub mod World
 pub mod Words
+pub mod Again
 pub mod Answer
 pub mod Alone
 pub mod Lawful

@@ -101,6 +101,10 @@ events_of p (DoneEnded j) = DoneEvent p j ∷ EndedEvent p ∷ []
 events_of p Ended = EndedEvent p ∷ []
 events_of p LeftShown = LeftEvent p ∷ []
 
+-- the end of worker p, where this phase is over
+abbrev pub ended_if_over : ℕ → Phase → List Event
+ended_if_over p phase = if is_over phase then EndedEvent p ∷ [] else []
+
 -- v may be what the wanted load gives: a job or 0, and 0 in the last place of a row
 abbrev pub MayLoad : Givens → ℕ → Want → Type 0
 MayLoad g v (StoreNext j) = ⊤

@@ -12,6 +12,6 @@ mod phase;
 
 pub use event::{Event, Leaving, Move, Shown};
 pub use givens::{Givens, GivensFault};
-pub use local::Local;
+pub use local::{Local, NoSuchWords};
 pub use model::{Object, Process, Record, World};
 pub use phase::{Phase, Want};

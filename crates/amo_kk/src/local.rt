@@ -14,10 +14,13 @@ ghost use Rattle.amo_kk.specs.Step.{want, is_load, is_store, record_after, recor
 ghost use Rattle.amo_kk.specs.Fits.{WantFits};
 ghost use Rattle.amo_kk.specs.Machine.{LocalView};
 
+mod again;
+
 use super::event::Shown;
 use super::givens::Givens;
 use super::knowledge::Knowledge;
 use super::phase::{Phase, Want, next_other};
+pub use again::NoSuchWords;
 use amo_sets::filled;
 use std::alloc::{AllocError, Global};
 use std::marker::Model;

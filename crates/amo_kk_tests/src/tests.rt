@@ -1,5 +1,5 @@
 //! Worked values of the givens and of the local machine.
-use amo_kk::{Givens, GivensFault, Local, Phase, Shown, Want};
+use amo_kk::{Givens, GivensFault, Local, NoSuchWords, Phase, Shown, Want};
 use std::alloc::{AllocError, Global};
 use std::process::Abort;
 use std::test::Fail;
@@ -242,6 +242,91 @@ fn refused_machine(rt: HostRuntime) {
             Err(AllocError) => {}
         }
     }
+}
+
+/// Worker p of these givens that begins again by its own words: the announcement, the count of claims, and the entries of
+/// the row.
+fn begun_again(
+    alloc: Global,
+    rt: &impl Abort,
+    numbers: (u64, u64, u64),
+    p: u32,
+    words: (u64, u64, &[u64]),
+) -> Result<Result<Local, NoSuchWords>, Fail> {
+    let givens = Givens::try_new(numbers.0, numbers.1, numbers.2)?;
+    assert!(rt; 1 <= p && p <= givens.workers());
+    Ok(Local::new(alloc, givens, p)?.again(words.0, words.1, words.2))
+}
+
+#[test]
+fn own_words_that_no_worker_left_are_refused(rt: HostRuntime) -> Result<(), Fail> {
+    let cases: [(u64, u64, &[u64]); 10] = [
+        (6, 0, &[]),
+        (0, 1, &[]),
+        (2, 2, &[]),
+        (2, 0, &[2]),
+        (2, 2, &[2]),
+        (3, 2, &[2, 2]),
+        (3, 3, &[2, 2]),
+        (3, 1, &[6]),
+        (3, 1, &[0]),
+        (5, 6, &[1, 2, 3, 4, 5, 5]),
+    ];
+    for (i, words) in cases.iter().enumerate() {
+        let refused = begun_again(rt.alloc(), &rt, (5, 2, 2), 1, *words)?.is_err();
+        assert!(rt; refused, "words {i}");
+    }
+    assert_eq!(rt;
+        NoSuchWords.to_string(rt.alloc())?.as_str(),
+        "no worker can have left these own words"
+    );
+    Ok(())
+}
+
+#[test]
+fn own_words_tell_where_to_go_on(rt: HostRuntime) -> Result<(), Fail> {
+    let cases: [(u32, (u64, u64, &[u64]), Want, Option<u32>); 7] = [
+        (1, (0, 0, &[]), Want::StoreNext(1), None),
+        (2, (4, 0, &[]), Want::StoreNext(3), None),
+        (1, (2, 1, &[]), Want::StoreDone(1, 2), Some(2)),
+        (1, (2, 1, &[2]), Want::StoreNext(1), None),
+        (2, (4, 1, &[2]), Want::StoreNext(3), None),
+        (2, (4, 2, &[2]), Want::StoreDone(2, 4), Some(4)),
+        (2, (5, 4, &[2, 5, 1, 3]), Want::Nothing, None),
+    ];
+    for (i, (p, words, want, in_hand)) in cases.iter().enumerate() {
+        let is_right = match begun_again(rt.alloc(), &rt, (5, 2, 2), *p, *words)? {
+            Ok(local) => local.want() == *want && local.in_hand() == *in_hand,
+            Err(NoSuchWords) => false,
+        };
+        assert!(rt; is_right, "words {i}");
+    }
+    Ok(())
+}
+
+#[test]
+fn the_longest_rows_are_taken_up(rt: HostRuntime) -> Result<(), Fail> {
+    let mut row = Vec::new(rt.alloc());
+    for job in 1u64..4097 {
+        row.push(job)?;
+    }
+    let all = begun_again(rt.alloc(), &rt, (4096, 16, 16), 16, (4096, 4096, &row))?;
+    match all {
+        Ok(local) => assert!(rt; is_at_its_end(&local) && local.dones().len() == 4096),
+        Err(NoSuchWords) => assert!(rt; false),
+    }
+    let but_one = begun_again(
+        rt.alloc(),
+        &rt,
+        (4096, 16, 16),
+        16,
+        (4096, 4096, &row[..4095]),
+    )?;
+    match but_one {
+        Ok(local) => assert!(rt; local.want() == Want::StoreDone(4096, 4096)),
+        Err(NoSuchWords) => assert!(rt; false),
+    }
+    Ok(())
 }
 
 /// Whether the first worker of two on 4 jobs, with a last look and its leaving, does what it has to.

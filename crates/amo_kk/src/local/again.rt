@@ -1,0 +1,171 @@
+//! A worker that begins again, from its own words alone.
+ghost use Rattle.std.specs.Prelude.{◌≡◌, ◌≤◌, ◌<◌, ◌+◌, ◌++◌, ◌∷◌, ◌&&◌, [], true, false, not, IfOk, IfErr, length};
+ghost use Rattle.std.specs.Vec.{vec_capacity};
+ghost use Rattle.amo_sets.specs.Lists.{table};
+ghost use Rattle.amo_sets.specs.Sets.{has};
+ghost use Rattle.amo_kk.specs.Givens.{IsJob, IsWorker};
+ghost use Rattle.amo_kk.specs.Object.{is_within};
+ghost use Rattle.amo_kk.specs.Choice.{first_record, record_after_choice};
+ghost use Rattle.amo_kk.specs.Again.{set_of, are_new, are_own_words, record_of_dones, record_again};
+ghost use Rattle.amo_kk.specs.declared.phase.Phase.{Phase};
+ghost use Rattle.amo_kk.specs.declared.phase.Phase.TheVariants.{Holding};
+
+use super::Local;
+use crate::givens::Givens;
+use crate::knowledge::Knowledge;
+use crate::phase::Phase;
+use thiserror::Error;
+
+/// No worker can have left these own words.
+#[derive(Clone, Copy, Debug, PartialEq, Eq, Error)]
+#[error("no worker can have left these own words")]
+pub struct NoSuchWords;
+
+/// Whether j is a job that isn't known.
+fn is_new(givens: Givens, knowledge: &Knowledge, j: u64) -> bool
+    requires { knowledge.now.range ≡ givens.jobs }
+    ensures { result ≡ (is_within givens.jobs j && not (has knowledge.now.known j)) }
+{
+    j >= 1 && j <= givens.jobs as u64 && !knowledge.knows(j as u32)
+}
+
+/// Takes up the entries of a row, where nothing is known yet: they are claimed, done and known. False where they can't
+/// be those of a row.
+fn take_row(
+    givens: Givens,
+    knowledge: &mut Knowledge,
+    claims: &mut Vec<u32>,
+    dones: &mut Vec<u32>,
+    row: &[u64],
+) -> bool
+    requires range { knowledge.old.range ≡ givens.jobs }
+    requires unknown { knowledge.old.known ≡ [] }
+    requires no_claims { claims.old.items ≡ [] }
+    requires no_dones { dones.old.items ≡ [] }
+    requires claims_room { length row.now ≤ vec_capacity claims.old }
+    requires dones_room { length row.now ≤ vec_capacity dones.old }
+    ensures answer { result ≡ are_new givens [] row.now }
+    ensures knows { result ≡ true → knowledge.new ≡ record knowledge.old { known = set_of row.now } }
+    ensures claims { result ≡ true → claims.new.items ≡ row.now }
+    ensures dones { result ≡ true → dones.new.items ≡ row.now }
+    ensures claims_stay { vec_capacity claims.new ≡ vec_capacity claims.old }
+    ensures dones_stay { vec_capacity dones.new ≡ vec_capacity dones.old }
+{
+    for entry in row {
+        if !is_new(givens, knowledge, *entry) {
+            return false;
+        }
+        let job = *entry as u32;
+        knowledge.learn(job);
+        claims.push_reserved(job);
+        dones.push_reserved(job);
+    }
+    true
+}
+
+impl Local {
+    /// A new machine, before its first step, begins again by its worker's own words: what it has announced, how many
+    /// claims it has counted, and the entries of its row. Where one claim more was counted than there are entries, the
+    /// announced job is in its hand, and in doubt. Words that no worker can have left are refused, and the machine is gone.
+    pub fn again(self, announced: u64, counted: u64, row: &[u64]) -> Result<Local, NoSuchWords>
+        requires new { self.state ≡ first_record self.givens self.number }
+        ensures machine { IfOk result (λ l. l ≡ record self { state = record_again self.givens self.number announced counted row.now }) }
+        ensures words { IfOk result (λ _. are_own_words self.givens announced counted row.now ≡ true) }
+        ensures refused { IfErr result (λ _. are_own_words self.givens announced counted row.now ≡ false) }
+    {
+        let Local {
+            givens,
+            number,
+            mut knowledge,
+            fronts,
+            mut claims,
+            mut dones,
+            ..
+        } = self;
+        if announced > givens.jobs as u64 {
+            return Err(NoSuchWords);
+        }
+        if row.len() > givens.jobs as usize {
+            return Err(NoSuchWords);
+        }
+        if !take_row(givens, &mut knowledge, &mut claims, &mut dones, row) {
+            return Err(NoSuchWords);
+        }
+        let entries = row.len() as u64;
+        if counted == entries {
+            return Ok(Local::rested(givens, number, knowledge, fronts, claims, dones));
+        }
+        if counted != entries + 1 || !is_new(givens, &knowledge, announced) {
+            return Err(NoSuchWords);
+        }
+        let job = announced as u32;
+        Ok(Local::in_doubt(givens, number, knowledge, fronts, claims, dones, job))
+    }
+
+    /// The machine that has done these jobs, after a new choice.
+    fn rested(
+        givens: Givens,
+        p: u32,
+        mut knowledge: Knowledge,
+        fronts: Vec<u32>,
+        claims: Vec<u32>,
+        dones: Vec<u32>,
+    ) -> Local
+        requires worker { IsWorker givens p }
+        requires knows { knowledge ≡ record { range = givens.jobs; known = set_of dones.items; tried = [] } }
+        requires fronts { fronts.items ≡ table givens.workers (λ _. 0) }
+        requires new { are_new givens [] dones.items ≡ true }
+        requires claims { claims.items ≡ dones.items }
+        requires fronts_room { vec_capacity fronts ≡ givens.workers }
+        requires claims_room { vec_capacity claims ≡ givens.jobs }
+        requires dones_room { vec_capacity dones ≡ givens.jobs }
+        ensures { result ≡ record { givens = givens; number = p; state = record_after_choice givens p (record_of_dones givens dones.items) } }
+    {
+        let phase = knowledge.choose(givens, p);
+        Local {
+            givens,
+            number: p,
+            phase,
+            knowledge,
+            fronts,
+            claims,
+            dones,
+            steps: 0,
+        }
+    }
+
+    /// The machine that has done these jobs, with one more in its hand.
+    fn in_doubt(
+        givens: Givens,
+        p: u32,
+        knowledge: Knowledge,
+        fronts: Vec<u32>,
+        mut claims: Vec<u32>,
+        dones: Vec<u32>,
+        job: u32,
+    ) -> Local
+        requires worker { IsWorker givens p }
+        requires knows { knowledge ≡ record { range = givens.jobs; known = set_of dones.items; tried = [] } }
+        requires fronts { fronts.items ≡ table givens.workers (λ _. 0) }
+        requires new { are_new givens [] dones.items ≡ true }
+        requires claims { claims.items ≡ dones.items }
+        requires fronts_room { vec_capacity fronts ≡ givens.workers }
+        requires claims_room { vec_capacity claims ≡ givens.jobs }
+        requires dones_room { vec_capacity dones ≡ givens.jobs }
+        requires job { IsJob givens job }
+        requires fresh { has (set_of dones.items) job ≡ false }
+        ensures { result ≡ record { givens = givens; number = p; state = record (record_of_dones givens dones.items) { phase = Holding job; claimed = dones.items ++ job ∷ [] } } }
+    {
+        claims.push_reserved(job);
+        Local {
+            givens,
+            number: p,
+            phase: Phase::Holding(job),
+            knowledge,
+            fronts,
+            claims,
+            dones,
+            steps: 0,
+        }
+    }
+}

@@ -1,0 +1,4 @@
+pub mod Heard
+pub mod Stepped
+pub mod Stage
+pub mod Shared

@@ -1,0 +1,2 @@
+pub mod Return
+pub mod Story

@@ -1,0 +1,29 @@
+//! The values of which the definitions speak. No code makes one.
+use amo_kk::{Event, Move, Process};
+use std::collections::LinkedList;
+
+/// One choice of a schedule with returns.
+#[derive(Clone, Copy, Debug, PartialEq, Eq)]
+pub enum Act {
+    /// A turn, a stop or a leaving.
+    Moves(Move),
+    /// The worker begins again from its own words, whatever became of it.
+    Returns(u32),
+}
+
+/// An entry of a story.
+#[derive(Clone, Copy, Debug, PartialEq, Eq)]
+pub enum Entry {
+    /// An event of a worker.
+    Shown(Event),
+    /// The worker began again, with this job in its hand and in doubt, or with 0.
+    Returned(u32, u32),
+}
+
+/// All workers, from 1, and the story of what they have shown.
+pub struct Tale {
+    /// The workers in the order of their numbers.
+    pub processes: LinkedList<Process>,
+    /// The entries, in their order.
+    pub entries: LinkedList<Entry>,
+}
