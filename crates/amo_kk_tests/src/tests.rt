@@ -307,23 +307,16 @@ fn own_words_tell_where_to_go_on(rt: HostRuntime) -> Result<(), Fail> {
 #[test]
 fn the_longest_rows_are_taken_up(rt: HostRuntime) -> Result<(), Fail> {
     let mut row = Vec::new(rt.alloc());
-    for job in 1u64..4097 {
+    for job in 1u64..4096 {
         row.push(job)?;
     }
-    let all = begun_again(rt.alloc(), &rt, (4096, 16, 16), 16, (4096, 4096, &row))?;
-    match all {
-        Ok(local) => assert!(rt; is_at_its_end(&local) && local.dones().len() == 4096),
+    match begun_again(rt.alloc(), &rt, (4096, 16, 16), 16, (4096, 4096, &row))? {
+        Ok(local) => assert!(rt; local.want() == Want::StoreDone(4096, 4096)),
         Err(NoSuchWords) => assert!(rt; false),
     }
-    let but_one = begun_again(
-        rt.alloc(),
-        &rt,
-        (4096, 16, 16),
-        16,
-        (4096, 4096, &row[..4095]),
-    )?;
-    match but_one {
-        Ok(local) => assert!(rt; local.want() == Want::StoreDone(4096, 4096)),
+    row.push(4096)?;
+    match begun_again(rt.alloc(), &rt, (4096, 16, 16), 16, (4096, 4096, &row))? {
+        Ok(local) => assert!(rt; is_at_its_end(&local) && local.dones().len() == 4096),
         Err(NoSuchWords) => assert!(rt; false),
     }
     Ok(())
