@@ -93,7 +93,7 @@ fn what_stands_in_the_queue_is_taken_before_each_join(rt: HostRuntime) -> Result
     // The queue is full of worker 3's outputs where that ends. If it is emptied before worker 2 is joined, all of that one's go
     // in, and stand before worker 1's; else some are kept, and then those of worker 1 come before them. So one run that shows
     // the order is enough, and where the calling thread came late the next one gives it more time.
-    for looks in [1_000_000, 10_000_000, 30_000_000, 30_000_000] {
+    for looks in [1_000_000, 10_000_000, 100_000_000, 300_000_000] {
         if run_relay(&rt, rt.alloc(), looks)? == SECOND as usize {
             return Ok(());
         }
