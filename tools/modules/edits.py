@@ -29,7 +29,7 @@ class Body:
             self.lines.update({(path, number): new for number, (old, new) in enumerate(pairs, 1) if old != new})
         if not self.lines:
             self.trouble = "it changes nothing"
-        for path, number in self.lines:
+        for path, number in (it for it in self.lines if it[0].startswith("src/")):
             held = [it for it in functions if it.file == path and it.has(number)][-1:]
             line = was[path].split("\n")[number - 1]
             # (of a constant the functions that read it)
@@ -48,7 +48,7 @@ class Body:
     def may_call(self, other):
         """Whether a function that this body changes may call one that the other changes."""
         named = {it.name for it in other.functions}
-        words = {word for text in self.lines.values() for word in re.findall(r"\w+", text)}
+        words = {word for (path, _), text in self.lines.items() if path.startswith("src/") for word in re.findall(r"\w+", text)}
         return bool(named & words.union(*(it.words for it in self.functions)))
 
     def meets(self, other):
@@ -63,13 +63,14 @@ class Body:
 
 
 def applied(text, folder):
-    """The texts of the files that an edit names, before and after it."""
+    """The texts of the files that an edit names, before and after it. It may carry a proof over to the names that its own lines
+    give to the goals, as `-2` for what a second return leaves."""
     path, old, was, now, pairs = None, None, {}, {}, 0
     for line in text.split("\n"):
         if line.startswith("file: "):
             path = line.removeprefix("file: ").strip()
-            if os.path.normpath(path) != path or not path.startswith("src/"):
-                raise ValueError("a 'file:' line names no file below src/")
+            if os.path.normpath(path) != path or not path.startswith(("src/", "proofs/")):
+                raise ValueError("a 'file:' line names no file below src/ or proofs/")
             if path not in was:
                 with open(f"{folder}/{path}", encoding="utf-8") as held:
                     was[path] = now[path] = held.read()
