@@ -34,10 +34,11 @@ def lines_of(folder, ending):
 class Crate:
     """A crate with the crates that it stands on: those of the repository, and the names of the toolchain's."""
 
-    def __init__(self, kit, root, name, deps, of_kit):
+    def __init__(self, kit, root, name, is_static, deps, of_kit):
         self.kit, self.name, self.deps, self.of_kit = kit, name, deps, of_kit
         self.folder = f"{root}/crates/{name}"
         self.is_program = os.path.isfile(f"{self.folder}/src/main.rt")
+        self.is_static = is_static
         self.rlib = f"{self.folder}/out/rlib/{name}.rlib"
 
     def below(self):
@@ -92,6 +93,19 @@ class Crate:
         return all(it.is_made() for it in self.deps)
 
 
+def copy_of(kept, to):
+    """A copy of what a check kept. A check replaces a file there, and writes into none, so a link does for a proof, where the
+    copy is on the same file system."""
+
+    def copy(one, other):
+        try:
+            (os.link if one.endswith(".oantt") else shutil.copy2)(one, other)
+        except OSError:
+            shutil.copy2(one, other)
+
+    return shutil.copytree(kept, to, copy_function=copy)
+
+
 def time_of(file):
     return os.stat(file).st_mtime_ns
 
@@ -105,16 +119,19 @@ def crates_of(kit, root):
     """All crates of crates.txt, lowest first."""
     with open(f"{root}/crates.txt", encoding="utf-8") as held:
         rows = [it.partition("#")[0].strip() for it in held]
-    listed = {}
+    listed, static = {}, set()
     for row in filter(None, rows):
         head, _, uses = row.partition(":")
-        listed[head.split()[0]] = re.split(r"[\s,]+", uses.strip()) if uses.strip() else []
+        name, *kinds = head.split()
+        listed[name] = re.split(r"[\s,]+", uses.strip()) if uses.strip() else []
+        if "staticlib" in kinds:
+            static.add(name)
     made = {}
 
     def make(name):
         if name not in made:
             deps = [make(it) for it in listed[name] if it in listed]
-            made[name] = Crate(kit, root, name, deps, [it for it in listed[name] if it not in listed])
+            made[name] = Crate(kit, root, name, name in static, deps, [it for it in listed[name] if it not in listed])
         return made[name]
 
     return sorted(map(make, listed), key=lambda it: len(it.below()))

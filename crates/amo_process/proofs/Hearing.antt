@@ -1,34 +1,30 @@
--- One more number heard, and what the machine hears in a lawful world.
-use Rattle.std.proofs.Common.{◌≡◌, ⊎_elim, ℕ, zero, suc, ◌+◌, ◌<◌, ◌≤◌, Bool, true, false, not, ◌&&◌, ◌||◌, refl, sym, ap, ◌∙◌, subst, arith, List, [], ◌∷◌, ◌++◌, length, get_or, Option, Some, None}
+-- More numbers heard: where a worker stands after them, and that its record is sound.
+use Rattle.std.proofs.Common.{◌≡◌, ℕ, zero, suc, ◌+◌, ◌≤◌, Bool, true, false, not, ◌&&◌, ◌||◌, refl, sym, ap, ◌∙◌, subst, arith, List, [], ◌∷◌, ◌++◌, length, Option, Some, None, append-nil, append_assoc}
 use Rattle.std.specs.Prelude.{if◌then◌else◌, ◌==◌, nat_le}
-use Rattle.std.proofs.lemmas.Bool.{true≢false, false_from_ne_true, and_parts, le-leb, cases_lt}
+use Rattle.std.proofs.lemmas.Bool.{true≢false, false_from_ne_true, and_parts, le-leb, leb-true}
 use Rattle.std.proofs.lemmas.Bool.Decides.{nat_tests}
-use Rattle.std.proofs.lemmas.List.{get_or_past, length_push}
+use Rattle.std.proofs.lemmas.List.{length_push}
 use Rattle.std.proofs.lemmas.Option.{same_Some, none-some}
-use Rattle.amo_sets.specs.Lists.{numbered}
 use Rattle.amo_sets.specs.Sets.{has}
-use Rattle.amo_sets.proofs.Numbers.{has-get_or, has-append}
-use Rattle.amo_kk.specs.Givens.{IsWorker, IsOther, IsJob, others_before}
-use Rattle.amo_kk.specs.Record.{wants_nothing, jobs_in_hand}
-use Rattle.amo_kk.specs.Step.{want, want_in, record_after}
-use Rattle.amo_kk.specs.Again.{entries_of, are_new, are_own_words, record_again}
+use Rattle.amo_kk.specs.Givens.{IsWorker}
+use Rattle.amo_kk.specs.Step.{want, record_after, MayLoad}
+use Rattle.amo_kk.specs.Again.{entries_of, are_new, are_own_words, record_again, set_of, record_of_dones}
 use Rattle.amo_kk.specs.Words.{done_word}
-use Rattle.amo_kk.specs.Lawful.{IsLawful, IsSoundProcess, FitsPhase}
-use Rattle.amo_kk.specs.World.{process, loaded_value}
+use Rattle.amo_kk.specs.Lawful.{IsSoundRecord}
 use Rattle.amo_kk.specs.Machine.{LocalView}
 use Rattle.amo_kk.specs.declared.givens.Givens.{Givens}
 use Rattle.amo_kk.specs.declared.model.Record.{Record}
-use Rattle.amo_kk.specs.declared.model.World.{World}
-use Rattle.amo_kk.specs.declared.phase.Phase.{Phase}
-use Rattle.amo_kk.specs.declared.phase.Phase.TheVariants.{Announcing, Trying, Reading, Claiming, Holding, Over, Left}
-use Rattle.amo_kk.proofs.Again.{new_few}
-use Rattle.amo_kk.proofs.Kept.{row_room}
-use Rattle.amo_kk.proofs.Worlds.{here_is_worker}
-use Rattle.amo_kk.proofs.OwnTurns.{wants_some}
+use Rattle.amo_kk.specs.declared.phase.Phase.TheVariants.{Holding}
+use Rattle.amo_kk.proofs.Again.{new_few, within_job}
 use Rattle.amo_process.specs.declared.standing.Standing.{Standing}
 use Rattle.amo_process.specs.declared.standing.Standing.TheVariants.{Beginning, Going}
 use Rattle.amo_process.specs.Heard.{can_hear, record_after_all, rest_of, is_nothing, going, standing_in, standing_of}
 use Rattle.amo_process.specs.Stepped.{standing_after}
+use Rattle.amo_kk.specs.Object.{is_within}
+use Rattle.amo_kk.specs.Choice.{record_after_choice}
+use Rattle.amo_kk.proofs.Fit.{after_fit, rested_fit, doubted_fit}
+use Rattle.amo_kk.specs.declared.phase.Want.{Want}
+use Rattle.amo_kk.specs.declared.phase.Want.TheVariants.{StoreNext, LoadNext, LoadDone, StoreClaim, StoreDone, Nothing}
 
 -- the worker with this record
 abbrev pub with_record : Givens → ℕ → Record → LocalView
@@ -167,60 +163,129 @@ pub standing_more : (g : Givens) (p : ℕ) (heard : List ℕ) (r : Record) (fres
 standing_more g p heard r fresh v h n =
     standing_push g p heard v ∙ ap (standing_after g p v (heard ++ v ∷ [])) h ∙ ap (λ b. if b then Some (Going (with_record g p (record_after g p v r)) false) else None) n
 
--- what a worker that isn't gone hears can be heard
+-- after more numbers
 
-fits : (v n : ℕ) → v ≤ n → nat_le v n ≡ true
-fits v n l = grind (arith, nat_tests)
+none_stays : (g : Givens) (p : ℕ) (heard vs : List ℕ) → standing_of g p heard ≡ None → standing_of g p (heard ++ vs) ≡ None
+none_stays g p heard [] h = ap (standing_of g p) (append-nil heard) ∙ h
+none_stays g p heard (v ∷ vs) h =
+    ap (standing_of g p) (sym (append_assoc heard (v ∷ []) vs))
+    ∙ none_stays g p (heard ++ v ∷ []) vs (standing_push g p heard v ∙ ap (standing_after g p v (heard ++ v ∷ [])) h)
 
-last_zero : (v n k : ℕ) → v ≤ n → (k ≡ n + 1 → v ≡ 0) → (nat_le v n && not (k == n + 1 && not (v == 0))) ≡ true
-last_zero v n k l z = grind (arith, nat_tests, fits)
+-- where a worker that goes on stands then
+pub more_going : (g : Givens) (p : ℕ) (heard : List ℕ) (r : Record) (fresh : Bool) (v : ℕ) (vs : List ℕ) → standing_of g p heard ≡ Some (Going (with_record g p r) fresh)
+    → standing_of g p (heard ++ v ∷ vs) ≡ going g p false (record_after_all g p r (v ∷ vs))
+more_going g p heard r fresh v [] h =
+    standing_push g p heard v ∙ ap (standing_after g p v (heard ++ v ∷ [])) h ∙ by (can_hear g v (want r))
+  where
+    by : (b : Bool) → (if b then Some (Going (with_record g p (record_after g p v r)) false) else None) ≡ going g p false (if b then Some (record_after g p v r) else None)
+    by true = refl
+    by false = refl
+more_going g p heard r fresh v (w ∷ ws) h =
+    ap (standing_of g p) (sym (append_assoc heard (v ∷ []) (w ∷ ws)))
+    ∙ by (can_hear g v (want r)) refl (λ e. more_going g p (heard ++ v ∷ []) (record_after g p v r) false w ws e)
+  where
+    one : standing_of g p (heard ++ v ∷ []) ≡ (if can_hear g v (want r) then Some (Going (with_record g p (record_after g p v r)) false) else None)
+    one = standing_push g p heard v ∙ ap (standing_after g p v (heard ++ v ∷ [])) h
 
-module _ (g : Givens) (w : World) (law : IsLawful g w) where
-  -- what stands in a row is a job or 0, and in its last place 0
-  row_is : (q k : ℕ) → IsWorker g q → (numbered 0 (process w q).row k ≤ g.jobs) × (k ≡ g.jobs + 1 → numbered 0 (process w q).row k ≡ 0)
-  row_is q zero other = (omega arith, λ e. refl)
-  row_is q (suc k) other = (
-    subst (λ x. x ≤ g.jobs) (sym entry) (⊎_elim inside (λ (h : length (process w q).local.dones ≤ k). let z = get_or_past (process w q).local.dones k 0 h in omega arith) (cases_lt k (length (process w q).local.dones))),
-    λ e. entry ∙ get_or_past (process w q).local.dones k 0 (let f = few in omega arith),
-  )
-    where
-      there : IsSoundProcess g q (process w q)
-      there = law.lawful.sound q other
+    by : (b : Bool) → can_hear g v (want r) ≡ b
+        → (standing_of g p (heard ++ v ∷ []) ≡ Some (Going (with_record g p (record_after g p v r)) false)
+        → standing_of g p ((heard ++ v ∷ []) ++ w ∷ ws) ≡ going g p false (record_after_all g p (record_after g p v r) (w ∷ ws)))
+        → standing_of g p ((heard ++ v ∷ []) ++ w ∷ ws) ≡ going g p false (if b then record_after_all g p (record_after g p v r) (w ∷ ws) else None)
+    by true e rest = rest (one ∙ ap (λ b. if b then Some (Going (with_record g p (record_after g p v r)) false) else None) e)
+    by false e rest = none_stays g p (heard ++ v ∷ []) (w ∷ ws) (one ∙ ap (λ b. if b then Some (Going (with_record g p (record_after g p v r)) false) else None) e)
 
-      few : length (process w q).local.dones ≤ g.jobs
-      few = row_room g (process w) law.lawful q other
+pub hear_parts : (g : Givens) (p : ℕ) (r : Record) (v : ℕ) (vs : List ℕ) (s : Record) → record_after_all g p r (v ∷ vs) ≡ Some s
+    → (can_hear g v (want r) ≡ true) × (record_after_all g p (record_after g p v r) vs ≡ Some s)
+hear_parts g p r v vs s = go (can_hear g v (want r)) refl
+  where
+    go : (b : Bool) → can_hear g v (want r) ≡ b → (if b then record_after_all g p (record_after g p v r) vs else None) ≡ Some s
+        → (can_hear g v (want r) ≡ true) × (record_after_all g p (record_after g p v r) vs ≡ Some s)
+    go true is h = (is, h)
+    go false is h = absurd (none-some s h)
 
-      entry : get_or (process w q).row k 0 ≡ get_or (process w q).local.dones k 0
-      entry = there.row k
+-- what can be heard may be loaded
+pub may_load : (g : Givens) (v : ℕ) (x : Want) → can_hear g v x ≡ true → MayLoad g v x
+may_load g v (StoreNext j) h = tt
+may_load g v (LoadNext q) h = leb-true _ _ h
+may_load g v (LoadDone q k) h = (within (not (k == g.jobs + 1 && not (v == 0))) h, λ e. last v g.jobs k h e)
+  where
+    within : (c : Bool) → (nat_le v g.jobs && c) ≡ true → v ≤ g.jobs
+    within c h = grind (arith, nat_tests)
 
-      inside : k < length (process w q).local.dones → get_or (process w q).local.dones k 0 ≤ g.jobs
-      inside h = (there.local.jobs (get_or (process w q).local.dones k 0) (rw there.local.claims (rw has-append (ap (λ b. b || has (jobs_in_hand (process w q).local.phase) (get_or (process w q).local.dones k 0)) (has-get_or (process w q).local.dones k h))))).high
+    last : (v n k : ℕ) → (nat_le v n && not (k == n + 1 && not (v == 0))) ≡ true → k ≡ n + 1 → v ≡ 0
+    last v n k h e = grind (arith, nat_tests)
+may_load g v (StoreClaim c j) h = tt
+may_load g v (StoreDone k j) h = tt
+may_load g v Nothing h = tt
 
-  pub heard_fits : (p : ℕ) → (process w p).gone ≡ false → can_hear g (loaded_value w (want (process w p).local)) (want (process w p).local) ≡ true
-  heard_fits p here = go (process w p).local.phase refl
-    where
-      o : IsWorker g p
-      o = here_is_worker g w p law.size here
+-- What it says of a list that its worker goes on so.
+pub record IsGoingBy (g : Givens) (p : ℕ) (heard : List ℕ) (l : LocalView) : Type 0 where
+  pub next : ℕ
+  pub claim : ℕ
+  pub row : List ℕ
+  pub rest : List ℕ
+  pub is : heard ≡ next ∷ claim ∷ row
+  pub ends : rest_of row ≡ Some rest
+  pub own : are_own_words g next claim (entries_of row) ≡ true
+  pub after : record_after_all g p (record_again g p next claim (entries_of row)) rest ≡ Some l.state
+  pub same : l ≡ with_record g p l.state
 
-      stands : FitsPhase g p (process w p).local (process w p).local.phase
-      stands = (law.lawful.sound p o).local.stands
+abbrev view_in : LocalView → Option Standing → LocalView
+view_in d None = d
+view_in d (Some (Beginning word)) = d
+view_in d (Some (Going l fresh)) = l
 
-      wants : wants_nothing (process w p).local.phase ≡ false
-      wants = wants_some g w p law o here
+pub going_by : (g : Givens) (p : ℕ) (heard : List ℕ) (l : LocalView) (fresh : Bool) → standing_of g p heard ≡ Some (Going l fresh) → IsGoingBy g p heard l
+going_by g p [] l fresh h = absurd (true≢false (sym (ap is_going h)))
+going_by g p (next ∷ []) l fresh h = absurd (true≢false (sym (ap is_going h)))
+going_by g p (next ∷ claim ∷ row) l fresh h = go (rest_of row) refl h
+  where
+    none : (b : Bool) (word : ℕ) → (if b then Some (Beginning word) else None) ≡ Some (Going l fresh) → IsGoingBy g p (next ∷ claim ∷ row) l
+    none true word e = absurd (true≢false (sym (ap is_going e)))
+    none false word e = absurd (true≢false (sym (ap is_going e)))
 
-      Hears : Phase → Type 0
-      Hears x = can_hear g (loaded_value w (want_in (process w p).local x)) (want_in (process w p).local x) ≡ true
+    record_of : (rest : List ℕ) → rest_of row ≡ Some rest → are_own_words g next claim (entries_of row) ≡ true → (o : Option Record)
+        → record_after_all g p (record_again g p next claim (entries_of row)) rest ≡ o → going g p (is_nothing rest) o ≡ Some (Going l fresh) → IsGoingBy g p (next ∷ claim ∷ row) l
+    record_of rest ends own None is e = absurd (true≢false (sym (ap is_going e)))
+    record_of rest ends own (Some r) is e =
+        let state : r ≡ l.state = ap (record_in r) e in
+        let view : with_record g p r ≡ l = ap (view_in l) e in
+        record { next = next; claim = claim; row = row; rest = rest; is = refl; ends = ends; own = own; after = is ∙ ap (λ x. Some x) state; same = sym view ∙ ap (with_record g p) state }
 
-      go : (phase : Phase) → (process w p).local.phase ≡ phase → Hears (process w p).local.phase
-      go (Announcing j) e = subst Hears (sym e) refl
-      go (Trying j q) e =
-          let st : IsJob g j × IsOther g p q × (length (process w p).local.tried ≤ others_before p q) = rw e at stands in
-          subst Hears (sym e) (fits _ _ (law.lawful.sound q st.1.worker).next)
-      go (Reading j q) e =
-          let st : IsJob g j × IsOther g p q = rw e at stands in
-          let z = row_is q (numbered 0 (process w p).local.fronts q + 1) st.1.worker in
-          subst Hears (sym e) (last_zero _ _ _ z.0 z.1)
-      go (Claiming j) e = subst Hears (sym e) refl
-      go (Holding j) e = subst Hears (sym e) refl
-      go Over e = absurd (true≢false (sym (ap wants_nothing e) ∙ wants))
-      go Left e = absurd (true≢false (sym (ap wants_nothing e) ∙ wants))
+    own_words : (rest : List ℕ) → rest_of row ≡ Some rest → (b : Bool) → are_own_words g next claim (entries_of row) ≡ b
+        → (if b then going g p (is_nothing rest) (record_after_all g p (record_again g p next claim (entries_of row)) rest) else None) ≡ Some (Going l fresh) → IsGoingBy g p (next ∷ claim ∷ row) l
+    own_words rest ends true own e = record_of rest ends own (record_after_all g p (record_again g p next claim (entries_of row)) rest) refl e
+    own_words rest ends false own e = absurd (true≢false (sym (ap is_going e)))
+
+    go : (o : Option (List ℕ)) → rest_of row ≡ o → standing_in g p next claim row o ≡ Some (Going l fresh) → IsGoingBy g p (next ∷ claim ∷ row) l
+    go None is e = none (nat_le (length row) g.jobs) (done_word g p (length row + 1)) e
+    go (Some rest) is e = own_words rest is (are_own_words g next claim (entries_of row)) refl e
+
+-- its record is sound
+
+isnt : (b : Bool) → not b ≡ true → b ≡ false
+isnt b h = grind arith
+
+again_sound : (g : Givens) (p : ℕ) → IsWorker g p → (next claim : ℕ) (dones : List ℕ) → are_own_words g next claim dones ≡ true → IsSoundRecord g p (record_again g p next claim dones)
+again_sound g p o next claim dones = go (claim == length dones)
+  where
+    go : (b : Bool) → (are_new g [] dones && (nat_le next g.jobs && (b || ((claim == length dones + 1) && (is_within g.jobs next && not (has (set_of dones) next)))))) ≡ true
+        → IsSoundRecord g p (if b then record_after_choice g p (record_of_dones g dones) else record (record_of_dones g dones) { phase = Holding next; claimed = dones ++ next ∷ [] })
+    go true h = rested_fit g g.limits p o dones (and_parts _ _ h).0
+    go false h =
+        let a = and_parts (are_new g [] dones) _ h in
+        let b = and_parts (nat_le next g.jobs) _ a.1 in
+        let c = and_parts (claim == length dones + 1) _ b.1 in
+        let d = and_parts (is_within g.jobs next) _ c.1 in
+        doubted_fit g g.limits p o next dones a.0 (within_job g next d.0) (isnt _ d.1)
+
+all_sound : (g : Givens) (p : ℕ) → IsWorker g p → (r : Record) (vs : List ℕ) (s : Record) → IsSoundRecord g p r → record_after_all g p r vs ≡ Some s → IsSoundRecord g p s
+all_sound g p o r [] s fit h = subst (λ x. IsSoundRecord g p x) (same_Some r s h) fit
+all_sound g p o r (v ∷ vs) s fit h =
+    let parts = hear_parts g p r v vs s h in
+    all_sound g p o (record_after g p v r) vs s (after_fit g g.limits p o r v fit (may_load g v (want r) parts.0)) parts.1
+
+pub going_sound : (g : Givens) (p : ℕ) (heard : List ℕ) (l : LocalView) (fresh : Bool) → IsWorker g p → standing_of g p heard ≡ Some (Going l fresh) → IsSoundRecord g p l.state
+going_sound g p heard l fresh o h =
+    let by = going_by g p heard l fresh h in
+    all_sound g p o (record_again g p by.next by.claim (entries_of by.row)) by.rest l.state (again_sound g p o by.next by.claim (entries_of by.row) by.own) by.after

@@ -1,4 +1,5 @@
 pub mod Hearing
+pub mod Coming
 pub mod Stepped
 pub mod Beginning
 pub mod Performs
@@ -6,3 +7,12 @@ pub mod Together
 pub mod Opening
 pub mod Told
 pub mod Accesses
+pub mod Others
+pub mod Passes
+pub mod Batches
+pub mod Within
+pub mod Batched
+pub mod Stores
+pub mod Ends
+pub mod Short
+pub mod Filings

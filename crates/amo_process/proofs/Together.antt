@@ -38,7 +38,8 @@ use Rattle.amo_process.specs.declared.model.Happening.TheVariants.{Steps, Begins
 use Rattle.amo_process.specs.declared.standing.Standing.TheVariants.{Beginning, Going}
 use Rattle.amo_process.specs.Heard.{standing_of, told_by}
 use Rattle.amo_process.specs.Shared.{Shared, standing_at, heard_of, with_heard, with_new_process, shared_after_step, shared_after_leave, shared_after, acts_of_step, acts_of_leave, acts_of_one, own_words, IsBeginning, IsGoing, ShowsWorker, Shows, AreOfWorkers}
-use Rattle.amo_process.proofs.Hearing.{with_record, standing_more, heard_fits}
+use Rattle.amo_process.proofs.Hearing.{with_record, standing_more}
+use Rattle.amo_process.proofs.Coming.{heard_fits}
 use Rattle.amo_process.proofs.Beginning.{begun, BeginsAt, begins}
 use Rattle.amo_process.proofs.Performs.{other_may, end_may, step_may}
 

@@ -66,7 +66,7 @@ all_more g t (x ∷ xs) =
 
 -- all happenings
 
-first_of : (g : Givens) (h : Happening) (hs : List Happening) → AreOfWorkers g (h ∷ hs) → AreOfWorkers g (h ∷ []) × AreOfWorkers g hs
+pub first_of : (g : Givens) (h : Happening) (hs : List Happening) → AreOfWorkers g (h ∷ hs) → AreOfWorkers g (h ∷ []) × AreOfWorkers g hs
 first_of g (Steps p) hs o = ((o.0, tt), o.1)
 first_of g (Begins p) hs o = ((o.0, tt), o.1)
 first_of g (Leaves p) hs o = ((o.0, tt), o.1)

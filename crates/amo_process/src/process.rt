@@ -6,9 +6,11 @@ ghost use Rattle.amo_kk.specs.Record.{job_in_hand};
 ghost use Rattle.amo_kk.specs.Words.{next_word};
 ghost use Rattle.amo_process.specs.Heard.{word_count, own_word, told_by, doubted_by};
 ghost use Rattle.amo_process.specs.Stepped.{new_process, process_after, access_for, access_of, is_store, may_leave, has_ended, is_refused, one_or_none, IsWord};
+ghost use Rattle.amo_process.specs.Batch.{items_to_filing};
 ghost use Rattle.amo_process.specs.declared.access.Access.TheVariants.{Store};
 
 use super::access::Access;
+use super::batch::{Item, add_wanted, items_beginning, room_for};
 use super::stage::Stage;
 use super::standing::{NoSuchNumber, done_word};
 use amo_kk::{Givens, Local, Want};
@@ -84,6 +86,24 @@ impl Process {
             Stage::Stepping(local, _) => access_for(self.givens, self.number, local.want()),
             Stage::Refused => Access::Nothing,
         }
+    }
+
+    /// All that is known of its next accesses before it hears more, to a filing and no further: since a store lets nothing be
+    /// heard, `stored` may be told of a filing and the next batch asked for before both are carried out. Of each item all that
+    /// it gave is told, number by number. All its memory is asked for at once, and only that may be wanting.
+    pub fn batch(&self, alloc: Global) -> Result<Vec<Item>, AllocError>
+        ensures { IfOk result (λ v. v.items ≡ items_to_filing self.now.givens self.now.number self.now.standing) }
+    {
+        let mut items = room_for(alloc, self.givens)?;
+        match &self.stage {
+            Stage::Loading(_) => {
+                let word = own_word(self.givens, self.number, self.own.len());
+                return Ok(items_beginning(self.givens, self.number, word, items));
+            }
+            Stage::Stepping(local, _) => add_wanted(&mut items, local),
+            Stage::Refused => {}
+        }
+        Ok(items)
     }
 
     /// The access that it makes next was made: it gave v, which is 0 for a store. Where v can't come it is refused, and from
@@ -189,7 +209,7 @@ fn own_word(givens: Givens, p: u32, loaded: usize) -> u64
 }
 
 /// The access of worker p whose machine wants this.
-fn access_for(givens: Givens, p: u32, want: Want) -> Access
+pub fn access_for(givens: Givens, p: u32, want: Want) -> Access
     requires worker { IsWorker givens p }
     requires fits { WantFits givens p want }
     ensures access { result ≡ access_for givens p want }

@@ -1,6 +1,8 @@
 //! Worked values of processes: what each load and store is, and what comes of words that a dead process has left.
 use amo_kk::{Givens, Local};
-use amo_process::{Access, NoSuchNumber, Process, Standing, done_word, standing_of};
+use amo_process::{
+    Access, Item, NoSuchNumber, Process, Standing, done_word, items_of, standing_of,
+};
 use std::alloc::{AllocError, Global};
 use std::process::Abort;
 use std::test::Fail;
@@ -28,6 +30,20 @@ fn standing(
     let givens = Givens::try_new(numbers.0, numbers.1, numbers.2)?;
     assert!(rt; 1 <= p && p <= givens.workers());
     Ok(standing_of(Local::new(alloc, givens, p)?, heard))
+}
+
+/// The batch of worker p of these givens whose process has heard this.
+fn batch(
+    alloc: Global,
+    rt: &impl Abort,
+    numbers: (u64, u64, u64),
+    p: u32,
+    heard: &[u64],
+) -> Result<Vec<Item>, Fail> {
+    let givens = Givens::try_new(numbers.0, numbers.1, numbers.2)?;
+    assert!(rt; 1 <= p && p <= givens.workers());
+    let standing = standing_of(Local::new(alloc, givens, p)?, heard)?;
+    Ok(items_of(alloc, givens, p, standing)?)
 }
 
 /// What a process wants, the job that it is to perform, and the one in doubt.
@@ -173,11 +189,185 @@ fn places_follow_one_another(rt: HostRuntime) -> Result<(), Fail> {
 }
 
 #[test]
+fn a_batch_is_a_whole_pass(rt: HostRuntime) -> Result<(), Fail> {
+    let rows: [(&[u64], &[Item]); 13] = [
+        (
+            &[],
+            &[Item::Load(1), Item::Load(3), Item::LoadUntilZero(5, 8)],
+        ),
+        (&[1], &[Item::Load(3), Item::LoadUntilZero(5, 8)]),
+        (&[1, 1, 2], &[Item::LoadUntilZero(6, 8)]),
+        (
+            &[0, 0, 0],
+            &[Item::Store(1, 1), Item::Load(2), Item::LoadUntilZero(9, 12)],
+        ),
+        (&[0, 0, 0, 0], &[Item::Load(2), Item::LoadUntilZero(9, 12)]),
+        (&[0, 0, 0, 0, 2], &[Item::LoadUntilZero(9, 12)]),
+        (&[0, 0, 0, 0, 2, 3], &[Item::LoadUntilZero(10, 12)]),
+        (&[0, 0, 0, 0, 2, 3, 0], &[Item::Store(3, 1)]),
+        (&[0, 0, 0, 0, 2, 3, 0, 0], &[Item::Store(5, 1)]),
+        (&[0, 0, 0, 0, 2, 3, 0, 0, 0], &[]),
+        (&[0, 0, 0, 0, 0, 0], &[Item::Store(3, 1)]),
+        (
+            &[0, 0, 0, 0, 0, 0, 0],
+            &[
+                Item::Store(5, 1),
+                Item::Store(1, 2),
+                Item::Load(2),
+                Item::LoadUntilZero(9, 12),
+            ],
+        ),
+        (
+            &[0, 0, 0, 0, 1, 0],
+            &[Item::Store(1, 2), Item::Load(2), Item::LoadUntilZero(9, 12)],
+        ),
+    ];
+    for (i, (heard, items)) in rows.iter().enumerate() {
+        let told = batch(rt.alloc(), &rt, (3, 2, 2), 1, heard)?;
+        assert!(rt; told.as_slice() == *items, "list {i}");
+    }
+    Ok(())
+}
+
+#[test]
+fn a_batch_goes_on_behind_a_filing(rt: HostRuntime) -> Result<(), Fail> {
+    let rows: [((u64, u64, u64), u32, &[u64], &[Item]); 4] = [
+        (
+            (5, 2, 2),
+            2,
+            &[4, 2, 2, 0],
+            &[
+                Item::Store(12, 4),
+                Item::Store(2, 3),
+                Item::Load(1),
+                Item::LoadUntilZero(5, 10),
+            ],
+        ),
+        (
+            (5, 2, 2),
+            1,
+            &[0, 0, 0, 0, 0, 3, 0, 0],
+            &[
+                Item::Store(5, 1),
+                Item::Store(1, 2),
+                Item::Load(2),
+                Item::LoadUntilZero(12, 16),
+            ],
+        ),
+        ((2, 1, 1), 1, &[0, 0, 0], &[Item::Store(1, 1)]),
+        (
+            (2, 1, 1),
+            1,
+            &[0, 0, 0, 0, 0],
+            &[Item::Store(3, 1), Item::Store(1, 2)],
+        ),
+    ];
+    for (i, (numbers, p, heard, items)) in rows.iter().enumerate() {
+        let told = batch(rt.alloc(), &rt, *numbers, *p, heard)?;
+        assert!(rt; told.as_slice() == *items, "list {i}");
+    }
+    Ok(())
+}
+
+#[test]
+fn a_stepped_process_is_told_its_batch(rt: HostRuntime) -> Result<(), Fail> {
+    let mut process = process(rt.alloc(), &rt, (3, 2, 2), 1)?;
+    let rows: [(&[u64], &[Item]); 7] = [
+        (
+            &[],
+            &[Item::Load(1), Item::Load(3), Item::LoadUntilZero(5, 8)],
+        ),
+        (&[0, 0], &[Item::LoadUntilZero(5, 8)]),
+        (
+            &[0],
+            &[Item::Store(1, 1), Item::Load(2), Item::LoadUntilZero(9, 12)],
+        ),
+        (&[0, 0, 0], &[Item::Store(3, 1)]),
+        (&[0], &[Item::Store(5, 1)]),
+        (
+            &[0],
+            &[Item::Store(1, 2), Item::Load(2), Item::LoadUntilZero(9, 12)],
+        ),
+        (&[0, 4], &[]),
+    ];
+    for (i, (heard, items)) in rows.iter().enumerate() {
+        for v in *heard {
+            let _told = process.told(*v);
+        }
+        let told = process.batch(rt.alloc())?;
+        assert!(rt; told.as_slice() == *items, "row {i}");
+    }
+    Ok(())
+}
+
+#[test]
+fn a_batch_is_told_at_the_limits(rt: HostRuntime) -> Result<(), Fail> {
+    let rows: [((u64, u64, u64), u64, Item, Item); 3] = [
+        (
+            (4096, 16, 16),
+            3826,
+            Item::LoadUntilZero(33, 4129),
+            Item::LoadUntilZero(57391, 61487),
+        ),
+        (
+            (16, 16, 16),
+            16,
+            Item::LoadUntilZero(33, 49),
+            Item::LoadUntilZero(271, 287),
+        ),
+        (
+            (4096, 16, 4096),
+            3826,
+            Item::LoadUntilZero(33, 4129),
+            Item::LoadUntilZero(57391, 61487),
+        ),
+    ];
+    for (i, (numbers, job, first, last)) in rows.iter().enumerate() {
+        let told = batch(rt.alloc(), &rt, *numbers, 16, &[0, 0, 0])?;
+        assert!(rt; told.len() == 31, "givens {i}");
+        let parts = (told[0], told[1], told[15], told[16], told[30]);
+        assert!(rt;
+            parts
+                == (
+                    Item::Store(16, *job),
+                    Item::Load(1),
+                    Item::Load(15),
+                    *first,
+                    *last
+                ),
+            "givens {i}"
+        );
+    }
+    Ok(())
+}
+
+#[test]
+fn refused_batch(rt: HostRuntime) {
+    if let Ok(givens) = Givens::try_new(3, 2, 2) {
+        assert_eq!(rt; givens.workers(), 2);
+        if let Ok(local) = Local::new(rt.alloc(), givens, 1) {
+            if let Ok(standing) = standing_of(local, &[]) {
+                match items_of(rt.alloc(), givens, 1, standing) {
+                    Ok(items) => assert_eq!(rt; items.len(), 3),
+                    Err(AllocError) => {}
+                }
+            }
+        }
+    }
+}
+
+#[test]
 fn refused_process(rt: HostRuntime) {
     if let Ok(givens) = Givens::try_new(3, 1, 1) {
         assert_eq!(rt; givens.workers(), 1);
         match Process::new(rt.alloc(), givens, 1) {
-            Ok(process) => assert!(rt; process.want() == Access::Load(1)),
+            Ok(process) => {
+                assert!(rt; process.want() == Access::Load(1));
+                match process.batch(rt.alloc()) {
+                    Ok(items) => assert_eq!(rt; items.len(), 3),
+                    Err(AllocError) => {}
+                }
+            }
             Err(AllocError) => {}
         }
     }

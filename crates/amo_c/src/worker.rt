@@ -1,0 +1,66 @@
+//! The worker that a call is about.
+ghost use Rattle.std.specs.Prelude.{◌≡◌, ◌≢◌, ◌+◌, ◌<◌, ◌≤◌, Ok, Err, IfOk, IfErr};
+ghost use Rattle.amo_kk.specs.Givens.{IsWorker};
+ghost use Rattle.amo_process.specs.Heard.{word_count, IsOf};
+ghost use Rattle.amo_c.specs.Reply.{givens_in, worker_in, standing_in};
+ghost use Rattle.amo_c.specs.declared.codes.FaultCode.TheVariants.{NoMemory};
+
+use super::codes::FaultCode;
+use super::told::AmoGivens;
+use amo_kk::{Givens, Local};
+use amo_process::{NoSuchNumber, Standing, standing_of};
+use std::alloc::Global;
+
+/// A worker of these givens.
+#[derive(Clone, Copy, Drop)]
+pub(crate) struct Worker {
+    /// The givens.
+    pub givens: Givens,
+    /// Its number, from 1.
+    pub number: u32,
+}
+
+/// The givens of these three numbers, or the first limit that they break.
+pub(crate) fn givens_of(numbers: &AmoGivens) -> Result<Givens, FaultCode>
+    ensures { result ≡ givens_in numbers.now }
+{
+    match Givens::try_new(numbers.jobs, numbers.workers, numbers.beta) {
+        Ok(givens) => Ok(givens),
+        Err(fault) => Err(FaultCode::of(fault)),
+    }
+}
+
+/// Worker p of these givens.
+pub(crate) fn worker_of(numbers: &AmoGivens, p: u64) -> Result<Worker, FaultCode>
+    ensures worker { result ≡ worker_in (givens_in numbers.now) p }
+    ensures is { IfOk result (λ w. IsWorker w.givens w.number) }
+{
+    let givens = givens_of(numbers)?;
+    if p < 1 || p > givens.workers as u64 {
+        return Err(FaultCode::NoSuchWorker);
+    }
+    Ok(Worker {
+        givens,
+        number: p as u32,
+    })
+}
+
+/// Where the worker stands whose process has heard these numbers. Memory is asked for before they are looked at.
+pub(crate) fn standing_after(
+    alloc: Global,
+    worker: Worker,
+    heard: &[u64],
+) -> Result<Standing, FaultCode>
+    requires { IsWorker worker.givens worker.number }
+    ensures standing { IfOk result (λ s. standing_in worker heard.now ≡ Ok s) }
+    ensures fault { IfErr result (λ e. e ≢ NoMemory → standing_in worker heard.now ≡ Err e) }
+    ensures of { IfOk result (λ s. IsOf worker.givens worker.number s) }
+{
+    let Ok(local) = Local::new(alloc, worker.givens, worker.number) else {
+        return Err(FaultCode::NoMemory);
+    };
+    match standing_of(local, heard) {
+        Ok(standing) => Ok(standing),
+        Err(NoSuchNumber) => Err(FaultCode::NoSuchNumber),
+    }
+}

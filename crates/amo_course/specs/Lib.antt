@@ -1,0 +1,4 @@
+pub mod Stage
+pub mod Course
+pub mod Stops
+pub mod Life

@@ -1,0 +1,26 @@
+-- A process between two turns.
+use Rattle.std.specs.Prelude.{◌≡◌, false, List, Option, Some, None}
+use Rattle.amo_process.specs.Stepped.{is_refused}
+use Rattle.amo_course.specs.declared.model.Deed.{Deed}
+use Rattle.amo_course.specs.declared.stop.End.{End}
+use Rattle.amo_course.specs.declared.life.Life.{Life}
+use Rattle.amo_course.specs.Stage.{Stage, Going}
+use Rattle.amo_course.specs.Course.{stage_heard, first_stage, Stands}
+use Rattle.amo_course.specs.Stops.{EndsAt}
+
+-- where it stood when it had done nothing
+abbrev pub beginning : Life → Stage
+beginning l = first_stage l.process.givens l.process.number l.first
+
+-- it goes on: the next access of its process is due
+abbrev pub IsGoing : (first : Stage) → Option (List Deed) → Life → Type 0
+IsGoing first ds l = Stands first ds (Going l.next l.process l.way) × (is_refused l.process.standing ≡ false)
+
+-- its process has just heard a number, and hasn't refused it
+abbrev pub HasHeard : (first : Stage) → Option (List Deed) → Life → Type 0
+HasHeard first ds l = Stands first ds (stage_heard l.next l.way l.process) × (is_refused l.process.standing ≡ false)
+
+-- after a turn it goes on, or it has ended so
+abbrev pub TurnsTo : (first : Stage) → Option (List Deed) → Life → Option End → Type 0
+TurnsTo first ds l None = IsGoing first ds l
+TurnsTo first ds l (Some end) = EndsAt first ds end

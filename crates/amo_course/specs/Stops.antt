@@ -1,0 +1,61 @@
+-- Where a process stands that has ended or stopped.
+use Rattle.std.specs.Prelude.{◌≡◌, ℕ, ◌-◌, ◌^◌, false, List, [], Option, Some, None}
+use Rattle.amo_process.specs.Stepped.{ProcessView, access_of, is_refused}
+use Rattle.amo_process.specs.declared.access.Access.TheVariants.{Nothing}
+use Rattle.amo_course.specs.declared.answer.Reply.{Reply}
+use Rattle.amo_course.specs.declared.answer.Reply.TheVariants.{Answered, Running, Garbled, Closed}
+use Rattle.amo_course.specs.declared.answer.Way.{Way}
+use Rattle.amo_course.specs.declared.answer.Way.TheVariants.{Go, Leave}
+use Rattle.amo_course.specs.declared.model.Deed.{Deed}
+use Rattle.amo_course.specs.declared.stop.End.{End}
+use Rattle.amo_course.specs.declared.stop.End.TheVariants.{Over, Left, Cut}
+use Rattle.amo_course.specs.declared.stop.Stop.{Stop}
+use Rattle.amo_course.specs.declared.stop.Stop.TheVariants.{Failed, NoMemory, NoSuchNumber, NoAnswer, OtherAnswer, NoSerial, TooLong}
+use Rattle.amo_course.specs.declared.past.Asked.{Asked}
+use Rattle.amo_course.specs.declared.past.Asked.TheVariants.{All, Dismissed as DismissedBy, Cut as CutThere}
+use Rattle.amo_course.specs.declared.past.Intent.{Intent}
+use Rattle.amo_course.specs.Stage.{Stage, Going, Intending, Asking, Dismissed, Gone, Unanswered, Refused, Broken}
+use Rattle.amo_course.specs.Course.{Stands}
+
+-- the serial number of the intent to which this is an answer
+abbrev pub serial_of : Reply → Option ℕ
+serial_of (Answered n c way) = Some n
+serial_of (Running n way) = Some n
+serial_of Garbled = None
+serial_of Closed = None
+
+-- how a process has ended that has stood first at `first` says where it stands: its worker wants nothing more, it has left, or
+-- nothing more can come in answer
+abbrev pub EndsAt : (first : Stage) → Option (List Deed) → End → Type 0
+EndsAt first ds Over = (s : ℕ) × (a : ProcessView) × (way : Way) × Stands first ds (Going s a way)
+    × (access_of a.givens a.number a.standing ≡ Nothing) × (is_refused a.standing ≡ false)
+EndsAt first ds Left = Stands first ds Gone
+EndsAt first ds (Cut s) = Stands first ds (Unanswered s Closed)
+
+-- why it has stopped says where it stands: nothing is due any more, but where nothing was done, where no serial number is
+-- left, and where there were too many turns
+abbrev pub StopsAt : (first : Stage) → Option (List Deed) → Stop → Type 0
+StopsAt first ds Failed = Stands first ds Broken
+StopsAt first ds NoMemory = Stands first ds first
+StopsAt first ds (NoSuchNumber w v) = Stands first ds (Refused w v)
+StopsAt first ds (NoAnswer s) = Stands first ds (Unanswered s Garbled)
+StopsAt first ds (OtherAnswer s n) = (reply : Reply) × Stands first ds (Unanswered s reply) × (serial_of reply ≡ Some n)
+StopsAt first ds NoSerial = (a : ProcessView) × (j : ℕ) × Stands first ds (Intending (2 ^ 64 - 1) a j)
+StopsAt first ds TooLong = (s : ℕ) × (a : ProcessView) × (way : Way) × Stands first ds (Going s a way)
+
+-- how the asking has ended that has begun at `first` says where it stands: all were asked for, it is to leave, or nothing more
+-- can come in answer
+abbrev pub AsksTo : (first : Stage) → Option (List Deed) → Asked → Type 0
+AsksTo first ds All = Stands first ds (Asking [])
+AsksTo first ds DismissedBy = (rest : List Intent) × Stands first ds (Dismissed rest)
+AsksTo first ds (CutThere s) = Stands first ds (Unanswered s Closed)
+
+-- whether the asking ends with an answer that says this
+abbrev pub asked_after : Way → Option Asked
+asked_after Go = None
+asked_after Leave = Some DismissedBy
+
+-- after one was asked for, these are left, or the asking has ended so
+abbrev pub AsksOn : (first : Stage) → Option (List Deed) → List Intent → Option Asked → Type 0
+AsksOn first ds rest None = Stands first ds (Asking rest)
+AsksOn first ds rest (Some asked) = AsksTo first ds asked

@@ -1,0 +1,42 @@
+//! The values of which the definitions speak.
+use super::answer::{Answer, Reply};
+
+/// What a process tries to do outside of itself.
+#[derive(Clone, Copy, Debug, PartialEq, Eq)]
+pub enum Try {
+    /// To load this word.
+    Load(u64),
+    /// To store to this word this value.
+    Store(u64, u64),
+    /// To say that its own words show this job claimed and not filed.
+    Find(u32),
+    /// To put into the journal, under this serial number, the intent to have this job performed.
+    Intend(u64, u32),
+    /// To have this job performed, by the intent of this serial number.
+    Perform(u64, u32),
+    /// To put into the journal what became of the intent of this serial number.
+    Note(u64, Answer),
+    /// To ask what became of the intent of this serial number, left by a former process, of this line.
+    Ask(u64, u64),
+}
+
+/// What a process has done outside of itself.
+#[derive(Clone, Copy, Debug, PartialEq, Eq)]
+pub enum Deed {
+    /// It has loaded this word, and this value was given.
+    Loaded(u64, u64),
+    /// It has stored to this word this value.
+    Stored(u64, u64),
+    /// It has said that its own words show this job claimed and not filed.
+    Found(u32),
+    /// The intent of this serial number, to have this job performed, is in the journal.
+    Intended(u64, u32),
+    /// The partner was told to perform this job, by the intent of this serial number, and this came in answer.
+    Performed(u64, u32, Reply),
+    /// What became of the intent of this serial number is in the journal.
+    Noted(u64, Answer),
+    /// It has asked what became of the intent of this serial number, of this line, and this came in answer.
+    Asked(u64, u64, Reply),
+    /// This was tried and has failed: it may or may not have come about.
+    Fell(Try),
+}

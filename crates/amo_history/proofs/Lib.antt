@@ -1,0 +1,6 @@
+mod Stages
+mod Histories
+mod Once
+mod Logs
+mod Example
+mod Courses

@@ -1,0 +1,253 @@
+-- What is due at a stage, and where a process that stands there stands by what it has heard.
+use Rattle.std.proofs.Common.{◌≡◌, ◌⊎◌, inl, inr, ℕ, zero, suc, ◌≤◌, ◌+◌, Bool, true, false, refl, sym, ap, ◌∙◌, arith, List, [], ◌∷◌, ◌++◌, Option, Some, None}
+use Rattle.std.specs.Prelude.{⊤, if◌then◌else◌, ◌==◌}
+use Rattle.std.proofs.lemmas.Bool.{true≢false}
+use Rattle.amo_kk.specs.Words.{next_word}
+use Rattle.amo_kk.specs.declared.givens.Givens.{Givens}
+use Rattle.amo_process.specs.Heard.{standing_of, told_by, doubted_by}
+use Rattle.amo_process.specs.Stepped.{ProcessView, new_process, process_after, process_after_all, access_of, may_leave, is_refused}
+use Rattle.amo_process.specs.declared.access.Access.{Access}
+use Rattle.amo_process.specs.declared.access.Access.TheVariants.{Load as LoadAccess, Store as StoreAccess, Nothing}
+use Rattle.amo_process.proofs.Stepped.{stepped_stands}
+use Rattle.amo_course.specs.declared.answer.Answer.{Answer}
+use Rattle.amo_course.specs.declared.answer.Reply.{Reply}
+use Rattle.amo_course.specs.declared.answer.Reply.TheVariants.{Answered, Running, Garbled, Closed}
+use Rattle.amo_course.specs.declared.answer.Way.{Way}
+use Rattle.amo_course.specs.declared.answer.Way.TheVariants.{Go, Leave}
+use Rattle.amo_course.specs.declared.model.Deed.TheVariants.{Found, Intended, Performed, Noted, Asked}
+use Rattle.amo_course.specs.declared.model.Try.{Try}
+use Rattle.amo_course.specs.declared.model.Try.TheVariants.{Intend, Load, Store, Perform}
+use Rattle.amo_course.specs.declared.past.Intent.{Intent}
+use Rattle.amo_course.specs.Stage.{Stage, Going, Finding, Intending, Performing, Noting, Leaving, Asking, Settling, Dismissed, Gone, Unanswered, Refused, Broken}
+use Rattle.amo_course.specs.Course.{access_tried, due, stage_by_jobs, stage_heard, stage_told, stage_replied, stage_asking, stage_asked, stage_after}
+
+-- what was tried, in parts
+
+abbrev is_load : Option Try → Bool
+is_load None = false
+is_load (Some (Load w)) = true
+is_load (Some t) = false
+
+abbrev is_store : Option Try → Bool
+is_store None = false
+is_store (Some (Store w v)) = true
+is_store (Some t) = false
+
+abbrev pub is_performance : Option Try → Bool
+is_performance None = false
+is_performance (Some (Perform n j)) = true
+is_performance (Some t) = false
+
+abbrev word_in : Option Try → ℕ
+word_in None = 0
+word_in (Some (Load w)) = w
+word_in (Some (Store w v)) = w
+word_in (Some t) = 0
+
+abbrev value_in : Option Try → ℕ
+value_in None = 0
+value_in (Some (Store w v)) = v
+value_in (Some t) = 0
+
+abbrev pub job_in : Option Try → ℕ
+job_in None = 0
+job_in (Some (Intend n j)) = j
+job_in (Some (Perform n j)) = j
+job_in (Some t) = 0
+
+-- an access that is tried is that access
+
+pub tried_load : (x : Access) (w : ℕ) → access_tried x ≡ Some (Load w) → x ≡ LoadAccess w
+tried_load (LoadAccess u) w e = ap (λ o. LoadAccess (word_in o)) e
+tried_load (StoreAccess u v) w e = absurd (true≢false (sym (ap is_load e)))
+tried_load Nothing w e = absurd (true≢false (sym (ap is_load e)))
+
+pub tried_store : (x : Access) (w v : ℕ) → access_tried x ≡ Some (Store w v) → x ≡ StoreAccess w v
+tried_store (LoadAccess u) w v e = absurd (true≢false (sym (ap is_store e)))
+tried_store (StoreAccess u y) w v e = ap (λ o. StoreAccess (word_in o) (value_in o)) e
+tried_store Nothing w v e = absurd (true≢false (sym (ap is_store e)))
+
+-- a load is due only where the process wants it
+pub load_only : (s : Stage) (w : ℕ) → due s ≡ Some (Load w) → (n : ℕ) × (a : ProcessView) × (way : Way) × (s ≡ Going n a way)
+load_only (Going s a way) w e = (s, a, way, refl)
+load_only (Finding s a j) w e = absurd (true≢false (sym (ap is_load e)))
+load_only (Intending s a j) w e = absurd (true≢false (sym (ap is_load e)))
+load_only (Performing s a j) w e = absurd (true≢false (sym (ap is_load e)))
+load_only (Noting s a c way) w e = absurd (true≢false (sym (ap is_load e)))
+load_only (Leaving a) w e = absurd (true≢false (sym (ap is_load e)))
+load_only (Asking []) w e = absurd (true≢false (sym (ap is_load e)))
+load_only (Asking (i ∷ rest)) w e = absurd (true≢false (sym (ap is_load e)))
+load_only (Settling s c way rest) w e = absurd (true≢false (sym (ap is_load e)))
+load_only (Dismissed rest) w e = absurd (true≢false (sym (ap is_load e)))
+load_only Gone w e = absurd (true≢false (sym (ap is_load e)))
+load_only (Unanswered s reply) w e = absurd (true≢false (sym (ap is_load e)))
+load_only (Refused x y) w e = absurd (true≢false (sym (ap is_load e)))
+load_only Broken w e = absurd (true≢false (sym (ap is_load e)))
+
+-- a store only where the process wants it, or leaves
+pub store_only : (s : Stage) (w v : ℕ) → due s ≡ Some (Store w v)
+    → ((n : ℕ) × (a : ProcessView) × (way : Way) × (s ≡ Going n a way)) ⊎ ((a : ProcessView) × (s ≡ Leaving a) × (w ≡ next_word a.number) × (v ≡ 0))
+store_only (Going s a way) w v e = inl (s, a, way, refl)
+store_only (Leaving a) w v e = inr (a, refl, sym (ap word_in e), sym (ap value_in e))
+store_only (Finding s a j) w v e = absurd (true≢false (sym (ap is_store e)))
+store_only (Intending s a j) w v e = absurd (true≢false (sym (ap is_store e)))
+store_only (Performing s a j) w v e = absurd (true≢false (sym (ap is_store e)))
+store_only (Noting s a c way) w v e = absurd (true≢false (sym (ap is_store e)))
+store_only (Asking []) w v e = absurd (true≢false (sym (ap is_store e)))
+store_only (Asking (i ∷ rest)) w v e = absurd (true≢false (sym (ap is_store e)))
+store_only (Settling s c way rest) w v e = absurd (true≢false (sym (ap is_store e)))
+store_only (Dismissed rest) w v e = absurd (true≢false (sym (ap is_store e)))
+store_only Gone w v e = absurd (true≢false (sym (ap is_store e)))
+store_only (Unanswered s reply) w v e = absurd (true≢false (sym (ap is_store e)))
+store_only (Refused x y) w v e = absurd (true≢false (sym (ap is_store e)))
+store_only Broken w v e = absurd (true≢false (sym (ap is_store e)))
+
+no_performance : (x : Access) (n j : ℕ) → access_tried x ≡ Some (Perform n j) → true ≡ false
+no_performance (LoadAccess w) n j e = sym (ap is_performance e)
+no_performance (StoreAccess w v) n j e = sym (ap is_performance e)
+no_performance Nothing n j e = sym (ap is_performance e)
+
+-- a performance only where its intent was put
+pub performing_only : (s : Stage) (n j : ℕ) → due s ≡ Some (Perform n j) → (m : ℕ) × (a : ProcessView) × (s ≡ Performing m a j)
+performing_only (Performing s a i) m k e = (s, a, ap (λ o. Performing s a (job_in o)) e)
+performing_only (Going s a way) m k e = absurd (true≢false (no_performance (access_of a.givens a.number a.standing) m k e))
+performing_only (Finding s a j) m k e = absurd (true≢false (sym (ap is_performance e)))
+performing_only (Intending s a j) m k e = absurd (true≢false (sym (ap is_performance e)))
+performing_only (Noting s a c way) m k e = absurd (true≢false (sym (ap is_performance e)))
+performing_only (Leaving a) m k e = absurd (true≢false (sym (ap is_performance e)))
+performing_only (Asking []) m k e = absurd (true≢false (sym (ap is_performance e)))
+performing_only (Asking (i ∷ rest)) m k e = absurd (true≢false (sym (ap is_performance e)))
+performing_only (Settling s c way rest) m k e = absurd (true≢false (sym (ap is_performance e)))
+performing_only (Dismissed rest) m k e = absurd (true≢false (sym (ap is_performance e)))
+performing_only Gone m k e = absurd (true≢false (sym (ap is_performance e)))
+performing_only (Unanswered s reply) m k e = absurd (true≢false (sym (ap is_performance e)))
+performing_only (Refused x y) m k e = absurd (true≢false (sym (ap is_performance e)))
+performing_only Broken m k e = absurd (true≢false (sym (ap is_performance e)))
+
+-- the process that has heard these numbers since it began
+
+abbrev pub process_of : Givens → ℕ → List ℕ → ProcessView
+process_of g p hs = process_after_all (new_process g p) hs
+
+after_more : (a : ProcessView) (hs : List ℕ) (v : ℕ) → process_after_all a (hs ++ v ∷ []) ≡ process_after (process_after_all a hs) v
+after_more a [] v = refl
+after_more a (x ∷ xs) v = after_more (process_after a x) xs v
+
+kept : (a : ProcessView) (hs : List ℕ) → ((process_after_all a hs).givens ≡ a.givens) × ((process_after_all a hs).number ≡ a.number)
+kept a [] = (refl, refl)
+kept a (x ∷ xs) = kept (process_after a x) xs
+
+module _ (g : Givens) (p : ℕ) (hs : List ℕ) (a : ProcessView) (is : a ≡ process_of g p hs) where
+  pub hears_more : (v : ℕ) → process_after a v ≡ process_of g p (hs ++ v ∷ [])
+  hears_more v = ap (λ z. process_after z v) is ∙ sym (after_more (new_process g p) hs v)
+
+  pub number_is : a.number ≡ p
+  number_is = ap (λ (z : ProcessView). z.number) is ∙ (kept (new_process g p) hs).1
+
+  pub standing_is : a.standing ≡ standing_of g p hs
+  standing_is = ap (λ (z : ProcessView). z.standing) is ∙ stepped_stands g p hs
+
+  -- its access is that of its list
+  pub access_is : access_of g p (standing_of g p hs) ≡ access_of a.givens a.number a.standing
+  access_is =
+      sym ((λ i. access_of (givens_is i) (number_is i) a.standing) ∙ ap (access_of g p) standing_is)
+    where
+      givens_is : a.givens ≡ g
+      givens_is = ap (λ (z : ProcessView). z.givens) is ∙ (kept (new_process g p) hs).0
+
+-- The process that stands there has heard these numbers since it began: it is told to perform a job whose intent is to be put,
+-- and may leave where it leaves. Of one that has ended, and of one that asks for intents, nothing is said.
+abbrev pub Shown : Givens → ℕ → List ℕ → Stage → Type 0
+Shown g p hs (Going s a way) = a ≡ process_of g p hs
+Shown g p hs (Finding s a j) = a ≡ process_of g p hs
+Shown g p hs (Intending s a j) = (a ≡ process_of g p hs) × (told_by a.standing ≡ j) × (1 ≤ j)
+Shown g p hs (Performing s a j) = (a ≡ process_of g p hs) × (told_by a.standing ≡ j) × (1 ≤ j)
+Shown g p hs (Noting s a c way) = a ≡ process_of g p hs
+Shown g p hs (Leaving a) = (a ≡ process_of g p hs) × (may_leave a.standing ≡ true)
+Shown g p hs (Asking intents) = ⊤
+Shown g p hs (Settling s c way rest) = ⊤
+Shown g p hs (Dismissed rest) = ⊤
+Shown g p hs Gone = ⊤
+Shown g p hs (Unanswered s reply) = ⊤
+Shown g p hs (Refused w v) = ⊤
+Shown g p hs Broken = ⊤
+
+module _ (g : Givens) (p : ℕ) (hs : List ℕ) where
+  -- after a number was heard
+
+  module _ (s : ℕ) (a : ProcessView) (is : a ≡ process_of g p hs) where
+    jobs_shown : (t d : ℕ) → told_by a.standing ≡ t → Shown g p hs (stage_by_jobs s a t d)
+    jobs_shown zero zero e = is
+    jobs_shown zero (suc j) e = is
+    jobs_shown (suc j) d e = (is, e, omega arith)
+
+    leaving_shown : (b : Bool) → may_leave a.standing ≡ b → Shown g p hs (if b then Leaving a else Going s a Leave)
+    leaving_shown true e = (is, e)
+    leaving_shown false e = is
+
+    heard_shown : (way : Way) → Shown g p hs (stage_heard s way a)
+    heard_shown Go = jobs_shown (told_by a.standing) (doubted_by a.standing) refl
+    heard_shown Leave = leaving_shown (may_leave a.standing) refl
+
+    pub told_shown : (w v : ℕ) (way : Way) → Shown g p hs (stage_told w v s way a)
+    told_shown w v way = by (is_refused a.standing)
+      where
+        by : (b : Bool) → Shown g p hs (if b then Refused w v else stage_heard s way a)
+        by true = tt
+        by false = heard_shown way
+
+    replied_shown : (reply : Reply) → Shown g p hs (stage_replied s a reply)
+    replied_shown (Answered n c way) = by (n == s)
+      where
+        by : (b : Bool) → Shown g p hs (if b then Noting s a c way else Unanswered s (Answered n c way))
+        by true = is
+        by false = tt
+    replied_shown (Running n way) = by (n == s)
+      where
+        by : (b : Bool) → Shown g p hs (if b then Going (s + 1) a way else Unanswered s (Running n way))
+        by true = is
+        by false = tt
+    replied_shown Garbled = tt
+    replied_shown Closed = tt
+
+  asking_shown : (way : Way) (rest : List Intent) → Shown g p hs (stage_asking way rest)
+  asking_shown Go rest = tt
+  asking_shown Leave rest = tt
+
+  asked_shown : (intents : List Intent) (reply : Reply) → Shown g p hs (stage_asked intents reply)
+  asked_shown [] reply = tt
+  asked_shown (i ∷ rest) (Answered n c way) = by (n == i.serial)
+    where
+      by : (b : Bool) → Shown g p hs (if b then Settling i.serial c way rest else Unanswered i.serial (Answered n c way))
+      by true = tt
+      by false = tt
+  asked_shown (i ∷ rest) (Running n way) = by (n == i.serial)
+    where
+      by : (b : Bool) → Shown g p hs (if b then stage_asking way rest else Unanswered i.serial (Running n way))
+      by true = asking_shown way rest
+      by false = tt
+  asked_shown (i ∷ rest) Garbled = tt
+  asked_shown (i ∷ rest) Closed = tt
+
+  -- after a deed that no process hears
+
+  pub found_shown : (s : Stage) (j : ℕ) → Shown g p hs s → Shown g p hs (stage_after s (Found j))
+  found_shown (Finding s a i) j f = f
+  found_shown s j f = f
+
+  pub intended_shown : (s : Stage) (n j : ℕ) → Shown g p hs s → Shown g p hs (stage_after s (Intended n j))
+  intended_shown (Intending s a i) n j f = f
+  intended_shown s n j f = f
+
+  pub performed_shown : (s : Stage) (n j : ℕ) (reply : Reply) → Shown g p hs s → Shown g p hs (stage_after s (Performed n j reply))
+  performed_shown (Performing s a i) n j reply f = replied_shown s a f.0 reply
+  performed_shown s n j reply f = f
+
+  pub noted_shown : (s : Stage) (n : ℕ) (c : Answer) → Shown g p hs s → Shown g p hs (stage_after s (Noted n c))
+  noted_shown (Noting s a d way) n c f = f
+  noted_shown (Settling s d way rest) n c f = asking_shown way rest
+  noted_shown s n c f = f
+
+  pub asked_for_shown : (s : Stage) (n line : ℕ) (reply : Reply) → Shown g p hs s → Shown g p hs (stage_after s (Asked n line reply))
+  asked_for_shown (Asking intents) n line reply f = asked_shown intents reply
+  asked_for_shown s n line reply f = f

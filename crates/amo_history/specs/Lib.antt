@@ -1,0 +1,3 @@
+pub mod Scene
+pub mod Log
+pub mod Course

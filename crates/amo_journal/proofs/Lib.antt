@@ -1,0 +1,9 @@
+mod Blocks
+mod Ending
+mod Kept
+mod Moments
+mod Opening
+mod Parts
+mod Places
+mod Putting
+mod Results

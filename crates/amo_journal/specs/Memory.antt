@@ -1,0 +1,5 @@
+use Rattle.std.specs.Prelude.{ℕ, List}
+use Rattle.amo_journal.specs.declared.memory.MemoryDevice.{MemoryDevice}
+
+abbrev pub memory_bytes : MemoryDevice → List ℕ
+memory_bytes m = m.bytes.items

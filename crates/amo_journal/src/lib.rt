@@ -1,0 +1,16 @@
+//! A journal of texts, each one line, on a disk that may lose power at any moment. A text is put behind a gate that stands closed
+//! on the disk, and the gate is opened by a write of its own once the text is kept: so a write that was torn, whatever it left,
+//! leaves the journal with the text or without it. Who opens a journal settles it first, since what is read after a kill need
+//! not be on the disk. The texts mean nothing here.
+#![tactic(auto)]
+
+mod device;
+mod journal;
+mod memory;
+mod reading;
+mod steps;
+
+pub use device::{Device, DeviceError};
+pub use journal::{Journal, PutError};
+pub use memory::MemoryDevice;
+pub use reading::texts_in;

@@ -1,0 +1,57 @@
+//! Reading texts from the bytes of a journal. It writes nothing.
+ghost use Rattle.std.specs.Prelude.{◌≡◌, ◌+◌, ◌≤◌, ◌++◌, [], ◌∷◌, length, map, IfOk, IfSome, IfNone};
+ghost use Rattle.amo_journal.specs.Texts.{texts_in, blocks, IsOneLine};
+
+use std::alloc::{AllocError, Global};
+
+/// The texts of a journal, from its bytes, up to the first gate that is closed. Who reads beside a writer needs no more. No bytes
+/// are an empty journal.
+pub fn texts_in(alloc: Global, bytes: &[u8]) -> Result<Vec<Vec<u8>>, AllocError>
+    ensures exact { IfOk result (λ texts. map (λ text. text.items) texts.items ≡ texts_in bytes.now) }
+{
+    Ok(texts_and_end(alloc, bytes)?.0)
+}
+
+/// The texts, and how many bytes their blocks have.
+pub(crate) fn texts_and_end(
+    alloc: Global,
+    bytes: &[u8],
+) -> Result<(Vec<Vec<u8>>, usize), AllocError>
+    ensures texts { IfOk result (λ read. map (λ text. text.items) read.0.items ≡ texts_in bytes.now) }
+    ensures end { IfOk result (λ read. read.1 ≡ length (blocks (texts_in bytes.now))) }
+    ensures within { IfOk result (λ read. read.1 ≤ length bytes.now) }
+{
+    let mut texts = Vec::new(alloc);
+    let mut rest = bytes;
+    while let Some((text, behind)) = first_block(rest) {
+        texts.push(text.to_vec(alloc)?)?;
+        rest = behind;
+    }
+    Ok((texts, bytes.len() - rest.len()))
+}
+
+/// The text of the block at the front, if there is one, and what stands behind the block.
+fn first_block(bytes: &[u8]) -> Option<(&[u8], &[u8])>
+    ensures found { IfSome result (λ x. bytes.now ≡ 43 ∷ x.0.now ++ 10 ∷ x.1.now) }
+    ensures one_line { IfSome result (λ x. IsOneLine x.0.now) }
+    ensures none { IfNone result (texts_in bytes.now ≡ []) }
+{
+    let [b'+', after @ ..] = bytes else {
+        return None;
+    };
+    first_line(after)
+}
+
+/// The bytes before the first line feed, and those behind it.
+fn first_line(bytes: &[u8]) -> Option<(&[u8], &[u8])>
+    ensures found { IfSome result (λ x. bytes.now ≡ x.0.now ++ 10 ∷ x.1.now) }
+    ensures one_line { IfSome result (λ x. IsOneLine x.0.now) }
+    ensures none { IfNone result (IsOneLine bytes.now) }
+{
+    for (i, b) in bytes.iter().enumerate() {
+        if *b == b'\n' {
+            return Some((&bytes[..i], &bytes[i + 1..]));
+        }
+    }
+    None
+}

@@ -1,0 +1,16 @@
+pub mod AttemptLemmas
+pub mod ClosingWins
+pub mod EntryTexts
+pub mod FindingLaws
+pub mod FindingTexts
+pub mod GrammarLaws
+pub mod NumberTexts
+pub mod OpenLaws
+pub mod OpenLines
+pub mod OpenMeaning
+pub mod Puts
+pub mod RecordTexts
+pub mod Records
+pub mod Seats
+pub mod TextLists
+pub mod Words

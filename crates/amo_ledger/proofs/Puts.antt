@@ -1,0 +1,86 @@
+-- What a file of the texts before a put, or after it, says as entries.
+use Rattle.std.proofs.Common.{◌≡◌, inl, inr, ⊎_elim, ℕ, ◌+◌, ◌^◌, ◌<◌, false, List, [], ◌∷◌, ◌++◌, length, Some, Result, Ok, Err, refl, sym, ap, subst, ◌∙◌, arith}
+use Rattle.std.specs.Prelude.{codes, OnOk}
+use Rattle.std.specs.Fmt.{decimal}
+use Rattle.amo_journal.specs.Device.{LeavesOnly}
+use Rattle.amo_journal.specs.Journal.{IsBeforeOrAfter}
+use Rattle.amo_journal.specs.Texts.{texts_in}
+use Rattle.amo_ledger.specs.declared.entry.Answer.{Answer}
+use Rattle.amo_ledger.specs.declared.entry.Answer.TheVariants.{Done, Doubt, Unbegun, Untouched}
+use Rattle.amo_ledger.specs.declared.entry.Entry.{Entry}
+use Rattle.amo_ledger.specs.declared.entry.Entry.TheVariants.{Intent, Answer as Answered}
+use Rattle.amo_ledger.specs.declared.finding.Finding.{Finding}
+use Rattle.amo_ledger.specs.declared.journal.Attempt.{Attempt}
+use Rattle.amo_ledger.specs.Entries.{text_of, text_of_answer, Fits, FitsAnswer, entry_in, entries_in}
+use Rattle.amo_ledger.specs.Findings.{is_undone}
+use Rattle.amo_ledger.specs.Open.{HasIntent, OpensNot}
+use Rattle.amo_ledger.specs.Puts.{entries_of, StandsForOneMoreOrNot, IsClosedIn}
+use Rattle.amo_ledger.proofs.EntryTexts.{entry_reads}
+use Rattle.amo_ledger.proofs.ClosingWins.{closed_with, has_more}
+use Rattle.amo_ledger.proofs.TextLists.{one_more}
+use Rattle.amo_ledger.proofs.Words.{Lacks, lacks_append, lacks_by_test, decimal_lacks}
+
+-- the text of an entry is one line
+
+two_lack : (a b : ℕ) → a < 2 ^ 64 → b < 2 ^ 64 → Lacks 10 (decimal a ++ 32 ∷ decimal b)
+two_lack a b fa fb = lacks_append 10 (decimal a) (32 ∷ decimal b) (decimal_lacks 10 a (omega arith) fa) ((λ e. omega arith), decimal_lacks 10 b (omega arith) fb)
+
+three_lack : (a b c : ℕ) → a < 2 ^ 64 → b < 2 ^ 64 → c < 2 ^ 64 → Lacks 10 (decimal a ++ 32 ∷ (decimal b ++ 32 ∷ decimal c))
+three_lack a b c fa fb fc = lacks_append 10 (decimal a) (32 ∷ (decimal b ++ 32 ∷ decimal c)) (decimal_lacks 10 a (omega arith) fa) ((λ e. omega arith), two_lack b c fb fc)
+
+answer_lacks : (s : ℕ) (a : Answer) → FitsAnswer s a → Lacks 10 (text_of_answer s a)
+answer_lacks s (Done c t) f = lacks_append 10 (codes "done ") (decimal s ++ 32 ∷ (decimal c ++ 32 ∷ decimal t)) (lacks_by_test 10 (codes "done ") refl) (three_lack s c t f.0 (omega (arith, f.1)) f.2)
+answer_lacks s Doubt f = lacks_append 10 (codes "doubt ") (decimal s) (lacks_by_test 10 (codes "doubt ") refl) (decimal_lacks 10 s (omega arith) f)
+answer_lacks s Unbegun f = lacks_append 10 (codes "unbegun ") (decimal s) (lacks_by_test 10 (codes "unbegun ") refl) (decimal_lacks 10 s (omega arith) f)
+answer_lacks s (Untouched c) f = lacks_append 10 (codes "untouched ") (decimal s ++ 32 ∷ decimal c) (lacks_by_test 10 (codes "untouched ") refl) (two_lack s c f.0 (omega (arith, f.1)))
+
+pub one_line : (e : Entry) → Fits e → Lacks 10 (text_of e)
+one_line (Intent s l t) f = lacks_append 10 (codes "intent ") (decimal s ++ 32 ∷ (decimal l ++ 32 ∷ decimal t)) (lacks_by_test 10 (codes "intent ") refl) (three_lack s l t f.0 f.1 f.2)
+one_line (Answered s a) f = answer_lacks s a f
+
+-- files
+
+pub one_entry_more : (old new : List ℕ) (entries : List Entry) (e : Entry) → Fits e → entries_of old ≡ Some entries → texts_in new ≡ texts_in old ++ text_of e ∷ [] → entries_of new ≡ Some (entries ++ e ∷ [])
+one_entry_more old new entries e fits are put = ap entries_in put ∙ one_more entry_in (texts_in old) entries (text_of e) e are (entry_reads e fits)
+
+pub before_or_after : (old : List ℕ) (entries : List Entry) (e : Entry) → Fits e → entries_of old ≡ Some entries → (c : List ℕ) → IsBeforeOrAfter (texts_in old) (text_of e) c → StandsForOneMoreOrNot entries e c
+before_or_after old entries e fits are c at =
+    ⊎_elim (λ before. inl (ap entries_in before ∙ are)) (λ after. inr (one_entry_more old c entries e fits are after)) at
+
+-- what a crash leaves has what follows from what it has
+pub leaves : {D : Type 0} (moment : D → ℕ) (left_since : D → ℕ → List ℕ → Type 0) (old new : D) (P Q : List ℕ → Type 0) → LeavesOnly moment left_since old new P → ((c : List ℕ) → P c → Q c) → LeavesOnly moment left_since old new Q
+leaves moment left_since old new P Q l follows = record {
+  later = l.later;
+  each = λ c left. follows c (l.each c left);
+  before = λ t c le left. ⊎_elim (λ past. inl past) (λ p. inr (follows c p)) (l.before t c le left);
+}
+
+-- where nothing was done, only what might have been left before
+pub started : {D : Type 0} (moment : D → ℕ) (left_since : D → ℕ → List ℕ → Type 0) (file : D) (P : List ℕ → Type 0) → ((c : List ℕ) → left_since file (moment file) c → P c) → LeavesOnly moment left_since file file P
+started moment left_since file P now = record { later = omega arith; each = now; before = λ t c le left. inl left }
+
+same_some : (xs ys : List Entry) → Some xs ≡ Some ys → xs ≡ ys
+same_some xs ys e = cc
+
+-- a file of the entries, or of one more, has the line closed
+pub law_crash : (count : ℕ) (findings : List Finding) (line : ℕ) (before after : List (List Attempt)) (s : ℕ) (entries : List Entry) (e : Entry)
+    → HasIntent s line entries → OpensNot s e → is_undone findings (length before + 1) s ≡ false → (c : List ℕ) → StandsForOneMoreOrNot entries e c → IsClosedIn count findings before after line c
+law_crash count findings line before after s entries e has opens f c stands read es reads h =
+    ⊎_elim
+    (λ same. closed_with count findings line before after s read (subst (λ (ls : List Entry). HasIntent s line ls) (same_some entries read (sym same ∙ reads)) has) f es h)
+    (λ more. closed_with count findings line before after s read (subst (λ (ls : List Entry). HasIntent s line ls) (same_some (entries ++ e ∷ []) read (sym more ∙ reads)) (has_more count findings line s entries e has opens)) f es h)
+    stands
+
+-- so has one of the entries and the intent
+pub law_put : (count : ℕ) (findings : List Finding) (line : ℕ) (before after : List (List Attempt)) (s t : ℕ) (entries : List Entry)
+    → is_undone findings (length before + 1) s ≡ false → (c : List ℕ) → entries_of c ≡ Some (entries ++ Intent s line t ∷ []) → IsClosedIn count findings before after line c
+law_put count findings line before after s t entries f c stands read es reads h =
+    closed_with count findings line before after s read (entries, t, [], same_some read (entries ++ Intent s line t ∷ []) (sym reads ∙ stands), tt) f es h
+
+pub on_ok : {T E : Type 0} {P Q : Type 0} (r : Result T E) → OnOk r P → (P → Q) → OnOk r Q
+on_ok (Ok x) p follows = follows p
+on_ok (Err e) p follows = tt
+
+pub on_ok_both : {T E : Type 0} {P Q R : Type 0} (r : Result T E) → OnOk r P → OnOk r Q → (P → Q → R) → OnOk r R
+on_ok_both (Ok x) p q follows = follows p q
+on_ok_both (Err e) p q follows = tt

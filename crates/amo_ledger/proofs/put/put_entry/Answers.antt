@@ -1,0 +1,52 @@
+use Rattle.std.proofs.Common.{◌≡◌, ◌++◌, ◌∷◌, [], Some, inl, sym, ap, subst, ◌∙◌}
+use Rattle.amo_journal.specs.Device.{LeavesOnly}
+use Rattle.amo_journal.specs.Journal.{IsBeforeOrAfter}
+use Rattle.amo_journal.specs.Texts.{texts_in, IsOneLine}
+use Rattle.amo_ledger.specs.declared.entry.Entry.{Entry}
+use Rattle.amo_ledger.specs.Entries.{text_of}
+use Rattle.amo_ledger.specs.Puts.{entries_of, StandsForOneMoreOrNot, IsClosedIn}
+use Rattle.amo_ledger.proofs.Puts.{one_line, one_entry_more, before_or_after, leaves, started, law_crash, law_put, on_ok, on_ok_both}
+use Rattle.amo_ledger.proofs.put.put_entry.Goals as goal
+
+pub put-requires-clause-one_line : goal.put-requires-clause-one_line
+put-requires-clause-one_line g c = subst IsOneLine (sym (c.as_bytes.ensures.value ∙ c.in-Ok.ensures.text)) (one_line c.args.entry c.print.ensures.fits)
+
+pub returns-clause-acknowledged : goal.returns-clause-acknowledged
+returns-clause-acknowledged g c entries are =
+    let is = c.as_bytes.ensures.value ∙ c.in-Ok.ensures.text in
+    on_ok c.put.result c.put.ensures.acknowledged
+    (λ put. one_entry_more (g.D.Device.seen c.args.journal.now.device) (g.D.Device.seen c.put.new.self.device) entries c.args.entry c.print.ensures.fits are
+    (put ∙ ap (λ t. texts_in (g.D.Device.seen c.args.journal.now.device) ++ t ∷ []) is))
+
+pub returns-clause-any_moment : goal.returns-clause-any_moment
+returns-clause-any_moment g c entries are =
+    let old = g.D.Device.seen c.args.journal.now.device in
+    let is = c.as_bytes.ensures.value ∙ c.in-Ok.ensures.text in
+    let put = subst (λ text. LeavesOnly g.D.Device.moment g.D.Device.left_since c.args.journal.now.device c.put.new.self.device (IsBeforeOrAfter (texts_in old) text)) is c.put.ensures.any_moment in
+    leaves g.D.Device.moment g.D.Device.left_since c.args.journal.now.device c.put.new.self.device (IsBeforeOrAfter (texts_in old) (text_of c.args.entry)) (StandsForOneMoreOrNot entries c.args.entry) put
+    (before_or_after old entries c.args.entry c.print.ensures.fits are)
+
+pub returns-clause-read : goal.returns-clause-read
+returns-clause-read g c entries are =
+    let old = g.D.Device.seen c.args.journal.now.device in
+    let is = c.as_bytes.ensures.value ∙ c.in-Ok.ensures.text in
+    before_or_after old entries c.args.entry c.print.ensures.fits are (g.D.Device.seen c.put.new.self.device)
+    (subst (λ text. IsBeforeOrAfter (texts_in old) text (g.D.Device.seen c.put.new.self.device)) is c.put.ensures.read)
+
+pub returns-clause-closes : goal.returns-clause-closes
+returns-clause-closes g c count findings before after serial line time entries is are found =
+    on_ok_both c.put.result c.put.ensures.settled (returns-clause-acknowledged g c entries are)
+    (λ settled more file left. law_put count findings line before after serial time entries found file
+    (ap entries_of (settled.file.durable file left) ∙ subst (λ (e : Entry). entries_of (g.D.Device.seen c.put.new.self.device) ≡ Some (entries ++ e ∷ [])) is more))
+
+pub returns-clause-keeps_closed : goal.returns-clause-keeps_closed
+returns-clause-keeps_closed g c count findings before after serial line entries are has opens found =
+    leaves g.D.Device.moment g.D.Device.left_since c.args.journal.now.device c.put.new.self.device (StandsForOneMoreOrNot entries c.args.entry) (IsClosedIn count findings before after line)
+    (returns-clause-any_moment g c entries are) (law_crash count findings line before after serial entries c.args.entry has opens found)
+
+-- where the text could not be made the file is as it was
+pub returns-in_default-clause-keeps_closed : goal.returns-in_default-clause-keeps_closed
+returns-in_default-clause-keeps_closed g c count findings before after serial line entries are has opens found =
+    started g.D.Device.moment g.D.Device.left_since c.args.journal.now.device (IsClosedIn count findings before after line)
+    (λ file left. law_crash count findings line before after serial entries c.args.entry has opens found file
+    (inl (ap entries_of (c.requires.file.durable file (g.met.D.Device.only_now c.args.journal.now.device file left)) ∙ are)))

@@ -1,0 +1,22 @@
+-- Entries in the file of a journal.
+use Rattle.std.specs.Prelude.{◌≡◌, ◌⊎◌, ℕ, false, List, [], ◌∷◌, ◌++◌, Option, Some}
+use Rattle.amo_journal.specs.Texts.{texts_in}
+use Rattle.amo_ledger.specs.declared.entry.Entry.{Entry}
+use Rattle.amo_ledger.specs.declared.finding.Finding.{Finding}
+use Rattle.amo_ledger.specs.declared.journal.Attempt.{Attempt}
+use Rattle.amo_ledger.specs.Entries.{entries_in}
+use Rattle.amo_ledger.specs.Journals.{journal_of}
+use Rattle.amo_ledger.specs.Open.{is_open}
+
+-- what a file says as entries
+abbrev pub entries_of : List ℕ → Option (List Entry)
+entries_of file = entries_in (texts_in file)
+
+-- a file of these entries, or of one more
+abbrev pub StandsForOneMoreOrNot : List Entry → Entry → List ℕ → Type 0
+StandsForOneMoreOrNot entries entry file = (entries_of file ≡ Some entries) ⊎ (entries_of file ≡ Some (entries ++ entry ∷ []))
+
+-- who reads the file among the journals of the workers before and after sees the line closed
+abbrev pub IsClosedIn : ℕ → List Finding → List (List Attempt) → List (List Attempt) → ℕ → List ℕ → Type 0
+IsClosedIn count findings before after line file =
+    (entries : List Entry) (es : List Attempt) → entries_of file ≡ Some entries → journal_of count entries ≡ Some es → is_open findings (before ++ es ∷ after) line ≡ false

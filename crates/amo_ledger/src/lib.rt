@@ -1,0 +1,23 @@
+//! What the lines in the journals of a run mean: which lines of the jobs' file are open, with what a round is begun, and who
+//! acts as which of its workers. The theorems stand in the module `laws`.
+#![tactic(auto)]
+
+mod entry;
+mod fault;
+mod finding;
+mod journal;
+pub mod laws;
+mod number;
+mod open;
+mod put;
+mod record;
+mod round;
+
+pub use entry::{Answer, Entry};
+pub use fault::Fault;
+pub use finding::{Finding, Verdict, first_misplaced, is_undone, read_findings};
+pub use journal::{Attempt, journal_of, note, pending, read_entries};
+pub use open::{open_lines, opens};
+pub use put::put_entry;
+pub use record::Record;
+pub use round::{Givens, givens_of, seat_of};
