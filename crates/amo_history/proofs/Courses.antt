@@ -1,10 +1,18 @@
--- In one course: nothing follows an end, and each performance its intent.
-use Rattle.std.proofs.Common.{◌≡◌, ℕ, zero, suc, ◌+◌, Bool, true, false, refl, sym, ap, ◌∙◌, subst, List, [], ◌∷◌, ◌++◌, append-nil, append_assoc, Option, Some, None}
+-- In one course: nothing follows an end, each performance its intent, which follows the store of the claim, and each note the
+-- answer.
+use Rattle.std.proofs.Common.{◌≡◌, ℕ, zero, suc, ◌+◌, ◌≤◌, arith, Bool, true, false, refl, sym, ap, ◌∙◌, subst, List, [], ◌∷◌, ◌++◌, length, append-nil, append_assoc, Option, Some, None}
 use Rattle.std.specs.Prelude.{⊤, if◌then◌else◌, ◌==◌}
-use Rattle.std.proofs.lemmas.Bool.{true≢false}
+use Rattle.std.proofs.lemmas.Bool.{true≢false, eqb-true}
 use Rattle.std.proofs.lemmas.Option.{none-some}
+use Rattle.amo_kk.specs.Step.{want_in}
+use Rattle.amo_kk.specs.Words.{claim_word}
+use Rattle.amo_kk.specs.declared.givens.Givens.{Givens}
 use Rattle.amo_process.specs.Heard.{told_by, doubted_by}
-use Rattle.amo_process.specs.Stepped.{ProcessView, process_after, may_leave, is_refused}
+use Rattle.amo_process.specs.Stepped.{ProcessView, process_after, access_of, may_leave, is_refused}
+use Rattle.amo_process.specs.declared.access.Access.{Access}
+use Rattle.amo_process.specs.declared.access.Access.TheVariants.{Load as LoadAccess, Store as StoreAccess, Nothing}
+use Rattle.amo_course.specs.declared.answer.Answer.{Answer}
+use Rattle.amo_course.specs.declared.answer.Answer.TheVariants.{Doubt}
 use Rattle.amo_course.specs.declared.answer.Reply.{Reply}
 use Rattle.amo_course.specs.declared.answer.Reply.TheVariants.{Answered, Running, Garbled, Closed}
 use Rattle.amo_course.specs.declared.answer.Way.{Way}
@@ -12,12 +20,13 @@ use Rattle.amo_course.specs.declared.answer.Way.TheVariants.{Go, Leave}
 use Rattle.amo_course.specs.declared.model.Deed.{Deed}
 use Rattle.amo_course.specs.declared.model.Deed.TheVariants.{Loaded, Stored, Found, Intended, Performed, Noted, Asked, Fell}
 use Rattle.amo_course.specs.declared.model.Try.{Try}
-use Rattle.amo_course.specs.declared.model.Try.TheVariants.{Intend, Perform}
-use Rattle.amo_course.specs.declared.past.Intent.{Intent}
-use Rattle.amo_course.specs.Stage.{Stage, Going, Finding, Intending, Performing, Noting, Leaving, Asking, Settling, Dismissed, Gone, Unanswered, Refused, Broken}
-use Rattle.amo_course.specs.Course.{try_of, due, stage_by_jobs, stage_heard, stage_told, stage_replied, stage_asking, stage_asked, stage_after, stage_after_all, AreDue}
-use Rattle.amo_history.specs.Course.{HasJustIntended}
-use Rattle.amo_history.proofs.Stages.{is_performance, job_in, performing_only}
+use Rattle.amo_course.specs.declared.model.Try.TheVariants.{Load, Store, Intend, Perform, Note}
+use Rattle.amo_course.specs.Stage.{Stage, Going, Intending, Performing, Noting, Leaving, Asking, Settling, Unanswered, Refused, Broken}
+use Rattle.amo_course.specs.Course.{try_of, access_tried, due, stage_by_jobs, stage_heard, stage_told, stage_replied, stage_after, stage_after_all, AreDue, first_stage}
+use Rattle.amo_course.proofs.Deeds.{stage_after_more}
+use Rattle.amo_history.specs.Course.{HasJustClaimed, HasJustIntended, HasJustAnswered}
+use Rattle.amo_history.proofs.Stages.{is_store, is_performance, word_in, value_in, job_in, performing_only, process_of, hears_more, standing_is, access_is, Shown, all_shown}
+use Rattle.amo_history.proofs.Claims.{IsClaiming, claim_wanted, was_claiming}
 
 -- where nothing is due, nothing follows
 
@@ -30,66 +39,6 @@ pub fell_there : (s : Stage) (before after : List Deed) (t : Try) → AreDue s (
 fell_there s [] after t h = ends_there Broken [] after h.1 refl
 fell_there s (x ∷ xs) after t h = fell_there (stage_after s x) xs after t h.1
 
--- what was done last where an intent or a performance is due
-
-abbrev IsAfter : List Deed → Stage → Type 0
-IsAfter ds (Intending n a j) = (earlier : List Deed) × (d : Deed) × (ds ≡ earlier ++ d ∷ []) × (told_by a.standing ≡ j)
-IsAfter ds (Performing n a j) = (earlier : List Deed) × (d : Deed) × (ds ≡ earlier ++ d ∷ Intended n j ∷ []) × (told_by a.standing ≡ j)
-IsAfter ds s = ⊤
-
-jobs_after : (ds : List Deed) (d : Deed) (s : ℕ) (a : ProcessView) (t x : ℕ) → told_by a.standing ≡ t → IsAfter (ds ++ d ∷ []) (stage_by_jobs s a t x)
-jobs_after ds d s a zero zero e = tt
-jobs_after ds d s a zero (suc j) e = tt
-jobs_after ds d s a (suc j) x e = (ds, d, refl, e)
-
-heard_after : (ds : List Deed) (d : Deed) (s : ℕ) (a : ProcessView) (way : Way) → IsAfter (ds ++ d ∷ []) (stage_heard s way a)
-heard_after ds d s a Go = jobs_after ds d s a (told_by a.standing) (doubted_by a.standing) refl
-heard_after ds d s a Leave = by (may_leave a.standing)
-  where
-    by : (b : Bool) → IsAfter (ds ++ d ∷ []) (if b then Leaving a else Going s a Leave)
-    by true = tt
-    by false = tt
-
-told_after : (ds : List Deed) (d : Deed) (w v s : ℕ) (a : ProcessView) (way : Way) → IsAfter (ds ++ d ∷ []) (stage_told w v s way a)
-told_after ds d w v s a way = by (is_refused a.standing)
-  where
-    by : (b : Bool) → IsAfter (ds ++ d ∷ []) (if b then Refused w v else stage_heard s way a)
-    by true = tt
-    by false = heard_after ds d s a way
-
-replied_after : (ds : List Deed) (s : ℕ) (a : ProcessView) (reply : Reply) → IsAfter ds (stage_replied s a reply)
-replied_after ds s a (Answered n c way) = by (n == s)
-  where
-    by : (b : Bool) → IsAfter ds (if b then Noting s a c way else Unanswered s (Answered n c way))
-    by true = tt
-    by false = tt
-replied_after ds s a (Running n way) = by (n == s)
-  where
-    by : (b : Bool) → IsAfter ds (if b then Going (s + 1) a way else Unanswered s (Running n way))
-    by true = tt
-    by false = tt
-replied_after ds s a Garbled = tt
-replied_after ds s a Closed = tt
-
-asking_after : (ds : List Deed) (way : Way) (rest : List Intent) → IsAfter ds (stage_asking way rest)
-asking_after ds Go rest = tt
-asking_after ds Leave rest = tt
-
-asked_after : (ds : List Deed) (intents : List Intent) (reply : Reply) → IsAfter ds (stage_asked intents reply)
-asked_after ds [] reply = tt
-asked_after ds (i ∷ rest) (Answered n c way) = by (n == i.serial)
-  where
-    by : (b : Bool) → IsAfter ds (if b then Settling i.serial c way rest else Unanswered i.serial (Answered n c way))
-    by true = tt
-    by false = tt
-asked_after ds (i ∷ rest) (Running n way) = by (n == i.serial)
-  where
-    by : (b : Bool) → IsAfter ds (if b then stage_asking way rest else Unanswered i.serial (Running n way))
-    by true = asking_after ds way rest
-    by false = tt
-asked_after ds (i ∷ rest) Garbled = tt
-asked_after ds (i ∷ rest) Closed = tt
-
 -- which try it is
 
 abbrev is_intent : Option Try → Bool
@@ -101,136 +50,170 @@ abbrev serial_in : Option Try → ℕ
 serial_in None = 0
 serial_in (Some (Intend n j)) = n
 serial_in (Some (Perform n j)) = n
+serial_in (Some (Note n c)) = n
 serial_in (Some t) = 0
 
-one_after : (ds : List Deed) (s : Stage) (d : Deed) → due s ≡ Some (try_of d) → IsAfter ds s → IsAfter (ds ++ d ∷ []) (stage_after s d)
-one_after ds (Going m a way) (Loaded w v) e h = told_after ds (Loaded w v) w v m (process_after a v) way
-one_after ds (Going m a way) (Stored w v) e h = told_after ds (Stored w v) w v m (process_after a 0) way
-one_after ds (Going m a way) (Found x) e h = tt
-one_after ds (Going m a way) (Intended n x) e h = tt
-one_after ds (Going m a way) (Performed n x reply) e h = tt
-one_after ds (Going m a way) (Noted n c) e h = tt
-one_after ds (Going m a way) (Asked n line reply) e h = tt
-one_after ds (Going m a way) (Fell t) e h = tt
-one_after ds (Finding m a i) (Loaded w v) e h = tt
-one_after ds (Finding m a i) (Stored w v) e h = tt
-one_after ds (Finding m a i) (Found x) e h = tt
-one_after ds (Finding m a i) (Intended n x) e h = tt
-one_after ds (Finding m a i) (Performed n x reply) e h = tt
-one_after ds (Finding m a i) (Noted n c) e h = tt
-one_after ds (Finding m a i) (Asked n line reply) e h = tt
-one_after ds (Finding m a i) (Fell t) e h = tt
-one_after ds (Intending m a i) (Loaded w v) e h = absurd (true≢false (ap is_intent e))
-one_after ds (Intending m a i) (Stored w v) e h = absurd (true≢false (ap is_intent e))
-one_after ds (Intending m a i) (Found x) e h = absurd (true≢false (ap is_intent e))
-one_after ds (Intending m a i) (Intended n x) e h = (h.0, h.1, (λ k. h.2 k ++ Intended (serial_in (sym e k)) (job_in (sym e k)) ∷ []) ∙ append_assoc h.0 (h.1 ∷ []) (Intended m i ∷ []), h.3)
-one_after ds (Intending m a i) (Performed n x reply) e h = absurd (true≢false (ap is_intent e))
-one_after ds (Intending m a i) (Noted n c) e h = absurd (true≢false (ap is_intent e))
-one_after ds (Intending m a i) (Asked n line reply) e h = absurd (true≢false (ap is_intent e))
-one_after ds (Intending m a i) (Fell t) e h = tt
-one_after ds (Performing m a i) (Loaded w v) e h = absurd (true≢false (ap is_performance e))
-one_after ds (Performing m a i) (Stored w v) e h = absurd (true≢false (ap is_performance e))
-one_after ds (Performing m a i) (Found x) e h = absurd (true≢false (ap is_performance e))
-one_after ds (Performing m a i) (Intended n x) e h = absurd (true≢false (ap is_performance e))
-one_after ds (Performing m a i) (Performed n x reply) e h = replied_after (ds ++ Performed n x reply ∷ []) m a reply
-one_after ds (Performing m a i) (Noted n c) e h = absurd (true≢false (ap is_performance e))
-one_after ds (Performing m a i) (Asked n line reply) e h = absurd (true≢false (ap is_performance e))
-one_after ds (Performing m a i) (Fell t) e h = tt
-one_after ds (Noting m a z way) (Loaded w v) e h = tt
-one_after ds (Noting m a z way) (Stored w v) e h = tt
-one_after ds (Noting m a z way) (Found x) e h = tt
-one_after ds (Noting m a z way) (Intended n x) e h = tt
-one_after ds (Noting m a z way) (Performed n x reply) e h = tt
-one_after ds (Noting m a z way) (Noted n c) e h = tt
-one_after ds (Noting m a z way) (Asked n line reply) e h = tt
-one_after ds (Noting m a z way) (Fell t) e h = tt
-one_after ds (Leaving a) (Loaded w v) e h = tt
-one_after ds (Leaving a) (Stored w v) e h = tt
-one_after ds (Leaving a) (Found x) e h = tt
-one_after ds (Leaving a) (Intended n x) e h = tt
-one_after ds (Leaving a) (Performed n x reply) e h = tt
-one_after ds (Leaving a) (Noted n c) e h = tt
-one_after ds (Leaving a) (Asked n line reply) e h = tt
-one_after ds (Leaving a) (Fell t) e h = tt
-one_after ds (Asking intents) (Loaded w v) e h = tt
-one_after ds (Asking intents) (Stored w v) e h = tt
-one_after ds (Asking intents) (Found x) e h = tt
-one_after ds (Asking intents) (Intended n x) e h = tt
-one_after ds (Asking intents) (Performed n x reply) e h = tt
-one_after ds (Asking intents) (Noted n c) e h = tt
-one_after ds (Asking intents) (Asked n line reply) e h = asked_after (ds ++ Asked n line reply ∷ []) intents reply
-one_after ds (Asking intents) (Fell t) e h = tt
-one_after ds (Settling m z way rest) (Loaded w v) e h = tt
-one_after ds (Settling m z way rest) (Stored w v) e h = tt
-one_after ds (Settling m z way rest) (Found x) e h = tt
-one_after ds (Settling m z way rest) (Intended n x) e h = tt
-one_after ds (Settling m z way rest) (Performed n x reply) e h = tt
-one_after ds (Settling m z way rest) (Noted n c) e h = asking_after (ds ++ Noted n c ∷ []) way rest
-one_after ds (Settling m z way rest) (Asked n line reply) e h = tt
-one_after ds (Settling m z way rest) (Fell t) e h = tt
-one_after ds (Dismissed rest) (Loaded w v) e h = tt
-one_after ds (Dismissed rest) (Stored w v) e h = tt
-one_after ds (Dismissed rest) (Found x) e h = tt
-one_after ds (Dismissed rest) (Intended n x) e h = tt
-one_after ds (Dismissed rest) (Performed n x reply) e h = tt
-one_after ds (Dismissed rest) (Noted n c) e h = tt
-one_after ds (Dismissed rest) (Asked n line reply) e h = tt
-one_after ds (Dismissed rest) (Fell t) e h = tt
-one_after ds Gone (Loaded w v) e h = tt
-one_after ds Gone (Stored w v) e h = tt
-one_after ds Gone (Found x) e h = tt
-one_after ds Gone (Intended n x) e h = tt
-one_after ds Gone (Performed n x reply) e h = tt
-one_after ds Gone (Noted n c) e h = tt
-one_after ds Gone (Asked n line reply) e h = tt
-one_after ds Gone (Fell t) e h = tt
-one_after ds (Unanswered m told) (Loaded w v) e h = tt
-one_after ds (Unanswered m told) (Stored w v) e h = tt
-one_after ds (Unanswered m told) (Found x) e h = tt
-one_after ds (Unanswered m told) (Intended n x) e h = tt
-one_after ds (Unanswered m told) (Performed n x reply) e h = tt
-one_after ds (Unanswered m told) (Noted n c) e h = tt
-one_after ds (Unanswered m told) (Asked n line reply) e h = tt
-one_after ds (Unanswered m told) (Fell t) e h = tt
-one_after ds (Refused y z) (Loaded w v) e h = tt
-one_after ds (Refused y z) (Stored w v) e h = tt
-one_after ds (Refused y z) (Found x) e h = tt
-one_after ds (Refused y z) (Intended n x) e h = tt
-one_after ds (Refused y z) (Performed n x reply) e h = tt
-one_after ds (Refused y z) (Noted n c) e h = tt
-one_after ds (Refused y z) (Asked n line reply) e h = tt
-one_after ds (Refused y z) (Fell t) e h = tt
-one_after ds Broken (Loaded w v) e h = tt
-one_after ds Broken (Stored w v) e h = tt
-one_after ds Broken (Found x) e h = tt
-one_after ds Broken (Intended n x) e h = tt
-one_after ds Broken (Performed n x reply) e h = tt
-one_after ds Broken (Noted n c) e h = tt
-one_after ds Broken (Asked n line reply) e h = tt
-one_after ds Broken (Fell t) e h = tt
+abbrev pub is_note : Option Try → Bool
+is_note None = false
+is_note (Some (Note n c)) = true
+is_note (Some t) = false
 
-all_after : (ds : List Deed) (s : Stage) (more : List Deed) → AreDue s more → IsAfter ds s → IsAfter (ds ++ more) (stage_after_all s more)
-all_after ds s [] h a = subst (λ l. IsAfter l s) (sym (append-nil ds)) a
-all_after ds s (d ∷ more) h a =
-    subst (λ l. IsAfter l (stage_after_all (stage_after s d) more)) (append_assoc ds (d ∷ []) more) (all_after (ds ++ d ∷ []) (stage_after s d) more h.1 (one_after ds s d h.0 a))
+abbrev answer_in : Option Try → Answer
+answer_in None = Doubt
+answer_in (Some (Note n c)) = c
+answer_in (Some t) = Doubt
 
-due_before : (s : Stage) (before after : List Deed) (d : Deed) → AreDue s (before ++ d ∷ after) → AreDue s before × (due (stage_after_all s before) ≡ Some (try_of d))
-due_before s [] after d h = (tt, h.0)
-due_before s (x ∷ xs) after d h = let r = due_before (stage_after s x) xs after d h.1 in ((h.0, r.0), r.1)
+no_note : (x : Access) (n : ℕ) (c : Answer) → access_tried x ≡ Some (Note n c) → true ≡ false
+no_note (LoadAccess w) n c e = sym (ap is_note e)
+no_note (StoreAccess w v) n c e = sym (ap is_note e)
+no_note Nothing n c e = sym (ap is_note e)
 
-pub just_intended : (s : ℕ) (a : ProcessView) (before after : List Deed) (d : Deed) (n j : ℕ) → try_of d ≡ Perform n j → AreDue (Going s a Go) (before ++ d ∷ after)
-    → HasJustIntended (Going s a Go) before n j
-just_intended s a before after d n j is h =
-    let parts = due_before (Going s a Go) before after d h in
-    let e = parts.1 ∙ ap (λ t. Some t) is in
-    let at = performing_only (stage_after_all (Going s a Go) before) n j e in
-    let f = subst (IsAfter before) at.2 (all_after [] (Going s a Go) before parts.0 tt) in
+-- a deed among others, each of which was due
+pub due_among : (s : Stage) (before after : List Deed) (d : Deed) → AreDue s (before ++ d ∷ after)
+    → AreDue s before × (due (stage_after_all s before) ≡ Some (try_of d)) × AreDue (stage_after (stage_after_all s before) d) after
+due_among s [] after d h = (tt, h.0, h.1)
+due_among s (x ∷ xs) after d h = let r = due_among (stage_after s x) xs after d h.1 in ((h.0, r.0), r.1, r.2)
+
+-- a performance is due by just its intent
+pub performing_at : (s : Stage) (n j : ℕ) → due s ≡ Some (Perform n j) → (a : ProcessView) × (s ≡ Performing n a j)
+performing_at s n j e =
+    let at = performing_only s n j e in
     let same : at.0 ≡ n = ap serial_in (sym (ap due at.2) ∙ e) in
-    record {
-      earlier = f.0;
-      access = f.1;
-      is = f.2 ∙ ap (λ x. f.0 ++ f.1 ∷ Intended x j ∷ []) same;
-      process = at.1;
-      stands = at.2 ∙ ap (λ x. Performing x at.1 j) same;
-      told = f.3;
+    (at.1, at.2 ∙ ap (λ x. Performing x at.1 j) same)
+
+module _ (g : Givens) (p s : ℕ) where
+  abbrev first : Stage
+  first = first_stage g p s
+
+  -- What was done last where an intent, a performance or a note is due. In such a course nothing is asked for.
+
+  abbrev IsAfter : List Deed → Stage → Type 0
+  IsAfter ds (Intending n a j) = HasJustClaimed g p first ds n j a
+  IsAfter ds (Performing n a j) = (earlier : List Deed) × (ds ≡ earlier ++ Intended n j ∷ []) × HasJustClaimed g p first earlier n j a
+  IsAfter ds (Noting n a c way) = HasJustAnswered ds n c
+  IsAfter ds (Asking intents) = ⊥
+  IsAfter ds (Settling n c way rest) = ⊥
+  IsAfter ds s = ⊤
+
+  -- a number was heard, and the process may be told a job by it
+
+  module _ (ds : List Deed) (n : ℕ) (a : ProcessView) (came : (j : ℕ) → 1 ≤ j → told_by a.standing ≡ j → HasJustClaimed g p first ds n j a) where
+    jobs_after : (t x : ℕ) → told_by a.standing ≡ t → IsAfter ds (stage_by_jobs n a t x)
+    jobs_after zero zero e = tt
+    jobs_after zero (suc j) e = tt
+    jobs_after (suc j) x e = came (suc j) (omega arith) e
+
+    heard_after : (way : Way) → IsAfter ds (stage_heard n way a)
+    heard_after Go = jobs_after (told_by a.standing) (doubted_by a.standing) refl
+    heard_after Leave = by (may_leave a.standing)
+      where
+        by : (b : Bool) → IsAfter ds (if b then Leaving a else Going n a Leave)
+        by true = tt
+        by false = tt
+
+    told_after : (w v : ℕ) (way : Way) → IsAfter ds (stage_told w v n way a)
+    told_after w v way = by (is_refused a.standing)
+      where
+        by : (b : Bool) → IsAfter ds (if b then Refused w v else stage_heard n way a)
+        by true = tt
+        by false = heard_after way
+
+  -- the access by which it is told a job is the store of the claim
+  module _ (hs : List ℕ) (a : ProcessView) (is : a ≡ process_of g p hs) (j : ℕ) where
+    claiming : (v : ℕ) → 1 ≤ j → told_by (process_after a v).standing ≡ j → IsClaiming g p hs j
+    claiming v some told = was_claiming g p hs v j some (sym (ap told_by (standing_is g p (hs ++ v ∷ []) (process_after a v) (hears_more g p hs a is v))) ∙ told)
+
+    abbrev wanted_access : Option Try
+    wanted_access = access_tried (access_of a.givens a.number a.standing)
+
+    claim_due : (c : IsClaiming g p hs j) → wanted_access ≡ Some (Store (claim_word g p) (length c.machine.state.claimed + 1))
+    claim_due c = ap access_tried (sym (access_is g p hs a is) ∙ claim_wanted g p hs j c)
+
+    not_loaded : (c : IsClaiming g p hs j) (w : ℕ) → wanted_access ≡ Some (Load w) → true ≡ false
+    not_loaded c w e = ap is_store (sym (claim_due c) ∙ e)
+
+    by_claim : (c : IsClaiming g p hs j) (ds : List Deed) (n : ℕ) (way : Way) (w v : ℕ) → stage_after_all first ds ≡ Going n a way → wanted_access ≡ Some (Store w v)
+        → told_by (process_after a 0).standing ≡ j → HasJustClaimed g p first (ds ++ Stored w v ∷ []) n j (process_after a 0)
+    by_claim c ds n way w v at e told = record {
+      earlier = ds;
+      count = length c.machine.state.claimed + 1;
+      is = λ i. let t = (sym e ∙ claim_due c) i in ds ++ Stored (word_in t) (value_in t) ∷ [];
+      before = a;
+      way = way;
+      stood = at;
+      machine = c.machine;
+      fresh = c.fresh;
+      standing = standing_is g p hs a is ∙ c.stands;
+      wanted = ap (want_in c.machine.state) c.phase;
+      after = refl;
+      told = told;
     }
+
+  -- this came in answer to intent m
+  replied_after : (ds : List Deed) (m n j : ℕ) (a : ProcessView) (reply : Reply) → m ≡ n → IsAfter (ds ++ Performed n j reply ∷ []) (stage_replied m a reply)
+  replied_after ds m n j a (Answered k c way) is = by (k == m) refl
+    where
+      by : (b : Bool) → (k == m) ≡ b → IsAfter (ds ++ Performed n j (Answered k c way) ∷ []) (if b then Noting m a c way else Unanswered m (Answered k c way))
+      by true same = record { earlier = ds; job = j; way = way; is = λ i. ds ++ Performed (sym is i) j (Answered (eqb-true k m same i) c way) ∷ [] }
+      by false other = tt
+  replied_after ds m n j a (Running k way) is = by (k == m)
+    where
+      by : (b : Bool) → IsAfter (ds ++ Performed n j (Running k way) ∷ []) (if b then Going (m + 1) a way else Unanswered m (Running k way))
+      by true = tt
+      by false = tt
+  replied_after ds m n j a Garbled is = tt
+  replied_after ds m n j a Closed is = tt
+
+  one_after : (ds : List Deed) (hs : List ℕ) (t : Stage) (d : Deed) → stage_after_all first ds ≡ t → Shown g p hs t → due t ≡ Some (try_of d) → IsAfter ds t
+      → IsAfter (ds ++ d ∷ []) (stage_after t d)
+  one_after ds hs (Going n a way) (Loaded w v) at f e h = told_after (ds ++ Loaded w v ∷ []) n (process_after a v)
+      (λ j some told. absurd (true≢false (not_loaded hs a f j (claiming hs a f j v some told) w e))) w v way
+  one_after ds hs (Going n a way) (Stored w v) at f e h = told_after (ds ++ Stored w v ∷ []) n (process_after a 0)
+      (λ j some told. by_claim hs a f j (claiming hs a f j 0 some told) ds n way w v at e told) w v way
+  one_after ds hs (Intending m a i) (Intended n j) at f e h = (ds, (λ k. ds ++ Intended (serial_in (sym e k)) (job_in (sym e k)) ∷ []), h)
+  one_after ds hs (Intending m a i) (Fell t) at f e h = tt
+  one_after ds hs (Intending m a i) d at f e h = absurd (true≢false (ap is_intent e))
+  one_after ds hs (Performing m a i) (Performed n j reply) at f e h = replied_after ds m n j a reply (ap serial_in e)
+  one_after ds hs (Performing m a i) (Fell t) at f e h = tt
+  one_after ds hs (Performing m a i) d at f e h = absurd (true≢false (ap is_performance e))
+  one_after ds hs (Noting m a z way) (Noted n c) at f e h = tt
+  one_after ds hs (Noting m a z way) (Fell t) at f e h = tt
+  one_after ds hs (Noting m a z way) d at f e h = absurd (true≢false (ap is_note e))
+  one_after ds hs (Asking intents) d at f e h = absurd h
+  one_after ds hs (Settling m z way rest) d at f e h = absurd h
+  one_after ds hs t (Loaded w v) at f e h = tt
+  one_after ds hs t (Stored w v) at f e h = tt
+  one_after ds hs t (Found j) at f e h = tt
+  one_after ds hs t (Intended n j) at f e h = tt
+  one_after ds hs t (Performed n j reply) at f e h = tt
+  one_after ds hs t (Noted n c) at f e h = tt
+  one_after ds hs t (Asked n line reply) at f e h = tt
+  one_after ds hs t (Fell x) at f e h = tt
+
+  all_after : (ds more : List Deed) → AreDue (stage_after_all first ds) more → IsAfter ds (stage_after_all first ds) → IsAfter (ds ++ more) (stage_after_all first (ds ++ more))
+  all_after ds [] h a = subst (λ l. IsAfter l (stage_after_all first l)) (sym (append-nil ds)) a
+  all_after ds (d ∷ more) h a =
+      let shown = all_shown g p [] first ds refl in
+      let leads = stage_after_more first ds d in
+      subst (λ l. IsAfter l (stage_after_all first l)) (append_assoc ds (d ∷ []) more)
+      (all_after (ds ++ d ∷ []) more (subst (λ z. AreDue z more) (sym leads) h.1)
+      (subst (IsAfter (ds ++ d ∷ [])) (sym leads) (one_after ds shown.0 (stage_after_all first ds) d refl shown.1 h.0 a)))
+
+  pub just_intended : (before after : List Deed) (d : Deed) (n j : ℕ) → try_of d ≡ Perform n j → AreDue first (before ++ d ∷ after) → HasJustIntended g p first before n j
+  just_intended before after d n j is h =
+      let parts = due_among first before after d h in
+      let at = performing_at (stage_after_all first before) n j (parts.1 ∙ ap (λ t. Some t) is) in
+      let f = subst (IsAfter before) at.1 (all_after [] before parts.0 tt) in
+      record { earlier = f.0; process = at.0; is = f.1; claimed = f.2; stands = at.1 }
+
+  answered_at : (ds : List Deed) (t : Stage) (n : ℕ) (c : Answer) → due t ≡ Some (Note n c) → IsAfter ds t → HasJustAnswered ds n c
+  answered_at ds (Noting m a z way) n c e h = subst (λ o. HasJustAnswered ds (serial_in o) (answer_in o)) e h
+  answered_at ds (Going m a way) n c e h = absurd (true≢false (no_note (access_of a.givens a.number a.standing) n c e))
+  answered_at ds (Asking intents) n c e h = absurd h
+  answered_at ds (Settling m z way rest) n c e h = absurd h
+  answered_at ds t n c e h = absurd (true≢false (sym (ap is_note e)))
+
+  pub just_answered : (before after : List Deed) (d : Deed) (n : ℕ) (c : Answer) → try_of d ≡ Note n c → AreDue first (before ++ d ∷ after) → HasJustAnswered before n c
+  just_answered before after d n c is h =
+      let parts = due_among first before after d h in
+      answered_at before (stage_after_all first before) n c (parts.1 ∙ ap (λ t. Some t) is) (all_after [] before parts.0 tt)

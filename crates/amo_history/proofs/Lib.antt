@@ -1,6 +1,11 @@
 mod Stages
+mod Claims
+mod Spent
 mod Histories
 mod Once
 mod Logs
 mod Example
 mod Courses
+mod Handed
+mod Found
+mod Farewell

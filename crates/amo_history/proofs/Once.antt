@@ -1,96 +1,27 @@
 -- No job is handed to a partner twice.
-use Rattle.std.proofs.Common.{◌≡◌, ⊎_elim, ℕ, ◌+◌, ◌≤◌, Bool, true, false, ◌||◌, refl, sym, ap, ◌∙◌, subst, List, [], ◌∷◌, ◌++◌, Some}
-use Rattle.std.specs.Prelude.{if◌then◌else◌, ◌==◌}
-use Rattle.std.proofs.lemmas.Bool.{true≢false, ne_eqb, cases_eq}
+use Rattle.std.proofs.Common.{◌≡◌, ⊎_elim, ℕ, ◌≤◌, true, false, ◌||◌, refl, sym, ap, ◌∙◌, subst, List, [], ◌∷◌, ◌++◌, Some}
+use Rattle.std.proofs.lemmas.Bool.{true≢false, ne_eqb, cases_eq, or_from}
 use Rattle.amo_sets.specs.Lists.{numbered, put}
 use Rattle.amo_sets.specs.Sets.{has, AreDistinct}
 use Rattle.amo_sets.proofs.Numbers.{numbered-put_other, has-append}
 use Rattle.amo_kk.specs.Givens.{IsWorker}
 use Rattle.amo_kk.specs.declared.givens.Givens.{Givens}
-use Rattle.amo_process.specs.Heard.{told_by}
 use Rattle.amo_process.specs.Shared.{Shared, first_shared, shared_after_all, shared_of, told_to_perform, AreOfWorkers, HasNoStep}
-use Rattle.amo_process.specs.Stepped.{ProcessView}
 use Rattle.amo_process.specs.declared.model.Happening.{Happening}
 use Rattle.amo_process.proofs.Told.{told_once}
-use Rattle.amo_course.specs.declared.answer.Answer.{Answer}
-use Rattle.amo_course.specs.declared.answer.Reply.{Reply}
-use Rattle.amo_course.specs.declared.answer.Reply.TheVariants.{Answered, Running, Garbled, Closed}
-use Rattle.amo_course.specs.declared.answer.Way.{Way}
-use Rattle.amo_course.specs.declared.answer.Way.TheVariants.{Go, Leave}
 use Rattle.amo_course.specs.declared.model.Deed.{Deed}
 use Rattle.amo_course.specs.declared.model.Deed.TheVariants.{Loaded, Stored, Found, Intended, Performed, Noted, Asked, Fell}
 use Rattle.amo_course.specs.declared.model.Try.{Try}
 use Rattle.amo_course.specs.declared.model.Try.TheVariants.{Load, Store, Find, Intend, Perform, Note, Ask}
-use Rattle.amo_course.specs.declared.past.Intent.{Intent}
-use Rattle.amo_course.specs.Stage.{Stage, Going, Finding, Intending, Performing, Noting, Leaving, Asking, Settling, Gone, Unanswered, Broken}
-use Rattle.amo_course.specs.Course.{try_of, due, stage_replied, stage_asking, stage_asked, stage_after, first_stage}
+use Rattle.amo_course.specs.Stage.{Stage, Going, Leaving, Gone, Broken}
+use Rattle.amo_course.specs.Course.{try_of, due, stage_after, first_stage}
 use Rattle.amo_history.specs.Scene.{Scene, first_scene, stage_at, scene_after, MayBe, IsHistoryFrom, IsHistory, handed_by_try, handed_by, handed_jobs}
 use Rattle.amo_history.specs.declared.model.Moment.{Moment}
 use Rattle.amo_history.specs.declared.model.Moment.TheVariants.{Does, Loses, Begins}
-use Rattle.amo_history.proofs.Stages.{Shown, is_performance, performing_only, standing_is}
+use Rattle.amo_history.proofs.Spent.{is_spent, found_spent, intended_spent, performed_spent, noted_spent, asked_for_spent, after_handing, here_told}
 use Rattle.amo_history.proofs.Histories.{happening, happening_done, happenings_at, shared-append, workers-append, no_step_parts, moment_workers, ShowsScene, stage_is, first_scene_shows, moment_shows}
 
--- The job in its hand, if there is one, was handed to the partner already: no performance is to come before the next access.
-abbrev pub is_spent : Stage → Bool
-is_spent (Intending s a j) = false
-is_spent (Performing s a j) = false
-is_spent s = true
-
-replied_spent : (s : ℕ) (a : ProcessView) (reply : Reply) → is_spent (stage_replied s a reply) ≡ true
-replied_spent s a (Answered n c way) = by (n == s)
-  where
-    by : (b : Bool) → is_spent (if b then Noting s a c way else Unanswered s (Answered n c way)) ≡ true
-    by true = refl
-    by false = refl
-replied_spent s a (Running n way) = by (n == s)
-  where
-    by : (b : Bool) → is_spent (if b then Going (s + 1) a way else Unanswered s (Running n way)) ≡ true
-    by true = refl
-    by false = refl
-replied_spent s a Garbled = refl
-replied_spent s a Closed = refl
-
-asking_spent : (way : Way) (rest : List Intent) → is_spent (stage_asking way rest) ≡ true
-asking_spent Go rest = refl
-asking_spent Leave rest = refl
-
-asked_spent : (intents : List Intent) (reply : Reply) → is_spent (stage_asked intents reply) ≡ true
-asked_spent [] reply = refl
-asked_spent (i ∷ rest) (Answered n c way) = by (n == i.serial)
-  where
-    by : (b : Bool) → is_spent (if b then Settling i.serial c way rest else Unanswered i.serial (Answered n c way)) ≡ true
-    by true = refl
-    by false = refl
-asked_spent (i ∷ rest) (Running n way) = by (n == i.serial)
-  where
-    by : (b : Bool) → is_spent (if b then stage_asking way rest else Unanswered i.serial (Running n way)) ≡ true
-    by true = asking_spent way rest
-    by false = refl
-asked_spent (i ∷ rest) Garbled = refl
-asked_spent (i ∷ rest) Closed = refl
-
--- it stays spent until the next access
-
-found_spent : (s : Stage) (j : ℕ) → is_spent s ≡ true → is_spent (stage_after s (Found j)) ≡ true
-found_spent (Finding s a i) j h = refl
-found_spent s j h = h
-
-intended_spent : (s : Stage) (n j : ℕ) → is_spent s ≡ true → is_spent (stage_after s (Intended n j)) ≡ true
-intended_spent (Intending s a i) n j h = absurd (true≢false (sym h))
-intended_spent s n j h = h
-
-performed_spent : (s : Stage) (n j : ℕ) (reply : Reply) → is_spent s ≡ true → is_spent (stage_after s (Performed n j reply)) ≡ true
-performed_spent (Performing s a i) n j reply h = absurd (true≢false (sym h))
-performed_spent s n j reply h = h
-
-noted_spent : (s : Stage) (n : ℕ) (c : Answer) → is_spent s ≡ true → is_spent (stage_after s (Noted n c)) ≡ true
-noted_spent (Noting s a x way) n c h = refl
-noted_spent (Settling s x way rest) n c h = asking_spent way rest
-noted_spent s n c h = h
-
-asked_for_spent : (s : Stage) (n line : ℕ) (reply : Reply) → is_spent s ≡ true → is_spent (stage_after s (Asked n line reply)) ≡ true
-asked_for_spent (Asking intents) n line reply h = asked_spent intents reply
-asked_for_spent s n line reply h = h
+-- it stays so until the next access
 
 loaded_spent : (p : ℕ) (s : Stage) (w v : ℕ) → HasNoStep p (happening p s (Load w)) → is_spent s ≡ true → is_spent (stage_after s (Loaded w v)) ≡ true
 loaded_spent p (Going s a way) w v none h = absurd (none.0 refl)
@@ -111,19 +42,6 @@ still_spent p s (Noted n c) none h = noted_spent s n c h
 still_spent p s (Asked n line reply) none h = asked_for_spent s n line reply h
 still_spent p s (Fell t) none h = refl
 
--- it is spent once it was handed over
-after_handing : (s : Stage) (d : Deed) (n j : ℕ) → due s ≡ Some (Perform n j) → try_of d ≡ Perform n j → is_spent (stage_after s d) ≡ true
-after_handing s (Loaded w v) n j e is = absurd (true≢false (sym (ap (λ t. is_performance (Some t)) is)))
-after_handing s (Stored w v) n j e is = absurd (true≢false (sym (ap (λ t. is_performance (Some t)) is)))
-after_handing s (Found i) n j e is = absurd (true≢false (sym (ap (λ t. is_performance (Some t)) is)))
-after_handing s (Intended m i) n j e is = absurd (true≢false (sym (ap (λ t. is_performance (Some t)) is)))
-after_handing s (Performed m i reply) n j e is =
-    let at = performing_only s n j e in
-    ap (λ (z : Stage). is_spent (stage_after z (Performed m i reply))) at.2 ∙ replied_spent at.0 at.1 reply
-after_handing s (Noted m c) n j e is = absurd (true≢false (sym (ap (λ t. is_performance (Some t)) is)))
-after_handing s (Asked m line reply) n j e is = absurd (true≢false (sym (ap (λ t. is_performance (Some t)) is)))
-after_handing s (Fell t) n j e is = refl
-
 -- a moment with no access of p, and no new process of it
 module _ (g : Givens) (sc : Scene) (sh : Shared) (shows : ShowsScene g sc sh) (p : ℕ) (o : IsWorker g p) where
   put_spent : (q : ℕ) (s : Stage) → (q ≡ p → is_spent s ≡ true) → is_spent (stage_at sc p) ≡ true → is_spent (numbered Gone (put sc.stages q s) p) ≡ true
@@ -138,25 +56,6 @@ module _ (g : Givens) (sc : Scene) (sh : Shared) (shows : ShowsScene g sc sh) (p
   moment_spent (Loses q t) none spent = put_spent q Broken (λ e. refl) spent
   moment_spent (Begins q n) none spent = put_spent q (first_stage g q n) (λ e. refl) spent
 
-  -- where a process hands a job to its partner, it is told to perform it
-  pub record IsTold (j : ℕ) : Type 0 where
-    pub told : told_to_perform g sh p ≡ j
-    pub low : 1 ≤ j
-    pub unspent : is_spent (stage_at sc p) ≡ false
-
-  here_told : (n j : ℕ) → due (stage_at sc p) ≡ Some (Perform n j) → IsTold j
-  here_told n j e =
-      let at = performing_only (stage_at sc p) n j e in
-      let f = subst (Shown g p (numbered [] sh.lists p)) at.2 (shows.shown p o) in
-      record {
-        told = sym (ap told_by (standing_is g p (numbered [] sh.lists p) at.1 f.0)) ∙ f.1;
-        low = f.2;
-        unspent = ap is_spent at.2;
-      }
-
-none_of : (x y : Bool) → x ≡ false → y ≡ false → (x || y) ≡ false
-none_of x y e f = ap (λ b. b || y) e ∙ f
-
 -- once a job was told to p, and p has handed it to its partner, nobody does so again
 module _ (g : Givens) (hs : List Happening) (w : AreOfWorkers g hs) (p : ℕ) (o : IsWorker g p) (j : ℕ) (low : 1 ≤ j) (told : told_to_perform g (shared_of g hs) p ≡ j) where
   not_here : (sc : Scene) (more : List Happening) → AreOfWorkers g more → ShowsScene g sc (shared_after_all g (shared_of g hs) more)
@@ -167,7 +66,7 @@ module _ (g : Givens) (hs : List Happening) (w : AreOfWorkers g hs) (p : ℕ) (o
   not_here sc more x shows spent q v (Intend n i) e = refl
   not_here sc more x shows spent q v (Perform n i) e = ⊎_elim
       (λ (same : i ≡ j).
-      let t = here_told g sc (shared_after_all g (shared_of g hs) more) shows q v n i e in
+      let t = here_told g q (numbered [] (shared_after_all g (shared_of g hs) more).lists q) (stage_at sc q) n i (shows.shown q v) e in
       let once = told_once g hs more p q j w x o v low told (t.told ∙ same) in
       absurd (true≢false (sym (spent once.1) ∙ subst (λ y. is_spent (stage_at sc y) ≡ false) (sym once.0) t.unspent)))
       (λ other. ap (λ b. b || false) (ne_eqb i j other))
@@ -186,7 +85,7 @@ module _ (g : Givens) (hs : List Happening) (w : AreOfWorkers g hs) (p : ℕ) (o
   never sc more x shows spent [] h = refl
   never sc more x shows spent (m ∷ ms) h =
       has-append (handed_by m) (handed_jobs ms) j
-      ∙ none_of _ _ (moment_not_here sc more x shows spent m h.0)
+      ∙ or_from _ _ (moment_not_here sc more x shows spent m h.0)
       (never (scene_after g sc m) (more ++ happenings_at sc m) (workers-append g more (happenings_at sc m) x (moment_workers g sc m h.0))
       (subst (λ y. ShowsScene g (scene_after g sc m) y) (sym (shared-append g (shared_of g hs) more (happenings_at sc m))) (moment_shows g sc (shared_after_all g (shared_of g hs) more) m shows h.0))
       (λ none. let parts = no_step_parts p more (happenings_at sc m) none in moment_spent g sc (shared_after_all g (shared_of g hs) more) shows p o m parts.1 (spent parts.0))
@@ -202,7 +101,7 @@ module _ (g : Givens) (hs : List Happening) (w : AreOfWorkers g hs) (sc : Scene)
   by_try m may ms h rest p o (Find i) e spent = rest
   by_try m may ms h rest p o (Intend n i) e spent = rest
   by_try m may ms h rest p o (Perform n i) e spent =
-      let t = here_told g sc (shared_of g hs) shows p o n i e in (
+      let t = here_told g p (numbered [] (shared_of g hs).lists p) (stage_at sc p) n i (shows.shown p o) e in (
         never g hs w p o i t.low t.told (scene_after g sc m) (happenings_at sc m) (moment_workers g sc m may) (moment_shows g sc (shared_of g hs) m shows may)
             (λ _. spent n i refl) ms h,
         rest,

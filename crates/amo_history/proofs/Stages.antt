@@ -14,12 +14,13 @@ use Rattle.amo_course.specs.declared.answer.Reply.{Reply}
 use Rattle.amo_course.specs.declared.answer.Reply.TheVariants.{Answered, Running, Garbled, Closed}
 use Rattle.amo_course.specs.declared.answer.Way.{Way}
 use Rattle.amo_course.specs.declared.answer.Way.TheVariants.{Go, Leave}
-use Rattle.amo_course.specs.declared.model.Deed.TheVariants.{Found, Intended, Performed, Noted, Asked}
+use Rattle.amo_course.specs.declared.model.Deed.{Deed}
+use Rattle.amo_course.specs.declared.model.Deed.TheVariants.{Loaded, Stored, Found, Intended, Performed, Noted, Asked, Fell}
 use Rattle.amo_course.specs.declared.model.Try.{Try}
 use Rattle.amo_course.specs.declared.model.Try.TheVariants.{Intend, Load, Store, Perform}
 use Rattle.amo_course.specs.declared.past.Intent.{Intent}
 use Rattle.amo_course.specs.Stage.{Stage, Going, Finding, Intending, Performing, Noting, Leaving, Asking, Settling, Dismissed, Gone, Unanswered, Refused, Broken}
-use Rattle.amo_course.specs.Course.{access_tried, due, stage_by_jobs, stage_heard, stage_told, stage_replied, stage_asking, stage_asked, stage_after}
+use Rattle.amo_course.specs.Course.{access_tried, due, stage_by_jobs, stage_heard, stage_told, stage_replied, stage_asking, stage_asked, stage_after, stage_after_all}
 
 -- what was tried, in parts
 
@@ -28,7 +29,7 @@ is_load None = false
 is_load (Some (Load w)) = true
 is_load (Some t) = false
 
-abbrev is_store : Option Try → Bool
+abbrev pub is_store : Option Try → Bool
 is_store None = false
 is_store (Some (Store w v)) = true
 is_store (Some t) = false
@@ -38,13 +39,13 @@ is_performance None = false
 is_performance (Some (Perform n j)) = true
 is_performance (Some t) = false
 
-abbrev word_in : Option Try → ℕ
+abbrev pub word_in : Option Try → ℕ
 word_in None = 0
 word_in (Some (Load w)) = w
 word_in (Some (Store w v)) = w
 word_in (Some t) = 0
 
-abbrev value_in : Option Try → ℕ
+abbrev pub value_in : Option Try → ℕ
 value_in None = 0
 value_in (Some (Store w v)) = v
 value_in (Some t) = 0
@@ -156,10 +157,11 @@ module _ (g : Givens) (p : ℕ) (hs : List ℕ) (a : ProcessView) (is : a ≡ pr
       givens_is = ap (λ (z : ProcessView). z.givens) is ∙ (kept (new_process g p) hs).0
 
 -- The process that stands there has heard these numbers since it began: it is told to perform a job whose intent is to be put,
--- and may leave where it leaves. Of one that has ended, and of one that asks for intents, nothing is said.
+-- or that a job is in doubt which is found, and may leave where it leaves. Of one that has ended, and of one that asks for
+-- intents, nothing is said.
 abbrev pub Shown : Givens → ℕ → List ℕ → Stage → Type 0
 Shown g p hs (Going s a way) = a ≡ process_of g p hs
-Shown g p hs (Finding s a j) = a ≡ process_of g p hs
+Shown g p hs (Finding s a j) = (a ≡ process_of g p hs) × (doubted_by a.standing ≡ j) × (1 ≤ j)
 Shown g p hs (Intending s a j) = (a ≡ process_of g p hs) × (told_by a.standing ≡ j) × (1 ≤ j)
 Shown g p hs (Performing s a j) = (a ≡ process_of g p hs) × (told_by a.standing ≡ j) × (1 ≤ j)
 Shown g p hs (Noting s a c way) = a ≡ process_of g p hs
@@ -176,17 +178,17 @@ module _ (g : Givens) (p : ℕ) (hs : List ℕ) where
   -- after a number was heard
 
   module _ (s : ℕ) (a : ProcessView) (is : a ≡ process_of g p hs) where
-    jobs_shown : (t d : ℕ) → told_by a.standing ≡ t → Shown g p hs (stage_by_jobs s a t d)
-    jobs_shown zero zero e = is
-    jobs_shown zero (suc j) e = is
-    jobs_shown (suc j) d e = (is, e, omega arith)
+    jobs_shown : (t d : ℕ) → told_by a.standing ≡ t → doubted_by a.standing ≡ d → Shown g p hs (stage_by_jobs s a t d)
+    jobs_shown zero zero e x = is
+    jobs_shown zero (suc j) e x = (is, x, omega arith)
+    jobs_shown (suc j) d e x = (is, e, omega arith)
 
     leaving_shown : (b : Bool) → may_leave a.standing ≡ b → Shown g p hs (if b then Leaving a else Going s a Leave)
     leaving_shown true e = (is, e)
     leaving_shown false e = is
 
     heard_shown : (way : Way) → Shown g p hs (stage_heard s way a)
-    heard_shown Go = jobs_shown (told_by a.standing) (doubted_by a.standing) refl
+    heard_shown Go = jobs_shown (told_by a.standing) (doubted_by a.standing) refl refl
     heard_shown Leave = leaving_shown (may_leave a.standing) refl
 
     pub told_shown : (w v : ℕ) (way : Way) → Shown g p hs (stage_told w v s way a)
@@ -232,7 +234,7 @@ module _ (g : Givens) (p : ℕ) (hs : List ℕ) where
   -- after a deed that no process hears
 
   pub found_shown : (s : Stage) (j : ℕ) → Shown g p hs s → Shown g p hs (stage_after s (Found j))
-  found_shown (Finding s a i) j f = f
+  found_shown (Finding s a i) j f = f.0
   found_shown s j f = f
 
   pub intended_shown : (s : Stage) (n j : ℕ) → Shown g p hs s → Shown g p hs (stage_after s (Intended n j))
@@ -251,3 +253,39 @@ module _ (g : Givens) (p : ℕ) (hs : List ℕ) where
   pub asked_for_shown : (s : Stage) (n line : ℕ) (reply : Reply) → Shown g p hs s → Shown g p hs (stage_after s (Asked n line reply))
   asked_for_shown (Asking intents) n line reply f = asked_shown intents reply
   asked_for_shown s n line reply f = f
+
+-- what a process has heard after a deed: an access gives it one more number, where one is due
+
+abbrev pub heard_at : List ℕ → Stage → ℕ → List ℕ
+heard_at hs (Going s a way) v = hs ++ v ∷ []
+heard_at hs s v = hs
+
+abbrev pub heard_with : List ℕ → Stage → Deed → List ℕ
+heard_with hs s (Loaded w v) = heard_at hs s v
+heard_with hs s (Stored w v) = heard_at hs s 0
+heard_with hs s d = hs
+
+module _ (g : Givens) (p : ℕ) where
+  loaded_shown : (hs : List ℕ) (s : Stage) (w v : ℕ) → Shown g p hs s → Shown g p (heard_at hs s v) (stage_after s (Loaded w v))
+  loaded_shown hs (Going n a way) w v f = told_shown g p (hs ++ v ∷ []) n (process_after a v) (hears_more g p hs a f v) w v way
+  loaded_shown hs s w v f = f
+
+  stored_shown : (hs : List ℕ) (s : Stage) (w v : ℕ) → Shown g p hs s → Shown g p (heard_at hs s 0) (stage_after s (Stored w v))
+  stored_shown hs (Going n a way) w v f = told_shown g p (hs ++ 0 ∷ []) n (process_after a 0) (hears_more g p hs a f 0) w v way
+  stored_shown hs (Leaving a) w v f = tt
+  stored_shown hs s w v f = f
+
+  pub shown_with : (hs : List ℕ) (s : Stage) (d : Deed) → Shown g p hs s → Shown g p (heard_with hs s d) (stage_after s d)
+  shown_with hs s (Loaded w v) f = loaded_shown hs s w v f
+  shown_with hs s (Stored w v) f = stored_shown hs s w v f
+  shown_with hs s (Found j) f = found_shown g p hs s j f
+  shown_with hs s (Intended n j) f = intended_shown g p hs s n j f
+  shown_with hs s (Performed n j reply) f = performed_shown g p hs s n j reply f
+  shown_with hs s (Noted n c) f = noted_shown g p hs s n c f
+  shown_with hs s (Asked n line reply) f = asked_for_shown g p hs s n line reply f
+  shown_with hs s (Fell t) f = tt
+
+  -- and so after all these deeds
+  pub all_shown : (hs : List ℕ) (s : Stage) (ds : List Deed) → Shown g p hs s → (heard : List ℕ) × Shown g p heard (stage_after_all s ds)
+  all_shown hs s [] f = (hs, f)
+  all_shown hs s (d ∷ ds) f = all_shown (heard_with hs s d) (stage_after s d) ds (shown_with hs s d f)

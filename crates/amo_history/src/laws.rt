@@ -1,15 +1,17 @@
 //! The theorems over the definitions. Nothing here runs: each function's contract is a law.
-ghost use Rattle.std.specs.Prelude.{◌≡◌, ℕ, List, [], ◌∷◌, ◌++◌, Some, None};
-ghost use Rattle.amo_sets.specs.Sets.{AreDistinct};
+ghost use Rattle.std.specs.Prelude.{◌≡◌, ℕ, true, false, List, [], ◌∷◌, ◌++◌, Some, None};
+ghost use Rattle.amo_sets.specs.Sets.{has, AreDistinct};
 ghost use Rattle.amo_kk.specs.Givens.{IsWorker};
 ghost use Rattle.amo_kk.specs.declared.givens.Givens.{Givens};
+ghost use Rattle.amo_course.specs.declared.answer.Answer.{Answer};
+ghost use Rattle.amo_course.specs.declared.answer.Reply.{Reply};
 ghost use Rattle.amo_course.specs.Course.{try_of, due, stage_after_all, AreDue, first_stage, MayTry};
 ghost use Rattle.amo_course.specs.Stage.{Stage};
 ghost use Rattle.amo_course.specs.declared.model.Deed.{Deed};
-ghost use Rattle.amo_course.specs.declared.model.Deed.TheVariants.{Fell};
+ghost use Rattle.amo_course.specs.declared.model.Deed.TheVariants.{Performed, Fell};
 ghost use Rattle.amo_course.specs.declared.model.Try.{Try};
-ghost use Rattle.amo_course.specs.declared.model.Try.TheVariants.{Perform};
-ghost use Rattle.amo_history.specs.Course.{HasJustIntended};
+ghost use Rattle.amo_course.specs.declared.model.Try.TheVariants.{Find, Perform, Note};
+ghost use Rattle.amo_history.specs.Course.{handed_by_deeds, HasJustIntended, HasJustAnswered, tells_to_leave, TakesLeave};
 ghost use Rattle.amo_history.specs.Log.{Log, log_of, StandsBy};
 ghost use Rattle.amo_history.specs.Scene.{stage_at, scene_of, IsTrue, MayBe, IsHistory, handed_jobs};
 ghost use Rattle.amo_history.specs.declared.model.Moment.{Moment};
@@ -49,9 +51,39 @@ pub fn courses_end_there()
     ensures fell { (s : Stage) (before after : List Deed) (t : Try) → AreDue s (before ++ Fell t ∷ after) → after ≡ [] }
 {}
 
-/// Before a job is handed to the partner, also where that fails, its intent was put, right after the deed by which the process is
-/// told to perform that job.
+/// In one course no job is handed to the partner twice, whether the partner has answered or the call has failed. That holds
+/// whatever the loads of the course have given: of the other workers nothing is supposed.
+pub fn courses_perform_once()
+    ensures { (g : Givens) (p s : ℕ) (deeds : List Deed) → IsWorker g p → AreDue (first_stage g p s) deeds → AreDistinct (handed_by_deeds deeds) }
+{}
+
+/// Before a job is handed to the partner, also where that fails, its intent was put, and right before the intent its claim was
+/// stored: the worker's count of claims, in its place, which is what the machine wanted. The store is one of this course: a claim
+/// that a former process has left doesn't do.
 pub fn performances_follow_intents()
     ensures { (g : Givens) (p s n j : ℕ) (before after : List Deed) (d : Deed) → try_of d ≡ Perform n j
-        → AreDue (first_stage g p s) (before ++ d ∷ after) → HasJustIntended (first_stage g p s) before n j }
+        → AreDue (first_stage g p s) (before ++ d ∷ after) → HasJustIntended g p (first_stage g p s) before n j }
+{}
+
+/// A job that the worker's own words show claimed and not filed when its process begins isn't handed to the partner in this
+/// course, neither before that is said nor after it, also where the saying fails. So what a former process of the worker may
+/// have had performed isn't performed again in it.
+pub fn what_is_found_is_not_performed()
+    ensures { (g : Givens) (p s j : ℕ) (before after : List Deed) (d : Deed) → IsWorker g p → try_of d ≡ Find j
+        → AreDue (first_stage g p s) (before ++ d ∷ after) → has (handed_by_deeds (before ++ d ∷ after)) j ≡ false }
+{}
+
+/// What is noted, also where that fails, is what the partner has answered right before, to that very intent. So nothing is noted
+/// that wasn't answered in this course, and no answer is noted twice.
+pub fn notes_say_what_was_answered()
+    ensures { (g : Givens) (p s n : ℕ) (a : Answer) (before after : List Deed) (d : Deed) → try_of d ≡ Note n a
+        → AreDue (first_stage g p s) (before ++ d ∷ after) → HasJustAnswered before n a }
+{}
+
+/// After an answer that tells the worker to leave, the process does nothing but this, in this order, each at most once, and as
+/// far as it comes: it notes the answer, unless the job still runs, files the job at its place of the row, and takes the
+/// worker's announcement back. It loads nothing any more, claims nothing, and hands over no other job.
+pub fn who_is_told_to_leave_leaves()
+    ensures { (g : Givens) (p s n j : ℕ) (reply : Reply) (before after : List Deed) → tells_to_leave reply ≡ true
+        → AreDue (first_stage g p s) (before ++ Performed n j reply ∷ after) → TakesLeave g p (first_stage g p s) before n j reply after }
 {}

@@ -1,0 +1,110 @@
+-- Where no performance comes before the next access.
+use Rattle.std.proofs.Common.{◌≡◌, ℕ, ◌+◌, ◌≤◌, Bool, true, false, refl, sym, ap, ◌∙◌, subst, List, [], ◌∷◌, Some}
+use Rattle.std.specs.Prelude.{if◌then◌else◌, ◌==◌}
+use Rattle.std.proofs.lemmas.Bool.{true≢false}
+use Rattle.amo_kk.specs.declared.givens.Givens.{Givens}
+use Rattle.amo_process.specs.Heard.{standing_of, told_by}
+use Rattle.amo_process.specs.Stepped.{ProcessView}
+use Rattle.amo_course.specs.declared.answer.Answer.{Answer}
+use Rattle.amo_course.specs.declared.answer.Reply.{Reply}
+use Rattle.amo_course.specs.declared.answer.Reply.TheVariants.{Answered, Running, Garbled, Closed}
+use Rattle.amo_course.specs.declared.answer.Way.{Way}
+use Rattle.amo_course.specs.declared.answer.Way.TheVariants.{Go, Leave}
+use Rattle.amo_course.specs.declared.model.Deed.{Deed}
+use Rattle.amo_course.specs.declared.model.Deed.TheVariants.{Loaded, Stored, Found, Intended, Performed, Noted, Asked, Fell}
+use Rattle.amo_course.specs.declared.model.Try.TheVariants.{Perform}
+use Rattle.amo_course.specs.declared.past.Intent.{Intent}
+use Rattle.amo_course.specs.Stage.{Stage, Going, Finding, Intending, Performing, Noting, Asking, Settling, Unanswered}
+use Rattle.amo_course.specs.Course.{try_of, due, stage_replied, stage_asking, stage_asked, stage_after}
+use Rattle.amo_history.proofs.Stages.{Shown, is_performance, performing_only, standing_is}
+
+-- The job in its hand, if there is one, was handed to the partner already: no performance is to come before the next access.
+abbrev pub is_spent : Stage → Bool
+is_spent (Intending s a j) = false
+is_spent (Performing s a j) = false
+is_spent s = true
+
+replied_spent : (s : ℕ) (a : ProcessView) (reply : Reply) → is_spent (stage_replied s a reply) ≡ true
+replied_spent s a (Answered n c way) = by (n == s)
+  where
+    by : (b : Bool) → is_spent (if b then Noting s a c way else Unanswered s (Answered n c way)) ≡ true
+    by true = refl
+    by false = refl
+replied_spent s a (Running n way) = by (n == s)
+  where
+    by : (b : Bool) → is_spent (if b then Going (s + 1) a way else Unanswered s (Running n way)) ≡ true
+    by true = refl
+    by false = refl
+replied_spent s a Garbled = refl
+replied_spent s a Closed = refl
+
+asking_spent : (way : Way) (rest : List Intent) → is_spent (stage_asking way rest) ≡ true
+asking_spent Go rest = refl
+asking_spent Leave rest = refl
+
+asked_spent : (intents : List Intent) (reply : Reply) → is_spent (stage_asked intents reply) ≡ true
+asked_spent [] reply = refl
+asked_spent (i ∷ rest) (Answered n c way) = by (n == i.serial)
+  where
+    by : (b : Bool) → is_spent (if b then Settling i.serial c way rest else Unanswered i.serial (Answered n c way)) ≡ true
+    by true = refl
+    by false = refl
+asked_spent (i ∷ rest) (Running n way) = by (n == i.serial)
+  where
+    by : (b : Bool) → is_spent (if b then stage_asking way rest else Unanswered i.serial (Running n way)) ≡ true
+    by true = asking_spent way rest
+    by false = refl
+asked_spent (i ∷ rest) Garbled = refl
+asked_spent (i ∷ rest) Closed = refl
+
+-- it stays spent after a deed that is no access
+
+pub found_spent : (s : Stage) (j : ℕ) → is_spent s ≡ true → is_spent (stage_after s (Found j)) ≡ true
+found_spent (Finding s a i) j h = refl
+found_spent s j h = h
+
+pub intended_spent : (s : Stage) (n j : ℕ) → is_spent s ≡ true → is_spent (stage_after s (Intended n j)) ≡ true
+intended_spent (Intending s a i) n j h = absurd (true≢false (sym h))
+intended_spent s n j h = h
+
+pub performed_spent : (s : Stage) (n j : ℕ) (reply : Reply) → is_spent s ≡ true → is_spent (stage_after s (Performed n j reply)) ≡ true
+performed_spent (Performing s a i) n j reply h = absurd (true≢false (sym h))
+performed_spent s n j reply h = h
+
+pub noted_spent : (s : Stage) (n : ℕ) (c : Answer) → is_spent s ≡ true → is_spent (stage_after s (Noted n c)) ≡ true
+noted_spent (Noting s a x way) n c h = refl
+noted_spent (Settling s x way rest) n c h = asking_spent way rest
+noted_spent s n c h = h
+
+pub asked_for_spent : (s : Stage) (n line : ℕ) (reply : Reply) → is_spent s ≡ true → is_spent (stage_after s (Asked n line reply)) ≡ true
+asked_for_spent (Asking intents) n line reply h = asked_spent intents reply
+asked_for_spent s n line reply h = h
+
+-- it is spent once it was handed over
+pub after_handing : (s : Stage) (d : Deed) (n j : ℕ) → due s ≡ Some (Perform n j) → try_of d ≡ Perform n j → is_spent (stage_after s d) ≡ true
+after_handing s (Loaded w v) n j e is = absurd (true≢false (sym (ap (λ t. is_performance (Some t)) is)))
+after_handing s (Stored w v) n j e is = absurd (true≢false (sym (ap (λ t. is_performance (Some t)) is)))
+after_handing s (Found i) n j e is = absurd (true≢false (sym (ap (λ t. is_performance (Some t)) is)))
+after_handing s (Intended m i) n j e is = absurd (true≢false (sym (ap (λ t. is_performance (Some t)) is)))
+after_handing s (Performed m i reply) n j e is =
+    let at = performing_only s n j e in
+    ap (λ (z : Stage). is_spent (stage_after z (Performed m i reply))) at.2 ∙ replied_spent at.0 at.1 reply
+after_handing s (Noted m c) n j e is = absurd (true≢false (sym (ap (λ t. is_performance (Some t)) is)))
+after_handing s (Asked m line reply) n j e is = absurd (true≢false (sym (ap (λ t. is_performance (Some t)) is)))
+after_handing s (Fell t) n j e is = refl
+
+-- Where a process hands job j to its partner, it is told to perform it, by what it has heard.
+pub record IsTold (g : Givens) (p : ℕ) (hs : List ℕ) (s : Stage) (j : ℕ) : Type 0 where
+  pub told : told_by (standing_of g p hs) ≡ j
+  pub low : 1 ≤ j
+  pub unspent : is_spent s ≡ false
+
+pub here_told : (g : Givens) (p : ℕ) (hs : List ℕ) (s : Stage) (n j : ℕ) → Shown g p hs s → due s ≡ Some (Perform n j) → IsTold g p hs s j
+here_told g p hs s n j f e =
+    let at = performing_only s n j e in
+    let shown = subst (Shown g p hs) at.2 f in
+    record {
+      told = sym (ap told_by (standing_is g p hs at.1 shown.0)) ∙ shown.1;
+      low = shown.2;
+      unspent = ap is_spent at.2;
+    }
