@@ -1,4 +1,4 @@
-// A file in memory. Each call is done at once, so a crash leaves what is there. It keeps each past content.
+//! A device without a disk.
 ghost use Rattle.std.specs.Prelude.{◌≡◌, ◌⊎◌, [], ◌∷◌, ◌++◌, length, drop, ◌≤◌, IfOk, OnOk, OnErr};
 ghost use Rattle.std.proofs.Common.{inl};
 ghost use Rattle.amo_journal.specs.Device.{Holds};
@@ -7,10 +7,13 @@ ghost use Rattle.amo_journal.specs.Past.{HadBeen, only_bytes};
 use crate::{Device, DeviceError};
 use std::alloc::{AllocError, Global};
 
+/// A file in memory. Each call is done at once, so a crash leaves what a read returns. It never fails but for want of memory, and
+/// takes memory at each write and cut.
 #[derive(Drop)]
 pub struct MemoryDevice {
     alloc: Global,
     bytes: Vec<u8>,
+    /// What the file held before each change, the oldest first.
     past: Vec<Vec<u8>>,
 }
 
@@ -28,6 +31,7 @@ impl MemoryDevice {
         }
     }
 
+    /// The bytes that the file holds. It takes no memory and leaves all as it is.
     pub fn bytes(&self) -> &[u8]
         ensures { result.now ≡ memory_bytes self.now }
     {
@@ -35,7 +39,7 @@ impl MemoryDevice {
     }
 }
 
-// Puts other bytes in the place of those that are there, which it keeps.
+/// Puts other bytes in the place of those that are there, which it keeps.
 fn replace(
     alloc: Global,
     bytes: &mut Vec<u8>,

@@ -1,5 +1,5 @@
 //! The journal that entries are: its intents, each with its answer.
-ghost use Rattle.std.specs.Prelude.{◌≡◌, true, false, Some, None, IfOk, IfErr, map};
+ghost use Rattle.std.specs.Prelude.{◌≡◌, true, false, Some, None, IfOk, IfErr, OnErr, map};
 ghost use Rattle.amo_ledger.specs.Entries.{entry_in, entries_in};
 ghost use Rattle.amo_ledger.specs.Faults.{SaysNothing};
 ghost use Rattle.amo_ledger.specs.Journals.{answered_to, is_line, journal_of, pending_from, NotesOrNot, IsRefused};
@@ -50,9 +50,11 @@ pub fn journal_of(alloc: Global, count: u64, entries: &[Entry]) -> Result<Vec<At
     Ok(attempts)
 }
 
-/// Notes one entry more, and says whether it may follow those that were noted. An entry that may not changes nothing.
+/// Notes one entry more, and says whether it may follow those that were noted. An entry that may not changes nothing, and
+/// neither does a want of memory.
 pub fn note(count: u64, attempts: &mut Vec<Attempt>, entry: Entry) -> Result<bool, AllocError>
-    ensures { IfOk result (λ noted. NotesOrNot count noted attempts.old.items entry attempts.new.items) }
+    ensures noted { IfOk result (λ noted. NotesOrNot count noted attempts.old.items entry attempts.new.items) }
+    ensures refused { OnErr result (attempts.new.items ≡ attempts.old.items) }
 {
     match entry {
         Entry::Intent { serial, line, time } => begin(count, attempts, serial, line, time),
@@ -68,7 +70,8 @@ fn begin(
     line: u64,
     time: u64,
 ) -> Result<bool, AllocError>
-    ensures { IfOk result (λ noted. NotesOrNot count noted attempts.old.items (Intent serial line time) attempts.new.items) }
+    ensures noted { IfOk result (λ noted. NotesOrNot count noted attempts.old.items (Intent serial line time) attempts.new.items) }
+    ensures refused { OnErr result (attempts.new.items ≡ attempts.old.items) }
 {
     if serial == 0 || serial - 1 != attempts.len() as u64 || !is_line(count, line) {
         return Ok(false);

@@ -1,5 +1,5 @@
 //! Worked values of ledgers: printed texts, journals and the lines that they leave open, rounds and seats.
-use amo_journal::{Journal, MemoryDevice};
+use amo_journal::{DeviceError, Journal, MemoryDevice, PutError};
 use amo_ledger::{
     Answer, Attempt, Entry, Fault, Finding, Givens, Record, Verdict, first_misplaced, givens_of,
     is_undone, journal_of, note, open_lines, opens, pending, put_entry, read_entries,
@@ -367,4 +367,145 @@ fn an_entry_is_put_behind_an_open_gate(rt: HostRuntime) -> Result<(), Fail> {
     put_entry(&mut journal, alloc, answered(1, Answer::Unbegun))?;
     assert!(rt; journal.device.bytes() == b"+intent 1 12 1732\n+unbegun 1\n-".as_slice());
     Ok(())
+}
+
+/// A journal of 1000 entries: the lines 1 to 500, every second one of which was not begun.
+fn thousand(alloc: Global) -> Result<Vec<Entry>, AllocError> {
+    let mut entries = Vec::new(alloc);
+    for line in 1..=500u64 {
+        entries.push(intent(line, line))?;
+        entries.push(if line % 2 == 0 {
+            answered(line, Answer::Unbegun)
+        } else {
+            answered(line, Answer::Doubt)
+        })?;
+    }
+    Ok(entries)
+}
+
+// 500 lines of 100,000 were intended, and 250 of them were not begun.
+#[test]
+fn of_100000_lines_those_that_were_intended_are_closed(rt: HostRuntime) -> Result<(), Fail> {
+    let alloc = rt.alloc();
+    let mut journals = Vec::new(alloc);
+    journals.push(journal_of(alloc, 100_000, &thousand(alloc)?)?)?;
+    assert!(rt; journals[0].len() == 500 && pending(alloc, &journals[0])?.is_empty());
+    let open = open_lines(alloc, &[], &journals, 100_000)?;
+    assert!(rt; open.len() == 99_750);
+    assert!(rt; open[0] == 2 && open[249] == 500 && open[250] == 501 && open[99_749] == 100_000);
+    Ok(())
+}
+
+/// The text of a record of the lines 1 to 4096.
+fn long_record(alloc: Global) -> Result<Vec<u8>, AllocError> {
+    let mut text = b"amo-run 1\nround 1\nboot x\ngivens 4096 16 256\nworkers 16 16\n".to_vec(
+        alloc,
+    )?;
+    for line in 1..=4096u64 {
+        let number = format!(in alloc; "{line}\n")?;
+        text.extend_from_slice(number.as_bytes())?;
+    }
+    Ok(text)
+}
+
+#[test]
+fn a_record_has_up_to_4096_lines(rt: HostRuntime) -> Result<(), Fail> {
+    let alloc = rt.alloc();
+    let mut text = long_record(alloc)?;
+    match Record::read(alloc, &text)? {
+        Some(record) => {
+            assert!(rt; record.lines.len() == 4096 && record.line_of(4096) == 4096);
+            assert!(rt; record.print(alloc)?.as_slice() == text.as_slice());
+        }
+        None => assert!(rt; false, "4096 lines are a record"),
+    }
+    text.extend_from_slice(b"4097\n")?;
+    assert!(rt; Record::read(alloc, &text)?.is_none());
+    Ok(())
+}
+
+#[test]
+fn refused_prints(rt: HostRuntime) {
+    let alloc = rt.alloc();
+    if let Ok(text) = intent(7, 12).print(alloc) {
+        assert!(rt; text.as_bytes() == b"intent 7 12 1732".as_slice());
+    }
+    if let Ok(text) = finding(Verdict::Done, 2, 7).print(alloc) {
+        assert!(rt; text.as_bytes() == b"done 2 7 9".as_slice());
+    }
+}
+
+/// The text of one finding, which is one of an answer's entry too.
+fn one_text(alloc: Global) -> Result<Vec<Vec<u8>>, AllocError> {
+    let mut texts = Vec::new(alloc);
+    texts.push(b"done 1 1 5".to_vec(alloc)?)?;
+    Ok(texts)
+}
+
+#[test]
+fn refused_readings(rt: HostRuntime) {
+    let alloc = rt.alloc();
+    if let Ok(texts) = one_text(alloc) {
+        match read_entries(alloc, &texts) {
+            Ok(read) => assert!(rt; read.len() == 1),
+            Err(fault) => assert!(rt; fault == Fault::Memory),
+        }
+        match read_findings(alloc, &texts) {
+            Ok(read) => assert!(rt; read.len() == 1),
+            Err(fault) => assert!(rt; fault == Fault::Memory),
+        }
+    }
+}
+
+#[test]
+fn refused_journal(rt: HostRuntime) {
+    let alloc = rt.alloc();
+    match journal(alloc, &[intent(1, 12)]) {
+        Ok(mut attempts) => {
+            if let Ok(found) = pending(alloc, &attempts) {
+                assert!(rt; found.as_slice() == [(1, 12)].as_slice());
+            }
+            let noted = note(4096, &mut attempts, intent(2, 3));
+            assert!(rt; attempts.len() == if noted.is_ok() { 2 } else { 1 });
+        }
+        Err(fault) => assert!(rt; fault == Fault::Memory),
+    }
+}
+
+#[test]
+fn refused_open_lines(rt: HostRuntime) {
+    if let Ok(lines) = open_lines(rt.alloc(), &[], &[], 3) {
+        assert!(rt; lines.as_slice() == [1, 2, 3].as_slice());
+    }
+}
+
+#[test]
+fn refused_record(rt: HostRuntime) {
+    let alloc = rt.alloc();
+    if let Ok(found) = Record::read(alloc, RECORD) {
+        assert!(rt; found.is_some());
+        if let Some(record) = found {
+            if let Ok(text) = record.print(alloc) {
+                assert!(rt; text.as_slice() == RECORD);
+            }
+        }
+    }
+}
+
+/// The file with an entry more, if there was memory, else as it was or with what stands for nothing behind it.
+#[test]
+fn refused_put_entry(rt: HostRuntime) {
+    let alloc = rt.alloc();
+    let mut journal = Journal::new(MemoryDevice::new(alloc, Vec::new(alloc)));
+    if journal.settle(alloc).is_ok() {
+        match put_entry(&mut journal, alloc, answered(1, Answer::Unbegun)) {
+            Ok(()) => assert!(rt; journal.device.bytes() == b"+unbegun 1\n-".as_slice()),
+            Err(fault) => {
+                assert!(rt; fault == PutError::Device(DeviceError::Memory));
+                assert!(rt;
+                    journal.device.bytes().len() != 12 || journal.device.bytes()[0] == b'-'
+                );
+            }
+        }
+    }
 }

@@ -1,0 +1,5 @@
+pub mod Bytes
+pub mod Ends
+pub mod Noting
+pub mod Possible
+pub mod Torn
