@@ -1,5 +1,6 @@
 //! Journals on a device in memory: what stands in the file, and what is read of it.
-use amo_journal::{Journal, MemoryDevice, texts_in};
+use amo_disk::Disk;
+use amo_journal::{Device, DeviceError, Journal, MemoryDevice, texts_in};
 use std::alloc::Global;
 use std::test::Fail;
 
@@ -66,4 +67,63 @@ fn texts_are_read_up_to_the_closed_gate(rt: HostRuntime) -> Result<(), Fail> {
     }
     assert_eq!(rt; texts_in(alloc, b"one\n")?.len(), 0);
     Ok(())
+}
+
+// The calls of a settled empty file are a read, a cut and a write of the closed gate, each of the last two synced.
+#[test]
+fn a_disk_fails_at_the_planned_call_and_at_no_other(rt: HostRuntime) -> Result<(), Fail> {
+    let alloc = rt.alloc();
+    for planned in 0..5 {
+        let mut journal = Journal::new(Disk::new(alloc, b"", Some(planned))?);
+        assert!(rt;
+            journal.settle(alloc).err() == Some(DeviceError::Failed),
+            "{planned}"
+        );
+        let calls = journal.device.calls();
+        assert!(rt;
+            calls.len() == planned + 1 && calls[planned].has_failed(),
+            "{planned}"
+        );
+    }
+    let mut journal = Journal::new(Disk::new(alloc, b"", Some(5))?);
+    let texts = journal.settle(alloc)?;
+    assert!(rt; texts.is_empty() && journal.device.bytes() == b"-".as_slice());
+    assert!(rt; journal.put(alloc, b"two").is_err());
+    Ok(())
+}
+
+// Of a write that wasn't synced come its first bytes, right or wrong; of a sync nothing is lost.
+#[test]
+fn a_crash_leaves_what_came(rt: HostRuntime) -> Result<(), Fail> {
+    let alloc = rt.alloc();
+    let mut disk = Disk::new(alloc, b"+one\n-", None)?;
+    disk.write_at(6, b"two\n-")?;
+    let came: [&[u8]; 1] = [b"t+"];
+    assert!(rt; disk.image_after(alloc, 0, &came)?.as_slice() == b"+one\n-".as_slice());
+    assert!(rt; disk.image_after(alloc, 1, &came)?.as_slice() == b"+one\n-t+".as_slice());
+    disk.sync()?;
+    assert!(rt; disk.image_after(alloc, 2, &came)?.as_slice() == b"+one\n-two\n-".as_slice());
+    Ok(())
+}
+
+#[test]
+fn refused_texts(rt: HostRuntime) {
+    if let Ok(texts) = texts_in(rt.alloc(), b"+one\n-") {
+        assert!(rt; texts.len() == 1);
+    }
+}
+
+#[test]
+fn refused_disk(rt: HostRuntime) {
+    let alloc = rt.alloc();
+    if let Ok(disk) = Disk::new(alloc, b"-", None) {
+        let mut journal = Journal::new(disk);
+        match journal.settle(alloc) {
+            Ok(texts) => assert!(rt; texts.is_empty()),
+            Err(fault) => assert!(rt; fault == DeviceError::Memory),
+        }
+        if let Ok(image) = journal.device.image_after(alloc, 0, &[]) {
+            assert!(rt; image.as_slice() == b"-".as_slice());
+        }
+    }
 }
