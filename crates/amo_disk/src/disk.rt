@@ -84,7 +84,7 @@ impl Disk {
         Ok(image)
     }
 
-    // Whether the next call is the one that fails.
+    /// Whether the next call is the one that fails.
     fn fails_next(&self) -> bool
         ensures { result ≡ fails_next (disk_story self.now) }
     {
@@ -94,7 +94,7 @@ impl Disk {
         }
     }
 
-    // Makes a call and notes it.
+    /// Makes a call and notes it.
     fn make(&mut self, call: Call) -> Result<(), DeviceError>
         requires { has_failed call ≡ fails_next (disk_story self.old) }
         ensures { LeavesNoted call (disk_story self.old) (disk_story self.new) result }
