@@ -1,5 +1,5 @@
--- What a file of the texts before a put, or after it, says as entries.
-use Rattle.std.proofs.Common.{◌≡◌, inl, inr, ⊎_elim, ℕ, ◌+◌, ◌^◌, ◌<◌, false, List, [], ◌∷◌, ◌++◌, length, Some, Result, Ok, Err, refl, sym, ap, subst, ◌∙◌, arith}
+-- What a file of the texts before a put, or after it, says, whatever its texts are read as; and which lines its entries close.
+use Rattle.std.proofs.Common.{◌≡◌, ◌⊎◌, inl, inr, ⊎_elim, ℕ, ◌+◌, ◌^◌, ◌<◌, false, List, [], ◌∷◌, ◌++◌, length, Option, Some, Result, Ok, Err, refl, sym, ap, subst, ◌∙◌, arith}
 use Rattle.std.specs.Prelude.{codes, OnOk}
 use Rattle.std.specs.Fmt.{decimal}
 use Rattle.amo_journal.specs.Device.{LeavesOnly}
@@ -11,11 +11,11 @@ use Rattle.amo_ledger.specs.declared.entry.Entry.{Entry}
 use Rattle.amo_ledger.specs.declared.entry.Entry.TheVariants.{Intent, Answer as Answered}
 use Rattle.amo_ledger.specs.declared.finding.Finding.{Finding}
 use Rattle.amo_ledger.specs.declared.journal.Attempt.{Attempt}
-use Rattle.amo_ledger.specs.Entries.{text_of, text_of_answer, Fits, FitsAnswer, entry_in, entries_in}
+use Rattle.amo_ledger.specs.Entries.{text_of, text_of_answer, Fits, FitsAnswer}
 use Rattle.amo_ledger.specs.Findings.{is_undone}
+use Rattle.amo_ledger.specs.Numbers.{read_all}
 use Rattle.amo_ledger.specs.Open.{HasIntent, OpensNot}
 use Rattle.amo_ledger.specs.Puts.{entries_of, StandsForOneMoreOrNot, IsClosedIn}
-use Rattle.amo_ledger.proofs.EntryTexts.{entry_reads}
 use Rattle.amo_ledger.proofs.ClosingWins.{closed_with, has_more}
 use Rattle.amo_ledger.proofs.TextLists.{one_more}
 use Rattle.amo_ledger.proofs.Words.{Lacks, lacks_append, lacks_by_test, decimal_lacks}
@@ -38,14 +38,17 @@ pub one_line : (e : Entry) → Fits e → Lacks 10 (text_of e)
 one_line (Intent s l t) f = lacks_append 10 (codes "intent ") (decimal s ++ 32 ∷ (decimal l ++ 32 ∷ decimal t)) (lacks_by_test 10 (codes "intent ") refl) (three_lack s l t f.0 f.1 f.2)
 one_line (Answered s a) f = answer_lacks s a f
 
--- files
+-- what a file says, whatever its texts are read as
 
-pub one_entry_more : (old new : List ℕ) (entries : List Entry) (e : Entry) → Fits e → entries_of old ≡ Some entries → texts_in new ≡ texts_in old ++ text_of e ∷ [] → entries_of new ≡ Some (entries ++ e ∷ [])
-one_entry_more old new entries e fits are put = ap entries_in put ∙ one_more entry_in (texts_in old) entries (text_of e) e are (entry_reads e fits)
+pub says_one_more : {A : Type 0} (read : List ℕ → Option A) (old new text : List ℕ) (xs : List A) (x : A)
+    → read text ≡ Some x → read_all read (texts_in old) ≡ Some xs → texts_in new ≡ texts_in old ++ text ∷ [] → read_all read (texts_in new) ≡ Some (xs ++ x ∷ [])
+says_one_more read old new text xs x is are put = ap (read_all read) put ∙ one_more read (texts_in old) xs text x are is
 
-pub before_or_after : (old : List ℕ) (entries : List Entry) (e : Entry) → Fits e → entries_of old ≡ Some entries → (c : List ℕ) → IsBeforeOrAfter (texts_in old) (text_of e) c → StandsForOneMoreOrNot entries e c
-before_or_after old entries e fits are c at =
-    ⊎_elim (λ before. inl (ap entries_in before ∙ are)) (λ after. inr (one_entry_more old c entries e fits are after)) at
+pub before_or_after : {A : Type 0} (read : List ℕ → Option A) (old text : List ℕ) (xs : List A) (x : A)
+    → read text ≡ Some x → read_all read (texts_in old) ≡ Some xs → (c : List ℕ) → IsBeforeOrAfter (texts_in old) text c
+    → (read_all read (texts_in c) ≡ Some xs) ⊎ (read_all read (texts_in c) ≡ Some (xs ++ x ∷ []))
+before_or_after read old text xs x is are c at =
+    ⊎_elim (λ before. inl (ap (read_all read) before ∙ are)) (λ after. inr (says_one_more read old c text xs x is are after)) at
 
 -- what a crash leaves has what follows from what it has
 pub leaves : {D : Type 0} (moment : D → ℕ) (left_since : D → ℕ → List ℕ → Type 0) (old new : D) (P Q : List ℕ → Type 0) → LeavesOnly moment left_since old new P → ((c : List ℕ) → P c → Q c) → LeavesOnly moment left_since old new Q

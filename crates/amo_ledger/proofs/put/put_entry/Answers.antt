@@ -1,11 +1,11 @@
 use Rattle.std.proofs.Common.{◌≡◌, ◌++◌, ◌∷◌, [], Some, inl, sym, ap, subst, ◌∙◌}
-use Rattle.amo_journal.specs.Device.{LeavesOnly}
 use Rattle.amo_journal.specs.Journal.{IsBeforeOrAfter}
 use Rattle.amo_journal.specs.Texts.{texts_in, IsOneLine}
 use Rattle.amo_ledger.specs.declared.entry.Entry.{Entry}
-use Rattle.amo_ledger.specs.Entries.{text_of}
+use Rattle.amo_ledger.specs.Entries.{entry_in}
 use Rattle.amo_ledger.specs.Puts.{entries_of, StandsForOneMoreOrNot, IsClosedIn}
-use Rattle.amo_ledger.proofs.Puts.{one_line, one_entry_more, before_or_after, leaves, started, law_crash, law_put, on_ok, on_ok_both}
+use Rattle.amo_ledger.proofs.EntryTexts.{entry_reads}
+use Rattle.amo_ledger.proofs.Puts.{one_line, says_one_more, before_or_after, leaves, started, law_crash, law_put, on_ok, on_ok_both}
 use Rattle.amo_ledger.proofs.put.put_entry.Goals as goal
 
 pub put-requires-clause-one_line : goal.put-requires-clause-one_line
@@ -13,25 +13,23 @@ put-requires-clause-one_line g c = subst IsOneLine (sym (c.as_bytes.ensures.valu
 
 pub returns-clause-acknowledged : goal.returns-clause-acknowledged
 returns-clause-acknowledged g c entries are =
-    let is = c.as_bytes.ensures.value ∙ c.in-Ok.ensures.text in
+    let reads : entry_in c.as_bytes.result.now ≡ Some c.args.entry = ap entry_in (c.as_bytes.ensures.value ∙ c.in-Ok.ensures.text) ∙ entry_reads c.args.entry c.print.ensures.fits in
     on_ok c.put.result c.put.ensures.acknowledged
-    (λ put. one_entry_more (g.D.Device.seen c.args.journal.now.device) (g.D.Device.seen c.put.new.self.device) entries c.args.entry c.print.ensures.fits are
-    (put ∙ ap (λ t. texts_in (g.D.Device.seen c.args.journal.now.device) ++ t ∷ []) is))
+    (says_one_more entry_in (g.D.Device.seen c.args.journal.now.device) (g.D.Device.seen c.put.new.self.device) c.as_bytes.result.now entries c.args.entry reads are)
 
 pub returns-clause-any_moment : goal.returns-clause-any_moment
 returns-clause-any_moment g c entries are =
     let old = g.D.Device.seen c.args.journal.now.device in
-    let is = c.as_bytes.ensures.value ∙ c.in-Ok.ensures.text in
-    let put = subst (λ text. LeavesOnly g.D.Device.moment g.D.Device.left_since c.args.journal.now.device c.put.new.self.device (IsBeforeOrAfter (texts_in old) text)) is c.put.ensures.any_moment in
-    leaves g.D.Device.moment g.D.Device.left_since c.args.journal.now.device c.put.new.self.device (IsBeforeOrAfter (texts_in old) (text_of c.args.entry)) (StandsForOneMoreOrNot entries c.args.entry) put
-    (before_or_after old entries c.args.entry c.print.ensures.fits are)
+    let text = c.as_bytes.result.now in
+    let reads : entry_in text ≡ Some c.args.entry = ap entry_in (c.as_bytes.ensures.value ∙ c.in-Ok.ensures.text) ∙ entry_reads c.args.entry c.print.ensures.fits in
+    leaves g.D.Device.moment g.D.Device.left_since c.args.journal.now.device c.put.new.self.device (IsBeforeOrAfter (texts_in old) text) (StandsForOneMoreOrNot entries c.args.entry) c.put.ensures.any_moment
+    (before_or_after entry_in old text entries c.args.entry reads are)
 
 pub returns-clause-read : goal.returns-clause-read
 returns-clause-read g c entries are =
-    let old = g.D.Device.seen c.args.journal.now.device in
-    let is = c.as_bytes.ensures.value ∙ c.in-Ok.ensures.text in
-    before_or_after old entries c.args.entry c.print.ensures.fits are (g.D.Device.seen c.put.new.self.device)
-    (subst (λ text. IsBeforeOrAfter (texts_in old) text (g.D.Device.seen c.put.new.self.device)) is c.put.ensures.read)
+    let text = c.as_bytes.result.now in
+    let reads : entry_in text ≡ Some c.args.entry = ap entry_in (c.as_bytes.ensures.value ∙ c.in-Ok.ensures.text) ∙ entry_reads c.args.entry c.print.ensures.fits in
+    before_or_after entry_in (g.D.Device.seen c.args.journal.now.device) text entries c.args.entry reads are (g.D.Device.seen c.put.new.self.device) c.put.ensures.read
 
 pub returns-clause-closes : goal.returns-clause-closes
 returns-clause-closes g c count findings before after serial line time entries is are found =
