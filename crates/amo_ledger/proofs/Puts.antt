@@ -1,4 +1,4 @@
--- What a file of the texts before a put, or after it, says, whatever its texts are read as; and which lines its entries close.
+-- What a file of the texts before a put, or after it, says, as entries or findings; and which lines its entries close.
 use Rattle.std.proofs.Common.{◌≡◌, ◌⊎◌, inl, inr, ⊎_elim, ℕ, ◌+◌, ◌^◌, ◌<◌, false, List, [], ◌∷◌, ◌++◌, length, Option, Some, Result, Ok, Err, refl, sym, ap, subst, ◌∙◌, arith}
 use Rattle.std.specs.Prelude.{codes, OnOk}
 use Rattle.std.specs.Fmt.{decimal}
@@ -10,9 +10,11 @@ use Rattle.amo_ledger.specs.declared.entry.Answer.TheVariants.{Done, Doubt, Unbe
 use Rattle.amo_ledger.specs.declared.entry.Entry.{Entry}
 use Rattle.amo_ledger.specs.declared.entry.Entry.TheVariants.{Intent, Answer as Answered}
 use Rattle.amo_ledger.specs.declared.finding.Finding.{Finding}
+use Rattle.amo_ledger.specs.declared.finding.Verdict.{Verdict}
+use Rattle.amo_ledger.specs.declared.finding.Verdict.TheVariants.{Done as Found, NotDone}
 use Rattle.amo_ledger.specs.declared.journal.Attempt.{Attempt}
 use Rattle.amo_ledger.specs.Entries.{text_of, text_of_answer, Fits, FitsAnswer}
-use Rattle.amo_ledger.specs.Findings.{is_undone}
+use Rattle.amo_ledger.specs.Findings.{word_of, text_of_finding, FitsFinding, is_undone}
 use Rattle.amo_ledger.specs.Numbers.{read_all}
 use Rattle.amo_ledger.specs.Open.{HasIntent, OpensNot}
 use Rattle.amo_ledger.specs.Puts.{entries_of, StandsForOneMoreOrNot, IsClosedIn}
@@ -20,7 +22,7 @@ use Rattle.amo_ledger.proofs.ClosingWins.{closed_with, has_more}
 use Rattle.amo_ledger.proofs.TextLists.{one_more}
 use Rattle.amo_ledger.proofs.Words.{Lacks, lacks_append, lacks_by_test, decimal_lacks}
 
--- the text of an entry is one line
+-- the text of an entry is one line, and so is that of a finding
 
 two_lack : (a b : ℕ) → a < 2 ^ 64 → b < 2 ^ 64 → Lacks 10 (decimal a ++ 32 ∷ decimal b)
 two_lack a b fa fb = lacks_append 10 (decimal a) (32 ∷ decimal b) (decimal_lacks 10 a (omega arith) fa) ((λ e. omega arith), decimal_lacks 10 b (omega arith) fb)
@@ -37,6 +39,15 @@ answer_lacks s (Untouched c) f = lacks_append 10 (codes "untouched ") (decimal s
 pub one_line : (e : Entry) → Fits e → Lacks 10 (text_of e)
 one_line (Intent s l t) f = lacks_append 10 (codes "intent ") (decimal s ++ 32 ∷ (decimal l ++ 32 ∷ decimal t)) (lacks_by_test 10 (codes "intent ") refl) (three_lack s l t f.0 f.1 f.2)
 one_line (Answered s a) f = answer_lacks s a f
+
+word_lacks : (v : Verdict) → Lacks 10 (word_of v)
+word_lacks Found = lacks_by_test 10 (codes "done") refl
+word_lacks NotDone = lacks_by_test 10 (codes "not-done") refl
+
+pub one_line_of_finding : (f : Finding) → FitsFinding f → Lacks 10 (text_of_finding f)
+one_line_of_finding f fits =
+    lacks_append 10 (word_of f.verdict) (32 ∷ (decimal f.worker ++ 32 ∷ (decimal f.serial ++ 32 ∷ decimal f.time))) (word_lacks f.verdict)
+    ((λ e. omega arith), three_lack f.worker f.serial f.time fits.0 fits.1 fits.2)
 
 -- what a file says, whatever its texts are read as
 

@@ -18,6 +18,6 @@ pub use fault::Fault;
 pub use finding::{Finding, Verdict, first_misplaced, is_undone, read_findings};
 pub use journal::{Attempt, journal_of, note, pending, read_entries};
 pub use open::{open_lines, opens};
-pub use put::put_entry;
+pub use put::{put_entry, put_finding};
 pub use record::Record;
 pub use round::{Givens, givens_of, seat_of};
