@@ -1,8 +1,8 @@
 //! Worked values of ledgers: printed texts, journals and the lines that they leave open, rounds and seats.
-use amo_journal::{DeviceError, Journal, MemoryDevice, PutError};
+use amo_journal::{DeviceError, Journal, MemoryDevice, PutError, texts_in};
 use amo_ledger::{
     Answer, Attempt, Entry, Fault, Finding, Givens, Record, Verdict, first_misplaced, givens_of,
-    is_undone, journal_of, note, open_lines, opens, pending, put_entry, read_entries,
+    is_undone, journal_of, note, open_lines, opens, pending, put_entry, put_finding, read_entries,
     read_findings, seat_of,
 };
 use std::alloc::{AllocError, Global};
@@ -369,6 +369,23 @@ fn an_entry_is_put_behind_an_open_gate(rt: HostRuntime) -> Result<(), Fail> {
     Ok(())
 }
 
+#[test]
+fn a_second_finding_is_put_behind_the_first(rt: HostRuntime) -> Result<(), Fail> {
+    let alloc = rt.alloc();
+    let mut journal = Journal::new(MemoryDevice::new(alloc, Vec::new(alloc)));
+    journal.settle(alloc)?;
+    let found = [
+        finding(Verdict::Done, 2, 7),
+        finding(Verdict::NotDone, 16, 1),
+    ];
+    put_finding(&mut journal, alloc, found[0])?;
+    put_finding(&mut journal, alloc, found[1])?;
+    assert!(rt; journal.device.bytes() == b"+done 2 7 9\n+not-done 16 1 9\n-".as_slice());
+    let texts = texts_in(alloc, journal.device.bytes())?;
+    assert!(rt; read_findings(alloc, &texts)?.as_slice() == found.as_slice());
+    Ok(())
+}
+
 /// A journal of 1000 entries: the lines 1 to 500, every second one of which was not begun.
 fn thousand(alloc: Global) -> Result<Vec<Entry>, AllocError> {
     let mut entries = Vec::new(alloc);
@@ -505,6 +522,22 @@ fn refused_put_entry(rt: HostRuntime) {
                 assert!(rt;
                     journal.device.bytes().len() != 12 || journal.device.bytes()[0] == b'-'
                 );
+            }
+        }
+    }
+}
+
+/// The file with a finding more, if there was memory, else with its gate closed.
+#[test]
+fn refused_put_finding(rt: HostRuntime) {
+    let alloc = rt.alloc();
+    let mut journal = Journal::new(MemoryDevice::new(alloc, Vec::new(alloc)));
+    if journal.settle(alloc).is_ok() {
+        match put_finding(&mut journal, alloc, finding(Verdict::Done, 2, 7)) {
+            Ok(()) => assert!(rt; journal.device.bytes() == b"+done 2 7 9\n-".as_slice()),
+            Err(fault) => {
+                assert!(rt; fault == PutError::Device(DeviceError::Memory));
+                assert!(rt; journal.device.bytes().starts_with(b"-"));
             }
         }
     }
