@@ -3,7 +3,7 @@ ghost use Rattle.std.specs.Prelude.{◌≡◌, IfOk, IfSome, IfNone, string_byte
 ghost use Rattle.amo_ledger.specs.Entries.{text_of, text_of_answer, Fits, FitsAnswer, code_in, answer_of_word, entry_of_word, entry_in};
 ghost use Rattle.amo_ledger.specs.declared.entry.Entry.{Entry as EntryView};
 
-use crate::number::{number, three, two};
+use crate::numbers::{number, three, two};
 use std::alloc::{AllocError, Global};
 use std::str;
 

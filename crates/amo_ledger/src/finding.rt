@@ -7,7 +7,7 @@ ghost use Rattle.amo_ledger.specs.declared.finding.Finding.{Finding as FindingVi
 
 use crate::fault::Fault;
 use crate::journal::Attempt;
-use crate::number::three;
+use crate::numbers::three;
 use std::alloc::{AllocError, Global};
 use std::str;
 

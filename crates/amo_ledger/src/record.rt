@@ -5,7 +5,7 @@ ghost use Rattle.std.specs.Str.{bytes_eq};
 ghost use Rattle.amo_ledger.specs.Numbers.{number_in, read_all};
 ghost use Rattle.amo_ledger.specs.Records.{RecordView, said_by, ended, texts_of, text_of_record, ascends_from, is_sound, IsRecord, texts_from, labelled, head_in, record_behind, record_of, record_in};
 
-use crate::number::{number_of, three_of, two_of};
+use crate::numbers::{number_of, three_of, two_of};
 use crate::round::Givens;
 use std::alloc::{AllocError, Global};
 use std::mem;

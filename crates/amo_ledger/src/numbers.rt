@@ -4,8 +4,8 @@ ghost use Rattle.amo_ledger.specs.Numbers.{begins_strictly, number_in, two_in, t
 
 use std::str;
 
-/// The three numbers that the text says, one blank between each two.
-pub(crate) fn three(text: &str) -> Option<(u64, u64, u64)>
+/// The three numbers that a text says, one blank between each two and nothing else. Each is read as by `number`.
+pub fn three(text: &str) -> Option<(u64, u64, u64)>
     ensures { result ≡ three_in text.now }
 {
     let (a, rest) = text.split_once(' ')?;
@@ -14,17 +14,17 @@ pub(crate) fn three(text: &str) -> Option<(u64, u64, u64)>
     Some((a, b, c))
 }
 
-/// The two numbers that the text says, one blank between them.
-pub(crate) fn two(text: &str) -> Option<(u64, u64)>
+/// The two numbers that a text says, one blank between them and nothing else. Each is read as by `number`.
+pub fn two(text: &str) -> Option<(u64, u64)>
     ensures { result ≡ two_in text.now }
 {
     let (a, b) = text.split_once(' ')?;
     Some((number(a)?, number(b)?))
 }
 
-/// The number that the text says.
+/// The number below 2 to the 64 that a text says: digits alone, and no 0 before others. So each number is said in one way.
 #[tactic(auto, using(crate::proofs::NumberTexts::number_is, crate::proofs::NumberTexts::number_isnt))]
-pub(crate) fn number(text: &str) -> Option<u64>
+pub fn number(text: &str) -> Option<u64>
     ensures { result ≡ number_in text.now }
 {
     if !begins_strictly(text.as_bytes()) {

@@ -1,0 +1,4 @@
+pub mod Deepest
+pub mod HeldPaths
+pub mod ToldMounts
+pub mod WrittenPaths

@@ -1,0 +1,4 @@
+pub mod Folders
+pub mod Local
+pub mod Mounts
+pub mod Paths
