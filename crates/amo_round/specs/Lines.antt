@@ -1,0 +1,35 @@
+-- The lines of a file: each stands before a line feed. What stands behind the last line feed has no end yet.
+use Rattle.std.specs.Prelude.{◌≡◌, ℕ, zero, suc, ◌+◌, List, [], ◌∷◌, ◌++◌, length, take, ◌==◌, if◌then◌else◌}
+
+-- the lines from here on; of the first this much was read before
+abbrev pub lines_from : List ℕ → List ℕ → List (List ℕ)
+lines_from begun [] = []
+lines_from begun (b ∷ bytes) = if b == 10 then begun ∷ lines_from [] bytes else lines_from (begun ++ b ∷ []) bytes
+
+-- what stands behind the last line feed from here on
+abbrev pub rest_from : List ℕ → List ℕ → List ℕ
+rest_from begun [] = begun
+rest_from begun (b ∷ bytes) = if b == 10 then rest_from [] bytes else rest_from (begun ++ b ∷ []) bytes
+
+-- the lines of a file, without their ends
+abbrev pub lines_in : List ℕ → List (List ℕ)
+lines_in file = lines_from [] file
+
+-- what stands behind the last line feed of a file: a line without its end, or nothing
+abbrev pub rest_in : List ℕ → List ℕ
+rest_in file = rest_from [] file
+
+-- where each of these lines ends, behind its line feed, if the first begins here
+abbrev pub ends_of : ℕ → List (List ℕ) → List ℕ
+ends_of start [] = []
+ends_of start (line ∷ lines) = (start + length line + 1) ∷ ends_of (start + length line + 1) lines
+
+-- so many lines at the front of a file, with their ends, where they have one
+abbrev pub first_lines : ℕ → List ℕ → List ℕ
+first_lines zero file = []
+first_lines (suc count) [] = []
+first_lines (suc count) (b ∷ bytes) = b ∷ (if b == 10 then first_lines count bytes else first_lines (suc count) bytes)
+
+-- the file begins with this front, byte for byte
+abbrev pub BeginsWith : List ℕ → List ℕ → Type 0
+BeginsWith front file = take (length front) file ≡ front
