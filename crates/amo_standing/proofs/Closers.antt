@@ -1,5 +1,5 @@
 -- What the intents that close a line have in common: none of them stands open, and there is one just where the line is closed.
-use Rattle.std.proofs.Common.{◌≡◌, ℕ, ◌+◌, Bool, true, false, cond, ◌&&◌, ◌||◌, List, [], ◌∷◌, ◌++◌, Option, Some, None, refl, sym, ap, ◌∙◌}
+use Rattle.std.proofs.Common.{◌≡◌, ℕ, ◌+◌, Bool, true, false, cond, ◌&&◌, ◌||◌, List, [], ◌∷◌, ◌++◌, Option, Some, None, refl, ap, ◌∙◌}
 use Rattle.std.specs.Prelude.{not, ◌==◌}
 use Rattle.std.specs.List.{AllByRecursion, filter}
 use Rattle.amo_ledger.specs.declared.entry.Answer.{Answer}
@@ -10,7 +10,7 @@ use Rattle.amo_ledger.specs.Findings.{is_undone}
 use Rattle.amo_ledger.specs.Open.{reopens, closes, any_closes, closed_by}
 use Rattle.amo_standing.specs.declared.standing.Standing.{Standing}
 use Rattle.amo_standing.specs.declared.state.Intent.{Intent}
-use Rattle.amo_standing.specs.declared.state.State.TheVariants.{Open, Done, Failed, Doubt, Untouched, Running}
+use Rattle.amo_standing.specs.declared.state.State.TheVariants.{Open, Done, Failed, Running}
 use Rattle.amo_standing.specs.States.{is, is_among, is_found_done, state_by, state_of}
 use Rattle.amo_standing.specs.Standings.{standing_by, if_closing, closing_in, closing, foremost, deciding}
 

@@ -1,10 +1,10 @@
 -- What a person's answer that may be taken makes of its line.
-use Rattle.std.proofs.Common.{◌≡◌, ◌≢◌, ℕ, ◌+◌, ◌-◌, ◌≤◌, Bool, true, false, cond, ◌&&◌, ◌||◌, List, [], ◌∷◌, ◌++◌, map, Option, Some, None, refl, sym, ap, subst, ◌∙◌, arith}
+use Rattle.std.proofs.Common.{◌≡◌, ℕ, ◌+◌, ◌-◌, ◌≤◌, Bool, true, false, cond, ◌&&◌, ◌||◌, List, [], ◌∷◌, ◌++◌, map, Option, Some, None, refl, sym, ap, ◌∙◌, arith}
 use Rattle.std.specs.Prelude.{not, ◌==◌, nat_le, slice_get, slice_index_or}
-use Rattle.std.specs.List.{AllByRecursion, filter, list_any}
+use Rattle.std.specs.List.{AllByRecursion, filter}
 use Rattle.std.proofs.lemmas.Bool.{and_from, and_parts, eq-eqb, eqb-true, leb-true, ne_eqb, or_parts, or_right}
 use Rattle.std.proofs.lemmas.Bool.Decides.{nat_tests}
-use Rattle.std.proofs.lemmas.List.{append-nil, map-append}
+use Rattle.std.proofs.lemmas.List.{map-append}
 use Rattle.std.proofs.lemmas.List.Elements.{filter-append}
 use Rattle.std.proofs.lemmas.List.Folds.{list_any-append}
 use Rattle.amo_ledger.specs.declared.entry.Answer.{Answer}
@@ -14,7 +14,7 @@ use Rattle.amo_ledger.specs.declared.finding.Verdict.{Verdict}
 use Rattle.amo_ledger.specs.declared.finding.Verdict.TheVariants.{Done as FoundDone, NotDone}
 use Rattle.amo_ledger.specs.declared.journal.Attempt.{Attempt}
 use Rattle.amo_ledger.specs.Findings.{is_not_done, is_of, is_undone}
-use Rattle.amo_ledger.specs.Open.{reopens, closes, is_open}
+use Rattle.amo_ledger.specs.Open.{reopens}
 use Rattle.amo_standing.specs.declared.refusal.Refusal.{Refusal}
 use Rattle.amo_standing.specs.declared.refusal.Refusal.TheVariants.{OtherLine, AnsweredOtherwise, AnsweredSo}
 use Rattle.amo_standing.specs.declared.standing.Standing.{Standing}
@@ -22,7 +22,7 @@ use Rattle.amo_standing.specs.declared.state.Intent.{Intent}
 use Rattle.amo_standing.specs.declared.state.State.{State}
 use Rattle.amo_standing.specs.declared.state.State.TheVariants.{Open, Done, Failed, Running}
 use Rattle.amo_standing.specs.States.{is, is_among, is_found_done, state_by, state_of}
-use Rattle.amo_standing.specs.Standings.{attempt_of, open_standing, standing_by, if_closing, closing_in, closing, foremost, deciding, standing_of}
+use Rattle.amo_standing.specs.Standings.{attempt_of, if_closing, closing_in, closing, foremost, deciding, standing_of}
 use Rattle.amo_standing.specs.Answers.{contrary, is_asked, is_closed_by, is_said, refusal_at, refusal_of, refusal_of_option, with_answer, MayBeTaken}
 use Rattle.amo_standing.proofs.ByIntent.{ByIntent, in_journals}
 use Rattle.amo_standing.proofs.Closers.{all_deciding, has_some}

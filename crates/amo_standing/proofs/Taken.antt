@@ -1,5 +1,5 @@
 -- An answer is taken just where it may be.
-use Rattle.std.proofs.Common.{◌≡◌, ◌↔◌, ℕ, ◌+◌, ◌<◌, Bool, true, false, cond, ◌&&◌, ◌||◌, List, [], ◌∷◌, ◌++◌, Option, Some, None, Result, Ok, Err, refl, sym, ap, ◌∙◌}
+use Rattle.std.proofs.Common.{◌≡◌, ◌↔◌, ℕ, Bool, true, false, cond, ◌&&◌, ◌||◌, List, [], ◌∷◌, Option, Some, None, Result, Ok, Err, refl, sym, ap, ◌∙◌}
 use Rattle.std.specs.Prelude.{not, ◌==◌, is_ok, IsOk}
 use Rattle.std.specs.Result.{result_err}
 use Rattle.std.specs.List.{list_any}
@@ -19,7 +19,7 @@ use Rattle.amo_standing.specs.declared.state.State.{State}
 use Rattle.amo_standing.specs.declared.state.State.TheVariants.{Open, Done, Failed}
 use Rattle.amo_standing.specs.States.{is_among, is_found_done, state_by, state_of}
 use Rattle.amo_standing.specs.Standings.{attempt_of}
-use Rattle.amo_standing.specs.Answers.{is_said, contrary, refusal_at, is_closed_by, refusal_of_attempt, refusal_of_option, refusal_of, is_asked, MayBeTaken}
+use Rattle.amo_standing.specs.Answers.{is_said, contrary, refusal_at, is_closed_by, refusal_of_option, refusal_of, is_asked, MayBeTaken}
 
 -- a person answered just where one found it done or not done
 

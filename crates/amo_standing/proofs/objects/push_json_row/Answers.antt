@@ -1,9 +1,8 @@
-use Rattle.std.proofs.Common.{◌≡◌, ◌<◌, [], List, ℕ, Bor, length, map, get_or, sym, ap, subst, ◌∙◌, arith}
+use Rattle.std.proofs.Common.{◌<◌, [], List, ℕ, Bor, length, map, get_or, sym, ap, subst, ◌∙◌, arith}
 use Rattle.std.specs.Str.{IsUtf8}
 use Rattle.std.proofs.lemmas.List.{length-map}
 use Rattle.std.proofs.lemmas.Result.{on_ok_weaker}
 use Rattle.json.specs.Print.{quoted}
-use Rattle.amo_standing.specs.Json.{is_shown}
 use Rattle.amo_standing.proofs.RowSteps.{row_put}
 use Rattle.amo_standing.proofs.objects.push_json_row.Goals as goal
 
