@@ -1,4 +1,5 @@
--- Answers of persons as they are written: the intent, the number of its line, the line's text and the verdict, a tab between each two.
+-- Answers of persons as they are written: the intent, the number of its line, the line's text and the verdict, a tab between
+-- each two.
 use Rattle.std.specs.Prelude.{◌<◌, ◌-◌, ◌^◌, ℕ, ◌==◌, nat_lt, List, [], ◌∷◌, ◌++◌, codes, length, take, drop, Option, Some, None, option_and_then, if◌then◌else◌}
 use Rattle.std.specs.Fmt.{decimal}
 use Rattle.std.specs.List.{after_first, before_first, position_or_len}

@@ -31,8 +31,8 @@ pub fn by_which_intent_a_line_stands()
         → is Running (standing_of findings journals finals line).state ≡ true }
 {}
 
-/// Once an answer that may be taken is noted, its line stands done by the same intent, or is closed by that intent no more. The same
-/// answer again is refused as one that was given so, and the contrary one as one that was given otherwise.
+/// Once an answer that may be taken is noted, its line stands done by the same intent, or is closed by that intent no more. The
+/// same answer again is refused as one that was given so, and the contrary one as one that was given otherwise.
 pub fn an_answer_settles()
     ensures done { (findings : List FindingView) (journals : List (List AttemptView)) (finals : List IntentView) (worker serial line time : ℕ)
         → MayBeTaken findings journals finals worker serial line

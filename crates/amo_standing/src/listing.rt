@@ -1,5 +1,4 @@
 //! The status of a run, the lines that stand so, and the doubts, as texts.
-ghost use Rattle.std.specs.Fmt.{decimal};
 ghost use Rattle.std.specs.Prelude.{◌≡◌, ◌≤◌, ◌++◌, codes, length, map, string_bytes, IfOk, OnOk};
 ghost use Rattle.amo_standing.specs.Rows.{counts_back, counts_front, counts_line, doubt_row, kind_row, line_end, rows_from, spaced, status_text};
 

@@ -1,7 +1,6 @@
 //! The status of a run and the doubts, as JSON.
-ghost use Rattle.std.specs.Fmt.{decimal};
 ghost use Rattle.std.specs.List.{All};
-ghost use Rattle.std.specs.Prelude.{◌≡◌, ◌≤◌, ◌<◌, ◌+◌, ◌++◌, ◌||◌, [], false, true, length, map, slice_index_or, string_bytes, IfOk, OnOk};
+ghost use Rattle.std.specs.Prelude.{◌≡◌, ◌≤◌, ◌<◌, ◌+◌, ◌++◌, ◌||◌, [], false, length, map, slice_index_or, string_bytes, IfOk, OnOk};
 ghost use Rattle.std.specs.Str.{IsUtf8};
 ghost use Rattle.json.specs.Print.{quoted};
 ghost use Rattle.amo_standing.specs.Json.{comma_if, doubts_json, is_shown, json_back, json_front, json_head, json_numbers, json_row, json_rows, json_tail, status_json};
@@ -14,8 +13,8 @@ use serde_json::Value;
 use std::alloc::{AllocError, Global};
 use std::str;
 
-/// The status of a run, as an object and a line feed: the counts, the workers that are alive, and an object for each line that is in
-/// doubt, untouched or running. The text of the line k + 1 stands at k. One that is no text is written as `null`.
+/// The status of a run, as an object and a line feed: the counts, the workers that are alive, and an object for each line that is
+/// in doubt, untouched or running. The text of the line k + 1 stands at k. One that is no text is written as `null`.
 pub fn status_json(
     alloc: Global,
     counts: &Counts,

@@ -1,5 +1,4 @@
 //! Lines as they are listed, a row each.
-ghost use Rattle.std.specs.Fmt.{decimal};
 ghost use Rattle.std.specs.Prelude.{◌≡◌, ◌≤◌, ◌<◌, ◌++◌, [], length, map, slice_index_or, string_bytes, IfOk, OnOk};
 ghost use Rattle.amo_standing.specs.Rows.{doubt_row, is_listed, kind_head, kind_row, row_of, rows_from, state_word, status_head, status_row};
 

@@ -5,7 +5,7 @@ ghost use Rattle.amo_ledger.specs.declared.finding.Verdict.{Verdict as VerdictVi
 ghost use Rattle.amo_ledger.specs.Faults.{SaysNothing};
 ghost use Rattle.amo_ledger.specs.Findings.{verdict_in, word_of};
 ghost use Rattle.amo_ledger.specs.Numbers.{read_all};
-ghost use Rattle.amo_standing.specs.Said.{SaidView, before_end, intent_in, intent_text, lines_in, place_in, said_by, said_in, split_at, verdict_behind, words_in};
+ghost use Rattle.amo_standing.specs.Said.{before_end, intent_in, intent_text, lines_in, place_in, said_by, said_in, split_at, verdict_behind, words_in};
 
 use crate::number::number_of;
 use crate::state::Intent;
@@ -23,9 +23,9 @@ pub struct Said {
     pub verdict: Verdict,
 }
 
-/// The answers that a file says, a line each: the intent as `P.S`, the number of its line, the line's text, and `done` or `not-done`,
-/// a tab between each two. The text may hold tabs. The last line may lack its end. The first line that says no answer is refused, by
-/// its number.
+/// The answers that a file says, a line each: the intent as `P.S`, the number of its line, the line's text, and `done` or
+/// `not-done`, a tab between each two. The text may hold tabs. The last line may lack its end. The first line that says no answer
+/// is refused, by its number.
 pub fn read_answers(alloc: Global, bytes: &[u8]) -> Result<Vec<Said>, Fault>
     ensures exact { IfOk result (λ said. read_all said_in (lines_in bytes.now) ≡ Some (map said_by said.items)) }
     ensures refused { IfErr result (SaysNothing said_in (lines_in bytes.now)) }

@@ -1,5 +1,5 @@
 //! How the lines stand.
-ghost use Rattle.std.specs.Prelude.{◌≡◌, ◌+◌, ◌<◌, ◌∷◌, [], ℕ, true, length, map, slice_index_or, IfOk};
+ghost use Rattle.std.specs.Prelude.{◌≡◌, ◌+◌, ◌<◌, ℕ, length, map, slice_index_or, IfOk};
 ghost use Rattle.amo_ledger.specs.Open.{is_open, numbers};
 ghost use Rattle.amo_standing.specs.declared.state.State.TheVariants.{Open};
 ghost use Rattle.amo_standing.specs.Deciding.{decided_from, decided_of};
