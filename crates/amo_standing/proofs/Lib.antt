@@ -1,0 +1,9 @@
+pub mod ByIntent
+pub mod Closers
+pub mod Noting
+pub mod OneKind
+pub mod Opened
+pub mod RowSteps
+pub mod SaidTexts
+pub mod Settling
+pub mod Taken

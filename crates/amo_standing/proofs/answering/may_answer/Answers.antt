@@ -1,0 +1,8 @@
+use Rattle.std.proofs.Common.{Vec, Global, map}
+use Rattle.amo_ledger.specs.declared.journal.Attempt.{Attempt}
+use Rattle.amo_standing.proofs.Taken.{taken}
+use Rattle.amo_standing.proofs.answering.may_answer.Goals as goal
+
+pub returns-clause-taken : goal.returns-clause-taken
+returns-clause-taken c =
+    taken c.args.findings.now (map (λ (v : Vec Attempt Global). v.items) c.args.journals.now) c.args.finals.now c.args.worker c.args.serial c.args.line c.args.verdict c.checked.result c.checked.ensures

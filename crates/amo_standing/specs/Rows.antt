@@ -1,0 +1,90 @@
+-- Lines as they are listed, a row each: by the intent by which the line is closed, with the line's number and its text.
+use Rattle.std.specs.Prelude.{ℕ, ◌+◌, Bool, true, false, List, [], ◌∷◌, ◌++◌, codes, slice_index_or, if◌then◌else◌}
+use Rattle.std.specs.Fmt.{decimal}
+use Rattle.amo_standing.specs.declared.count.Counts.{Counts}
+use Rattle.amo_standing.specs.declared.rows.Form.{Form}
+use Rattle.amo_standing.specs.declared.rows.Form.TheVariants.{Status, Doubts, Kind}
+use Rattle.amo_standing.specs.declared.standing.Standing.{Standing}
+use Rattle.amo_standing.specs.declared.state.State.{State}
+use Rattle.amo_standing.specs.declared.state.State.TheVariants.{Open, Done, Failed, Doubt, Untouched, Running}
+use Rattle.amo_standing.specs.States.{is}
+
+-- a tab
+abbrev pub tab : List ℕ
+tab = 9 ∷ []
+
+-- a line feed
+abbrev pub line_end : List ℕ
+line_end = 10 ∷ []
+
+-- the word of a state
+abbrev pub state_word : State → List ℕ
+state_word Open = codes "open"
+state_word Done = codes "done"
+state_word Failed = codes "failed"
+state_word Doubt = codes "doubt"
+state_word Untouched = codes "untouched"
+state_word Running = codes "running"
+
+-- whether the status lists a line that stands so
+abbrev pub is_listed : State → Bool
+is_listed Open = false
+is_listed Done = false
+is_listed Failed = false
+is_listed Doubt = true
+is_listed Untouched = true
+is_listed Running = true
+
+-- `STATE P.S LINE `
+abbrev pub status_head : ℕ → Standing → List ℕ
+status_head line s = state_word s.state ++ (codes " " ++ (decimal s.worker ++ (codes "." ++ (decimal s.serial ++ (codes " " ++ (decimal line ++ codes " "))))))
+
+-- `P.S`, a tab, the line, a tab; for an open line `-` in place of an intent
+abbrev pub kind_head : ℕ → Standing → List ℕ
+kind_head line s =
+    if is Open s.state then codes "-" ++ (tab ++ (decimal line ++ tab))
+    else decimal s.worker ++ (codes "." ++ (decimal s.serial ++ (tab ++ (decimal line ++ tab))))
+
+-- the row of a line in the status
+abbrev pub status_row : ℕ → Standing → List ℕ → List ℕ
+status_row line s text = if is_listed s.state then status_head line s ++ (text ++ line_end) else []
+
+-- its row in the list of doubts, with the time
+abbrev pub doubt_row : ℕ → Standing → List ℕ → List ℕ
+doubt_row line s text = if is Doubt s.state then status_head line s ++ (text ++ (codes " " ++ (decimal s.time ++ line_end))) else []
+
+-- its row in the list of the lines that stand so
+abbrev pub kind_row : State → ℕ → Standing → List ℕ → List ℕ
+kind_row kind line s text = if is kind s.state then kind_head line s ++ (text ++ line_end) else []
+
+-- its row in one of these lists
+abbrev pub row_of : Form → ℕ → Standing → List ℕ → List ℕ
+row_of Status = status_row
+row_of Doubts = doubt_row
+row_of (Kind kind) = kind_row kind
+
+-- the rows of the lines from the one at this index on
+abbrev pub rows_from : (ℕ → Standing → List ℕ → List ℕ) → ℕ → List Standing → List (List ℕ) → List ℕ
+rows_from row k [] texts = []
+rows_from row k (s ∷ ss) texts = row (k + 1) s (slice_index_or texts k []) ++ rows_from row (k + 1) ss texts
+
+-- how many lines there are, and how many are done, failed and in doubt
+abbrev pub counts_front : Counts → List ℕ
+counts_front c = codes "lines " ++ (decimal c.lines ++ (codes " done " ++ (decimal c.done ++ (codes " failed " ++ (decimal c.failed ++ (codes " doubt " ++ decimal c.doubt))))))
+
+-- how many are running, untouched and open
+abbrev pub counts_back : Counts → List ℕ
+counts_back c = codes " running " ++ (decimal c.running ++ (codes " untouched " ++ (decimal c.untouched ++ (codes " open " ++ (decimal c.open ++ line_end)))))
+
+-- how many stand how
+abbrev pub counts_line : Counts → List ℕ
+counts_line c = counts_front c ++ counts_back c
+
+-- the numbers, each behind a blank
+abbrev pub spaced : List ℕ → List ℕ
+spaced [] = []
+spaced (p ∷ ps) = codes " " ++ (decimal p ++ spaced ps)
+
+-- the status: the counts, the workers that are alive, and the rows
+abbrev pub status_text : Counts → List ℕ → List Standing → List (List ℕ) → List ℕ
+status_text c alive standings texts = counts_line c ++ (codes "alive" ++ (spaced alive ++ (line_end ++ rows_from status_row 0 standings texts)))

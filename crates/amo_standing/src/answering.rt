@@ -1,0 +1,114 @@
+//! Which answers of persons are taken.
+ghost use Rattle.std.specs.Prelude.{◌≡◌, ◌↔◌, map, IsOk};
+ghost use Rattle.std.specs.Result.{result_err};
+ghost use Rattle.amo_standing.specs.Answers.{contrary, is_closed_by, is_said, refusal_of, MayBeTaken};
+ghost use Rattle.amo_standing.specs.Standings.{attempt_of};
+
+use crate::refusal::Refusal;
+use crate::standing::standing_of;
+use crate::state::{Intent, State, is_found_done, state_of};
+use amo_ledger::{Attempt, Finding, Verdict, is_undone};
+
+/// Whether a person's answer to the intent of this worker and serial number, said to be of this line, may be taken. It may only
+/// where a person is asked about that intent, so that it is noted as doubt, as untouched or by a code other than 0, or has no
+/// answer and is among the finals; where no person answered it; and where the line is closed by it now. Several reasons against
+/// it are told in this order: there is no such intent, it is of another line, it was answered, nobody is asked, it runs, another
+/// intent closes the line.
+pub fn may_answer(
+    findings: &[Finding],
+    journals: &[Vec<Attempt>],
+    finals: &[Intent],
+    worker: u64,
+    serial: u64,
+    line: u64,
+    verdict: Verdict,
+) -> Result<(), Refusal>
+    ensures exact { result_err result ≡ refusal_of findings.now (map (λ journal. journal.items) journals.now) finals.now worker serial line verdict }
+    ensures taken { IsOk result ↔ MayBeTaken findings.now (map (λ journal. journal.items) journals.now) finals.now worker serial line }
+{
+    checked(findings, journals, finals, worker, serial, line, verdict)
+}
+
+fn checked(
+    findings: &[Finding],
+    journals: &[Vec<Attempt>],
+    finals: &[Intent],
+    worker: u64,
+    serial: u64,
+    line: u64,
+    verdict: Verdict,
+) -> Result<(), Refusal>
+    ensures { result_err result ≡ refusal_of findings.now (map (λ journal. journal.items) journals.now) finals.now worker serial line verdict }
+{
+    let Some(attempt) = attempt_of(journals, worker, serial) else {
+        return Err(Refusal::NoIntent);
+    };
+    if attempt.line != line {
+        return Err(Refusal::OtherLine);
+    }
+    if is_said(findings, worker, serial, contrary(verdict)) {
+        return Err(Refusal::AnsweredOtherwise);
+    }
+    if is_said(findings, worker, serial, verdict) {
+        return Err(Refusal::AnsweredSo);
+    }
+    match state_of(findings, finals, worker, serial, attempt.answer) {
+        State::Open | State::Done => Err(Refusal::NotAsked),
+        State::Running => Err(Refusal::Running),
+        State::Failed | State::Doubt | State::Untouched => {
+            if is_closed_by(findings, journals, finals, worker, serial, line) {
+                Ok(())
+            } else {
+                Err(Refusal::NotClosing)
+            }
+        }
+    }
+}
+
+/// The intent of this worker and serial number, if there is one.
+fn attempt_of(journals: &[Vec<Attempt>], worker: u64, serial: u64) -> Option<Attempt>
+    ensures { result ≡ attempt_of (map (λ journal. journal.items) journals.now) worker serial }
+{
+    if worker == 0 || worker > journals.len() as u64 {
+        return None;
+    }
+    let journal = &journals[(worker - 1) as usize];
+    if serial == 0 || serial > journal.len() as u64 {
+        return None;
+    }
+    Some(journal[(serial - 1) as usize])
+}
+
+/// Whether a person said so of the intent.
+fn is_said(findings: &[Finding], worker: u64, serial: u64, verdict: Verdict) -> bool
+    ensures { result ≡ is_said findings.now worker serial verdict }
+{
+    match verdict {
+        Verdict::Done => is_found_done(findings, worker, serial),
+        Verdict::NotDone => is_undone(findings, worker, serial),
+    }
+}
+
+fn contrary(verdict: Verdict) -> Verdict
+    ensures { result ≡ contrary verdict }
+{
+    match verdict {
+        Verdict::Done => Verdict::NotDone,
+        Verdict::NotDone => Verdict::Done,
+    }
+}
+
+/// Whether it is by this intent that the line is closed now.
+fn is_closed_by(
+    findings: &[Finding],
+    journals: &[Vec<Attempt>],
+    finals: &[Intent],
+    worker: u64,
+    serial: u64,
+    line: u64,
+) -> bool
+    ensures { result ≡ is_closed_by findings.now (map (λ journal. journal.items) journals.now) finals.now worker serial line }
+{
+    let standing = standing_of(findings, journals, finals, line);
+    standing.worker == worker && standing.serial == serial
+}
