@@ -185,18 +185,33 @@ fn a_broken_line_refuses_the_day(rt: HostRuntime) -> Result<(), Fail> {
 #[test]
 fn an_intent_without_a_receipt_is_not_paid_again(rt: HostRuntime) -> Result<(), Fail> {
     let rows: [(&str, &[u8], &str, &str); 5] = [
-        ("workers 3\npay 7 250\n", b"+intent 1 1 9\n-", "doubt 1\n", ""),
+        (
+            "workers 3\npay 7 250\n",
+            b"+intent 1 1 9\n-",
+            "doubt 1\n",
+            "",
+        ),
         (
             "steps 0\nlimit 0\npay 7 1\npay 7 2\npay 7 3\n",
             b"+intent 1 2 9\n+intent 2 1 9\n+done 1 0 9\n-",
             "before 2\ndoubt 1\nfree 3\n",
             "",
         ),
-        ("pay 7 3\n", b"+intent 1 1 9\n+done 1 1 9\n-", "doubt 1\n", ""),
+        (
+            "pay 7 3\n",
+            b"+intent 1 1 9\n+done 1 1 9\n-",
+            "doubt 1\n",
+            "",
+        ),
         // What stands behind a closed gate counts for nothing.
         ("pay 7 3\n", b"-intent 1 1 9\n", "done 1\n", "paid 1 7 3\n"),
         // A person has found that it was not begun.
-        ("pay 7 3\n", b"+intent 1 1 9\n+unbegun 1\n-", "done 1\n", "paid 1 7 3\n"),
+        (
+            "pay 7 3\n",
+            b"+intent 1 1 9\n+unbegun 1\n-",
+            "done 1\n",
+            "paid 1 7 3\n",
+        ),
     ];
     for (text, journal, report, paid) in rows {
         let mut orders = Vec::new(rt.alloc());
@@ -312,7 +327,11 @@ fn nobody_is_paid_after_a_failure(rt: HostRuntime) -> Result<(), Fail> {
         assert_eq!(rt; free.saturating_add(answered), 5, "call {failing}");
         assert_eq!(rt; count_of(&out, "doubt "), 1, "call {failing}");
         assert_eq!(rt; count_of(&orders, "paid "), given, "call {failing}");
-        assert_eq!(rt; disk.calls().len(), failing.saturating_add(1), "call {failing}");
+        assert_eq!(rt;
+            disk.calls().len(),
+            failing.saturating_add(1),
+            "call {failing}"
+        );
     }
     Ok(())
 }
@@ -332,7 +351,10 @@ fn what_the_bank_may_not_have_is_in_doubt(rt: HostRuntime) -> Result<(), Fail> {
         let attempts = attempts_in(alloc, file.bytes(), 5)?;
         let intents = done.saturating_add(1);
         assert_eq!(rt; attempts.len(), intents, "room {room}");
-        assert!(rt; attempts_of(&attempts, intents as u64) == (1, 0), "room {room}");
+        assert!(rt;
+            attempts_of(&attempts, intents as u64) == (1, 0),
+            "room {room}"
+        );
     }
     Ok(())
 }
@@ -347,9 +369,21 @@ fn each_fault_says_what_failed(rt: HostRuntime) -> Result<(), Fail> {
         (b"steps 10000001\npay 7 250\n", b"", Fault::Crew),
         (b"pay 7 250\n", b"+intent 1 2 9\n-", Fault::Entry(1)),
         (b"pay 7 250\n", b"+intent 2 1 9\n-", Fault::Entry(1)),
-        (b"pay 7 250\n", b"+intent 1 1 9\n+paid 1\n-", Fault::Entry(2)),
-        (b"pay 7 250\n", b"+intent 1 1 9\n+done 2 0 9\n-", Fault::Entry(2)),
-        (b"workers 16\nsteps 10000000\npay 7 250\n", b"", Fault::Output),
+        (
+            b"pay 7 250\n",
+            b"+intent 1 1 9\n+paid 1\n-",
+            Fault::Entry(2),
+        ),
+        (
+            b"pay 7 250\n",
+            b"+intent 1 1 9\n+done 2 0 9\n-",
+            Fault::Entry(2),
+        ),
+        (
+            b"workers 16\nsteps 10000000\npay 7 250\n",
+            b"",
+            Fault::Output,
+        ),
         (b"limit 0\npay 7 250\n", b"", Fault::Output),
     ];
     for (mut input, journal, fault) in rows {
@@ -371,7 +405,11 @@ fn each_fault_says_what_failed(rt: HostRuntime) -> Result<(), Fail> {
 
 #[test]
 fn a_day_that_is_not_stopped_is_paid(rt: HostRuntime) -> Result<(), Fail> {
-    for (head, count) in [("steps 0\n", 1000), ("workers 16\n", 3), ("workers 16\n", 0)] {
+    for (head, count) in [
+        ("steps 0\n", 1000),
+        ("workers 16\n", 3),
+        ("workers 16\n", 0),
+    ] {
         let text = day_of(rt.alloc(), head, count)?;
         let orders = Vec::new(rt.alloc());
         let (out, _) = report_on_disk(&rt, rt.alloc(), text.as_str(), &[], None, orders)?;

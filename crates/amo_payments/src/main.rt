@@ -13,8 +13,6 @@ use amo_file::{FileDevice, create_private, sync_folder, try_exclusive};
 use amo_journal::Device;
 use amo_payday::serve;
 use std::alloc::Global;
-use std::env;
-use std::fs;
 use std::fs::{File, OpenOptions};
 use std::io::{Read, Write};
 use std::os::unix::fs::OpenOptionsExt;
@@ -23,6 +21,7 @@ use std::rt::HostRuntime;
 use std::sync::Wait;
 use std::thread::Threads;
 use std::time::Clock;
+use std::{env, fs};
 
 /// Why no day is begun.
 #[derive(Debug, Drop)]
@@ -48,15 +47,7 @@ fn serve_streams<
     O: Write,
     E: Write,
     R: Threads + Wait + Clock + Sync,
->(
-    rt: &R,
-    alloc: Global,
-    input: &mut B,
-    device: D,
-    orders: S,
-    out: &mut O,
-    err: &mut E,
-) -> ExitCode
+>(rt: &R, alloc: Global, input: &mut B, device: D, orders: S, out: &mut O, err: &mut E) -> ExitCode
     requires { MaySettle D.seen D.may_leave D.stale device }
     ensures whole { exit_status result ≡ 0 → IsServed (B.remaining input.old) (D.seen device) (O.contents out.old) (O.contents out.new) }
     ensures silent { exit_status result ≡ 0 → Keeps (E.contents err.old) (E.contents err.new) }
@@ -75,7 +66,9 @@ fn serve_streams<
 /// Whether the standard streams are open, all three.
 fn has_streams(rt: HostRuntime) -> bool {
     let streams = ["/proc/self/fd/0", "/proc/self/fd/1", "/proc/self/fd/2"];
-    streams.iter().all(|path| fs::symlink_metadata(&rt, path).is_ok())
+    streams
+        .iter()
+        .all(|path| fs::symlink_metadata(&rt, path).is_ok())
 }
 
 /// The two words behind the program's name.
@@ -138,5 +131,13 @@ fn main(rt: HostRuntime) -> ExitCode {
     };
     let mut input = rt.stdin();
     let mut out = rt.stdout();
-    serve_streams(&rt, rt.alloc(), &mut input, device, orders, &mut out, &mut err)
+    serve_streams(
+        &rt,
+        rt.alloc(),
+        &mut input,
+        device,
+        orders,
+        &mut out,
+        &mut err,
+    )
 }
