@@ -9,10 +9,10 @@ use Rattle.std.proofs.lemmas.List.{map-append, map_push, take_more}
 use Rattle.std.proofs.lemmas.List.Sums.{fold_push}
 use Rattle.amo_payday.specs.declared.day.Day.{Day}
 use Rattle.amo_payday.specs.declared.line.Line.{Line}
-use Rattle.amo_payday.specs.declared.line.Line.TheVariants.{Workers, Steps, Limit, Pay, Old}
+use Rattle.amo_payday.specs.declared.line.Line.TheVariants.{Workers, Steps, Limit, Pay}
 use Rattle.amo_payday.specs.declared.day.payment.Payment.{Payment}
 use Rattle.amo_payday.specs.Lines.{line_in}
-use Rattle.amo_payday.specs.Days.{AreNumbered, has_broken_line, is_ended, IsDay, IsDayWith, crew_after, limit_after, first_crew, payments_in, paid_in, entries_in}
+use Rattle.amo_payday.specs.Days.{AreNumbered, has_broken_line, is_ended, IsDay, IsDayWith, crew_after, limit_after, first_crew, payments_in, paid_in}
 use Rattle.amo_payday.proofs.Numbers.{numbered_more}
 
 flat_push : {X A : Type 0} (f : X → List A) (xs : List X) (x : X) → flat_map f (xs ++ x ∷ []) ≡ flat_map f xs ++ f x
@@ -26,7 +26,6 @@ paid_is n (Workers k) = refl
 paid_is n (Steps k) = refl
 paid_is n (Limit k) = refl
 paid_is n (Pay account cents) = refl
-paid_is n (Old e) = refl
 
 still : (xs : List Payment) → AreNumbered xs → AreNumbered (xs ++ [])
 still xs h = subst AreNumbered (sym (append-nil xs)) h
@@ -36,7 +35,6 @@ numbered_with xs (Workers k) h = still xs h
 numbered_with xs (Steps k) h = still xs h
 numbered_with xs (Limit k) h = still xs h
 numbered_with xs (Pay account cents) h = numbered_more xs (record { id = length xs + 1; account = account; cents = cents }) h refl
-numbered_with xs (Old e) h = still xs h
 
 pub day_more : (said : List Line) (line : Line) (b c : Day) → IsDay said b → IsDayWith b line c → IsDay (said ++ line ∷ []) c
 day_more said line b c is on = record {
@@ -45,7 +43,6 @@ day_more said line b c is on = record {
   payments = ap (map amount) on.payments ∙ map-append amount b.payments.items (payments_in (length b.payments.items + 1) line) ∙ ap (λ l. map amount b.payments.items ++ l) (paid_is (length b.payments.items + 1) line)
       ∙ ap (λ l. l ++ paid_in line) is.payments ∙ sym (flat_push paid_in said line);
   numbered = subst AreNumbered (sym on.payments) (numbered_with b.payments.items line is.numbered);
-  journal = on.journal ∙ ap (λ l. l ++ entries_in line) is.journal ∙ sym (flat_push entries_in said line);
 }
 
 -- one line more was read

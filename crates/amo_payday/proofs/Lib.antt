@@ -6,6 +6,7 @@ pub mod Numbers
 pub mod NumberTexts
 pub mod Seconds
 pub mod Fronts
+pub mod Ledgers
 pub mod Floors
 pub mod DayLemmas
 pub mod HasLines

@@ -12,7 +12,7 @@ use Rattle.amo_crew.specs.Outcomes.{jobs_of}
 use Rattle.amo_crew.specs.Running.{IsAnswer}
 use Rattle.amo_payday.specs.declared.day.Day.{Day}
 use Rattle.amo_payday.specs.declared.day.payment.Payment.{Payment}
-use Rattle.amo_payday.specs.declared.line.Entry.{Entry}
+use Rattle.amo_ledger.specs.declared.journal.Attempt.{Attempt}
 use Rattle.amo_payday.specs.declared.bank.Answer.{Answer}
 use Rattle.amo_payday.specs.declared.bank.Answer.TheVariants.{Paid, Unpaid}
 use Rattle.amo_payday.specs.declared.second.Rest.{Rest}
@@ -217,10 +217,7 @@ all_floors {X} Is free_in text_of Q of_one ended payments free text are free_are
 
 -- ---- the whole report
 
-module _ (day : Day) (text : List ℕ) (is : IsReport day [] [] text) where
-  abbrev entries : List Entry
-  entries = day.journal.items
-
+module _ (day : Day) (entries : List Attempt) (text : List ℕ) (is : IsReport day entries [] [] text) where
   abbrev all : List Payment
   all = day.payments.items
 

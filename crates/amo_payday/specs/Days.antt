@@ -2,9 +2,8 @@
 use Rattle.std.specs.Prelude.{◌≡◌, ℕ, ◌+◌, ◌-◌, ◌^◌, Bool, true, not, ◌==◌, ◌||◌, List, [], ◌∷◌, ◌++◌, length, map, fold, slice_index, Some, is_none}
 use Rattle.std.specs.List.{flat_map, list_any, range_with_len}
 use Rattle.std.specs.Str.Lines.{lines}
-use Rattle.amo_payday.specs.declared.line.Entry.{Entry}
 use Rattle.amo_payday.specs.declared.line.Line.{Line}
-use Rattle.amo_payday.specs.declared.line.Line.TheVariants.{Workers, Steps, Limit, Pay, Old}
+use Rattle.amo_payday.specs.declared.line.Line.TheVariants.{Workers, Steps, Limit, Pay}
 use Rattle.amo_payday.specs.declared.day.Day.{Day}
 use Rattle.amo_payday.specs.declared.day.payment.Payment.{Payment}
 use Rattle.amo_payday.specs.declared.rounds.Crew.{Crew}
@@ -17,15 +16,6 @@ payments_in id (Pay account cents) = record { id = id; account = account; cents 
 payments_in id (Workers n) = []
 payments_in id (Steps n) = []
 payments_in id (Limit n) = []
-payments_in id (Old e) = []
-
--- the entries of an old journal that it adds
-abbrev pub entries_in : Line → List Entry
-entries_in (Old e) = e ∷ []
-entries_in (Workers n) = []
-entries_in (Steps n) = []
-entries_in (Limit n) = []
-entries_in (Pay account cents) = []
 
 -- the crew after a line: each line of workers or steps takes the place of those before
 abbrev pub crew_after : Crew → Line → Crew
@@ -33,7 +23,6 @@ crew_after crew (Workers n) = record crew { workers = n }
 crew_after crew (Steps n) = record crew { steps = n }
 crew_after crew (Limit n) = crew
 crew_after crew (Pay account cents) = crew
-crew_after crew (Old e) = crew
 
 -- the limit after a line
 abbrev pub limit_after : ℕ → Line → ℕ
@@ -41,7 +30,6 @@ limit_after limit (Limit n) = n
 limit_after limit (Workers n) = limit
 limit_after limit (Steps n) = limit
 limit_after limit (Pay account cents) = limit
-limit_after limit (Old e) = limit
 
 -- the numbers 1..n
 abbrev pub numbers_upto : ℕ → List ℕ
@@ -56,7 +44,6 @@ pub record IsDayWith (b : Day) (line : Line) (c : Day) : Type 0 where
   pub crew : c.crew ≡ crew_after b.crew line
   pub limit : c.limit ≡ limit_after b.limit line
   pub payments : c.payments.items ≡ b.payments.items ++ payments_in (length b.payments.items + 1) line
-  pub journal : c.journal.items ≡ b.journal.items ++ entries_in line
 
 -- the accounts and amounts of the payments that a line adds
 abbrev pub paid_in : Line → List (ℕ × ℕ)
@@ -66,14 +53,13 @@ paid_in line = map (λ p. (p.account, p.cents)) (payments_in 1 line)
 abbrev pub first_crew : Crew
 first_crew = record { workers = 1; steps = 10000000 }
 
--- The lines say this day: its crew and its limit are the last that are said, its payments are those that are said, numbered
--- from 1, and its journal has just the entries that are said, all in their order.
+-- The lines say this day: its crew and its limit are the last that are said, and its payments are those that are said, in their
+-- order, numbered from 1.
 pub record IsDay (said : List Line) (day : Day) : Type 0 where
   pub crew : day.crew ≡ fold crew_after first_crew said
   pub limit : day.limit ≡ fold limit_after (2 ^ 64 - 1) said
   pub payments : map (λ p. (p.account, p.cents)) day.payments.items ≡ flat_map paid_in said
   pub numbered : AreNumbered day.payments.items
-  pub journal : day.journal.items ≡ flat_map entries_in said
 
 -- The last line of a text has its end: a text that is not empty has a line feed as its last byte.
 abbrev pub is_ended : List ℕ → Bool

@@ -1,7 +1,17 @@
 -- What a fault can be of.
-use Rattle.std.specs.Prelude.{◌≡◌, ◌⊎◌, Bool, true, false}
+use Rattle.std.specs.Prelude.{◌≡◌, ◌⊎◌, ℕ, Bool, true, false, ◌||◌, List, Some}
+use Rattle.amo_journal.specs.declared.device.DeviceError.{DeviceError}
+use Rattle.amo_journal.specs.declared.device.DeviceError.TheVariants.{Memory as NoMemory, Failed}
+use Rattle.amo_journal.specs.Texts.{texts_in}
+use Rattle.amo_ledger.specs.declared.entry.Entry.{Entry as LedgerEntry}
+use Rattle.amo_ledger.specs.declared.fault.Fault.{Fault as LedgerFault}
+use Rattle.amo_ledger.specs.declared.fault.Fault.TheVariants.{Memory as NoMemoryToRead, Refused}
+use Rattle.amo_ledger.specs.Entries.{entry_in}
+use Rattle.amo_ledger.specs.Faults.{SaysNothing}
+use Rattle.amo_ledger.specs.Journals.{IsRefused}
+use Rattle.amo_ledger.specs.Puts.{entries_of}
 use Rattle.amo_payday.specs.declared.fault.Fault.{Fault}
-use Rattle.amo_payday.specs.declared.fault.Fault.TheVariants.{Line, Input, Crew, Output, Memory, Unsettled}
+use Rattle.amo_payday.specs.declared.fault.Fault.TheVariants.{Line, Input, Crew, Journal, Entry, Output, Memory, Unsettled}
 use Rattle.amo_payday.specs.declared.rounds.RoundFault.{RoundFault}
 use Rattle.amo_payday.specs.declared.rounds.RoundFault.TheVariants.{Unpaid, Unsettled as UnsettledRound, Unsorted}
 use Rattle.amo_payday.specs.declared.second.RestFault.{RestFault}
@@ -19,23 +29,59 @@ fault_of_rest (Untried back) = Memory
 fault_of_rest (Unhired floor book) = Memory
 fault_of_rest (UnsettledRest floor book outputs) = Unsettled
 
+-- the fault of a journal whose disk gave no answer
+abbrev pub fault_of_device : DeviceError → Fault
+fault_of_device NoMemory = Memory
+fault_of_device Failed = Journal
+
+-- the fault of a journal that was read
+abbrev pub fault_of_reading : LedgerFault → Fault
+fault_of_reading NoMemoryToRead = Memory
+fault_of_reading (Refused number) = Entry number
+
+-- In the file of a journal the text of this number is no entry, or may not follow those before it, of a day of so many payments.
+abbrev pub IsRefusedIn : ℕ → List ℕ → ℕ → Type 0
+IsRefusedIn lines file number = SaysNothing entry_in (texts_in file) (Refused number)
+    ⊎ ((entries : List LedgerEntry) × (entries_of file ≡ Some entries) × IsRefused lines entries (Refused number))
+
 -- the input says no day
 abbrev pub is_of_input : Fault → Bool
 is_of_input Line = true
 is_of_input Input = true
 is_of_input Crew = true
+is_of_input Journal = false
+is_of_input (Entry n) = false
 is_of_input Output = false
 is_of_input Memory = false
 is_of_input Unsettled = false
 
--- reading can end with it: the input says no day, or there was no memory
+-- the journal can't be had, or is none of that day
+abbrev pub is_of_journal : Fault → Bool
+is_of_journal Line = false
+is_of_journal Input = false
+is_of_journal Crew = false
+is_of_journal Journal = true
+is_of_journal (Entry n) = true
+is_of_journal Output = false
+is_of_journal Memory = false
+is_of_journal Unsettled = false
+
+-- nothing was written yet
+abbrev pub is_early : Fault → Bool
+is_early fault = is_of_input fault || is_of_journal fault
+
+-- reading a day can end with it: the input says none, or there was no memory
 abbrev pub IsOfReading : Fault → Type 0
 IsOfReading fault = (is_of_input fault ≡ true) ⊎ (fault ≡ Memory)
+
+-- opening its journal can end with it
+abbrev pub IsOfOpening : Fault → Type 0
+IsOfOpening fault = (is_of_journal fault ≡ true) ⊎ (fault ≡ Memory)
 
 -- writing a text can end with it
 abbrev pub IsOfTelling : Fault → Type 0
 IsOfTelling fault = (fault ≡ Output) ⊎ (fault ≡ Memory)
 
--- paying can end with it: what the input says is no matter there
+-- paying can end with it: what was read is no matter there
 abbrev pub IsOfPaying : Fault → Type 0
-IsOfPaying fault = is_of_input fault ≡ false
+IsOfPaying fault = is_early fault ≡ false

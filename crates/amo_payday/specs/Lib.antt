@@ -1,5 +1,6 @@
 pub mod Payments
 pub mod Faults
+pub mod Ledgers
 pub mod Lines
 pub mod Restarts
 pub mod Sorting

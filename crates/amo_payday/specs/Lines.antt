@@ -1,4 +1,4 @@
--- The lines of the input and of the journal.
+-- The lines of the input, and those that are written.
 use Rattle.std.specs.Prelude.{ℕ, ◌≤◌, ◌^◌, Bool, ◌&&◌, nat_lt, List, [], ◌∷◌, ◌++◌, ◌==◌, length, take, codes, Option, Some, None, option_and_then, if◌then◌else◌}
 use Rattle.std.specs.Char.{digit_value}
 use Rattle.std.specs.List.{list_all, position_or_len, before_first, after_first}
@@ -6,9 +6,8 @@ use Rattle.std.specs.Fmt.{decimal}
 use Rattle.std.specs.Io.KnownBytes.{Appends}
 use Rattle.std.specs.Str.{bytes_eq}
 use Rattle.std.specs.Str.Parse.{digits_value, without_leading_plus}
-use Rattle.amo_payday.specs.declared.line.Entry.TheVariants.{Intent, Receipt}
 use Rattle.amo_payday.specs.declared.line.Line.{Line}
-use Rattle.amo_payday.specs.declared.line.Line.TheVariants.{Workers, Steps, Limit, Pay, Old}
+use Rattle.amo_payday.specs.declared.line.Line.TheVariants.{Workers, Steps, Limit, Pay}
 
 -- known bytes grow by a beginning of bs
 abbrev pub AppendsFront : Option (List ℕ) → Option (List ℕ) → List ℕ → Type 0
@@ -17,14 +16,6 @@ AppendsFront old new bs = (k : ℕ) × (k ≤ length bs) × Appends old new (tak
 -- the line of a word and a number
 abbrev pub line : List ℕ → ℕ → List ℕ
 line word id = (word ++ 32 ∷ decimal id) ++ 10 ∷ []
-
--- the line of an intent
-abbrev pub intent_line : ℕ → List ℕ
-intent_line id = line (codes "intent") id
-
--- the line of a receipt
-abbrev pub receipt_line : ℕ → List ℕ
-receipt_line id = line (codes "receipt") id
 
 -- one digit or more, and nothing else
 abbrev pub are_digits : List ℕ → Bool
@@ -67,9 +58,7 @@ line_of_word word rest =
     else (if bytes_eq word (codes "steps") then with_number Steps rest
     else (if bytes_eq word (codes "limit") then with_number Limit rest
     else (if bytes_eq word (codes "pay") then payment_in rest
-    else (if bytes_eq word (codes "intent") then with_number (λ id. Old (Intent id)) rest
-    else (if bytes_eq word (codes "receipt") then with_number (λ id. Old (Receipt id)) rest
-    else None)))))
+    else None)))
 
 -- what a line says, or None where it is no line
 abbrev pub line_in : List ℕ → Option Line

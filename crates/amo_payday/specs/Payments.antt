@@ -1,7 +1,8 @@
 -- What belongs to a payment.
-use Rattle.std.specs.Prelude.{◌≡◌, ℕ}
+use Rattle.std.specs.Prelude.{◌≡◌, ℕ, List, ◌++◌, codes}
+use Rattle.std.specs.Fmt.{decimal}
 use Rattle.amo_payday.specs.declared.day.payment.Payment.{Payment}
-use Rattle.amo_payday.specs.declared.journal.Receipt.{Receipt}
+use Rattle.amo_payday.specs.declared.ledger.order.Receipt.{Receipt}
 use Rattle.amo_payday.specs.declared.bank.Answer.{Answer}
 use Rattle.amo_payday.specs.declared.bank.Answer.TheVariants.{Paid, Unpaid}
 
@@ -11,6 +12,10 @@ pub record IsReceiptOf (job : ℕ) (p : Payment) (r : Receipt) : Type 0 where
   pub id : r.id ≡ p.id
   pub account : r.account ≡ p.account
   pub cents : r.cents ≡ p.cents
+
+-- what the bank is told of a payment: its number, its account and how much
+abbrev pub order_line : Payment → List ℕ
+order_line p = codes "paid " ++ (decimal p.id ++ (codes " " ++ (decimal p.account ++ (codes " " ++ (decimal p.cents ++ codes "\n")))))
 
 -- what a bank answers: a receipt of this payment as this job, or the payment itself
 abbrev pub Answers : ℕ → ℕ → Payment → Answer → Type 0

@@ -1,8 +1,9 @@
 -- What is written of a day.
-use Rattle.std.specs.Prelude.{◌≡◌, ◌⊎◌, ℕ, true, List, [], ◌++◌, map, filter, All, Option, IfSome, codes}
+use Rattle.std.specs.Prelude.{◌≡◌, ◌⊎◌, ℕ, true, List, [], ◌++◌, map, filter, All, Option, Some, IfSome, length, codes}
 use Rattle.std.specs.List.{flat_map}
 use Rattle.std.specs.Io.KnownBytes.{Appends, Keeps}
 use Rattle.amo_crew.specs.declared.hand.Output.{Output}
+use Rattle.amo_ledger.specs.declared.journal.Attempt.{Attempt}
 use Rattle.amo_payday.specs.declared.day.Day.{Day}
 use Rattle.amo_payday.specs.declared.day.payment.Payment.{Payment}
 use Rattle.amo_payday.specs.declared.bank.Answer.{Answer}
@@ -13,7 +14,7 @@ use Rattle.amo_payday.specs.declared.sorting.Sorted.{Sorted}
 use Rattle.amo_payday.specs.Days.{IsDayOf, is_ended}
 use Rattle.amo_payday.specs.Lines.{AppendsFront, line}
 use Rattle.amo_payday.specs.Payments.{Answers}
-use Rattle.amo_payday.specs.Restarts.{was_made, is_in_doubt, is_untried}
+use Rattle.amo_payday.specs.Restarts.{journal_in, was_made, is_in_doubt, is_untried}
 use Rattle.amo_payday.specs.Rounds.{IsRound}
 use Rattle.amo_payday.specs.Second.{IsRest}
 
@@ -80,19 +81,19 @@ TellsNext Are payments rest free more old new = (added : List Payment) × (text 
 abbrev pub TellsPart : (List Payment → List Payment → List Payment → List ℕ → Type 0) → List Payment → Option (List ℕ) → Option (List ℕ) → Type 0
 TellsPart Are payments old new = (rest : List Payment) × (free : List Payment) × (text : List ℕ) × Are payments rest free text × AppendsFront old new text
 
--- What is written of a day: `before` and `doubt` for what an earlier run has made or begun, then what becomes of the others in
+-- What is written of a day: `before` and `doubt` for what earlier runs have made or begun, by their journal, then what becomes of the others in
 -- rounds, then what becomes on floors of one worker of those that nobody began there, and last `free` for each that is
 -- left. Of the untried payments `waiting` came onto no round, and `late` are those that nobody began there and that
 -- came onto no floor of one worker.
-pub record IsReport (day : Day) (waiting late : List Payment) (text : List ℕ) : Type 0 where
+pub record IsReport (day : Day) (journal : List Attempt) (waiting late : List Payment) (text : List ℕ) : Type 0 where
   pub free : List Payment
   pub left : List Payment
   pub rounds_text : List ℕ
   pub floors_text : List ℕ
-  pub rounds : ArePaid day.crew (filter (is_untried day.journal.items) day.payments.items) waiting free rounds_text
+  pub rounds : ArePaid day.crew (filter (is_untried journal) day.payments.items) waiting free rounds_text
   pub floors : AreTried free late left floors_text
-  pub text_is : text ≡ lines_of (codes "before") (filter (was_made day.journal.items) day.payments.items)
-      ++ (lines_of (codes "doubt") (filter (is_in_doubt day.journal.items) day.payments.items)
+  pub text_is : text ≡ lines_of (codes "before") (filter (was_made journal) day.payments.items)
+      ++ (lines_of (codes "doubt") (filter (is_in_doubt journal) day.payments.items)
       ++ (rounds_text ++ (floors_text ++ lines_of (codes "free") left)))
 
 -- In the text stands the line of this word and this number: before it the text is empty, or a line has ended.
@@ -107,17 +108,21 @@ abbrev pub IsTold : List ℕ → Payment → Type 0
 IsTold text p = HasLine text (codes "before") p.id ⊎ (HasLine text (codes "done") p.id ⊎ (HasLine text (codes "doubt") p.id ⊎ HasLine text (codes "free") p.id))
 
 -- the report of a day, whole: each payment has a line in it
-abbrev pub Reports : Day → Option (List ℕ) → Option (List ℕ) → Type 0
-Reports day old new = (text : List ℕ) × IsReport day [] [] text × All (IsTold text) day.payments.items × Appends old new text
+abbrev pub Reports : Day → List Attempt → Option (List ℕ) → Option (List ℕ) → Type 0
+Reports day journal old new = (text : List ℕ) × IsReport day journal [] [] text × All (IsTold text) day.payments.items × Appends old new text
 
 -- a beginning of the report of what became of some of it
-abbrev pub ReportsFront : Day → Option (List ℕ) → Option (List ℕ) → Type 0
-ReportsFront day old new = (waiting : List Payment) × (late : List Payment) × (text : List ℕ) × IsReport day waiting late text × AppendsFront old new text
+abbrev pub ReportsFront : Day → List Attempt → Option (List ℕ) → Option (List ℕ) → Type 0
+ReportsFront day journal old new = (waiting : List Payment) × (late : List Payment) × (text : List ℕ) × IsReport day journal waiting late text × AppendsFront old new text
 
--- the input says a day, and its report was written, whole
-abbrev pub IsServed : Option (List ℕ) → Option (List ℕ) → Option (List ℕ) → Type 0
-IsServed input old new = (day : Day) × IfSome input (λ text. IsDayOf text day) × Reports day old new
+-- the input says a day, and the file is a journal of it, which says this
+abbrev pub IsBegunBy : Option (List ℕ) → List ℕ → Day → List Attempt → Type 0
+IsBegunBy input file day journal = IfSome input (λ text. IsDayOf text day) × (journal_in (length day.payments.items) file ≡ Some journal)
 
--- nothing was written, or the input says a day, and a beginning of its report was written
-abbrev pub IsBegun : Option (List ℕ) → Option (List ℕ) → Option (List ℕ) → Type 0
-IsBegun input old new = Keeps old new ⊎ ((day : Day) × IfSome input (λ text. IsDayOf text day) × ReportsFront day old new)
+-- so it is, and the report was written, whole
+abbrev pub IsServed : Option (List ℕ) → List ℕ → Option (List ℕ) → Option (List ℕ) → Type 0
+IsServed input file old new = (day : Day) × (journal : List Attempt) × IsBegunBy input file day journal × Reports day journal old new
+
+-- nothing was written, or it is so, and a beginning of the report was written
+abbrev pub IsBegun : Option (List ℕ) → List ℕ → Option (List ℕ) → Option (List ℕ) → Type 0
+IsBegun input file old new = Keeps old new ⊎ ((day : Day) × (journal : List Attempt) × IsBegunBy input file day journal × ReportsFront day journal old new)

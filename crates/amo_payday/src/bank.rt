@@ -1,77 +1,114 @@
 //! The work: making payments.
-ghost use Rattle.std.specs.Prelude.{◌≡◌};
+ghost use Rattle.std.specs.Prelude.{◌≡◌, IfOk, IfErr};
 ghost use Rattle.amo_payday.specs.Payments.{IsReceiptOf, Answers};
 
 use crate::day::Payment;
-use crate::journal::{Intent, Journal, Receipt};
+use crate::ledger::{Given, Intent, Ledger, Receipt};
 use amo_crew::Work;
+use amo_journal::Device;
+use std::alloc::Global;
 use std::io::Write;
 use std::sync::atomic::{AtomicBool, AtomicU64, Ordering};
 use std::sync::{Mutex, Wait};
+use std::time::{Clock, SystemTime, UNIX_EPOCH};
 
 /// What performing a payment gives.
 #[derive(Debug, PartialEq, Drop)]
 pub enum Answer {
-    /// The payment was made.
+    /// The payment was made, and its receipt stands in the journal.
     Paid(Receipt),
-    /// Its intent could not be written, so it was not made.
+    /// There is no receipt: its intent could not be put, and then it was not made; or nobody knows whether the bank has it; or it
+    /// was made, and its receipt could not be put.
     Unpaid(Payment),
 }
 
-/// Makes payments, and keeps a journal of them. Threads share it by reference.
+/// Makes payments, and keeps their journal. Threads share it by reference.
 #[derive(Drop)]
-pub struct Bank<'a, S: Drop, R> {
+pub struct Bank<'a, D: Device + Drop, S: Drop, R> {
     rt: &'a R,
-    journal: Mutex<Journal<S>>,
+    alloc: Global,
+    ledger: Mutex<Ledger<D>>,
+    orders: Mutex<S>,
     limit: u64,
     made: AtomicU64,
     stop: &'a AtomicBool,
 }
 
-impl<'a, S: Write + Drop, R: Wait> Bank<'a, S, R> {
-    /// A bank with this journal, which sets the flag once so many payments were made.
-    pub fn new(rt: &'a R, journal: Journal<S>, limit: u64, stop: &'a AtomicBool) -> Bank<'a, S, R>
+/// The time in seconds since 1970, or 0 where the clock can't be read: it is noted for persons and decides nothing.
+fn now<R: Clock>(rt: &R) -> u64 {
+    match SystemTime::now(rt) {
+        Ok(time) => match time.duration_since(UNIX_EPOCH) {
+            Ok(since) => since.as_secs(),
+            Err(_) => 0,
+        },
+        Err(_) => 0,
+    }
+}
+
+impl<'a, D: Device + Drop, S: Write + Drop, R: Wait + Clock> Bank<'a, D, S, R> {
+    /// A bank with this journal, which tells its orders to the writer, and sets the flag once so many payments were made.
+    pub fn new(
+        rt: &'a R,
+        alloc: Global,
+        ledger: Ledger<D>,
+        orders: S,
+        limit: u64,
+        stop: &'a AtomicBool,
+    ) -> Bank<'a, D, S, R>
         ensures limit { result.limit ≡ limit }
     {
         Bank {
             rt,
-            journal: Mutex::new(journal),
+            alloc,
+            ledger: Mutex::new(ledger),
+            orders: Mutex::new(orders),
             limit,
             made: AtomicU64::new(0),
             stop,
         }
     }
 
-    /// Makes a payment whose intent is written, and counts it. A real bank sends its order here.
-    fn pay(&self, intent: Intent, job: u32) -> Receipt
-        ensures receipt { IsReceiptOf job intent.payment result }
+    /// The file of the journal, once all have paid.
+    pub fn into_device(self) -> D {
+        self.ledger.into_inner().into_device()
+    }
+
+    /// Makes a payment whose intent is put, and counts it. The lock is that of the writer which stands for a bank: a real bank's
+    /// call takes none.
+    fn pay(&self, intent: Intent) -> Result<Given, Payment>
+        ensures given { IfOk result (λ g. g.payment ≡ intent.payment) }
+        ensures back { IfErr result (λ p. p ≡ intent.payment) }
     {
+        let given = intent.give(self.alloc, &mut *self.orders.lock(self.rt))?;
         let before = self.made.fetch_add(1, Ordering::SeqCst);
         if before.saturating_add(1) >= self.limit {
             self.stop.store(true, Ordering::SeqCst);
         }
-        intent.receipt(job)
+        Ok(given)
+    }
+
+    /// Puts the intent, makes the payment, and puts its receipt. No other thread waits for the journal while a payment is made.
+    fn make(&self, job: u32, payment: Payment) -> Result<Receipt, Payment>
+        ensures receipt { IfOk result (IsReceiptOf job payment) }
+        ensures back { IfErr result (λ p. p ≡ payment) }
+    {
+        let begun = now(self.rt);
+        let intent = self.ledger.lock(self.rt).intend(payment, begun)?;
+        let given = self.pay(intent)?;
+        let ended = now(self.rt);
+        self.ledger.lock(self.rt).note(given, job, ended)
     }
 }
 
-impl<'a, S: Write + Drop, R: Wait> Work<Payment> for Bank<'a, S, R> {
+impl<'a, D: Device + Drop, S: Write + Drop, R: Wait + Clock> Work<Payment> for Bank<'a, D, S, R> {
     type Out = Answer;
 
     ghost related = { λ _. Answers };
 
-    /// Writes the intent, makes the payment, and writes its receipt. No other thread waits while a payment is made. Where the
-    /// journal can't be written it sets the flag.
+    /// Makes the payment. Where there is no receipt of it, it sets the flag.
     fn perform(&self, _worker: u32, job: u32, payment: Payment) -> Answer {
-        let written = self.journal.lock(self.rt).intend(payment);
-        match written {
-            Ok(intent) => {
-                let receipt = self.pay(intent, job);
-                let noted = self.journal.lock(self.rt).note(&receipt);
-                if !noted {
-                    self.stop.store(true, Ordering::SeqCst);
-                }
-                Answer::Paid(receipt)
-            }
+        match self.make(job, payment) {
+            Ok(receipt) => Answer::Paid(receipt),
             Err(payment) => {
                 self.stop.store(true, Ordering::SeqCst);
                 Answer::Unpaid(payment)

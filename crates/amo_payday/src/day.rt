@@ -1,4 +1,4 @@
-//! What the input says: a day's payments, and the journal of an earlier run of it.
+//! What the input says: a day's payments, and who pays them.
 ghost use Rattle.std.specs.Prelude.{◌≡◌, true, false, [], Err, map, IfOk, IfErr, IfSome, OnOk};
 ghost use Rattle.std.specs.Str.Lines.{lines};
 ghost use Rattle.amo_payday.specs.Days.{IsDay, IsDayOf, IsDayWith, has_broken_line, is_ended};
@@ -8,7 +8,7 @@ ghost use Rattle.amo_payday.specs.declared.day.Day.{Day as DayView};
 ghost use Rattle.amo_payday.specs.declared.fault.Fault.TheVariants.{Line as BrokenLine, Input as NoInput, Crew as UnfitCrew};
 
 use crate::fault::Fault;
-use crate::line::{Entry, Line, line_of};
+use crate::line::{Line, line_of};
 use crate::rounds::Crew;
 use std::alloc::{AllocError, Global};
 use std::io::Read;
@@ -26,8 +26,6 @@ pub struct Day {
     pub limit: u64,
     /// Numbered from 1 in their order, so that the journal can name them.
     pub payments: Vec<Payment>,
-    /// The journal of an earlier run, in its order.
-    pub journal: Vec<Entry>,
 }
 
 impl Day {
@@ -42,7 +40,6 @@ impl Day {
             },
             limit: u64::MAX,
             payments: Vec::new(alloc),
-            journal: Vec::new(alloc),
         }
     }
 
@@ -58,7 +55,6 @@ impl Day {
                 let id = self.payments.len() as u64 + 1;
                 self.payments.push(Payment::new(id, account, cents))?;
             }
-            Line::Old(entry) => self.journal.push(entry)?,
         }
         Ok(())
     }
@@ -78,8 +74,8 @@ fn is_ended(text: &str) -> bool
     text.is_empty() || text.ends_with('\n')
 }
 
-/// The day that a text says. A line that is none, or whose end is missing, refuses the whole day: it may be half an intent,
-/// and a payment of which the journal can't be read must not be made.
+/// The day that a text says. A line that is none, or whose end is missing, refuses the whole day: it may be half a payment, and
+/// the journal knows payments by their places among the others.
 fn day_of(alloc: Global, text: &str) -> Result<Day, Fault>
     ensures day { IfOk result (IsDayOf text.now) }
     ensures line { result ≡ Err BrokenLine → has_broken_line text.now ≡ true }

@@ -1,10 +1,11 @@
 //! Why a day ends early.
 ghost use Rattle.std.specs.Prelude.{◌≡◌};
-ghost use Rattle.amo_payday.specs.Faults.{fault_of_round, fault_of_rest};
+ghost use Rattle.amo_payday.specs.Faults.{fault_of_device, fault_of_reading, fault_of_round, fault_of_rest};
 ghost use Rattle.amo_payday.specs.declared.fault.Fault.TheVariants.{Memory};
 
 use crate::rounds::RoundFault;
 use crate::second::RestFault;
+use amo_journal::DeviceError;
 use std::alloc::AllocError;
 
 /// Why a day ends early. What was paid by then stands in the journal.
@@ -16,6 +17,11 @@ pub enum Fault {
     Input,
     /// The crew that the input says is outside its ranges: from 1 to 16 workers, and at most 10,000,000 steps.
     Crew,
+    /// The journal can't be settled: its disk failed.
+    Journal,
+    /// The entry of this number in the journal, from 1, is none, or may not stand there. So it is where the day has no payment
+    /// of the number that an intent says: the journal is that of another day.
+    Entry(usize),
     /// The report can't be written.
     Output,
     /// Memory was refused.
@@ -29,6 +35,28 @@ impl From<AllocError> for Fault {
 
     fn from(_: AllocError) -> Fault {
         Fault::Memory
+    }
+}
+
+impl From<DeviceError> for Fault {
+    ghost from_gives = { λ device fault. fault ≡ fault_of_device device };
+
+    fn from(fault: DeviceError) -> Fault {
+        match fault {
+            DeviceError::Memory => Fault::Memory,
+            DeviceError::Failed => Fault::Journal,
+        }
+    }
+}
+
+impl From<amo_ledger::Fault> for Fault {
+    ghost from_gives = { λ reading fault. fault ≡ fault_of_reading reading };
+
+    fn from(fault: amo_ledger::Fault) -> Fault {
+        match fault {
+            amo_ledger::Fault::Memory => Fault::Memory,
+            amo_ledger::Fault::Refused(number) => Fault::Entry(number),
+        }
     }
 }
 

@@ -1,15 +1,15 @@
 //! A day of payments to accounts, each made at most once: a small work that shows how a caller embeds the executor.
 //!
-//! `serve` reads the payments of a day, and the journal of an earlier run of that day. What has no entry in that journal it
-//! pays, in rounds of at most 4096, and writes an intent before each payment and a receipt after it, and last what became of
-//! each payment. It may wait. docs/EMBEDDING.md goes through all of it, to be copied; no other caller needs its parts, so
+//! `serve` reads the payments of a day, and its journal, which stands in a file. What has no intent there it pays, in rounds of at
+//! most 4096: it puts an intent into the journal before each payment and a receipt after it, and writes what became of each
+//! payment. It may wait. docs/EMBEDDING.md goes through all of it, to be copied; no other caller needs its parts, so
 //! they stay its own.
 #![tactic(auto)]
 
 mod bank;
 mod day;
 mod fault;
-mod journal;
+mod ledger;
 mod line;
 mod restarting;
 mod rounds;

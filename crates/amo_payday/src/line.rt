@@ -2,15 +2,6 @@
 ghost use Rattle.std.specs.Prelude.{◌≡◌};
 ghost use Rattle.amo_payday.specs.Lines.{number_in, payment_in, line_of_word, line_in};
 
-/// A line of a journal.
-#[derive(Clone, Copy, Debug, PartialEq, Eq)]
-pub enum Entry {
-    /// The payment of this number is about to be made.
-    Intent(u64),
-    /// It was made.
-    Receipt(u64),
-}
-
 /// A line of the input.
 #[derive(Clone, Copy, Debug, PartialEq, Eq)]
 pub enum Line {
@@ -22,8 +13,6 @@ pub enum Line {
     Limit(u64),
     /// An account, and the amount that it gets.
     Pay(u64, u64),
-    /// A line of the journal of an earlier run.
-    Old(Entry),
 }
 
 /// The number that the text says, which may have a plus before its digits.
@@ -51,13 +40,12 @@ fn line_of_word(word: &str, rest: &str) -> Option<Line>
         "steps" => Some(Line::Steps(number(rest)?)),
         "limit" => Some(Line::Limit(number(rest)?)),
         "pay" => pay(rest),
-        "intent" => Some(Line::Old(Entry::Intent(number(rest)?))),
-        "receipt" => Some(Line::Old(Entry::Receipt(number(rest)?))),
         _ => None,
     }
 }
 
-/// What the line says, or None where it is none of these: then nobody may go on, since it may be a broken intent.
+/// What the line says, or None where it is none of these: then nobody may go on, since it may be a broken payment, and each one
+/// behind it would have another number than the journal gives it.
 pub fn line_of(text: &str) -> Option<Line>
     ensures { result ≡ line_in text.now }
 {

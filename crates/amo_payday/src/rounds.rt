@@ -15,12 +15,14 @@ use crate::day::Payment;
 use crate::sorting::{Sorted, sort_out};
 use amo_crew::laws::settled_later;
 use amo_crew::{ExecFault, Outcome, StopPlan, Unsettled, execute};
+use amo_journal::Device;
 use amo_kk::Givens;
 use std::alloc::{AllocError, Global};
 use std::io::Write;
 use std::mem;
 use std::sync::Wait;
 use std::thread::Threads;
+use std::time::Clock;
 
 /// How many workers pay, and after how many steps each is halted, in each round.
 #[derive(Clone, Copy, Debug, PartialEq, Eq)]
@@ -110,9 +112,9 @@ fn sort_twice(
 }
 
 /// Settles what a run left whose settling wanted memory.
-fn settle_again<S: Write + Drop, R: Wait>(
+fn settle_again<D: Device + Drop, S: Write + Drop, R: Wait + Clock>(
     alloc: Global,
-    bank: &Bank<'_, S, R>,
+    bank: &Bank<'_, D, S, R>,
     rest: Unsettled<Payment, Answer>,
 ) -> Result<Outcome<Payment, Answer>, RoundFault>
     ensures outcome { IfOk result (λ o. (g : GivensView) (payloads : List PaymentView) (budgets : List ℕ)
@@ -128,10 +130,10 @@ fn settle_again<S: Write + Drop, R: Wait>(
 
 /// Executes one round. Where a thread could not be started the others have paid, and where memory was refused at the settling
 /// it is settled again, once.
-fn run_round<S: Write + Drop + Send, R: Threads + Wait + Sync>(
+fn run_round<D: Device + Drop + Send, S: Write + Drop + Send, R: Threads + Wait + Clock + Sync>(
     rt: &R,
     alloc: Global,
-    bank: &Bank<'_, S, R>,
+    bank: &Bank<'_, D, S, R>,
     plan: &StopPlan,
     payments: Vec<Payment>,
 ) -> Result<Outcome<Payment, Answer>, RoundFault>
@@ -148,10 +150,10 @@ fn run_round<S: Write + Drop + Send, R: Threads + Wait + Sync>(
 }
 
 /// Pays one round, and sorts what came of it. There have to be at most 4096 payments. May wait.
-pub fn pay_round<S: Write + Drop + Send, R: Threads + Wait + Sync>(
+pub fn pay_round<D: Device + Drop + Send, S: Write + Drop + Send, R: Threads + Wait + Clock + Sync>(
     rt: &R,
     alloc: Global,
-    bank: &Bank<'_, S, R>,
+    bank: &Bank<'_, D, S, R>,
     crew: Crew,
     payments: Vec<Payment>,
 ) -> Result<Sorted, RoundFault>

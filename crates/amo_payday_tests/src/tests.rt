@@ -1,5 +1,8 @@
-//! A crash in the middle, lines that are none, and what several workers make of a day. Each goes through `serve`, and reads
-//! what it has written.
+//! A crash in the middle, a disk that fails, lines that are none, and what several workers make of a day. Each goes through
+//! `serve`, and reads what it has written: its report, its orders and its journal.
+use amo_disk::Disk;
+use amo_journal::{MemoryDevice, texts_in};
+use amo_ledger::{Answer, Attempt, journal_of, read_entries};
 use amo_payday::{Fault, serve};
 use std::alloc::{AllocError, Global};
 use std::io;
@@ -7,18 +10,37 @@ use std::io::{Read, Write};
 use std::sync::Wait;
 use std::test::Fail;
 use std::thread::Threads;
+use std::time::Clock;
 
-/// What is written of the day that the text says, with this journal.
-fn report_of<S: Write + Drop + Send, R: Threads + Wait + Sync>(
+/// What is written of the day that the text says, with a journal of these bytes, and the file of the journal as it is left.
+fn report_of<S: Write + Drop + Send, R: Threads + Wait + Clock + Sync>(
     rt: &R,
     alloc: Global,
     text: &str,
-    journal: S,
-) -> Result<Vec<u8>, Fault> {
+    journal: &[u8],
+    orders: S,
+) -> Result<(Vec<u8>, MemoryDevice), Fault> {
     let mut input = text.as_bytes();
     let mut out = Vec::new(alloc);
-    serve(rt, alloc, &mut input, journal, &mut out)?;
-    Ok(out)
+    let device = MemoryDevice::new(alloc, journal.to_vec(alloc)?);
+    let device = serve(rt, alloc, &mut input, device, orders, &mut out)?;
+    Ok((out, device))
+}
+
+/// The same on a disk of which one call may fail.
+fn report_on_disk<S: Write + Drop + Send, R: Threads + Wait + Clock + Sync>(
+    rt: &R,
+    alloc: Global,
+    text: &str,
+    journal: &[u8],
+    failing: Option<usize>,
+    orders: S,
+) -> Result<(Vec<u8>, Disk), Fault> {
+    let mut input = text.as_bytes();
+    let mut out = Vec::new(alloc);
+    let disk = Disk::new(alloc, journal, failing)?;
+    let disk = serve(rt, alloc, &mut input, disk, orders, &mut out)?;
+    Ok((out, disk))
 }
 
 /// The text of a day with this head and so many payments.
@@ -50,12 +72,20 @@ fn count_of(text: &[u8], word: &str) -> usize {
     count
 }
 
-/// How often the line of this word and number stands in the text, with its end.
+/// The number at the front of a text.
+fn first_number(text: &str) -> Option<u64> {
+    match text.split_once(' ') {
+        Some((number, _)) => number.parse::<u64>().ok(),
+        None => text.parse::<u64>().ok(),
+    }
+}
+
+/// How often a line of this word and number stands in the text, with its end.
 fn times(text: &[u8], word: &str, id: u64) -> usize {
     let mut count = 0usize;
     for line in whole_lines(text).lines() {
         if let Some((first, rest)) = line.split_once(' ') {
-            if first == word && rest.parse::<u64>().ok() == Some(id) {
+            if first == word && first_number(rest) == Some(id) {
                 count = count.saturating_add(1);
             }
         }
@@ -63,7 +93,37 @@ fn times(text: &[u8], word: &str, id: u64) -> usize {
     count
 }
 
-/// A sink that has room for so many bytes, and then fails.
+/// How often the report tells of this payment.
+fn told(report: &[u8], id: u64) -> usize {
+    let mut count = 0usize;
+    for word in ["before", "done", "doubt", "free"] {
+        count = count.saturating_add(times(report, word, id));
+    }
+    count
+}
+
+/// The intents in a journal of so many payments, each with its answer.
+fn attempts_in(alloc: Global, file: &[u8], lines: u64) -> Result<Vec<Attempt>, Fail> {
+    let texts = texts_in(alloc, file)?;
+    let entries = read_entries(alloc, &texts)?;
+    Ok(journal_of(alloc, lines, &entries)?)
+}
+
+/// How many intents of this payment there are, and how many have their receipt.
+fn attempts_of(attempts: &[Attempt], id: u64) -> (usize, usize) {
+    let (mut intents, mut receipts) = (0usize, 0usize);
+    for attempt in attempts {
+        if attempt.line == id {
+            intents = intents.saturating_add(1);
+            if matches!(attempt.answer, Some(Answer::Done { code: 0, .. })) {
+                receipts = receipts.saturating_add(1);
+            }
+        }
+    }
+    (intents, receipts)
+}
+
+/// A writer that has room for so many bytes, and then fails.
 #[derive(Drop)]
 struct Full {
     bytes: Vec<u8>,
@@ -100,42 +160,64 @@ impl Read for Broken {
 fn a_broken_line_refuses_the_day(rt: HostRuntime) -> Result<(), Fail> {
     for broken in [
         "\n",
-        "intent\n",
-        "intent \n",
-        "intent x\n",
-        "inten 3\n",
-        "receipt 3 4\n",
+        "limit\n",
+        "limit \n",
+        "steps x\n",
+        "worker 3\n",
+        "intent 1\n",
         "pay 7\n",
         "pay 7 \n",
-        "intent 1",
+        "pay 7 1",
     ] {
         let mut text = day_of(rt.alloc(), "", 1)?;
         text.push_str(broken)?;
         let mut input = text.as_bytes();
-        let mut journal = Vec::new(rt.alloc());
+        let mut orders = Vec::new(rt.alloc());
         let mut out = Vec::new(rt.alloc());
-        assert!(rt;
-            serve(&rt, rt.alloc(), &mut input, &mut journal, &mut out) == Err(Fault::Line),
-            "{broken:?} is a line"
-        );
-        assert!(rt; journal.is_empty() && out.is_empty(), "{broken:?}");
+        let device = MemoryDevice::new(rt.alloc(), Vec::new(rt.alloc()));
+        let served = serve(&rt, rt.alloc(), &mut input, device, &mut orders, &mut out);
+        assert!(rt; served.err() == Some(Fault::Line), "{broken:?} is a line");
+        assert!(rt; orders.is_empty() && out.is_empty(), "{broken:?}");
     }
     Ok(())
 }
 
 #[test]
 fn an_intent_without_a_receipt_is_not_paid_again(rt: HostRuntime) -> Result<(), Fail> {
-    for (text, report) in [
-        ("workers 3\npay 7 250\nintent 1\n", "doubt 1\n"),
+    let rows: [(&str, &[u8], &str, &str); 5] = [
         (
-            "steps 0\nlimit 0\npay 7 1\npay 7 2\npay 7 3\nintent 2\nintent 1\nreceipt 2\n",
-            "before 2\ndoubt 1\nfree 3\n",
+            "workers 3\npay 7 250\n",
+            b"+intent 1 1 9\n-",
+            "doubt 1\n",
+            "",
         ),
-    ] {
-        let mut journal = Vec::new(rt.alloc());
-        let out = report_of(&rt, rt.alloc(), text, &mut journal)?;
+        (
+            "steps 0\nlimit 0\npay 7 1\npay 7 2\npay 7 3\n",
+            b"+intent 1 2 9\n+intent 2 1 9\n+done 1 0 9\n-",
+            "before 2\ndoubt 1\nfree 3\n",
+            "",
+        ),
+        (
+            "pay 7 3\n",
+            b"+intent 1 1 9\n+done 1 1 9\n-",
+            "doubt 1\n",
+            "",
+        ),
+        // What stands behind a closed gate counts for nothing.
+        ("pay 7 3\n", b"-intent 1 1 9\n", "done 1\n", "paid 1 7 3\n"),
+        // A person has found that it was not begun.
+        (
+            "pay 7 3\n",
+            b"+intent 1 1 9\n+unbegun 1\n-",
+            "done 1\n",
+            "paid 1 7 3\n",
+        ),
+    ];
+    for (text, journal, report, paid) in rows {
+        let mut orders = Vec::new(rt.alloc());
+        let (out, _) = report_of(&rt, rt.alloc(), text, journal, &mut orders)?;
         assert!(rt; out.as_slice() == report.as_bytes(), "{text}");
-        assert!(rt; journal.is_empty(), "{text}");
+        assert!(rt; orders.as_slice() == paid.as_bytes(), "{text}");
     }
     Ok(())
 }
@@ -143,9 +225,10 @@ fn an_intent_without_a_receipt_is_not_paid_again(rt: HostRuntime) -> Result<(), 
 #[test]
 fn four_workers_pay_a_hundred(rt: HostRuntime) -> Result<(), Fail> {
     let text = day_of(rt.alloc(), "workers 4\nsteps 100000\nlimit 0\n", 100)?;
-    let mut journal = Vec::new(rt.alloc());
-    let out = report_of(&rt, rt.alloc(), text.as_str(), &mut journal)?;
+    let mut orders = Vec::new(rt.alloc());
+    let (out, file) = report_of(&rt, rt.alloc(), text.as_str(), &[], &mut orders)?;
     assert!(rt; count_of(&out, "done ") >= 94 && count_of(&out, "doubt ") == 0);
+    let attempts = attempts_in(rt.alloc(), file.bytes(), 100)?;
     for id in 1..=100 {
         let made = times(&out, "done", id);
         assert_eq!(rt;
@@ -153,8 +236,8 @@ fn four_workers_pay_a_hundred(rt: HostRuntime) -> Result<(), Fail> {
             1,
             "payment {id}"
         );
-        assert_eq!(rt; times(&journal, "intent", id), made, "payment {id}");
-        assert_eq!(rt; times(&journal, "receipt", id), made, "payment {id}");
+        assert!(rt; attempts_of(&attempts, id) == (made, made), "payment {id}");
+        assert_eq!(rt; times(&orders, "paid", id), made, "payment {id}");
     }
     Ok(())
 }
@@ -162,114 +245,175 @@ fn four_workers_pay_a_hundred(rt: HostRuntime) -> Result<(), Fail> {
 #[test]
 fn the_flag_stops_after_the_limit(rt: HostRuntime) -> Result<(), Fail> {
     let text = day_of(rt.alloc(), "steps 0\nlimit 2\n", 5)?;
-    let mut journal = Vec::new(rt.alloc());
-    let out = report_of(&rt, rt.alloc(), text.as_str(), &mut journal)?;
+    let mut orders = Vec::new(rt.alloc());
+    let (out, file) = report_of(&rt, rt.alloc(), text.as_str(), &[], &mut orders)?;
     assert!(rt; count_of(&out, "done ") == 2 && count_of(&out, "free ") == 3);
-    assert!(rt; count_of(&journal, "intent ") == 2 && count_of(&journal, "receipt ") == 2);
+    assert!(rt; attempts_in(rt.alloc(), file.bytes(), 5)?.len() == 2);
+    assert!(rt; count_of(&orders, "paid ") == 2);
     Ok(())
 }
 
 #[test]
 fn what_no_round_began_fills_several_floors(rt: HostRuntime) -> Result<(), Fail> {
     let text = day_of(rt.alloc(), "steps 0\nlimit 0\n", 4097)?;
-    let out = report_of(&rt, rt.alloc(), text.as_str(), Vec::new(rt.alloc()))?;
+    let orders = Vec::new(rt.alloc());
+    let (out, _) = report_of(&rt, rt.alloc(), text.as_str(), &[], orders)?;
     assert!(rt; out.starts_with(b"free 1\nfree 2\n") && out.ends_with(b"free 4096\nfree 4097\n"));
     Ok(())
 }
 
+/// A day on a disk that fails at one call, whose journal is then read after a power cut, and the same day again.
+fn is_paid_once<R: Threads + Wait + Clock + Sync>(
+    rt: &R,
+    alloc: Global,
+    text: &str,
+    failing: usize,
+) -> Result<bool, Fail> {
+    let mut orders = Vec::new(alloc);
+    let (first, disk) = match report_on_disk(rt, alloc, text, &[], Some(failing), &mut orders) {
+        Ok(both) => both,
+        Err(fault) => return Ok(fault == Fault::Journal && failing < 5 && orders.is_empty()),
+    };
+    let left = disk.image_after(alloc, disk.calls().len(), &[])?;
+    let (second, _) = report_on_disk(rt, alloc, text, &left, None, &mut orders)?;
+    let mut is_sound = true;
+    for id in 1..=3 {
+        let made = times(&first, "done", id);
+        let known = times(&second, "before", id);
+        let paid = times(&orders, "paid", id);
+        let sure = known.saturating_add(times(&second, "done", id));
+        is_sound = is_sound && told(&first, id) == 1 && told(&second, id) == 1;
+        is_sound = is_sound && made <= known && sure <= paid && paid <= 1;
+        is_sound = is_sound && times(&second, "free", id).saturating_add(paid) <= 1;
+    }
+    Ok(is_sound)
+}
+
 #[test]
-fn a_day_has_one_line_for_each_payment(rt: HostRuntime) -> Result<(), Fail> {
-    let text = day_of(rt.alloc(), "workers 2\n", 5)?;
-    for room in [0, 3, 9, 18, 19, 28, 29, 1000] {
-        let mut sink = Full {
-            bytes: Vec::new(rt.alloc()),
-            room,
-        };
-        let out = report_of(&rt, rt.alloc(), text.as_str(), &mut sink)?;
-        for id in 1..=5 {
-            let made = times(&out, "done", id);
-            let others = times(&out, "doubt", id).saturating_add(times(&out, "free", id));
-            assert_eq!(rt; made.saturating_add(others), 1, "room {room}, payment {id}");
+fn a_disk_that_fails_makes_no_payment_twice(rt: HostRuntime) -> Result<(), Fail> {
+    for workers in [1, 2] {
+        let head = format!(in rt.alloc(); "workers {workers}\n")?;
+        let text = day_of(rt.alloc(), head.as_str(), 3)?;
+        for failing in 0..32 {
             assert!(rt;
-                made <= times(&sink.bytes, "intent", id),
-                "room {room}, payment {id}"
-            );
-            assert!(rt;
-                times(&sink.bytes, "receipt", id) <= made,
-                "room {room}, payment {id}"
+                is_paid_once(&rt, rt.alloc(), text.as_str(), failing)?,
+                "{workers} workers, the call {failing} fails"
             );
         }
-        assert!(rt; room < 1000 || !out.starts_with(b"doubt"));
     }
     Ok(())
 }
 
 #[test]
 fn nobody_is_paid_after_a_failure(rt: HostRuntime) -> Result<(), Fail> {
-    let text = day_of(rt.alloc(), "steps 0\nlimit 1000\n", 5)?;
-    for (room, answered) in [
-        (0, 1),
-        (8, 1),
-        (9, 1),
-        (18, 1),
-        (19, 2),
-        (27, 2),
-        (28, 2),
-        (37, 2),
-        (38, 3),
+    let alloc = rt.alloc();
+    let text = day_of(alloc, "steps 0\nlimit 1000\n", 5)?;
+    // The call of the disk that fails, how many payments aren't free then, and how many were given.
+    for (failing, answered, given) in [
+        (5, 1, 0),
+        (8, 1, 0),
+        (9, 1, 1),
+        (12, 1, 1),
+        (13, 2, 1),
+        (16, 2, 1),
+        (17, 2, 2),
+        (20, 2, 2),
+        (21, 3, 2),
     ] {
-        let sink = Full {
-            bytes: Vec::new(rt.alloc()),
+        let mut orders = Vec::new(alloc);
+        let failed = Some(failing);
+        let (out, disk) = report_on_disk(&rt, alloc, text.as_str(), &[], failed, &mut orders)?;
+        let free = count_of(&out, "free ");
+        assert_eq!(rt; free.saturating_add(answered), 5, "call {failing}");
+        assert_eq!(rt; count_of(&out, "doubt "), 1, "call {failing}");
+        assert_eq!(rt; count_of(&orders, "paid "), given, "call {failing}");
+        assert_eq!(rt;
+            disk.calls().len(),
+            failing.saturating_add(1),
+            "call {failing}"
+        );
+    }
+    Ok(())
+}
+
+#[test]
+fn what_the_bank_may_not_have_is_in_doubt(rt: HostRuntime) -> Result<(), Fail> {
+    let alloc = rt.alloc();
+    let text = day_of(alloc, "steps 0\nlimit 1000\n", 5)?;
+    for (room, done) in [(0, 0), (12, 0), (13, 1), (25, 1), (26, 2)] {
+        let orders = Full {
+            bytes: Vec::new(alloc),
             room,
         };
-        let out = report_of(&rt, rt.alloc(), text.as_str(), sink)?;
-        let free = count_of(&out, "free ");
-        assert_eq!(rt; free.saturating_add(answered), 5, "room {room}");
-        let answers = count_of(&out, "done ").saturating_add(count_of(&out, "doubt "));
-        assert_eq!(rt; answers, answered, "room {room}");
+        let (out, file) = report_of(&rt, alloc, text.as_str(), &[], orders)?;
+        assert_eq!(rt; count_of(&out, "done "), done, "room {room}");
+        assert_eq!(rt; count_of(&out, "doubt "), 1, "room {room}");
+        let attempts = attempts_in(alloc, file.bytes(), 5)?;
+        let intents = done.saturating_add(1);
+        assert_eq!(rt; attempts.len(), intents, "room {room}");
+        assert!(rt;
+            attempts_of(&attempts, intents as u64) == (1, 0),
+            "room {room}"
+        );
     }
     Ok(())
 }
 
 #[test]
 fn each_fault_says_what_failed(rt: HostRuntime) -> Result<(), Fail> {
-    let rows: [(&[u8], Fault); 7] = [
-        (b"pay 7 250", Fault::Line),
-        (b"pay \xff 1\n", Fault::Input),
-        (b"workers 0\npay 7 250\n", Fault::Crew),
-        (b"workers 17\npay 7 250\n", Fault::Crew),
-        (b"steps 10000001\npay 7 250\n", Fault::Crew),
-        (b"workers 16\nsteps 10000000\npay 7 250\n", Fault::Output),
-        (b"limit 0\npay 7 250\n", Fault::Output),
+    let rows: [(&[u8], &[u8], Fault); 11] = [
+        (b"pay 7 250", b"", Fault::Line),
+        (b"pay \xff 1\n", b"", Fault::Input),
+        (b"workers 0\npay 7 250\n", b"", Fault::Crew),
+        (b"workers 17\npay 7 250\n", b"", Fault::Crew),
+        (b"steps 10000001\npay 7 250\n", b"", Fault::Crew),
+        (b"pay 7 250\n", b"+intent 1 2 9\n-", Fault::Entry(1)),
+        (b"pay 7 250\n", b"+intent 2 1 9\n-", Fault::Entry(1)),
+        (
+            b"pay 7 250\n",
+            b"+intent 1 1 9\n+paid 1\n-",
+            Fault::Entry(2),
+        ),
+        (
+            b"pay 7 250\n",
+            b"+intent 1 1 9\n+done 2 0 9\n-",
+            Fault::Entry(2),
+        ),
+        (
+            b"workers 16\nsteps 10000000\npay 7 250\n",
+            b"",
+            Fault::Output,
+        ),
+        (b"limit 0\npay 7 250\n", b"", Fault::Output),
     ];
-    for (mut input, fault) in rows {
+    for (mut input, journal, fault) in rows {
         let mut out = Full {
             bytes: Vec::new(rt.alloc()),
             room: 0,
         };
-        let sink = Vec::new(rt.alloc());
-        assert!(rt;
-            serve(&rt, rt.alloc(), &mut input, sink, &mut out) == Err(fault),
-            "{fault:?}"
-        );
+        let orders = Vec::new(rt.alloc());
+        let device = MemoryDevice::new(rt.alloc(), journal.to_vec(rt.alloc())?);
+        let served = serve(&rt, rt.alloc(), &mut input, device, orders, &mut out);
+        assert!(rt; served.err() == Some(fault), "{fault:?}");
     }
-    let (sink, mut out) = (Vec::new(rt.alloc()), Vec::new(rt.alloc()));
-    assert!(rt; serve(&rt, rt.alloc(), &mut Broken, sink, &mut out) == Err(Fault::Input));
+    let (orders, mut out) = (Vec::new(rt.alloc()), Vec::new(rt.alloc()));
+    let device = MemoryDevice::new(rt.alloc(), Vec::new(rt.alloc()));
+    let served = serve(&rt, rt.alloc(), &mut Broken, device, orders, &mut out);
+    assert!(rt; served.err() == Some(Fault::Input));
     Ok(())
 }
 
 #[test]
 fn a_day_that_is_not_stopped_is_paid(rt: HostRuntime) -> Result<(), Fail> {
-    let text = day_of(rt.alloc(), "steps 0\n", 4096)?;
-    let out = report_of(&rt, rt.alloc(), text.as_str(), Vec::new(rt.alloc()))?;
-    assert!(rt; count_of(&out, "done ") == 4096 && count_of(&out, "") == 4096);
-    for count in [0, 3] {
-        let text = day_of(rt.alloc(), "workers 16\n", count)?;
-        let out = report_of(&rt, rt.alloc(), text.as_str(), Vec::new(rt.alloc()))?;
-        for id in 1..=count {
-            assert_eq!(rt; times(&out, "done", id), 1, "payment {id}");
-        }
-        assert_eq!(rt; out.is_empty(), count == 0);
+    for (head, count) in [
+        ("steps 0\n", 1000),
+        ("workers 16\n", 3),
+        ("workers 16\n", 0),
+    ] {
+        let text = day_of(rt.alloc(), head, count)?;
+        let orders = Vec::new(rt.alloc());
+        let (out, _) = report_on_disk(&rt, rt.alloc(), text.as_str(), &[], None, orders)?;
+        assert!(rt; count_of(&out, "done ") as u64 == count && count_of(&out, "") as u64 == count);
     }
     Ok(())
 }

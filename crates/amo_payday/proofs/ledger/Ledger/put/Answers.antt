@@ -1,0 +1,11 @@
+use mathlib.Core.Logic.{∥∥₁_map}
+use Rattle.amo_ledger.proofs.AttemptLemmas.{is_noted}
+use Rattle.amo_payday.proofs.Ledgers.{known_more}
+use Rattle.amo_payday.proofs.ledger.Ledger.put.Goals as goal
+
+-- the journal that was known, and the entry that was noted, are what the file is now
+pub invariant_of-self-in-Ok-put_entry-clause-known : goal.invariant_of-self-in-Ok-put_entry-clause-known
+invariant_of-self-in-Ok-put_entry-clause-known g c _ =
+    ∥∥₁_map (c.args.self.now.known c.if-self.false)
+    (known_more c.args.self.now.lines (g.D.Device.seen c.args.self.now.journal.device) (g.D.Device.seen c.put_entry.new.journal.device) c.args.self.now.attempts.items c.note.new.attempts.items c.args.entry
+    c.in-Ok-put_entry.ensures.acknowledged (is_noted c.args.self.now.lines c.in-Ok.may_follow _ _ _ c.if-not-may_follow.false c.in-Ok.ensures.noted))
