@@ -1,0 +1,153 @@
+//! To begin a round, under its exclusive lock: nobody is at work.
+ghost use Rattle.std.specs.Prelude.{◌≡◌, map, take, IfOk};
+ghost use Rattle.amo_ledger.specs.Open.{open_lines};
+ghost use Rattle.amo_desk.specs.Rounds.{IsNextRound, round_after};
+
+use crate::books::{Books, MOST_WORKERS, known, read_pages};
+use crate::fault::{Fault, had};
+use crate::folder::replaced;
+use crate::item::Item;
+use crate::round::record_of;
+use crate::setting::{Jobs as Asked, Setting};
+use amo_file::read_file;
+use amo_ledger::{Record, givens_of, open_lines};
+use amo_round::{Jobs, JobsFault, Why, first_difference, head_of, words_len};
+use amo_standing::{Counts, counts, standings};
+use std::alloc::{AllocError, Global};
+use std::fs;
+use std::rt::HostRuntime;
+
+/// The greatest number of jobs of a round.
+pub(crate) const MOST_JOBS: usize = 4096;
+
+/// Begins the next round, or answers where all lines stand, if none is open. Whatever there is of an earlier round is as nothing:
+/// the journals alone say which lines are open.
+pub(crate) fn begin(
+    rt: HostRuntime,
+    setting: &Setting<'_>,
+    asked: &Asked<'_>,
+    worker: u64,
+    boot: &[u8],
+) -> Result<Option<Counts>, Fault> {
+    let last = record_of(rt, setting)?;
+    let known = known(rt, setting)?;
+    let list = list_of(rt, asked)?;
+    let jobs = grown(rt.alloc(), &known, &list, last.is_some())?;
+    let more = jobs.bytes().len() > known.bytes().len();
+    let books = Books::read(rt.alloc(), &read_pages(rt, setting)?, jobs)?;
+    let open = open_of(rt.alloc(), &books)?;
+    if open.is_empty() {
+        whole(&list, books.jobs.bytes(), books.jobs.count())?;
+        return Ok(Some(counted(rt.alloc(), &books)?));
+    }
+    if more {
+        replaced(rt, setting, Item::Known, books.jobs.bytes(), true)?;
+    }
+    let record = record_for(rt.alloc(), asked, worker, boot, last, open)?;
+    make(rt, setting, &record)?;
+    Ok(None)
+}
+
+/// The bytes of the jobs' file, all of them on the disk: else a power cut might take from it what the run knows.
+fn list_of(rt: HostRuntime, asked: &Asked<'_>) -> Result<Vec<u8>, Fault> {
+    let bytes = had(Item::List, fs::read(&rt, asked.list))?;
+    let file = had(Item::List, fs::open(&rt, asked.list))?;
+    had(Item::List, file.sync_all())?;
+    Ok(bytes)
+}
+
+/// The jobs of the file, which begins with what the run knows. Once a round was begun, a last line without its end is left out:
+/// its writer may be at it.
+pub(crate) fn grown(alloc: Global, known: &Jobs, list: &[u8], cut: bool) -> Result<Jobs, Fault> {
+    if let Some(line) = first_difference(known.bytes(), list) {
+        return Err(Fault::Changed(line));
+    }
+    match Jobs::read(alloc, list.to_vec(alloc)?, cut) {
+        Ok(jobs) => Ok(jobs),
+        Err(JobsFault::Memory) => Err(Fault::Memory),
+        Err(JobsFault::Refused(line, why)) => Err(Fault::List(line, why)),
+    }
+}
+
+/// Where no line is open, a last line without its end is refused: nobody waits for it.
+fn whole(list: &[u8], taken: &[u8], count: u64) -> Result<(), Fault> {
+    if list.len() > taken.len() {
+        return Err(Fault::List((count as usize).saturating_add(1), Why::NoEnd));
+    }
+    Ok(())
+}
+
+/// The open lines.
+fn open_of(alloc: Global, books: &Books) -> Result<Vec<u64>, Fault>
+    ensures { IfOk result (λ lines. (count : _) × (lines.items ≡ open_lines books.now.findings.items (map (λ journal. journal.items) books.now.journals.items) count)) }
+{
+    let count = books.jobs.count() as usize;
+    Ok(open_lines(alloc, &books.findings, &books.journals, count)?)
+}
+
+/// How many lines stand where. Nobody holds an intent that is pending here, but its command may run.
+fn counted(alloc: Global, books: &Books) -> Result<Counts, Fault> {
+    let count = books.jobs.count() as usize;
+    let all = standings(alloc, &books.findings, &books.journals, &[], count)?;
+    Ok(counts(&all))
+}
+
+/// The record of the next round, of the first open lines.
+fn record_for(
+    alloc: Global,
+    asked: &Asked<'_>,
+    worker: u64,
+    boot: &[u8],
+    last: Option<Record>,
+    lines: Vec<u64>,
+) -> Result<Record, Fault>
+    ensures { IfOk result (λ next. IsNextRound asked.now worker boot.now last lines.items next) }
+{
+    let lines = first_lines(alloc, &lines)?;
+    let givens = givens_of(lines.len() as u64, asked.workers, asked.beta);
+    let boot = boot.to_vec(alloc)?;
+    Ok(Record {
+        round: round_after(&last),
+        boot,
+        givens,
+        workers: asked.workers,
+        first: worker,
+        lines,
+    })
+}
+
+/// The number of the next round.
+fn round_after(last: &Option<Record>) -> u64
+    ensures { result ≡ round_after last.now }
+{
+    match last {
+        Some(last) if last.round == u64::MAX => u64::MAX,
+        Some(last) => last.round + 1,
+        None => 1,
+    }
+}
+
+/// The first of the open lines, as many as a round may have jobs.
+fn first_lines(alloc: Global, lines: &[u64]) -> Result<Vec<u64>, AllocError>
+    ensures { IfOk result (λ first. first.items ≡ take 4096 lines.now) }
+{
+    if lines.len() <= 4096 {
+        lines.to_vec(alloc)
+    } else {
+        lines[..4096].to_vec(alloc)
+    }
+}
+
+/// Makes record and words. The words are all 0, and never synced: after a power cut they are of another boot.
+fn make(rt: HostRuntime, setting: &Setting<'_>, record: &Record) -> Result<(), Fault> {
+    let Some(mut words) = head_of(rt.alloc(), record)? else {
+        return Err(Fault::Refused(Item::Boot));
+    };
+    if record.givens.jobs > MOST_JOBS as u64 || record.givens.workers > MOST_WORKERS {
+        return Err(Fault::NoWay);
+    }
+    let text = record.print(rt.alloc())?;
+    replaced(rt, setting, Item::Record, &text, true)?;
+    words.resize(words_len(&record.givens) as usize, 0)?;
+    replaced(rt, setting, Item::Words, &words, false)
+}

@@ -1,0 +1,116 @@
+//! What the files of a run say: its jobs, what each worker has noted, what persons found out.
+use crate::fault::Fault;
+use crate::folder::bytes_of;
+use crate::item::Item;
+use crate::setting::Setting;
+use amo_journal::texts_in;
+use amo_ledger::{
+    Attempt, Fault as Misread, Finding, first_misplaced, journal_of, read_entries, read_findings,
+};
+use amo_round::{Jobs, JobsFault};
+use std::alloc::Global;
+use std::rt::HostRuntime;
+
+/// The greatest number that a worker may have.
+pub(crate) const MOST_WORKERS: u64 = 16;
+
+/// What the files say, each text of them read.
+#[derive(Drop)]
+pub(crate) struct Books {
+    pub jobs: Jobs,
+    /// Those of the workers 1, 2 and so on.
+    pub journals: Vec<Vec<Attempt>>,
+    pub findings: Vec<Finding>,
+}
+
+/// The texts of the journals and of what persons found out.
+#[derive(Drop)]
+pub(crate) struct Pages {
+    pub answers: Vec<Vec<u8>>,
+    /// Those of the workers 1, 2 and so on.
+    pub journals: Vec<Vec<Vec<u8>>>,
+}
+
+/// The texts as they can be read now: first what persons found out, then the journals, so that nothing is read of an intent that
+/// isn't read itself.
+pub(crate) fn read_pages(rt: HostRuntime, setting: &Setting<'_>) -> Result<Pages, Fault> {
+    let answers = texts_of(rt, setting, Item::Answers)?;
+    let mut journals = Vec::new(rt.alloc());
+    for worker in 1..=MOST_WORKERS {
+        journals.push(texts_of(rt, setting, Item::Journal(worker))?)?;
+    }
+    Ok(Pages { answers, journals })
+}
+
+/// The texts of a journal. One that isn't there has none.
+pub(crate) fn texts_of(
+    rt: HostRuntime,
+    setting: &Setting<'_>,
+    item: Item,
+) -> Result<Vec<Vec<u8>>, Fault> {
+    match bytes_of(rt, setting, item)? {
+        Some(bytes) => Ok(texts_in(rt.alloc(), &bytes)?),
+        None => Ok(Vec::new(rt.alloc())),
+    }
+}
+
+/// The lines that the run knows.
+pub(crate) fn known(rt: HostRuntime, setting: &Setting<'_>) -> Result<Jobs, Fault> {
+    let bytes = bytes_of(rt, setting, Item::Known)?;
+    let bytes = bytes.unwrap_or(Vec::new(rt.alloc()));
+    match Jobs::read(rt.alloc(), bytes, false) {
+        Ok(jobs) => Ok(jobs),
+        Err(JobsFault::Memory) => Err(Fault::Memory),
+        Err(JobsFault::Refused(..)) => Err(Fault::Refused(Item::Known)),
+    }
+}
+
+impl Books {
+    /// What these texts say of these jobs.
+    pub(crate) fn read(alloc: Global, pages: &Pages, jobs: Jobs) -> Result<Books, Fault> {
+        let mut journals = Vec::new(alloc);
+        for (i, texts) in pages.journals.iter().enumerate() {
+            let item = Item::Journal(i as u64 + 1);
+            journals.push(attempts_of(alloc, item, jobs.count(), texts)?)?;
+        }
+        let findings = findings_of(alloc, &journals, &pages.answers)?;
+        Ok(Books {
+            jobs,
+            journals,
+            findings,
+        })
+    }
+}
+
+/// The attempts of a journal of a run that has so many lines.
+pub(crate) fn attempts_of(
+    alloc: Global,
+    item: Item,
+    count: u64,
+    texts: &[Vec<u8>],
+) -> Result<Vec<Attempt>, Fault> {
+    let entries = taken(item, read_entries(alloc, texts))?;
+    taken(item, journal_of(alloc, count, &entries))
+}
+
+/// What persons found out, each of an intent that there is, and no two of one.
+fn findings_of(
+    alloc: Global,
+    journals: &[Vec<Attempt>],
+    texts: &[Vec<u8>],
+) -> Result<Vec<Finding>, Fault> {
+    let findings = taken(Item::Answers, read_findings(alloc, texts))?;
+    match first_misplaced(journals, &findings) {
+        None => Ok(findings),
+        Some(number) => Err(Fault::Entry(Item::Answers, number)),
+    }
+}
+
+/// What was read of a file, or the fault that names it and the entry.
+fn taken<T>(item: Item, read: Result<T, Misread>) -> Result<T, Fault> {
+    match read {
+        Ok(value) => Ok(value),
+        Err(Misread::Memory) => Err(Fault::Memory),
+        Err(Misread::Refused(number)) => Err(Fault::Entry(item, number)),
+    }
+}

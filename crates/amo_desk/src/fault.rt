@@ -1,0 +1,167 @@
+//! Why a command ends before it has done what it was asked for.
+ghost use Rattle.std.specs.Prelude.{◌≡◌};
+ghost use Rattle.amo_desk.specs.Statuses.{status_of};
+ghost use Rattle.amo_desk.specs.declared.fault.Fault.TheVariants.{Memory};
+
+use crate::item::Item;
+use amo_round::Why;
+use amo_standing::Refusal;
+use std::alloc::{AllocError, AllocFailed};
+use std::io;
+use thiserror::Error;
+
+/// Why nothing is done in a folder.
+#[derive(Clone, Copy, Debug, PartialEq, Eq, Error)]
+pub enum Door {
+    /// Its name is a link, or it is no folder.
+    #[error("it is no folder, or a link to one")]
+    NoFolder,
+    /// It belongs to another user.
+    #[error("it belongs to another user")]
+    Foreign,
+    /// Its file system isn't known to be a local one that keeps what is synced.
+    #[error("its file system isn't a known local one; --file-system names another that is taken")]
+    FileSystem,
+    /// Its record is of another version of this program.
+    #[error("its record is of another version")]
+    Version,
+}
+
+/// Why a worker has to come back later.
+#[derive(Clone, Copy, Debug, PartialEq, Eq, Error)]
+pub enum Later {
+    /// Another process has this number.
+    #[error("another process has this number")]
+    Taken,
+    /// Another process has this number: the one of this id.
+    #[error("process {0} has this number")]
+    TakenBy(u64),
+    /// A lock's file was removed or replaced while it was taken.
+    #[error("a lock's file was replaced")]
+    Replaced,
+    /// A round is being begun.
+    #[error("a round is being begun")]
+    Beginning,
+    /// Record and words are of another boot, or not of each other, while others are at work.
+    #[error("the round that is there can't be joined while others are at work in it")]
+    OtherRound,
+    /// This worker has no part in the round that is there.
+    #[error("this worker has no seat in the round that is there")]
+    NoSeat,
+    /// The worker has done its part of the round. The next is begun once nobody is at work in this one.
+    #[error("this round is over for this worker")]
+    Over,
+    /// Others hold what persons found out.
+    #[error("others are answering")]
+    Answering,
+}
+
+/// Why a command ends before it has done what it was asked for.
+#[derive(Debug, Drop, Error)]
+pub enum Fault {
+    /// There was no memory.
+    #[error("out of memory")]
+    Memory,
+    /// The line of this number of the jobs' file can't be one of a run's, or is another than the run knows.
+    #[error("the jobs' file is refused at line {0}: {1:?}")]
+    List(usize, Why),
+    /// The line of this number is not what it was when the run first knew it.
+    #[error("the jobs' file is refused at line {0}: the run knows it as another line")]
+    Changed(usize),
+    /// The entry of this number, from 1, can't stand where it does.
+    #[error("{0} is refused at entry {1}")]
+    Entry(Item, usize),
+    /// What a file of the run holds is nothing that the run writes.
+    #[error("{0} is refused: no run writes it so")]
+    Refused(Item),
+    /// The answer of this number, from 1, isn't taken.
+    #[error("answer {0} isn't taken: {1:?}")]
+    Answer(usize, Refusal),
+    /// The answer of this number, from 1, says nothing that can be read, or another text than the line has.
+    #[error("answer {0} isn't taken: it says nothing of a line of this run")]
+    NoAnswerOf(usize),
+    /// The partner said so.
+    #[error("told to leave")]
+    Left,
+    /// Nothing more comes from the partner.
+    #[error("nothing more comes from the partner")]
+    Closed,
+    /// This word holds this value, beside what the others hold.
+    #[error("word {0} holds {1}: no worker leaves words so; end all workers, and the next round begins with new ones")]
+    NoSuchNumber(u64, u64),
+    /// The words or the numbers of a round are such that no worker goes on.
+    #[error("no worker can go on in this round; end all workers, and the next round begins with new words")]
+    NoWay,
+    /// A file can't be made, written, synced or locked.
+    #[error("{0} can't be written: {1}")]
+    Write(Item, io::Error),
+    /// A journal can't be written.
+    #[error("{0} can't be written")]
+    Journal(Item),
+    /// A file can't be read.
+    #[error("{0} can't be read: {1}")]
+    Read(Item, io::Error),
+    /// It may be tried again.
+    #[error("come back later: {0}")]
+    Later(Later),
+    /// The partner said this, which is no answer to what it was asked.
+    #[error("the partner's answer can't be: {0}")]
+    NoAnswer(String),
+    /// Nothing is done in this folder.
+    #[error("the run's folder is refused: {0}")]
+    Door(Door),
+}
+
+impl Fault {
+    /// The status with which the program ends.
+    pub fn status(&self) -> u8
+        ensures { result ≡ status_of self.now }
+    {
+        match self {
+            Fault::List(..) | Fault::Changed(_) | Fault::Entry(..) | Fault::Refused(_) => 65,
+            Fault::Answer(..) | Fault::NoAnswerOf(_) => 65,
+            Fault::Left | Fault::Closed => 69,
+            Fault::NoSuchNumber(..) | Fault::NoWay => 70,
+            Fault::Memory => 71,
+            Fault::Write(..) | Fault::Journal(_) => 73,
+            Fault::Read(..) => 74,
+            Fault::Later(_) => 75,
+            Fault::NoAnswer(_) => 76,
+            Fault::Door(_) => 77,
+        }
+    }
+}
+
+impl From<AllocError> for Fault {
+    ghost from_gives = { λ _ e. e ≡ Memory };
+
+    fn from(_: AllocError) -> Self {
+        Fault::Memory
+    }
+}
+
+impl<T: Drop> From<AllocFailed<T>> for Fault {
+    ghost from_gives = { λ _ e. e ≡ Memory };
+
+    fn from(_: AllocFailed<T>) -> Self {
+        Fault::Memory
+    }
+}
+
+/// What a call that writes a file has given, or the fault that names the file. A want of memory is one of its own.
+pub(crate) fn written<T>(item: Item, given: io::Result<T>) -> Result<T, Fault> {
+    match given {
+        Ok(value) => Ok(value),
+        Err(error) if error.kind() == io::ErrorKind::OutOfMemory => Err(Fault::Memory),
+        Err(error) => Err(Fault::Write(item, error)),
+    }
+}
+
+/// The same of a call that reads one.
+pub(crate) fn had<T>(item: Item, given: io::Result<T>) -> Result<T, Fault> {
+    match given {
+        Ok(value) => Ok(value),
+        Err(error) if error.kind() == io::ErrorKind::OutOfMemory => Err(Fault::Memory),
+        Err(error) => Err(Fault::Read(item, error)),
+    }
+}

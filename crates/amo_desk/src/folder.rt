@@ -1,0 +1,55 @@
+//! The run's folder: its files, each opened, read and made by its name.
+use crate::fault::{Fault, had, written};
+use crate::item::Item;
+use crate::setting::Setting;
+use amo_file::{create_private, read_file, replace_file, sync_folder};
+use std::fs::File;
+use std::rt::HostRuntime;
+
+/// The path of a file of the run.
+pub(crate) fn path_of(rt: HostRuntime, setting: &Setting<'_>, item: Item) -> Result<String, Fault> {
+    let run = setting.run;
+    Ok(format!(in rt.alloc(); "{run}/{item}")?)
+}
+
+/// What a file of the run holds, if there is one.
+pub(crate) fn bytes_of(
+    rt: HostRuntime,
+    setting: &Setting<'_>,
+    item: Item,
+) -> Result<Option<Vec<u8>>, Fault> {
+    let path = path_of(rt, setting, item)?;
+    had(item, read_file(&rt, path.as_str()))
+}
+
+/// Opens a file of the run to read and write, and makes it where there is none. The folder isn't synced.
+pub(crate) fn opened(rt: HostRuntime, setting: &Setting<'_>, item: Item) -> Result<File, Fault> {
+    let path = path_of(rt, setting, item)?;
+    written(item, create_private(&rt, path.as_str()))
+}
+
+/// Syncs the folder, made or found: whoever made a file in it may have been killed before that.
+pub(crate) fn sync(rt: HostRuntime, setting: &Setting<'_>) -> Result<(), Fault> {
+    written(Item::Run, sync_folder(&rt, setting.run))
+}
+
+/// Puts a file with these bytes in the place of one of the run. With `synced` they are on the disk when this answers.
+pub(crate) fn replaced(
+    rt: HostRuntime,
+    setting: &Setting<'_>,
+    item: Item,
+    bytes: &[u8],
+    synced: bool,
+) -> Result<(), Fault> {
+    let path = path_of(rt, setting, item)?;
+    let beside = format!(in rt.alloc(); "{path}.new")?;
+    let made = replace_file(
+        &rt,
+        setting.run,
+        path.as_str(),
+        beside.as_str(),
+        bytes,
+        synced,
+    );
+    written(item, made)
+}

@@ -1,0 +1,137 @@
+//! Locks of a run, and the guard of a worker's number.
+use crate::fault::{Fault, Later, had, written};
+use crate::folder::{opened, path_of, sync};
+use crate::item::Item;
+use crate::setting::Setting;
+use crate::settled::Settled;
+use amo_file::{FileDevice, is_at, try_exclusive, try_shared};
+use amo_journal::DeviceError;
+use std::fs::File;
+use std::os::unix::fs::MetadataExt;
+use std::rt::HostRuntime;
+
+/// A journal whose lock this process has. The lock is kept as long as the value is.
+#[derive(Drop)]
+pub(crate) struct Guarded {
+    pub journal: Settled<FileDevice>,
+    pub texts: Vec<Vec<u8>>,
+    /// The handle that has the lock.
+    pub lock: File,
+}
+
+/// Takes the exclusive lock on a file of the run, which is made where there is none. Nothing where somebody else has one.
+pub(crate) fn lock_of(
+    rt: HostRuntime,
+    setting: &Setting<'_>,
+    item: Item,
+) -> Result<Option<File>, Fault> {
+    let file = opened(rt, setting, item)?;
+    if !written(item, try_exclusive(&file))? {
+        return Ok(None);
+    }
+    still_there(rt, setting, item, file)
+}
+
+/// The same of a shared lock, on a handle that has none.
+pub(crate) fn shared_lock_of(
+    rt: HostRuntime,
+    setting: &Setting<'_>,
+    item: Item,
+) -> Result<Option<File>, Fault> {
+    let file = opened(rt, setting, item)?;
+    if !written(item, try_shared(&file))? {
+        return Ok(None);
+    }
+    still_there(rt, setting, item, file)
+}
+
+/// The handle, if it is of the file that has this name now.
+fn still_there(
+    rt: HostRuntime,
+    setting: &Setting<'_>,
+    item: Item,
+    file: File,
+) -> Result<Option<File>, Fault> {
+    let path = path_of(rt, setting, item)?;
+    if !had(item, is_at(&rt, &file, path.as_str()))? {
+        return Err(Fault::Later(Later::Replaced));
+    }
+    Ok(Some(file))
+}
+
+/// Settles the journal behind a handle that has its lock, and syncs the folder.
+pub(crate) fn settled(
+    rt: HostRuntime,
+    setting: &Setting<'_>,
+    item: Item,
+    lock: File,
+) -> Result<Guarded, Fault> {
+    let handle = written(item, lock.try_clone())?;
+    let device = had(item, FileDevice::open(rt.alloc(), handle))?;
+    let (journal, texts) = match Settled::settle(rt.alloc(), device) {
+        Ok(both) => both,
+        Err(DeviceError::Memory) => return Err(Fault::Memory),
+        Err(DeviceError::Failed) => return Err(Fault::Journal(item)),
+    };
+    sync(rt, setting)?;
+    Ok(Guarded {
+        journal,
+        texts,
+        lock,
+    })
+}
+
+/// Takes the number of a worker: the lock on its journal, which is then settled.
+pub(crate) fn take_number(
+    rt: HostRuntime,
+    setting: &Setting<'_>,
+    worker: u64,
+) -> Result<Guarded, Fault> {
+    let item = Item::Journal(worker);
+    match lock_of(rt, setting, item)? {
+        Some(lock) => settled(rt, setting, item, lock),
+        None => Err(Fault::Later(holder(rt, setting, item))),
+    }
+}
+
+/// Who has the lock, where the system tells.
+fn holder(rt: HostRuntime, setting: &Setting<'_>, item: Item) -> Later {
+    match holder_of(rt, setting, item) {
+        Ok(Some(process)) => Later::TakenBy(process),
+        _ => Later::Taken,
+    }
+}
+
+fn holder_of(rt: HostRuntime, setting: &Setting<'_>, item: Item) -> Result<Option<u64>, Fault> {
+    let path = path_of(rt, setting, item)?;
+    let found = had(item, std::fs::metadata(&rt, path.as_str()))?;
+    let locks = had(item, std::fs::read_to_string(&rt, "/proc/locks"))?;
+    let end = format!(in rt.alloc(); ":{}", found.ino())?;
+    Ok(holder_in(locks.as_str(), end.as_str()))
+}
+
+/// The process that has a lock on a whole file whose number of device and inode ends so.
+fn holder_in(locks: &str, end: &str) -> Option<u64> {
+    for line in locks.lines() {
+        if let Some(process) = holder_by(line, end) {
+            return Some(process);
+        }
+    }
+    None
+}
+
+/// The process that has the lock of this line, as `1: FLOCK ADVISORY WRITE 708 08:01:1234 0 EOF`.
+fn holder_by(line: &str, end: &str) -> Option<u64> {
+    let mut words = line.split_whitespace();
+    let _number = words.next()?;
+    let kind = words.next()?;
+    let _advisory = words.next()?;
+    let _how = words.next()?;
+    let process = words.next()?;
+    let place = words.next()?;
+    if kind == "FLOCK" && place.ends_with(end) {
+        process.parse::<u64>().ok()
+    } else {
+        None
+    }
+}

@@ -1,0 +1,57 @@
+//! The files that a worker reads and writes, by what they are.
+use std::fmt;
+use std::fmt::{Display, Formatter};
+
+/// A file, or a stream.
+#[derive(Clone, Copy, Debug, PartialEq, Eq)]
+pub enum Item {
+    /// The folder that the processes of a run share.
+    Run,
+    /// The journal of a worker, whose lock is the guard of its number.
+    Journal(u64),
+    /// Locked, shared, by each worker from before it reads the record to its end, and by who begins a round.
+    Round,
+    /// The record of the last round.
+    Record,
+    /// The lines that the run knows.
+    Known,
+    /// The words of the last round.
+    Words,
+    /// Locked by the runner of a worker as long as it lives.
+    Runner(u64),
+    /// Of a worker's intent of this serial number: locked as long as its command runs.
+    Command(u64, u64),
+    /// What persons found out.
+    Answers,
+    /// The jobs' file, outside of the folder.
+    List,
+    /// The file of a person's answers.
+    Sheet,
+    /// The id that the machine has since it was started.
+    Boot,
+    /// Which file systems are mounted.
+    Mounts,
+    /// Standard output.
+    Output,
+}
+
+impl Display for Item {
+    fn fmt<W: fmt::Write>(&self, f: &mut Formatter<W>) -> fmt::Result {
+        match *self {
+            Item::Run => write!(f, "the run's folder"),
+            Item::Journal(worker) => write!(f, "journal.{worker}"),
+            Item::Round => write!(f, "lock.round"),
+            Item::Record => write!(f, "record"),
+            Item::Known => write!(f, "jobs"),
+            Item::Words => write!(f, "words"),
+            Item::Runner(worker) => write!(f, "runner.{worker}"),
+            Item::Command(worker, serial) => write!(f, "command.{worker}.{serial}"),
+            Item::Answers => write!(f, "answers"),
+            Item::List => write!(f, "the jobs' file"),
+            Item::Sheet => write!(f, "the file of answers"),
+            Item::Boot => write!(f, "the boot id"),
+            Item::Mounts => write!(f, "/proc/self/mountinfo"),
+            Item::Output => write!(f, "standard output"),
+        }
+    }
+}

@@ -1,0 +1,204 @@
+//! To look at a run, as a person does: with what nobody is at any more held, so that it stays so while it is looked at.
+use crate::books::{Books, MOST_WORKERS, Pages, attempts_of, known, texts_of};
+use crate::fault::{Fault, had, written};
+use crate::folder::path_of;
+use crate::guard::{lock_of, settled};
+use crate::item::Item;
+use crate::setting::Setting;
+use amo_file::{is_at, open_private, try_exclusive};
+use amo_ledger::pending;
+use amo_standing::{Intent, Standing, standings};
+use std::alloc::{AllocError, Global};
+use std::fs::File;
+use std::io::ErrorKind;
+use std::rt::HostRuntime;
+
+/// What a run says, and what is held of it.
+#[derive(Drop)]
+pub(crate) struct Seen {
+    pub books: Books,
+    /// The workers whose journals others hold.
+    pub alive: Vec<u64>,
+    /// Pending intents that nobody can answer any more: their journal, their runner's lock and their command's are held here.
+    pub finals: Vec<Intent>,
+    held: Vec<File>,
+}
+
+/// What is held of a worker's files, and its texts.
+#[derive(Drop)]
+struct Corner {
+    texts: Vec<Vec<u8>>,
+    alive: bool,
+    /// Whether nobody runs this worker, so that its commands may be looked at.
+    idle: bool,
+}
+
+/// Looks at a run: first at what persons found out, then at the journals, then at the jobs.
+pub(crate) fn look(rt: HostRuntime, setting: &Setting<'_>) -> Result<Seen, Fault> {
+    let answers = texts_of(rt, setting, Item::Answers)?;
+    look_behind(rt, setting, answers)
+}
+
+/// The same where what persons found out was read.
+pub(crate) fn look_behind(
+    rt: HostRuntime,
+    setting: &Setting<'_>,
+    answers: Vec<Vec<u8>>,
+) -> Result<Seen, Fault> {
+    let mut held = Vec::new(rt.alloc());
+    let mut alive = Vec::new(rt.alloc());
+    let mut idle = Vec::new(rt.alloc());
+    let mut journals = Vec::new(rt.alloc());
+    for worker in 1..=MOST_WORKERS {
+        let corner = corner_of(rt, setting, worker, &mut held)?;
+        if corner.alive {
+            alive.push(worker)?;
+        }
+        if corner.idle {
+            idle.push(worker)?;
+        }
+        journals.push(corner.texts)?;
+    }
+    let jobs = known(rt, setting)?;
+    let books = Books::read(rt.alloc(), &Pages { answers, journals }, jobs)?;
+    let finals = finals_of(rt, setting, &books, &idle, &mut held)?;
+    Ok(Seen {
+        books,
+        alive,
+        finals,
+        held,
+    })
+}
+
+impl Seen {
+    /// How each line stands.
+    pub(crate) fn standings(&self, alloc: Global) -> Result<Vec<Standing>, AllocError> {
+        let books = &self.books;
+        let count = books.jobs.count() as usize;
+        standings(alloc, &books.findings, &books.journals, &self.finals, count)
+    }
+}
+
+/// Looks at a worker's journal. Where nobody has it and an intent is pending, it and the runner's lock are taken and kept, and the
+/// journal is settled, so that what is read is on the disk.
+fn corner_of(
+    rt: HostRuntime,
+    setting: &Setting<'_>,
+    worker: u64,
+    held: &mut Vec<File>,
+) -> Result<Corner, Fault> {
+    let item = Item::Journal(worker);
+    let texts = texts_of(rt, setting, item)?;
+    if texts.is_empty() {
+        return Ok(Corner {
+            texts,
+            alive: is_held(rt, setting, item)?,
+            idle: false,
+        });
+    }
+    let Some(lock) = lock_of(rt, setting, item)? else {
+        return Ok(Corner {
+            texts: texts_of(rt, setting, item)?,
+            alive: true,
+            idle: false,
+        });
+    };
+    let texts = texts_of(rt, setting, item)?;
+    if !has_pending(rt.alloc(), item, &texts)? {
+        return Ok(Corner {
+            texts,
+            alive: false,
+            idle: false,
+        });
+    }
+    let Some(runner) = lock_of(rt, setting, Item::Runner(worker))? else {
+        return Ok(Corner {
+            texts,
+            alive: false,
+            idle: false,
+        });
+    };
+    let guarded = settled(rt, setting, item, lock)?;
+    held.push(runner)?;
+    held.push(guarded.lock)?;
+    Ok(Corner {
+        texts: guarded.texts,
+        alive: false,
+        idle: true,
+    })
+}
+
+/// Whether somebody else has the lock on a file. One that isn't there has none.
+fn is_held(rt: HostRuntime, setting: &Setting<'_>, item: Item) -> Result<bool, Fault> {
+    let path = path_of(rt, setting, item)?;
+    match open_private(&rt, path.as_str()) {
+        Ok(file) => Ok(!written(item, try_exclusive(&file))?),
+        Err(error) if error.kind() == ErrorKind::NotFound => Ok(false),
+        Err(error) => Err(Fault::Read(item, error)),
+    }
+}
+
+/// Whether an intent of the journal has no answer.
+fn has_pending(alloc: Global, item: Item, texts: &[Vec<u8>]) -> Result<bool, Fault> {
+    let attempts = attempts_of(alloc, item, u64::MAX, texts)?;
+    Ok(!pending(alloc, &attempts)?.is_empty())
+}
+
+/// The pending intents of these workers whose commands have ended: what is held of them is kept.
+fn finals_of(
+    rt: HostRuntime,
+    setting: &Setting<'_>,
+    books: &Books,
+    idle: &[u64],
+    held: &mut Vec<File>,
+) -> Result<Vec<Intent>, Fault> {
+    let mut finals = Vec::new(rt.alloc());
+    for worker in idle {
+        push_finals(rt, setting, books, *worker, &mut finals, held)?;
+    }
+    Ok(finals)
+}
+
+/// Adds those of this worker.
+fn push_finals(
+    rt: HostRuntime,
+    setting: &Setting<'_>,
+    books: &Books,
+    worker: u64,
+    finals: &mut Vec<Intent>,
+    held: &mut Vec<File>,
+) -> Result<(), Fault> {
+    let Some(journal) = books.journals.get(worker.saturating_sub(1) as usize) else {
+        return Ok(());
+    };
+    for (serial, _line) in &pending(rt.alloc(), journal)? {
+        if has_ended(rt, setting, Item::Command(worker, *serial), held)? {
+            finals.push(Intent {
+                worker,
+                serial: *serial,
+            })?;
+        }
+    }
+    Ok(())
+}
+
+/// Whether a command has ended: its lock is got, and kept, or its file is gone, which is removed only once its lock was got.
+fn has_ended(
+    rt: HostRuntime,
+    setting: &Setting<'_>,
+    item: Item,
+    held: &mut Vec<File>,
+) -> Result<bool, Fault> {
+    let path = path_of(rt, setting, item)?;
+    let file = match open_private(&rt, path.as_str()) {
+        Ok(file) => file,
+        Err(error) if error.kind() == ErrorKind::NotFound => return Ok(true),
+        Err(error) => return Err(Fault::Read(item, error)),
+    };
+    if !written(item, try_exclusive(&file))? {
+        return Ok(false);
+    }
+    let there = had(item, is_at(&rt, &file, path.as_str()))?;
+    held.push(file)?;
+    Ok(there)
+}

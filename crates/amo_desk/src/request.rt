@@ -1,0 +1,260 @@
+//! What the words of a command line ask for.
+ghost use Rattle.std.specs.Prelude.{◌≤◌, IfOk};
+
+use crate::setting::{Jobs, Setting};
+use amo_ledger::number;
+use amo_standing::State;
+use clap::{Arg, ArgAction, ArgMatches, Command, Error};
+use std::alloc::{AllocError, Global};
+
+/// How something is shown.
+#[derive(Clone, Copy, Debug, PartialEq, Eq)]
+pub(crate) enum Form {
+    Text,
+    Json,
+    Lines(State),
+}
+
+/// What is asked for, beside the run's folder.
+#[derive(Clone, Copy)]
+pub(crate) enum Request<'a> {
+    /// Whether a worker may begin.
+    Door(Jobs<'a>),
+    /// To live as this worker.
+    Work(Jobs<'a>, u64),
+    /// How all lines stand.
+    Status(Form),
+    /// The doubts that are final.
+    Doubts(Form),
+    /// To take an answer: intent, line, text and verdict, as words.
+    Answer(&'a str, &'a str, &'a str, &'a str),
+    /// To take the answers of a file.
+    AnswerFrom(&'a str),
+    /// To try untouched lines once more.
+    Again,
+}
+
+/// Why words ask for nothing.
+#[derive(Debug, Drop)]
+pub(crate) enum Misuse {
+    Memory,
+    /// The words are none of the program's, or ask for help.
+    Words(Error),
+    /// A number is out of its range.
+    Number(&'static str),
+}
+
+impl From<AllocError> for Misuse {
+    fn from(_: AllocError) -> Self {
+        Misuse::Memory
+    }
+}
+
+impl From<Error> for Misuse {
+    fn from(error: Error) -> Self {
+        Misuse::Words(error)
+    }
+}
+
+const BOOT: &str = "/proc/sys/kernel/random/boot_id";
+
+/// An argument that has to be given.
+fn required<'a>(alloc: Global, id: &'a str) -> Arg<'a> {
+    Arg::new(alloc, id).required(true)
+}
+
+/// A subcommand over a run's folder.
+fn over_run<'a>(alloc: Global, name: &'a str, about: &'a str) -> Result<Command<'a>, AllocError> {
+    let kind = Arg::new(alloc, "file-system").long("file-system").help(
+        "a type of file system that is taken beside the known local ones; in one that is memory a power cut loses the journals",
+    );
+    let boot = Arg::new(alloc, "boot-id")
+        .long("boot-id")
+        .default_value(BOOT)
+        .help("for tests: a file read in place of the system's boot id");
+    Command::new(alloc, name)
+        .about(about)
+        .arg(required(alloc, "RUN"))?
+        .arg(kind)?
+        .arg(boot)
+}
+
+/// The same over its jobs too.
+fn over_jobs<'a>(alloc: Global, command: Command<'a>) -> Result<Command<'a>, AllocError> {
+    let workers = Arg::new(alloc, "workers")
+        .long("workers")
+        .required(true)
+        .help("how many workers there may be, 1 to 16");
+    let beta = Arg::new(alloc, "beta").long("beta").default_value("1").help(
+        "the threshold, up to 65535; at least the workers of a round",
+    );
+    command
+        .arg(workers)?
+        .arg(beta)?
+        .arg(required(alloc, "JOBS"))
+}
+
+fn flag<'a>(alloc: Global, name: &'a str, help: &'a str) -> Arg<'a> {
+    Arg::new(alloc, name)
+        .long(name)
+        .action(ArgAction::SetTrue)
+        .help(help)
+}
+
+fn showing<'a>(alloc: Global) -> Result<Command<'a>, AllocError> {
+    let lines = Arg::new(alloc, "lines")
+        .long("lines")
+        .conflicts_with("json")?
+        .help(
+            "failed, doubt, untouched, running or open: these lines alone, as `answer --from` takes them",
+        );
+    over_run(alloc, "status", "How all lines stand")?
+        .arg(flag(alloc, "json", "as JSON"))?
+        .arg(lines)
+}
+
+fn answering<'a>(alloc: Global) -> Result<Command<'a>, AllocError> {
+    let sheet = Arg::new(alloc, "from")
+        .long("from")
+        .conflicts_with("INTENT")?
+        .help(
+            "a file of answers, a line each: P.S, LINE, TEXT and done or not-done, with tabs between",
+        );
+    over_run(
+        alloc,
+        "answer",
+        "Takes what a person found out of an intent",
+    )?
+    .arg(Arg::new(alloc, "INTENT"))?
+    .arg(Arg::new(alloc, "LINE"))?
+    .arg(Arg::new(alloc, "TEXT"))?
+    .arg(Arg::new(alloc, "VERDICT"))?
+    .arg(sheet)
+}
+
+/// The program's command.
+fn program<'a>(alloc: Global) -> Result<Command<'a>, AllocError> {
+    let door = over_run(
+        alloc,
+        "door",
+        "Whether a worker may begin; makes the folder RUN where there is none",
+    )?;
+    let work = over_run(
+        alloc,
+        "work",
+        "Lives as worker P; its partner is on standard input and output",
+    )?
+    .arg(required(alloc, "P"))?;
+    let doubts = over_run(alloc, "doubts", "The doubts that are final")?.arg(flag(
+        alloc, "json", "as JSON",
+    ))?;
+    Command::new(alloc, "amo_worker")
+        .about("A worker of a run: each line of the jobs' file is handed to a partner at most once")
+        .subcommand_required(true)
+        .subcommand(over_jobs(alloc, door)?)?
+        .subcommand(over_jobs(alloc, work)?)?
+        .subcommand(showing(alloc)?)?
+        .subcommand(doubts)?
+        .subcommand(answering(alloc)?)?
+        .subcommand(over_run(
+            alloc,
+            "again",
+            "Has each line tried once more whose command did nothing",
+        )?)
+}
+
+/// The number at an id, if it is one within the range.
+fn number_at(matches: &ArgMatches<'_>, id: &'static str, low: u64, high: u64) -> Result<u64, Misuse>
+    ensures { IfOk result (λ n. (low ≤ n) × (n ≤ high)) }
+{
+    match number(matches.get_str(id).unwrap_or("")) {
+        Some(found) if low <= found && found <= high => Ok(found),
+        _ => Err(Misuse::Number(id)),
+    }
+}
+
+/// What the words after `door` and `work` say of the jobs.
+fn jobs_of<'a>(matches: &ArgMatches<'a>) -> Result<Jobs<'a>, Misuse> {
+    let workers = number_at(matches, "workers", 1, 16)?;
+    let beta = number_at(matches, "beta", 1, 65535)?;
+    Ok(Jobs {
+        list: matches.get_str("JOBS").unwrap_or(""),
+        workers,
+        beta,
+    })
+}
+
+fn kind_of(word: &str) -> Result<State, Misuse> {
+    match word {
+        "failed" => Ok(State::Failed),
+        "doubt" => Ok(State::Doubt),
+        "untouched" => Ok(State::Untouched),
+        "running" => Ok(State::Running),
+        "open" => Ok(State::Open),
+        _ => Err(Misuse::Number("lines")),
+    }
+}
+
+fn form_of(matches: &ArgMatches<'_>) -> Result<Form, Misuse> {
+    if matches.get_flag("json") {
+        return Ok(Form::Json);
+    }
+    match matches.get_str("lines") {
+        Some(word) => Ok(Form::Lines(kind_of(word)?)),
+        None => Ok(Form::Text),
+    }
+}
+
+fn answer_of<'a>(matches: &ArgMatches<'a>) -> Result<Request<'a>, Misuse> {
+    if let Some(sheet) = matches.get_str("from") {
+        return Ok(Request::AnswerFrom(sheet));
+    }
+    let intent = matches.get_str("INTENT");
+    let line = matches.get_str("LINE");
+    let text = matches.get_str("TEXT");
+    let verdict = matches.get_str("VERDICT");
+    match (intent, line, text, verdict) {
+        (Some(intent), Some(line), Some(text), Some(verdict)) => {
+            Ok(Request::Answer(intent, line, text, verdict))
+        }
+        _ => Err(Misuse::Number("INTENT LINE TEXT done|not-done")),
+    }
+}
+
+fn request_of<'a>(name: &str, matches: &ArgMatches<'a>) -> Result<Request<'a>, Misuse> {
+    match name {
+        "door" => Ok(Request::Door(jobs_of(matches)?)),
+        "work" => {
+            let jobs = jobs_of(matches)?;
+            let worker = number_at(matches, "P", 1, jobs.workers)?;
+            Ok(Request::Work(jobs, worker))
+        }
+        "status" => Ok(Request::Status(form_of(matches)?)),
+        "doubts" => Ok(Request::Doubts(form_of(matches)?)),
+        "answer" => answer_of(matches),
+        _ => Ok(Request::Again),
+    }
+}
+
+/// The path without the slashes at its end.
+fn without_end(path: &str) -> &str {
+    let short = path.trim_end_matches('/');
+    if short.is_empty() { path } else { short }
+}
+
+/// What the words, the program's name first, ask for, and of which run.
+pub(crate) fn asked<'a>(
+    alloc: Global,
+    words: &'a [&'a str],
+) -> Result<(Setting<'a>, Request<'a>), Misuse> {
+    let matches = program(alloc)?.try_get_matches_from(words)?;
+    let Some((name, inner)) = matches.subcommand() else {
+        return Err(Misuse::Number("a command"));
+    };
+    let setting = Setting {
+        run: without_end(inner.get_str("RUN").unwrap_or("")),
+        file_system: inner.get_str("file-system"),
+        boot: inner.get_str("boot-id").unwrap_or(BOOT),
+    };
+    Ok((setting, request_of(name, inner)?))
+}
