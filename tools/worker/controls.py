@@ -1,0 +1,52 @@
+"""Controls: the stand-in makes a mistake, and the same tests have to show it, by a line performed twice, a false doubt, or an
+acknowledged line that is gone. Without the mistake the stand-in passes them."""
+
+import os
+import re
+
+from worker import kills, persons, power, rounds, scene, texts
+
+STAND_IN = os.path.join(os.path.dirname(os.path.realpath(__file__)), "stand_in.py")
+TWICE, GONE, DOUBT = "performed twice", "performed twice|acknowledged line is gone", "(?s)status says .* doubt 2 .*'doubt': 1,"
+# A mistake, the test that has to show it, and what it has to say; in the short form the first of them.
+MISTAKES = [
+    ("last_journal_wins", rounds.try_closing_wins, TWICE),
+    ("pending_is_open", persons.try_pending, TWICE),
+    ("cut_line_is_kept", texts.try_behind_a_gate, DOUBT),
+    ("words_of_another_boot", power.try_words_of_another_boot, TWICE),
+    ("lists_without_settling", power.try_listed_and_cut, "after it was listed as a doubt"),
+    ("guard_is_removed", kills.try_two_of_one_number, GONE),
+    ("intent_after_the_act", kills.try_killed, TWICE),
+    ("opens_without_settling", power.try_failed_sync_and_cut, GONE),
+    ("folder_synced_by_the_maker_alone", power.try_killed_and_cut, GONE),
+]
+CHEAPEST = 2
+
+
+def show(bench, mistake, test, wanted):
+    """The test passes without the mistake, and tells of it where it is made."""
+    again = scene.Bench(STAND_IN, bench.room, False, bench.seed)
+    test(again)
+    wrong = None
+    try:
+        wrong_bench = scene.Bench(STAND_IN, bench.room, False, bench.seed, mistake)
+        wrong_bench.watches = False  # so that it is seen what comes of it, and not that it is begun
+        test(wrong_bench)
+    except scene.Wrong as found:
+        wrong = str(found)
+    scene.want(wrong, f"{mistake} shows nothing in: {test.__doc__}")
+    scene.want(re.search(wanted, wrong), f"{mistake} shows something else: {wrong}")
+    return wrong.split(";")[0].replace("\n", " ")[:150]
+
+
+def control(mistake, test, wanted):
+    """The control of one mistake, as a test."""
+
+    def try_control(bench):
+        return f"shown: {show(bench, mistake, test, wanted)}"
+
+    try_control.__doc__ = f"the mistake {mistake} is shown by: {test.__doc__}"
+    return try_control
+
+
+PARTS = {"controls": [control(*it) for it in MISTAKES]}

@@ -1,0 +1,231 @@
+"""A disk that is simulated: what a cut of power may leave of a run, as the log of the calls says.
+
+Of each file is known what the last sync kept, and the writes and cuts since; of the folder its names as they were kept, and the
+makes, renames and removals since. A cut leaves each of the latter there or not, each write torn byte by byte, where a byte that
+stands on the disk as it was written stays, and each shortening there or not. After a sync that failed, each byte that it should
+have kept is there or not for good: no later sync keeps it, unless it is written again.
+"""
+
+import os
+import shutil
+
+from worker.folder import texts_of
+from worker.scene import want
+
+GARBAGE = b"+-\n\0 19x"
+
+
+class File:
+    """What is read of a file, what the disk keeps of it, and what was done since."""
+
+    def __init__(self, data=b""):
+        self.now, self.kept, self.pending = bytearray(data), bytearray(data), []
+
+    def write(self, place, data):
+        self.now[len(self.now):] = bytes(max(place - len(self.now), 0))
+        self.now[place:place + len(data)] = data
+        self.pending.append((place, bytes(data)))
+
+    def cut(self, length):
+        self.now = self.now[:length].ljust(length, b"\0")
+        self.pending.append((length, None))
+
+    def left(self, draws, how):
+        """What a cut of power leaves: nothing of what is pending, the first of it, all of it, or what is drawn."""
+        data = bytearray(self.kept)
+        for place, new in self.pending[:1 if how == "first" else None]:
+            if how in ("first", "all") or how == "drawn" and draws.random() < 0.3:
+                data[len(data):] = bytes(max(place - len(data), 0))
+                data[place:] = new + data[place + len(new):] if new is not None else b""
+            elif how == "drawn" and new is None:
+                data = data[:max(place, draws.randint(min(place, len(data)), len(data)))]
+            elif how == "drawn" and draws.random() < 0.8:
+                self.tear(data, place, new, draws)
+        return data
+
+    @staticmethod
+    def tear(data, place, new, draws):
+        """A part of the write, and where it isn't written what was there, or anything, as behind the old end."""
+        end = draws.randint(len(data), max(len(data), place + len(new)))
+        garbles = draws.random() < 0.5
+        for at in range(place, min(place + len(new), max(len(data), end))):
+            byte = new[at - place]
+            if at < len(data) and data[at] == byte:
+                continue
+            while at >= len(data):
+                data.append(draws.choice(GARBAGE) if garbles else 0)
+            if draws.random() < 0.5:
+                data[at] = byte
+            elif garbles:
+                data[at] = draws.choice(GARBAGE)
+
+    def sync(self):
+        self.kept, self.pending = self.left(None, "all"), []
+
+    def fail(self, draws, how):
+        self.kept, self.pending = self.left(draws, how or draws.choice(["none", "none", "all", "drawn"])), []
+
+
+class Disk:
+    """The files of a run and the jobs' file, from a moment at which all of them are kept."""
+
+    def __init__(self, scene, draws, fails=None):
+        self.scene, self.draws, self.fails = scene, draws, fails
+        self.names, self.moves, self.handles, self.journals, self.performs = {}, [], {}, {}, 0
+        self.jobs, self.is_there, self.is_kept = File(content(scene.jobs)), os.path.isdir(scene.run), os.path.isdir(scene.run)
+        for name in os.listdir(scene.run) if self.is_there else ():
+            self.names[name] = File(content(f"{scene.run}/{name}"))
+        self.kept = dict(self.names)
+
+    def replay(self):
+        for call in self.scene.logged():
+            self.take_call(call)
+
+    def take_call(self, call):
+        """Does what a call of the log did."""
+        process, _, name, file, descriptor, place, _, result, more = call
+        self.take((process, descriptor), name, file, int(place), int(result), more)
+
+    def take(self, handle, name, file, place, result, more):
+        if name == "open" and result >= 0:
+            self.open(handle, file, more)
+        elif name == "copy" and result >= 0:
+            self.handles[handle] = self.handles.get((handle[0], str(place)))
+        elif name in ("write", "cut", "sync"):
+            held = self.jobs if file == "JOBS" else self.handles.get(handle)
+            if name == "sync" and file in (".", ".."):
+                self.sync_folder(file, result)
+            elif name == "sync":
+                held.sync() if result >= 0 else held.fail(self.draws, self.fails)
+            elif name == "write" and result > 0:
+                held.write(place, bytes.fromhex(more))
+            elif name == "cut" and result >= 0:
+                held.cut(place)
+        elif name == "rename" and result >= 0:
+            self.names[more] = self.names.pop(file)
+            self.moves.append((file, more, self.names[more]))
+        elif name == "remove" and result >= 0:
+            self.moves.append((file, None, self.names.pop(file, None)))
+        elif name == "folder" and result >= 0:
+            self.is_there, self.is_kept = True, False
+        elif name == "say" and result > 0 and self.scene.bench.watches:
+            self.see_said(handle[0], bytes.fromhex(more))
+
+    def open(self, handle, file, more):
+        if file in (".", "..", "JOBS"):
+            return
+        if file not in self.names:
+            if "c" not in more:  # a file that this log doesn't know, as the runner's
+                self.handles[handle] = File()
+                return
+            self.names[file] = File()
+            self.moves.append((None, file, self.names[file]))
+        self.handles[handle] = self.names[file]
+        if "t" in more and self.names[file].now:
+            self.names[file].cut(0)
+        if file.startswith("journal.") and "w" in more:
+            self.journals[handle[0]] = file
+
+    def sync_folder(self, file, result):
+        if result >= 0 and file == "..":
+            self.is_kept = self.is_there
+        elif result >= 0:
+            self.kept, self.moves = dict(self.names), []
+
+    def see_said(self, process, text):
+        """Before a perform is said its intent has to be on the disk for certain, and each name on which it rests."""
+        for said in (it for it in text.split(b"\n") if it.startswith(b"perform ")):
+            serial, line, name = *said.split(b" ")[1:3], self.journals.get(process, "journal.1")
+            journal, jobs = self.names[name], self.names.get("jobs")
+            self.performs += 1
+            what = f"{name} says perform {serial.decode()}"
+            last = (texts_of(bytes(journal.kept)) or [b""])[-1]
+            want(not journal.pending, f"{what}, and something of it isn't synced")
+            want(last.startswith(b"intent %s %s " % (serial, line)), f"{what}, and the last text on the disk is {last}")
+            want(jobs and bytes(jobs.kept).count(b"\n") >= int(line) and not jobs.pending, f"{what}, and jobs isn't synced")
+            want(self.jobs.kept.startswith(jobs.kept), f"{what}, and the jobs' file isn't synced as far as jobs holds it")
+            for _, new, _ in self.moves:
+                want(new not in (name, "jobs", "record"), f"{what}, and the folder isn't synced since there is {new}")
+            want(self.is_kept, f"{what}, and the folder above isn't synced since the run's folder was made")
+
+    def cut(self, how):
+        """The folder, as it may be after a cut of power: names and their bytes; None where the folder itself is gone."""
+        if not self.is_kept and (how == "none" or how == "drawn" and self.draws.random() < 0.5):
+            return None
+        names = dict(self.kept)
+        for old, new, file in self.moves:
+            if how == "all" or how == "drawn" and self.draws.random() < 0.5:
+                names.pop(old, None)
+                if new:
+                    names[new] = file
+        return {name: bytes(file.left(self.draws, how)) for name, file in names.items() if file is not None}
+
+
+def content(path):
+    with open(path, "rb") as file:
+        return file.read()
+
+
+class Power:
+    """A scene whose power can be cut: all runs of workers are logged with what they write."""
+
+    def __init__(self, scene, draws, fails=None, begins=True):
+        self.scene, self.draws, self.performs, self.fails = scene, draws, 0, fails
+        scene.logs = scene.keeps = True
+        open(scene.log, "wb").close()
+        self.disk = Disk(scene, draws, fails)
+        if begins:
+            self.begin()
+
+    def begin(self):
+        """Where there is no folder, the door makes it, or it is made here and kept."""
+        if not os.path.isdir(self.scene.run):
+            self.scene.door()
+        if not os.path.isdir(self.scene.run):
+            os.mkdir(self.scene.run, 0o700)
+            self.disk.is_there = self.disk.is_kept = True
+
+    def cut(self, runners=(), how="drawn"):
+        """Ends all at one moment, and leaves the folder as the disk may have kept it; the machine starts anew."""
+        with self.scene.still():
+            for it in runners:
+                it.close()
+            self.disk.replay()
+            self.performs += self.disk.performs
+            left = self.disk.cut(how)
+            jobs = bytes(self.disk.jobs.left(self.draws, self.draws.choice(["none", "all"]) if how == "drawn" else how))
+            if left is not None:
+                left.update(dict.fromkeys(self.runners_files(how), b""))
+            self.rebuild(left, jobs)
+            os.truncate(self.scene.log, 0)
+        self.scene.start_machine()
+        self.disk = Disk(self.scene, self.draws, self.fails)
+        self.begin()
+
+    def runners_files(self, how):
+        """Of the locks that runners made, which nobody syncs, those that are left."""
+        names = [it for it in os.listdir(self.scene.run) if it.startswith(("runner.", "command."))]
+        return [it for it in names if how == "all" or how == "drawn" and self.draws.random() < 0.5]
+
+    def rebuild(self, left, jobs):
+        shutil.rmtree(self.scene.run)
+        with open(self.scene.jobs, "wb") as file:
+            file.write(jobs)
+        if left is None:
+            return
+        os.mkdir(self.scene.run, 0o700)
+        for name, data in left.items():
+            with open(os.open(f"{self.scene.run}/{name}", os.O_WRONLY | os.O_CREAT, 0o600), "wb") as file:
+                file.write(data)
+
+    def close(self):
+        """Replays what was logged since the last cut, for what has to be on the disk before each perform; how many were said."""
+        self.disk.replay()
+        return self.performs + self.disk.performs
+
+    def grow(self, text):
+        """A line more in the jobs' file, which nobody has synced."""
+        with self.scene.still(), open(self.scene.log, "ab") as log, open(self.scene.jobs, "ab") as jobs:
+            place = jobs.tell()
+            jobs.write(text)
+            log.write(f"0 0 write JOBS 0 {place} {len(text)} {len(text)} {text.hex()}\n".encode())

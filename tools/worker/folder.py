@@ -1,0 +1,167 @@
+"""The folder of a run, read by itself: an auditor that shares nothing with the program.
+
+A journal is blocks, each an open gate `+`, a text and a line feed; the first block that has another gate, or no end, and all
+behind it stands for nothing. A line is open where each intent of it, in all journals, was answered `unbegun` or found `not-done`.
+"""
+
+import fcntl
+import os
+import re
+
+NUMBER = rb"(0|[1-9][0-9]{0,19})"
+ENTRY = re.compile(rb"(intent) N N N|(done) N N N|(doubt) N|(unbegun) N|(untouched) N N".replace(b"N", NUMBER))
+FINDING = re.compile(rb"(done|not-done) N N N".replace(b"N", NUMBER))
+KINDS = "done failed doubt running untouched open".split()
+MOST_WORKERS = 16
+
+
+class Refused(Exception):
+    """A file that is none: its name, and the number of the text that can't stand there."""
+
+
+def read(path):
+    """The bytes of a file; of one that isn't there, none."""
+    try:
+        with open(path, "rb") as file:
+            return file.read()
+    except FileNotFoundError:
+        return b""
+
+
+def texts_of(data):
+    """The texts that count."""
+    texts = []
+    while data[:1] == b"+" and b"\n" in data:
+        text, _, data = data[1:].partition(b"\n")
+        texts.append(text)
+    return texts
+
+
+def blocks_of(texts):
+    """A settled file of these texts."""
+    return b"".join(b"+%s\n" % text for text in texts) + b"-"
+
+
+def said_by(pattern, text):
+    """The word and the numbers of a text, or None."""
+    found = pattern.fullmatch(text)
+    words = [it for it in found.groups() if it is not None] if found else []
+    numbers = [int(it) for it in words[1:]]
+    return (words[0].decode(), numbers) if found and all(it < 1 << 64 for it in numbers) else None
+
+
+class Intent:
+    def __init__(self, worker, serial, line, time):
+        self.worker, self.serial, self.line, self.time = worker, serial, line, time
+        self.answer, self.code, self.found = None, None, None
+
+    def name(self):
+        return f"{self.worker}.{self.serial}"
+
+    def opens(self):
+        return self.answer == "unbegun" or self.found == "not-done"
+
+    def kind(self, is_final):
+        if self.found == "done":
+            return "done"
+        if self.answer is None:
+            return "doubt" if is_final else "running"
+        return "failed" if self.answer == "done" and self.code else self.answer
+
+
+def intents_of(worker, name, texts, count):
+    """The intents of a journal whose lines are 1..count."""
+    intents = []
+    for place, text in enumerate(texts, 1):
+        word, numbers = said_by(ENTRY, text) or (None, [0])
+        if word == "intent" and numbers[0] == len(intents) + 1 and 1 <= numbers[1] <= count:
+            intents.append(Intent(worker, *numbers))
+            continue
+        it = intents[numbers[0] - 1] if word and word != "intent" and 1 <= numbers[0] <= len(intents) else None
+        if not it or it.answer or word in ("done", "untouched") and numbers[1] > 255:
+            raise Refused(name, place)
+        it.answer, it.code = word, numbers[1] if word in ("done", "untouched") else None
+    return intents
+
+
+class Folder:
+    """What stands in a run's folder."""
+
+    def __init__(self, run):
+        self.run, self.intents = run, {}
+        self.lines = read(f"{run}/jobs").split(b"\n")[:-1]
+        for p in range(1, MOST_WORKERS + 1):
+            texts = texts_of(read(f"{run}/journal.{p}"))
+            self.intents.update({(p, it.serial): it for it in intents_of(p, f"journal.{p}", texts, len(self.lines))})
+        for place, text in enumerate(texts_of(read(f"{run}/answers")), 1):
+            word, numbers = said_by(FINDING, text) or (None, [0, 0])
+            it = self.intents.get(tuple(numbers[:2]))
+            if not word or not it or it.found:
+                raise Refused("answers", place)
+            it.found = word
+
+    def of_line(self, line):
+        """The intents by which a line is closed."""
+        return [it for it in self.intents.values() if it.line == line and not it.opens()]
+
+    def open_lines(self):
+        closed = {it.line for it in self.intents.values() if not it.opens()}
+        return [line for line in range(1, len(self.lines) + 1) if line not in closed]
+
+    def pending(self):
+        return [it for it in self.intents.values() if it.answer is None]
+
+    def kinds(self, final=()):
+        """Of each line its kind, where these pending intents, as P and S, are final doubts."""
+        found = dict.fromkeys(range(1, len(self.lines) + 1), "open")
+        for it in self.intents.values():
+            if not it.opens() and found[it.line] != "running":
+                found[it.line] = it.kind((it.worker, it.serial) in final)
+        return found
+
+    def counts(self, final=()):
+        kinds = list(self.kinds(final).values())
+        return {"lines": len(kinds), **{kind: kinds.count(kind) for kind in KINDS}}
+
+    def final(self):
+        """The pending intents that nobody can perform any more, as the locks say now."""
+        locks = {it: (f"journal.{it.worker}", f"runner.{it.worker}", f"command.{it.name()}") for it in self.pending()}
+        return {(it.worker, it.serial) for it in locks if all(is_free(f"{self.run}/{name}") for name in locks[it])}
+
+
+def is_free(path):
+    """Whether nobody holds a lock on this file; one that isn't there nobody holds."""
+    try:
+        with open(path, "rb") as file:
+            fcntl.flock(file, fcntl.LOCK_EX | fcntl.LOCK_NB)
+    except FileNotFoundError:
+        return True
+    except BlockingIOError:
+        return False
+    return True
+
+
+def record_of(run):
+    """What the record says: round, boot, n, m, beta, workers, first, and the lines; None where there is none."""
+    texts = read(os.path.join(run, "record")).decode().split("\n")
+    if len(texts) < 6:
+        return None
+    givens, workers = texts[3].split(), texts[4].split()
+    record = {"round": int(texts[1].split()[1]), "boot": texts[2][5:], "lines": [int(it) for it in texts[5:-1]]}
+    record.update(zip(("n", "m", "beta", "workers", "first"), map(int, givens[1:] + workers[1:])))
+    return record
+
+
+def rows_of(run, boot):
+    """Of each worker of the words its count of claims, its announcement and its row; nothing where record and words are of
+    another boot, or don't fit."""
+    record, data = record_of(run), read(f"{run}/words")
+    size = record["m"] * (record["n"] + 3) + 1 if record else 0
+    head = f"\nround {record['round']}\nboot {record['boot']}\n" if record else ""
+    fits = record and record["boot"] == boot and len(data) == 512 + 8 * size
+    if not fits or head.encode() not in data[:512]:
+        return []
+    n, m = record["n"], record["m"]
+    words = [int.from_bytes(data[at:at + 8], "little") for at in range(512, len(data), 8)]
+    rows = [words[2 * m + (p - 1) * (n + 1) + 1:2 * m + p * (n + 1) + 1] for p in range(1, m + 1)]
+    return [(words[m + p], words[p], row[:row.index(0)] if 0 in row else row) for p, row in enumerate(rows, 1)]

@@ -1,0 +1,308 @@
+"""Workers that are killed, refused or stopped at each call that touches a file."""
+
+import errno
+import os
+import shutil
+import signal
+
+from worker import folder
+from worker.scene import KILLED, LATER, LEFT, READ, WRITE, Runner, each, finish, live, see_out, serve, want
+
+CHANGES = ("write", "cut", "sync", "rename", "lock", "folder", "remove", "say", "hear")
+INTERRUPTED = ("open", "read", "write", "cut", "sync", "lock", "say", "hear")
+
+
+def changes(calls):
+    """The calls after which something stands otherwise than before; of several by which one answer is heard, the last."""
+    nexts = [it[2] for it in calls[1:]] + [""]
+    return [it for it, after in zip(calls, nexts) if is_change(it) and not it[2] == after == "hear"]
+
+
+def is_change(call):
+    return int(call[7]) >= 0 and (call[2] in CHANGES or call[2] == "open" and "c" in call[8])
+
+
+def first_life(bench, lines=4, workers=2):
+    """The calls of a first life that nothing befalls."""
+    scene = bench.scene(lines, workers)
+    scene.logs, runner = True, Runner(scene, 1)
+    status = live(runner)
+    want(status == LATER, f"the first life ends with status {status}: {runner.said}")
+    runner.close()
+    return scene.logged()
+
+
+def points(bench):
+    """The numbers of the calls at which a kill makes a difference; in the long form, of all."""
+    calls = first_life(bench)
+    return [int(it[1]) for it in (calls if bench.is_long else changes(calls))]
+
+
+def want_all_told(scene, most=1):
+    """Each line is performed, but for so many that are in doubt: their intent was put, and nobody heard of it."""
+    performed, doubts = {it[2] for it in scene.effects()}, {it[2] for it in scene.doubts()}
+    lines = set(range(1, len(scene.look().lines) + 1))
+    want(performed | doubts == lines and len(doubts - performed) <= most, f"performed are {performed}, in doubt {doubts}")
+
+
+def kill_one(bench, number, when, drops):
+    """A worker is killed at this call; its runner lives on, and tells the next one what it saw."""
+    scene = bench.scene(4, 2)
+    runner = Runner(scene, 1)
+    runner.drops = drops
+    want(live(runner, f"{number}:kill_{when}") == KILLED, "it isn't killed")
+    runner.drops = False
+    see_out([runner])
+    runner.close()
+    scene.audit()
+    want_all_told(scene)
+
+
+def try_killed(bench):
+    """killed at each call: the next life goes on, and each line is performed once, or the one in hand is in doubt"""
+    numbers = points(bench)
+    count = each([(bench, 1, "before", False), *((bench, it, "after", False) for it in numbers)], kill_one)
+    if bench.is_long:
+        count += each(((bench, it, "before", False) for it in numbers[1:]), kill_one)
+    return f"{count} kills"
+
+
+def try_killed_and_dropped(bench):
+    """killed right after it spoke: the runner drops what the dead one said"""
+    numbers = [int(it[1]) for it in changes(first_life(bench)) if it[2] in ("say", "hear")]
+    return f"{each(((bench, it, 'after', True) for it in numbers), kill_one)} kills"
+
+
+class Waiting(Runner):
+    """A runner whose command is never over."""
+
+    def after(self, serial):
+        return None
+
+
+def kill_beside(bench, number):
+    """Worker 2 is killed at this call, while worker 1 keeps the round; the next one goes on in it by the words alone. With no
+    number: the calls of worker 2 that make a difference."""
+    scene = bench.scene(6, 2)
+    first, second = Waiting(scene, 1), Runner(scene, 2)
+    serve([first.start()], until=lambda: first.lines)
+    record, scene.logs = folder.record_of(scene.run), not number
+    status = live(second, f"{number}:kill_after" if number else None)
+    if not number:
+        calls = scene.logged()
+        return [int(it[1]) for it in (calls if bench.is_long else changes(calls))]
+    want(status == KILLED, "it isn't killed")
+    want(live(second) == LATER and folder.record_of(scene.run) == record, f"status {second.statuses}: {second.said}")
+    scene.audit(is_over=False)
+    first.close()
+    second.close()
+    finish(scene, (1, 2))
+    want_all_told(scene)
+
+
+def try_killed_beside(bench):
+    """killed at each call beside a worker that keeps the round: the next one goes on by the words, and performs no line again"""
+    return f"{each(((bench, it) for it in bench.sample(kill_beside(bench, None), 40)), kill_beside)} kills"
+
+
+def kill_both(bench, number, second):
+    """Worker and runner are killed, and the next worker too; a person finds out of each doubt, and then all is performed."""
+    scene = bench.scene(4, 2)
+    runner = Runner(scene, 1)
+    runner.drops = bench.draws.random() < 0.5
+    want(live(runner, f"{number}:kill_after") == KILLED, "it isn't killed")
+    scene.doubts()
+    runner.close()
+    if second:
+        scene.doubts()
+        runner = Runner(scene, 1)
+        live(runner, f"{second}:kill_after")
+        runner.close()
+    finish(scene, is_over=False)
+    performed = [it[2] for it in scene.effects()]
+    for worker, serial, line in scene.doubts():
+        scene.answer(worker, serial, line, "done" if line in performed else "not-done")
+    finish(scene)
+    want(sorted(it[2] for it in scene.effects()) == [1, 2, 3, 4], f"performed: {scene.effects()}")
+
+
+def try_killed_with_its_runner(bench):
+    """killed at each call, and its runner too: what is in doubt is told, and once a person has answered each line is done once"""
+    numbers = points(bench)
+    pairs = [(bench, it, bench.draws.choice(numbers) if bench.draws.random() < 0.5 else 0) for it in bench.sample(numbers, 40)]
+    count = each(pairs, kill_both)
+    if bench.is_long:
+        count += each(((bench, a, b) for a in bench.draws.sample(numbers, 60) for b in numbers[::7]), kill_both)
+    return f"{count} kills"
+
+
+def names_file(said, file, scene):
+    """Whether a fault names the file of a call, by its path or by what it is; of the folder, what was made there will do."""
+    names = {"JOBS": (scene.jobs, "the jobs' file"), "..": (scene.room, "the run's folder"),
+             ".": (scene.run, "the run's folder", "record", "jobs", "journal", "answers", "lock.round")}
+    return any(name in said or name.endswith(".new") and name[:-4] in said for name in names.get(file, (file,)))
+
+
+def refuse_one(bench, number, call, file, fault):
+    """One call fails. An interrupted or a short one is made again, or it ends as one that failed. Nothing is said after it."""
+    scene = bench.scene(4, 2)
+    scene.logs, runner = True, Runner(scene, 1)
+    status = live(runner, f"{number}:{fault}")
+    later = [it for it in scene.logged() if int(it[1]) > number and it[2] == "say"]
+    goes_on = fault in ("short", str(errno.EINTR)) and status == LATER
+    if not goes_on:
+        named = status in (WRITE, READ) and names_file(runner.said, file, scene)
+        named = named or file in ("IN", "OUT") and status == LEFT
+        want(named and runner.said.count("\n") == 1, f"status {status}, {runner.said!r}")
+        want(not later, "it says something after the failure")
+    see_out([runner])
+    runner.close()
+    scene.audit()
+    want_all_told(scene)
+
+
+def refusals(bench):
+    """Each call with each fault; in the short form, of calls that are alike the first and the last."""
+    calls, alike = first_life(bench), {}
+    for it in calls:
+        if int(it[7]) >= 0 or it[2] == "open":
+            alike.setdefault((it[2], it[3].rstrip("0123456789"), it[8] if it[2] == "open" else ""), []).append(it)
+    ends = {it[1]: it for group in alike.values() for it in (group[0], group[-1])}
+    for it in calls if bench.is_long else ends.values():
+        number, call, file = int(it[1]), it[2], it[3]
+        faults = [errno.ENOSPC if number % 2 and call in ("write", "open", "rename") and it[8] != "r" else errno.EIO]
+        faults = [] if call in ("say", "hear", "copy") else faults
+        faults += [errno.EINTR] if call in INTERRUPTED else []
+        faults += ["short"] if call in ("read", "write", "say") and int(it[6]) > 1 else []
+        yield from ((bench, number, call, file, str(fault)) for fault in faults)
+
+
+def try_refused(bench):
+    """each write, sync, rename, lock, open and read refused: it ends, names the file, and says nothing more; none is lost"""
+    return f"{each(refusals(bench), refuse_one)} refusals"
+
+
+def full_from(bench, number):
+    """From this call on nothing can be written, until a later life."""
+    scene = bench.scene(4, 2)
+    runner = Runner(scene, 1)
+    first = live(runner, f"{number}+:{errno.ENOSPC}")
+    want(first == WRITE, f"status {first}: {runner.said}")
+    want(live(runner, f"1+:{errno.ENOSPC}") == WRITE, f"the second life, on a full disk: status {runner.statuses[-1]}")
+    see_out([runner])
+    runner.close()
+    scene.audit()
+    want_all_told(scene)
+
+
+def try_full(bench):
+    """a disk that is full from some call on: it ends, and goes on once there is room"""
+    numbers = [int(it[1]) for it in first_life(bench) if it[2] in ("write", "rename") or it[2] == "open" and "c" in it[8]]
+    return f"{each(((bench, it) for it in bench.sample(numbers, 12)), full_from)} disks"
+
+
+def answer_killed(bench, number):
+    """Who answers is killed at this call; the answer is there then, or is taken when it is given again."""
+    scene, fault = answerable(bench), f"{number}:kill_after"
+    words = ["answer", scene.run, "1.1", "1", "job 1", "not-done"]
+    want(scene.call(*words, faults=fault)[0] == KILLED, "it isn't killed")
+    before = scene.look()
+    scene.answer(1, 1, 1, "not-done")
+    want(not before.intents[1, 1].found or scene.look().counts() == before.counts(), "it is taken twice")
+    finish(scene)
+    want(sorted(it[2] for it in scene.effects()) == [1, 2, 3], f"performed: {scene.effects()}")
+
+
+def answerable(bench):
+    """A run whose first intent is in doubt: its worker was killed before it spoke."""
+    scene = bench.scene(3, 1)
+    scene.logs, runner = True, Runner(scene, 1)
+    live(runner)
+    runner.close()
+    number = next(int(it[1]) for it in scene.logged() if it[2] == "say")
+    scene = bench.scene(3, 1)
+    runner = Runner(scene, 1)
+    live(runner, f"{number}:kill_before")
+    runner.close()
+    want(scene.doubts() == [(1, 1, 1)], "there is no doubt")
+    return scene
+
+
+def try_killed_answers(bench):
+    """a person's answer, killed at each call: it was taken, or is taken when it is given again"""
+    scene = answerable(bench)
+    scene.logs = True
+    scene.answer(1, 1, 1, "not-done")
+    numbers = [int(it[1]) for it in changes(scene.logged())]
+    return f"{each(((bench, it) for it in numbers), answer_killed)} kills"
+
+
+def state_of(runner):
+    """The state of its process as the kernel tells it: T where it is stopped, Z where it has ended."""
+    if not runner.process:
+        return "Z"
+    with open(f"/proc/{runner.process.pid}/stat", encoding="latin-1") as file:
+        return file.read().rpartition(")")[2].split()[0]
+
+
+def stop_one(bench, number):
+    """A process of number 1 is stopped at a call, while the one at work ends and another begins: two may not get on."""
+    scene = bench.scene(4, 1)
+    first, stopped, third = Runner(scene, 1), Runner(scene, 1, is_stray=True), Runner(scene, 1, is_stray=True)
+    try:
+        first.perform = lambda serial, line: None if not first.leaves else Runner.perform(first, serial, line)
+        serve([first.start()], until=lambda: first.lines)
+        stopped.start(f"{number}:stop_before")
+        serve([stopped], until=lambda: state_of(stopped) in "TZ")
+        first.leaves = True
+        first.take(first.lines[0])
+        serve([first])
+        serve([third.start()], until=lambda: third.lines)
+        if stopped.process:
+            stopped.process.send_signal(signal.SIGCONT)
+        both = [stopped, third]
+        spoke = []
+        for it in both:
+            it.perform = lambda serial, line, it=it: spoke.append(it) or Runner.perform(it, serial, line)
+        if third.process:
+            third.lines = [third.lines[-1]]
+        serve(both, seconds=20)
+    finally:
+        for it in (first, stopped, third):
+            it.close()
+    scene.audit(is_over=False)
+    want(len({id(it) for it in spoke}) < 2, "two processes of one number get on")
+
+
+def try_two_of_one_number(bench):
+    """a process stopped at each of its first calls, while others of its number end and begin: one alone gets on"""
+    calls = first_life(bench)
+    until = next(k for k, it in enumerate(calls) if it[2] == "lock" and it[3] == "lock.round")
+    return f"{each(((bench, int(it[1])) for it in calls[:until]), stop_one)} stops"
+
+
+def swap_one(bench, name):
+    """A process is stopped before it asks for a lock; the file is changed for another of the same name, which others lock."""
+    calls = first_life(bench)
+    number = next(int(it[1]) for it in calls if it[2:4] == ["lock", name])
+    scene = bench.scene(4, 2)
+    first, other = Runner(scene, 1), Runner(scene, 1 if name == "journal.1" else 2, is_stray=True)
+    first.start(f"{number}:stop_before")
+    serve([first], until=lambda: state_of(first) in "TZ")
+    os.rename(f"{scene.run}/{name}", f"{scene.run}/old")
+    shutil.copy(f"{scene.run}/old", f"{scene.run}/{name}")
+    other.perform = lambda serial, line: None
+    serve([other.start()], until=lambda: other.lines)
+    first.process.send_signal(signal.SIGCONT)
+    serve([first])
+    want(not first.lines and first.statuses[0] in (LATER, WRITE), f"{first.statuses}, {first.lines}: it rests on the old file")
+
+
+def try_locks_of_old_files(bench):
+    """a lock that was got on a file which has its name no more counts for nothing"""
+    each(((bench, it) for it in ("journal.1", "lock.round")), swap_one)
+
+
+PARTS = {"killed": [try_killed, try_killed_beside, try_killed_and_dropped, try_killed_with_its_runner, try_killed_answers],
+         "refused": [try_refused, try_full],
+         "numbers": [try_two_of_one_number, try_locks_of_old_files]}

@@ -1,0 +1,428 @@
+"""What persons are told and may answer; commands that outlive who began them; words and refusals at the door."""
+
+import json
+import os
+import shutil
+import signal
+import subprocess
+import tempfile
+
+from worker.folder import KINDS, read, texts_of
+from worker.scene import ANSWER, DOOR, KILLED, LEFT, OVER, REFUSED, WORDS, WRITE, Runner, each, finish, live, see_out, serve, want
+
+
+class Says(Runner):
+    """A runner that answers each perform with the next of these replies; `done` is said of what was performed."""
+
+    def __init__(self, scene, worker, replies, **more):
+        super().__init__(scene, worker, **more)
+        self.replies = list(replies)
+
+    def perform(self, serial, line):
+        reply = self.replies.pop(0) if self.replies else "unbegun"
+        if reply.split(" ")[0] in ("done", "doubt", "dies"):
+            self.scene.performed(self.worker, serial, line)
+        self.leaves = not self.replies
+        if reply == "dies":
+            self.kill()
+            return None
+        return reply
+
+
+def prepared(bench, replies, lines=6):
+    """A run whose first lines were answered so; the last reply tells to leave."""
+    scene = bench.scene(lines, 1)
+    runner = Says(scene, 1, replies)
+    live(runner)
+    want(not runner.replies, f"it ends with status {runner.statuses} before {runner.replies}: {runner.said}")
+    runner.close()
+    return scene
+
+
+def counts_of(scene, *words):
+    """The counts that status tells, as text and as JSON, which have to say the same."""
+    status, out, err = scene.call("status", scene.run, *words)
+    want(status == OVER, f"status: {status}, {err}")
+    first = out.split("\n")[0].split(" ")
+    counts = dict(zip(first[::2], map(int, first[1::2])))
+    want(list(counts) == ["lines", *KINDS], f"status says: {out}")
+    return counts, out
+
+
+def agree(scene):
+    """What status, its JSON, its lists and doubts say is what the auditor reads."""
+    found = scene.look()
+    final = found.final()
+    counts, out = counts_of(scene)
+    kinds = found.kinds(final)
+    want(counts == found.counts(final), f"status says {counts}, and there is {found.counts(final)}")
+    told = json.loads(scene.call("status", scene.run, "--json")[1])
+    want({name: told[name] for name in counts} == counts, f"the JSON says {told}")
+    shown = {line: found.of_line(line)[0].name() for line, kind in kinds.items() if kind != "open"}
+    texts = [it.decode() for it in found.lines]
+    some = {line: kind for line, kind in kinds.items() if kind in ("doubt", "running", "untouched")}
+    wanted = sorted(f"{kind} {shown[line]} {line} {texts[line - 1]}" for line, kind in some.items())
+    want(sorted(out.split("\n")[2:-1]) == wanted, f"status lists {out}, and there is {wanted}")
+    listed = sorted((it["intent"], it["line"], it["text"], it["state"]) for it in told["intents"])
+    want(listed == sorted((shown[line], line, texts[line - 1], kind) for line, kind in some.items()), f"the JSON lists {listed}")
+    for kind in KINDS[1:]:
+        rows = scene.call("status", scene.run, "--lines", kind)[1]
+        wanted = "".join(f"{shown.get(line, '-')}\t{line}\t{texts[line - 1]}\n" for line in kinds if kinds[line] == kind)
+        want(sorted(rows.splitlines()) == sorted(wanted.splitlines()), f"--lines {kind} says {rows}, and there is {wanted}")
+    doubts = [it.split(" ")[1] for it in scene.call("doubts", scene.run)[1].splitlines()]
+    listed = [it["intent"] for it in json.loads(scene.call("doubts", scene.run, "--json")[1])]
+    wanted = sorted(shown[line] for line, kind in kinds.items() if kind == "doubt")
+    want(sorted(doubts) == sorted(listed) == wanted, f"doubts are {doubts}, {listed}, and there is {wanted}")
+    return kinds
+
+
+def try_counts(bench):
+    """status, its lists and its JSON, and doubts: as the auditor reads journals, locks and answers"""
+    scene = prepared(bench, ["done 0", "done 3", "doubt", "untouched 75", "unbegun", "dies"])
+    kinds = agree(scene)
+    want([kinds[k] for k in range(1, 7)] == ["done", "failed", "doubt", "untouched", "open", "doubt"], f"{kinds}")
+    finish(scene)
+    agree(scene)
+
+
+def answered(scene, name, line, text, verdict, status, taken):
+    """This answer has this status, and makes so many entries in `answers`."""
+    before = len(texts_of(read(f"{scene.run}/answers")))
+    ended, _, err = scene.call("answer", scene.run, name, str(line), text, verdict)
+    after = len(texts_of(read(f"{scene.run}/answers")))
+    said = f"{name} {line} {text} {verdict}: status {ended}, {after - before} taken, {err}"
+    want((ended, after - before) == (status, taken), said)
+    want(status == OVER or err.count("\n") == 1, f"{name} {verdict} is refused without a word: {err}")
+
+
+def try_answers(bench):
+    """a person's answers: taken for a noted doubt, what failed and what was untouched, of the right line, once; others refused"""
+    scene = prepared(bench, ["done 0", "done 3", "doubt", "untouched 75", "doubt", "unbegun"])
+    agree(scene)
+    for name, line, text, verdict, status, taken in [
+            ("1.1", 1, "job 1", "not-done", REFUSED, 0), ("1.9", 3, "job 3", "done", REFUSED, 0),
+            ("2.1", 3, "job 3", "done", REFUSED, 0), ("1.3", 4, "job 4", "done", REFUSED, 0),
+            ("1.3", 3, "job 4", "done", REFUSED, 0), ("1.6", 6, "job 6", "not-done", REFUSED, 0),
+            ("1.3", 3, "job 3", "done", OVER, 1), ("1.3", 3, "job 3", "done", OVER, 0),
+            ("1.3", 3, "job 3", "not-done", REFUSED, 0),
+            ("1.2", 2, "job 2", "done", OVER, 1), ("1.4", 4, "job 4", "done", OVER, 1),
+            ("1.4", 4, "job 4", "not-done", REFUSED, 0)]:
+        answered(scene, name, line, text, verdict, status, taken)
+    want(agree(scene)[3] == "done", "a doubt that was found done isn't done")
+    finish(scene)
+
+
+def try_answers_open(bench):
+    """`not-done` opens a line again, once, and its intent can't be answered any more; `again` opens what was untouched, once"""
+    scene = prepared(bench, ["untouched 75", "untouched 3", "done 5"], lines=3)
+    scene.again()
+    scene.again()
+    want(len(texts_of(read(f"{scene.run}/answers"))) == 2, "again makes more than one entry for what was untouched")
+    kinds = agree(scene)
+    want(kinds == {1: "open", 2: "open", 3: "failed"}, f"{kinds}")
+    runner = Says(scene, 1, ["untouched 75", "doubt"])
+    live(runner)
+    runner.close()
+    answered(scene, "1.1", 1, "job 1", "done", REFUSED, 0)
+    scene.again()
+    want(agree(scene)[1] == "open" and agree(scene)[2] == "doubt", "again opens something else")
+    finish(scene)
+
+
+def try_answers_from_file(bench):
+    """--from a file: all or nothing, in the form that status prints"""
+    scene = prepared(bench, ["doubt", "doubt", "doubt", "done 0"], lines=4)
+    rows = scene.call("status", scene.run, "--lines", "doubt")[1].splitlines()
+    path = f"{scene.room}/verdicts"
+
+    def given(lines, status, taken):
+        with open(path, "w") as file:
+            file.write("".join(lines))
+        before = len(texts_of(read(f"{scene.run}/answers")))
+        ended, _, err = scene.call("answer", scene.run, "--from", path)
+        count = len(texts_of(read(f"{scene.run}/answers"))) - before
+        want((ended, count) == (status, taken), f"{lines}: status {ended}, {count} taken, {err}")
+
+    given([f"{rows[0]}\tdone\n", "1.4\t4\tjob 4\tnot-done\n"], REFUSED, 0)
+    given([f"{rows[0]}\tdone\n", f"{rows[1]}\tperhaps\n"], REFUSED, 0)
+    given([f"{rows[0]}\tdone\n", f"{rows[0]}\tnot-done\n"], REFUSED, 0)
+    given([f"{rows[0]}\tdone\n", f"{rows[2]}\tdone\n"], OVER, 2)
+    want(sorted(agree(scene).values()) == ["done", "done", "done", "doubt"], f"{agree(scene)}")
+    finish(scene)
+
+
+class Lasting(Runner):
+    """A runner whose command goes on until it is told to end, also without its runner."""
+
+    def perform(self, serial, line):
+        self.command = serial, line, self.taken(f"command.{self.worker}.{serial}")
+
+    def leave_behind(self):
+        """Dies, and leaves the command running."""
+        self.close()
+        return self.command
+
+
+def try_commands_that_stay(bench):
+    """a command that outlives its runner: told as running, no doubt and not to be answered until it has ended"""
+    scene = bench.scene(6, 1)
+    runner = Lasting(scene, 1)
+    serve([runner.start()], until=lambda: runner.lines)
+    want(agree_running(scene, alive=[1]) == 1, "the command isn't told as running")
+    serial, line, held = runner.leave_behind()
+    want(agree_running(scene, alive=[]) == 1, "the command that was left isn't told as running")
+    answered(scene, f"1.{serial}", line, f"job {line}", "not-done", REFUSED, 0)
+    want(scene.doubts() == [], "what runs is listed as a doubt")
+    runner = Runner(scene, 1)
+    see_out([runner])
+    want(line not in [it[2] for it in scene.effects()], "it is performed")
+    want(scene.doubts() == [], "what runs is listed as a doubt")
+    scene.performed(1, serial, line)
+    held.close()
+    runner.close()
+    want(scene.doubts() == [(1, serial, line)], "what has ended is not listed as a doubt")
+    agree(scene)
+    scene.answer(1, serial, line, "done")
+    finish(scene)
+    want(len(scene.effects()) == 6, f"{scene.effects()}")
+
+
+def try_pending(bench):
+    """a line that was begun, and of which nobody knows more, is closed to the other workers"""
+    scene = bench.scene(5, 2)
+    runner = Says(scene, 1, ["done 0", "dies"])
+    live(runner)
+    runner.close()
+    finish(scene, (2,))
+    agree(scene)
+    finish(scene, (1, 2))
+    want(len(scene.effects()) == 5, f"performed: {scene.effects()}")
+
+
+def agree_running(scene, alive):
+    """How many lines are told as running, where these workers are alive."""
+    counts, out = counts_of(scene)
+    want(out.split("\n")[1].split(" ") == ["alive", *map(str, alive)] or not alive and out.split("\n")[1].strip() == "alive",
+         f"alive are {alive}: {out}")
+    return counts["running"]
+
+
+def try_locks_of_a_doubt(bench):
+    """a pending intent is no doubt while anybody holds its journal, its runner's lock or its command's"""
+    scene = bench.scene(3, 1)
+    runner = Lasting(scene, 1)
+    serve([runner.start()], until=lambda: runner.lines)
+    serial, line, held = runner.leave_behind()
+    held.close()
+    for name in ("journal.1", "runner.1", f"command.1.{serial}"):
+        other = Runner(scene, 2, is_stray=True)
+        held = other.taken(name)
+        want(scene.doubts() == [] and counts_of(scene)[0]["running"] == 1, f"a doubt is listed while {name} is held")
+        answered(scene, f"1.{serial}", line, f"job {line}", "not-done", REFUSED, 0)
+        held.close()
+    want(scene.doubts() == [(1, serial, line)], "the doubt is not listed")
+    scene.answer(1, serial, line, "not-done")
+    finish(scene)
+
+
+def try_senseless_answers(bench):
+    """answers that can't be: the status says so and the line is printed; an answer without its end is the end of input"""
+    for said in ("done 9 0 go", "done 1 256 go", "done 1 go", "doubt 1 stay", "", "done  1 0 go", "done 01 0 go", "perhaps 1 go",
+                 "running 1 0 go", None):
+        status = ANSWER if said is not None else LEFT
+        scene = bench.scene(2, 1)
+        runner = Runner(scene, 1)
+        runner.perform = lambda serial, line: None
+        serve([runner.start()], until=lambda: runner.lines)
+        runner.process.stdin.write(b"done 1 0 go" if said is None else said.encode() + b"\n")
+        if said is None:
+            runner.process.stdin.close()
+            runner.process.stdin = open(os.devnull, "wb")
+        serve([runner])
+        want(runner.statuses == [status] and (status == LEFT or said in runner.said), f"{said}: {runner.statuses}, {runner.said}")
+        want(len(texts_of(read(f"{scene.run}/journal.1"))) == 1, f"{said}: something is noted")
+        runner.close()
+
+
+def try_ends(bench):
+    """leave and end of input: the status says so, the intent of the latter stays pending, and the words let others go on"""
+    for lines in (5, 2):
+        scene = bench.scene(lines, 1)
+        runner = Says(scene, 1, ["done 0", "done 0"])
+        want(live(runner) == LEFT, f"told to leave at line 2 of {lines}: status {runner.statuses}, {runner.said}")
+        runner.close()
+        finish(scene)
+    scene = bench.scene(3, 1)
+    runner = Runner(scene, 1)
+    runner.take = lambda line: runner.process.stdin.close()
+    serve([runner.start()])
+    want(runner.statuses == [LEFT], f"{runner.statuses}: {runner.said}")
+    runner.close()
+    want([it.name() for it in scene.look().pending()] == ["1.1"], "the intent isn't pending")
+    want(len(scene.doubts()) == 1, "it is no doubt")
+    runner = Runner(scene, 1)
+    runner.leaves = True
+    want(live(runner) == LEFT and runner.lines == ["was 1 1 job 1"], f"{runner.lines}, {runner.statuses}")
+    runner.close()
+    finish(scene)
+
+
+def try_no_partner(bench):
+    """nobody reads what the worker says: it ends, and what it had begun is a doubt at most"""
+    scene = bench.scene(3, 1)
+    runner = Runner(scene, 1).start()
+    kept = runner.process.stdout
+    runner.process.stdout = open(os.devnull, "rb")
+    kept.close()
+    runner.process.stdin.close()
+    status = runner.process.wait(20)
+    want(status in (LEFT, WRITE, -signal.SIGPIPE), f"status {status}")
+    runner.close()
+    scene.doubts()
+    finish(scene)
+
+
+def refused_jobs(bench, data, line):
+    """This jobs' file is refused, by the number of its line, and nothing is begun."""
+    scene = bench.scene(1, 1)
+    with open(scene.jobs, "wb") as file:
+        file.write(data)
+    for command in (["door", scene.run], ["work", scene.run, "1"]):
+        status, out, err = scene.call(*command, *scene.givens(), scene.jobs)
+        named = "jobs" in err.replace(scene.run, "") and str(line) in err.replace(scene.room, "")
+        want(status == REFUSED and named and not out, f"{command[0]}, {data[:30]}: {status}, {err}")
+    want(not os.path.exists(f"{scene.run}/record") and not os.path.exists(f"{scene.run}/jobs"), "a round was begun")
+
+
+def try_jobs(bench):
+    """the jobs' file: an empty line, NUL, CR, what is no UTF-8, a line too long, equal lines, a last line without its end"""
+    rows = [(b"a\n\nb\n", 2), (b"a\nb\0c\n", 2), (b"a\nb\r\n", 2), (b"a\n\xff\n", 2), (b"a\n" + b"x" * 100001 + b"\n", 2),
+            (b"a\nb\na\n", 3), (b"a\nb", 2), (b"\n", 1), (b"a\n\xed\xa0\x80\n", 2), (b"a\n\xc0\x80\n", 2),
+            (b"a\n\xf4\x90\x80\x80\n", 2)]
+    each(((bench, *it) for it in rows), refused_jobs)
+    scene = bench.scene(1, 1)
+    with open(scene.jobs, "wb") as file:
+        file.write(b"x" * 100000 + b"\n" + "\u00e9\U0001f600 \u2028 a\tb\n".encode())
+    finish(scene)
+    want(len(scene.effects()) == 2, "a line of 100000 bytes isn't taken")
+    scene = bench.scene(0, 1)
+    want(scene.call("work", scene.run, "1", *scene.givens(), scene.jobs)[0] == OVER, "no lines are not all done")
+    agree(scene)
+
+
+def try_words(bench):
+    """words that are none: status 64, and nothing is made"""
+    scene = bench.scene(2, 2, makes=False)
+    run, jobs = scene.run, scene.jobs
+    for words in [[], ["walk", run], ["work", run, "1", jobs], ["work", run, "1", "--workers", "17", jobs],
+                  ["work", run, "0", "--workers", "2", jobs], ["work", run, "3", "--workers", "2", jobs],
+                  ["work", run, "1", "--workers", "2", "--beta", "65536", jobs],
+                  ["work", run, "1", "--workers", "2", "--beta", "0", jobs], ["work", run, "1", "--workers", "02", jobs],
+                  ["work", run, "--workers", "2", jobs], ["door", run, "--workers", "2"], ["status"],
+                  ["status", run, "--lines", "all"], ["status", run, "more"], ["doubts", run, "--lines", "open"],
+                  ["answer", run, "1.1", "1"], ["again"], ["work", run, "1", "--workers", "2", "--json", jobs],
+                  ["work", run, "1", "--workers", "two", jobs]]:
+        ran = subprocess.run([*bench.command(), *words], stdin=subprocess.DEVNULL, capture_output=True, timeout=20)
+        want(ran.returncode == WORDS and ran.stderr.count(b"\n") >= 1, f"{words}: status {ran.returncode}, {ran.stderr}")
+    want(not os.path.exists(run), "the folder was made")
+
+
+def try_door(bench):
+    """refused at the door: RUN a link, a file, or of another version"""
+    scene = bench.scene(2, 1)
+    link = f"{scene.room}/link"
+    os.symlink(scene.run, link)
+    for run in (link, scene.jobs):
+        refuse_run(scene, run)
+    finish(scene)
+    record = read(f"{scene.run}/record")
+    with open(f"{scene.run}/record", "wb") as file:
+        file.write(record.replace(b"amo-run 1", b"amo-run 2", 1))
+    for command in (["door", scene.run], ["work", scene.run, "1"]):
+        want(scene.call(*command, *scene.givens(), scene.jobs)[0] == DOOR, f"{command[0]}: a run of another version is taken")
+
+
+def refuse_run(scene, run, *more):
+    """No command takes this folder."""
+    for command in (["door", run, *scene.givens(), scene.jobs], ["work", run, "1", *scene.givens(), scene.jobs], ["status", run]):
+        status, out, err = scene.call(*command, *more)
+        want(status == DOOR and not out and err.count("\n") == 1, f"{command[0]} {run} {more}: status {status}, {err}")
+
+
+def try_file_system(bench):
+    """refused at the door: RUN on a file system in memory; taken where its type is named"""
+    scene = bench.scene(2, 1)
+    mounts = [it.split(" ") for it in read("/proc/self/mountinfo").decode().splitlines()]
+    if not any(it[4] == "/dev/shm" and it[it.index("-") + 1] == "tmpfs" for it in mounts):
+        bench.skipped.append("no file system in memory is at /dev/shm")
+        return
+    memory = tempfile.mkdtemp(dir="/dev/shm")
+    try:
+        refuse_run(scene, memory)
+        refuse_run(scene, memory, "--file-system", "ext9")
+        status, _, err = scene.call("door", memory, *scene.givens(), scene.jobs, "--file-system", "tmpfs")
+        want(status == OVER, f"a file system that is named is refused: {err}")
+    finally:
+        shutil.rmtree(memory)
+
+
+def try_owner(bench):
+    """refused at the door: a folder of somebody else"""
+    scene = bench.scene(2, 1)
+    if os.geteuid() != 0:
+        bench.skipped.append("not root, so no folder of somebody else")
+        return
+    os.chown(scene.run, 12345, -1)
+    status, _, err = scene.call("work", scene.run, "1", *scene.givens(), scene.jobs)
+    want(status == DOOR, f"status {status}, {err}")
+
+
+def try_door_is_kept(bench):
+    """the door makes the folder, its alone, and syncs the one above; killed at each call, the next one goes on"""
+    scene = bench.scene(2, 1, makes=False)
+    scene.logs = True
+    scene.door()
+    if not os.path.isdir(scene.run):
+        return "the door makes no folder"
+    calls = scene.logged()
+    made = next(k for k, it in enumerate(calls) if it[2] == "folder")
+    want(os.stat(scene.run).st_mode & 0o777 == 0o700, "the folder isn't its owner's alone")
+    want(any(it[2:4] == ["sync", ".."] and int(it[7]) >= 0 for it in calls[made:]), "the folder above isn't synced")
+    for it in calls:
+        other = bench.scene(2, 1, makes=False)
+        other.call("door", other.run, *other.givens(), other.jobs, faults=f"{it[1]}:kill_after")
+        other.door()
+    return f"{len(calls)} kills"
+
+
+def try_partner_of_shell(bench):
+    """tools/worker/partner.sh, a partner in shell: two of them, whose workers are killed once each, perform each line once"""
+    scene = bench.scene(0, 2)
+    texts = ["one", " two  blanks ", "three 'quotes\" $HOME `id`", "-n", "back\\slash\\n", "*"] + [f"job {k}" for k in range(6)]
+    scene.write_jobs(texts)
+    script = f"{os.path.dirname(os.path.realpath(__file__))}/partner.sh"
+    done, program = f"{scene.room}/done", f"{scene.room}/program"
+    with open(program, "w") as file:
+        file.write(f"""#!/bin/sh
+[ -e {scene.room}/once.$3 ] || {{ : >{scene.room}/once.$3; export AMO_FAULTS={bench.draws.randint(20, 200)}:kill_after; }}
+exec {" ".join(bench.command())} "$@" --boot-id {scene.boot}
+""")
+    os.chmod(program, 0o700)
+    words = [scene.jobs, "sh", "-c", f"""printf '%s\\n' "$0" >>{done}; cat"""]
+    streams = {"stdin": subprocess.DEVNULL, "stdout": subprocess.DEVNULL, "stderr": subprocess.PIPE}
+    made = [subprocess.Popen(["sh", script, program, scene.run, str(p), "2", *words], **streams,
+                             env={**scene.environment(), "TMPDIR": scene.room}) for p in (1, 2)]
+    ends = [(it.communicate(timeout=60)[1], it.returncode) for it in made]
+    want(all(status == 0 for _, status in ends), f"it ends with {ends}")
+    performed = read(done).decode().split("\n")[:-1]
+    doubted = [texts[line - 1] for _, _, line in scene.doubts()]
+    want(len(doubted) < 3 and sorted(performed + [it for it in doubted if it not in performed]) == sorted(texts),
+         f"performed {performed}, in doubt {doubted}")
+    scene.audit(is_over=False)
+    want(set(agree(scene).values()) <= {"done", "doubt"}, f"{agree(scene)}")
+    want(not [it for it in os.listdir(scene.run) if it.startswith("command.")], "a command's lock is left")
+
+
+PARTS = {"persons": [try_counts, try_answers, try_answers_open, try_answers_from_file],
+         "commands": [try_commands_that_stay, try_pending, try_locks_of_a_doubt, try_senseless_answers, try_ends, try_no_partner],
+         "door": [try_jobs, try_words, try_door, try_file_system, try_owner, try_door_is_kept], "shell": [try_partner_of_shell]}

@@ -1,0 +1,322 @@
+"""Cuts of power over the simulated disk, and what has to be on it before a line is performed."""
+
+import errno
+import random
+
+from worker.disk import Power
+from worker.folder import read, texts_of
+from worker.kills import Waiting, changes, is_change, state_of
+from worker.scene import LATER, WRITE, Runner, each, finish, live, serve, want
+
+
+def settle_doubts(scene):
+    """Sees the run out; a person finds out of each doubt how it was; then each line has been performed once."""
+    workers = range(1, scene.workers + 1)
+    scene.doubts()
+    finish(scene, workers, is_over=False)
+    performed = [it[2] for it in scene.effects()]
+    for worker, serial, line in scene.doubts():
+        scene.answer(worker, serial, line, "done" if line in performed else "not-done")
+    finish(scene, workers)
+    lines = list(range(1, len(scene.look().lines) + 1))
+    want(sorted(it[2] for it in scene.effects()) == lines, f"performed: {scene.effects()}")
+
+
+def cut_one(bench, number, fault, how, beside):
+    """A first life has this fault, a second performs a line, then power is cut. With `beside`, another worker keeps the round."""
+    scene = bench.scene(4, 2 if beside else 1, makes=False)
+    power = Power(scene, bench.draws, fails="none")
+    runners = [Waiting(scene, 1)] if beside else []
+    for it in runners:
+        serve([it.start()], until=lambda: it.lines)
+    runner = Runner(scene, len(runners) + 1)
+    runners.append(runner)
+    live(runner, f"{number}:{fault}")
+    count = len(scene.effects())
+    serve([runner.start()], until=lambda: len(scene.effects()) > count)
+    power.cut(runners, how)
+    settle_doubts(scene)
+    return power.close()
+
+
+def life_points(bench, beside):
+    """The calls of a first life, alone or beside another worker, up to the second line that it performs."""
+    scene = bench.scene(4, 2 if beside else 1)
+    other = Waiting(scene, 1) if beside else None
+    if other:
+        serve([other.start()], until=lambda: other.lines)
+    scene.logs, runner = True, Runner(scene, 2 if beside else 1)
+    live(runner)
+    for it in (runner, other):
+        if it:
+            it.close()
+    calls = scene.logged()
+    said = [k for k, it in enumerate(calls) if it[2] == "say"]
+    return calls[:said[1] if len(said) > 1 else len(calls)]
+
+
+def try_killed_and_cut(bench):
+    """killed at each call, begun again, and then the power cut: what wasn't synced is gone, and no line is performed twice"""
+    count = 0
+    for beside in (False, True):
+        numbers = [int(it[1]) for it in changes(life_points(bench, beside))]
+        count += each(((bench, it, "kill_after", "none", beside) for it in bench.sample(numbers, 25)), cut_one)
+        if bench.is_long:
+            for how in ("all", "drawn", "drawn"):
+                count += each(((bench, it, "kill_after", how, beside) for it in numbers), cut_one)
+    return f"{count} cuts"
+
+
+def see_cuts(bench, power, calls):
+    """After each of these calls some cuts of power: the journal stands for a front of what was put in the end, with all that was
+    put before the worker last spoke; jobs and record are there whole, or not there."""
+    final, spoken, count = texts_of(read(f"{power.scene.run}/journal.1")), 0, 0
+    for call in calls:
+        power.disk.take_call(call)
+        journal = power.disk.names.get("journal.1")
+        spoken = len(texts_of(bytes(journal.now))) if call[2] == "say" else spoken
+        if not is_change(call):
+            continue
+        for how in ["none", "all"] + ["drawn"] * (200 if bench.is_long else 20):
+            left = power.disk.cut(how) or {}
+            texts = texts_of(left.get("journal.1", b""))
+            is_front = texts == final[:len(texts)] and len(texts) >= spoken
+            want(is_front, f"after {call[1:4]}: {texts}, of {final}, {spoken} before it spoke")
+            jobs, record = left.get("jobs", b""), left.get("record", b"")
+            want(read(power.scene.jobs).startswith(jobs) and jobs[-1:] in (b"", b"\n"), f"after {call[1:4]}: jobs holds {jobs}")
+            want(not record or is_record(record), f"after {call[1:4]}: record holds {record}")
+            count += 1
+    return count
+
+
+def is_record(data):
+    texts = data.decode("latin-1").split("\n")
+    return len(texts) > 5 and texts[0] == "amo-run 1" and texts[3].split()[1] == str(len(texts) - 6) and texts[-1] == ""
+
+
+def try_cut_at_each_call(bench):
+    """the power cut after each call, each time in many ways: what was acknowledged is there, and no torn text counts"""
+    count, first = 0, [int(it[1]) for it in life_points(bench, False) if it[2] == "write" and it[3] == "journal.1"]
+    for number in bench.sample(first[1:], 4):
+        scene = bench.scene(3, 1, makes=False)
+        power = Power(scene, bench.draws)
+        runner = Runner(scene, 1)
+        for fault in (f"{number}:kill_after", None, None):
+            live(runner, fault)
+        runner.close()
+        count += see_cuts(bench, power, scene.logged())
+    return f"{count} cuts"
+
+
+def door_one(bench, number):
+    """The door is killed at this call, and another goes through it; a line is performed, and then power is cut."""
+    scene = bench.scene(3, 1, makes=False)
+    power = Power(scene, bench.draws, begins=False)
+    scene.call("door", scene.run, *scene.givens(), scene.jobs, faults=f"{number}:kill_after")
+    power.begin()
+    scene.door()
+    runner = Runner(scene, 1)
+    serve([runner.start()], until=lambda: scene.effects())
+    power.cut([runner], "none")
+    settle_doubts(scene)
+    power.close()
+
+
+def try_door_killed_and_cut(bench):
+    """the door, killed at each call: the folder that it made has its name for certain before a line is performed"""
+    scene = bench.scene(3, 1, makes=False)
+    scene.logs = True
+    scene.door()
+    return f"{each(((bench, int(it[1])) for it in scene.logged()), door_one)} kills"
+
+
+def list_one(bench, number, fault, how):
+    """Worker and runner are killed; what is in doubt is listed; then power is cut. What was listed stays a doubt."""
+    scene = bench.scene(3, 1, makes=False)
+    power = Power(scene, bench.draws, fails="none")
+    runner = Runner(scene, 1)
+    live(runner, f"{number}:{fault}")
+    runner.close()
+    scene.doubts()
+    power.cut((), how)
+    settle_doubts(scene)
+    power.close()
+
+
+def try_listed_and_cut(bench):
+    """killed at each call, or a sync failed; what is in doubt is listed, and then the power cut: what was listed stays one"""
+    calls = [it for it in changes(life_points(bench, False)) if it[3].startswith("journal.")]
+    rows = [(bench, int(it[1]), "kill_after", "none") for it in calls]
+    rows += [(bench, int(it[1]), errno.EIO, "none") for it in calls if it[2] == "sync"]
+    return f"{each(rows, list_one)} cuts"
+
+
+def try_failed_sync_and_cut(bench):
+    """each sync fails and keeps nothing, later ones say that all is well, and the power is cut: no line is performed twice"""
+    count = 0
+    for beside in (False, True):
+        numbers = [int(it[1]) for it in life_points(bench, beside) if it[2] == "sync" and it[3] not in (".", "..", "JOBS")]
+        ways = ("none", "all", "drawn") if bench.is_long else ("none",)
+        count += each(((bench, it, errno.EIO, how, beside) for it in numbers for how in ways), cut_one)
+    return f"{count} syncs"
+
+
+def answer_one(bench, number):
+    """A person's answer fails at this sync; another is taken; then power is cut. With no number: the syncs of an answer."""
+    scene = bench.scene(3, 1, makes=False)
+    power = Power(scene, bench.draws, fails="none")
+    runner = Runner(scene, 1)
+    runner.act = lambda serial, line: runner.seen.update({serial: "doubt"})
+    live(runner)
+    runner.close()
+    scene.answer(1, 1, 1, "not-done")
+    if not number:
+        scene.answer(1, 2, 2, "not-done")
+        calls = scene.logged()
+        return [int(it[1]) for it in calls if it[2:4] == ["sync", "answers"] and it[0] == calls[-1][0]]
+    status, _, _ = scene.call("answer", scene.run, "1.2", "2", "job 2", "not-done", faults=f"{number}:{errno.EIO}")
+    want(status == WRITE, f"an answer that can't be put ends with status {status}")
+    scene.answer(1, 3, 3, "not-done")
+    power.cut((), "none")
+    scene.audit(is_over=False)
+    scene.answer(1, 2, 2, "not-done")
+    settle_doubts(scene)
+    power.close()
+
+
+def try_failed_answers_and_cut(bench):
+    """each sync of a person's answer fails, another is taken, and the power cut: what was taken before and after is there"""
+    return f"{each(((bench, it) for it in answer_one(bench, None)), answer_one)} syncs"
+
+
+def boot_one(bench, number):
+    """Power is cut in a round, and its words lose all but their first write. Worker 2 has the round to itself, and is stopped at
+    this call; worker 1 doesn't get it; worker 2 is killed. Worker 1 may not go on with the old words. With no number: how many
+    calls worker 2 makes until it has the round."""
+    scene = bench.scene(5, 2, makes=False)
+    power = Power(scene, bench.draws)
+    runners = [Runner(scene, 1), Waiting(scene, 2)]
+    runners[0].perform = lambda *given: Runner.perform(runners[0], *given) if len(scene.effects()) < 2 else None
+    serve([runners[0].start()], until=lambda: len(runners[0].lines) > 2)
+    serve([runners[1].start()], until=lambda: runners[1].lines)
+    power.cut(runners, "first")
+    second, first = Runner(scene, 2), Runner(scene, 1)
+    second.was = first.was = lambda serial, line: "running"
+    second.start(f"{number}:stop_after" if number else None)
+    if not number:
+        serve([second])
+        calls = scene.logged()
+        second.close()
+        return next(int(it[1]) for it in calls if it[2:4] == ["lock", "lock.round"])
+    serve([second], until=lambda: state_of(second) == "T")
+    first.start()
+    serve([first], until=lambda: any(it[2:4] == ["lock", "lock.round"] and int(it[7]) < 0 for it in scene.logged()))
+    second.kill()
+    serve([first, second])
+    for it in (first, second):
+        it.close()
+    settle_doubts(scene)
+    said = [it for it in first.lines if it.startswith("perform")]
+    want(first.statuses == [LATER] and not said, f"{first.statuses}, {said}")
+
+
+def try_words_of_another_boot(bench):
+    """words that a cut of power took back are not used, also by who gets them only because another was killed"""
+    boot_one(bench, boot_one(bench, None))
+
+
+def try_order(bench):
+    """before each perform: its intent is on the disk for certain, and so are the names of all files on which it rests"""
+    performs = 0
+    for lines, workers, lives in ((3, 1, 1), (9, 3, 3)):
+        scene = bench.scene(lines, workers, makes=False)
+        power = Power(scene, bench.draws)
+        power.grow(b"one more\n")
+        runners = [Runner(scene, p) for p in range(1, workers + 1)]
+        for number in range(lives):
+            serve([it.start(f"{40 + 30 * number}:kill_after" if number else None) for it in runners])
+        for it in runners:
+            it.close()
+        performs += power.close()
+        finish(scene, range(1, workers + 1))
+    want(performs > 8, f"only {performs} lines were performed")
+    return f"{performs} performs"
+
+
+class Moody(Runner):
+    """A runner that now and then doesn't begin a command and says so, and that may die before or after one."""
+
+    def __init__(self, scene, worker, draws):
+        super().__init__(scene, worker)
+        self.draws, self.dies = draws, False
+
+    def perform(self, serial, line):
+        mood = self.draws.random()
+        if mood < 0.08:
+            return "unbegun"
+        if mood < 0.12:
+            self.dies = True
+            return None
+        reply = super().perform(serial, line)
+        self.dies = mood > 0.92
+        return None if self.dies else reply
+
+
+def storm(bench, seed):
+    """A run with kills, failed calls, deaths of runners, a jobs' file that grows, persons who answer, and cuts of power."""
+    draws = random.Random(seed)
+    scene = bench.scene(draws.randint(1, 4), draws.choice([1, 1, 2, 2, 3]), makes=False)
+    power, count = Power(scene, draws), 0
+    for _ in range(draws.randint(1, 4)):
+        runners = [Moody(scene, p, draws) for p in range(1, scene.workers + 1) if draws.random() < 0.8]
+        for _ in range(draws.randint(1, 3)):
+            living = [it for it in runners if not it.process and not it.dies]
+            for it in living:
+                it.start(drawn_faults(draws))
+            until = len(scene.account) + draws.randint(1, 6)
+            serve([it for it in runners if it.process],
+                  until=lambda: len(scene.account) >= until or any(it.dies for it in runners))
+            for it in runners:
+                if it.dies:
+                    it.close()
+        if draws.random() < 0.2:
+            power.grow(b"job %d more\n" % (100 + count))
+            count += 1
+        between(scene, power, runners, draws)
+    settle_doubts(scene)
+    return power.close()
+
+
+def drawn_faults(draws):
+    mood, number = draws.random(), draws.choice([draws.randint(1, 60), draws.randint(1, 250)])
+    if mood < 0.4:
+        return f"{number}:kill_after"
+    if mood < 0.6:
+        return f"{number}:{errno.EIO}"
+    return f"{number}:{errno.EIO},{number + draws.randint(1, 40)}:kill_after" if mood < 0.7 else None
+
+
+def between(scene, power, runners, draws):
+    """Some of the runners die; a person asks, and perhaps answers; then power is cut, mostly."""
+    for it in runners:
+        if draws.random() < 0.6:
+            it.close()
+    if draws.random() < 0.5:
+        listed, performed = scene.doubts(), [it[2] for it in scene.effects()]
+        for worker, serial, line in listed:
+            if draws.random() < 0.4:
+                scene.answer(worker, serial, line, "done" if line in performed else "not-done")
+    if draws.random() < 0.8:
+        power.cut(runners)
+    for it in runners:
+        it.close()
+
+
+def try_storms(bench):
+    """runs drawn at random, with cuts of power: no line twice, nothing acknowledged gone, no doubt performed later"""
+    return f"{each(((bench, f'{bench.seed}.{k}') for k in range(10000 if bench.is_long else 100)), storm)} storms"
+
+
+PARTS = {"order": [try_order], "storms": [try_storms],
+         "cuts": [try_cut_at_each_call, try_killed_and_cut, try_door_killed_and_cut, try_listed_and_cut, try_failed_sync_and_cut,
+                  try_failed_answers_and_cut, try_words_of_another_boot]}

@@ -1,0 +1,441 @@
+"""What the parts of tools/try_worker share: a run in a folder of its own, runners that start the worker and answer it, and an
+account of all that was performed, listed and acknowledged, which is audited at the end.
+
+A runner here is what a run's partner has to be: it holds runner.P, locks command.P.S before it performs, tries that lock anew
+afterwards, remembers the ends that it saw, and drops what a dead worker said. To perform is to write it in the account.
+"""
+
+import contextlib
+import fcntl
+import os
+import random
+import select
+import signal
+import subprocess
+import sys
+import tempfile
+import time
+
+from worker import folder
+
+OVER, WORDS, REFUSED, LEFT, SENSELESS, MEMORY, WRITE, READ, LATER, ANSWER, DOOR = 0, 64, 65, 69, 70, 71, 73, 74, 75, 76, 77
+KILLED = -signal.SIGKILL
+
+
+class Wrong(Exception):
+    """What is wrong with the program."""
+
+
+def want(so, what):
+    if not so:
+        raise Wrong(what)
+
+
+def each(items, try_one):
+    """Tries each of these, the first part of each a bench or a scene, as long as there is time; how many. What is wrong with some
+    is told together."""
+    wrongs, count = [], 0
+    for it in items:
+        bench = it[0] if isinstance(it[0], Bench) else it[0].bench
+        if not bench.has_time():
+            break
+        count += 1
+        try:
+            try_one(*it)
+        except Wrong as wrong:
+            wrongs.append(f"{' '.join(str(part)[-60:] for part in it if isinstance(part, (str, int, bytes)))}: {wrong}")
+            if len(wrongs) == 20:
+                break
+        bench.close()
+    if wrongs:
+        raise Wrong(f"{len(wrongs)} of {count} tried: " + "; ".join(wrongs[:4]))
+    return count
+
+
+class Bench:
+    """What is tried: a program, in a folder, with the library of faults."""
+
+    def __init__(self, program, room, is_long, seed, mistake=None):
+        self.program, self.room, self.is_long, self.mistake = os.path.abspath(program), os.path.realpath(room), is_long, mistake
+        self.draws, self.seed, self.scenes, self.skipped, self.processes = random.Random(seed), seed, 0, [], 0
+        self.library, self.runners, self.watches, self.end = f"{self.room}/faults.so", [], True, None
+
+    def command(self):
+        return [sys.executable, "-I", "-S", self.program] if self.program.endswith(".py") else [self.program]
+
+    def close(self):
+        """Ends what a test has left."""
+        for it in self.runners:
+            it.close()
+        self.runners.clear()
+
+    def has_time(self):
+        return self.end is None or time.monotonic() < self.end
+
+    def sample(self, whole, count):
+        """All of these in the long form, else so many of them, spread."""
+        whole = list(whole)
+        if self.is_long or len(whole) <= count:
+            return whole
+        return [whole[k * len(whole) // count] for k in range(count)]
+
+    def scene(self, lines=3, workers=1, **more):
+        """A new run, in a folder of its own."""
+        self.scenes += 1
+        return Scene(self, tempfile.mkdtemp(dir=self.room), lines, workers, **more)
+
+
+class Scene:
+    """One run: its folder, its jobs, and the account of what happened."""
+
+    def __init__(self, bench, room, lines, workers, beta=None, makes=True):
+        """Makes the run's folder itself, or leaves that to the door."""
+        self.bench, self.room, self.workers, self.beta = bench, room, workers, beta
+        self.run, self.jobs, self.boot, self.log = f"{room}/run", f"{room}/jobs", f"{room}/boot", f"{room}/log"
+        self.account, self.acknowledged, self.answers = [], {}, {}
+        self.boots, self.logs, self.keeps, self.is_still = 0, False, False, False
+        self.write_jobs([f"job {k}" for k in range(1, lines + 1)])
+        self.start_machine()
+        if makes:
+            os.mkdir(self.run, 0o700)
+
+    def door(self):
+        status, _, err = self.call("door", self.run, *self.givens(), self.jobs)
+        want(status == OVER, f"door: status {status}, {err}")
+
+    def write_jobs(self, texts, end="\n"):
+        with open(self.jobs, "w") as file:
+            file.write("\n".join(texts) + (end if texts else ""))
+
+    def start_machine(self):
+        """A boot id that was never there before."""
+        self.boots += 1
+        with open(self.boot, "w") as file:
+            file.write(f"{self.boots:08x}-1111-4222-8333-{self.bench.scenes:012x}\n")
+
+    def givens(self):
+        return ["--workers", str(self.workers)] + (["--beta", str(self.beta)] if self.beta else [])
+
+    def environment(self, faults=None):
+        """What a process of this run is given: the library of faults, and where it writes the calls down."""
+        named = {"PATH": os.environ["PATH"], "LD_PRELOAD": self.bench.library, "AMO_RUN": self.run, "AMO_JOBS": self.jobs}
+        extra = {"AMO_FAULTS": faults, "AMO_LOG": self.log if self.logs else None, "AMO_BYTES": "yes" if self.keeps else None,
+                 "AMO_MISTAKE": self.bench.mistake}
+        return {**named, **{name: value for name, value in extra.items() if value}}
+
+    def call(self, command, *words, faults=None):
+        """A command that ends by itself: its status and what it wrote on both streams."""
+        self.bench.processes += 1
+        ran = subprocess.run([*self.bench.command(), command, *words, "--boot-id", self.boot], stdin=subprocess.DEVNULL,
+                             capture_output=True, timeout=120, env=self.environment(faults))
+        return ran.returncode, ran.stdout.decode("utf-8", "replace"), ran.stderr.decode("utf-8", "replace")
+
+    def logged(self):
+        """The calls in the log, each a list of its words."""
+        return [line.split(" ") for line in folder.read(self.log).decode().splitlines()]
+
+    @contextlib.contextmanager
+    def still(self):
+        """Keeps all processes from calls that are logged: who is killed meanwhile leaves no call half written down."""
+        if not self.logs or self.is_still:
+            yield
+            return
+        with open(self.log, "ab") as log:
+            fcntl.flock(log, fcntl.LOCK_EX)
+            self.is_still = True
+            try:
+                yield
+            finally:
+                self.is_still = False
+
+    def look(self):
+        return folder.Folder(self.run)
+
+    def performed(self, worker, serial, line):
+        """Notes that this line was performed, and stops where it was before."""
+        before = [it for it in self.effects() if it[2] == line]
+        self.account.append(("performed", worker, serial, line))
+        want(not before, f"performed twice: line {line} by {worker}.{serial}, and before by {before[:1]}")
+
+    def effects(self):
+        return [it[1:] for it in self.account if it[0] == "performed"]
+
+    def doubts(self):
+        """Asks for the doubts, and notes that they were listed."""
+        status, out, err = self.call("doubts", self.run)
+        want(status == OVER, f"doubts: status {status}, {err}")
+        found = []
+        for line in out.splitlines():
+            _, name, number = line.split(" ")[:3]
+            found.append((*map(int, name.split(".")), int(number)))
+        self.account += [("listed", *it) for it in found]
+        return found
+
+    def answer(self, worker, serial, line, verdict):
+        """A person's answer, which has to be taken."""
+        text = self.look().lines[line - 1].decode()
+        status, _, err = self.call("answer", self.run, f"{worker}.{serial}", str(line), text, verdict)
+        want(status == OVER, f"answer {worker}.{serial} {verdict}: status {status}, {err}")
+        self.account.append(("reopened" if verdict == "not-done" else "found", worker, serial, line))
+        self.answers[worker, serial] = verdict
+
+    def again(self):
+        """What is untouched is opened again, once."""
+        found = [it for it in self.look().intents.values() if it.answer == "untouched" and not it.found]
+        status, _, err = self.call("again", self.run)
+        want(status == OVER, f"again: status {status}, {err}")
+        self.account += [("reopened", it.worker, it.serial, it.line) for it in found]
+
+    def audit(self, is_over=True):
+        """What no run may show; and, where it is over, that each line was performed, or is told."""
+        performed, listed, said = {}, {}, {}
+        for kind, worker, serial, line in self.account:
+            name = f"line {line} by {worker}.{serial}"
+            if kind == "said":
+                want(line not in said, f"said twice: {name}, and before by {said.get(line)}")
+                want(line not in listed, f"said after it was listed as a doubt: {name}, listed as {listed.get(line)}")
+                said[line] = f"{worker}.{serial}"
+            elif kind == "performed":
+                want(line not in performed, f"performed twice: {name}, and before by {performed.get(line)}")
+                want(line not in listed, f"performed after it was listed as a doubt: {name}, listed as {listed.get(line)}")
+                performed[line] = f"{worker}.{serial}"
+            elif kind == "listed":
+                listed[line] = f"{worker}.{serial}"
+            elif kind == "reopened":
+                listed.pop(line, None)
+                said.pop(line, None)
+        try:
+            found = self.look()
+        except folder.Refused as refused:
+            raise Wrong(f"a journal is refused: {refused.args[0]}, text {refused.args[1]}") from refused
+        self.audit_kept(found, performed)
+        self.audit_words()
+        if is_over:
+            kinds = found.kinds(found.final())
+            for line in kinds:
+                told = kinds[line] in ("doubt", "running", "untouched") or kinds[line] in ("done", "failed")
+                want(told, f"line {line} is {kinds[line]} at the end")
+            self.audit_ends(found, kinds, performed)
+
+    def audit_kept(self, found, performed):
+        """What was acknowledged stands in the journals, and what was performed is closed by its own intent."""
+        for (worker, serial), (line, answer) in self.acknowledged.items():
+            it, gone = found.intents.get((worker, serial)), "an acknowledged line is gone:"
+            want(it and it.line == line, f"{gone} intent {worker}.{serial} of line {line}")
+            want(answer is None or it.answer == answer, f"{gone} {answer} {worker}.{serial}, there is {it.answer}")
+        for (worker, serial), verdict in self.answers.items():
+            want(found.intents[worker, serial].found == verdict, f"a person's answer is gone: {worker}.{serial} {verdict}")
+        for line, name in performed.items():
+            closing = [it.name() for it in found.of_line(line)] if line <= len(found.lines) else []
+            want(name in closing, f"line {line}, performed by {name}, is closed by {closing}")
+
+    def audit_words(self):
+        """In the words of a round of this boot each job is filed once, and each worker has claimed what it filed, and at most one
+        more."""
+        taken = []
+        for claims, announced, row in folder.rows_of(self.run, folder.read(self.boot).decode().strip()):
+            want(claims in (len(row), len(row) + 1), f"{claims} claims, and {len(row)} jobs are filed")
+            taken += row + [announced] * (claims - len(row))
+        want(len(set(taken)) == len(taken) and 0 not in taken, f"a job was claimed twice: {taken}")
+
+    def audit_ends(self, found, kinds, performed):
+        for line, kind in kinds.items():
+            by_person = any(it.found == "done" for it in found.of_line(line))
+            is_true = kind not in ("done", "failed") or line in performed or by_person
+            want(is_true, f"line {line} counts as {kind}, and nobody performed it")
+
+
+class Runner:
+    """The runner of a worker. What it does at a line is `perform` and `was`, which a test may replace. A stray one has no lock:
+    it starts a worker though another runner may have that number."""
+
+    def __init__(self, scene, worker, waits=5, is_stray=False):
+        self.scene, self.worker, self.process, self.lock = scene, worker, None, None
+        self.seen, self.statuses, self.said = {}, [], ""
+        self.rest, self.lines, self.waiting, self.drops, self.leaves = b"", [], None, False, False
+        scene.bench.runners.append(self)
+        if not is_stray:
+            self.lock = self.taken(f"runner.{worker}", waits)
+            want(self.lock, f"runner.{worker} is held")
+
+    def taken(self, name, waits=0):
+        """The lock on a file of the run, as an open file; None where it can't be got."""
+        file, end = open(f"{self.scene.run}/{name}", "ab"), time.monotonic() + waits
+        while True:
+            try:
+                fcntl.flock(file, fcntl.LOCK_EX | fcntl.LOCK_NB)
+                return file
+            except BlockingIOError:
+                if time.monotonic() > end:
+                    file.close()
+                    return None
+                time.sleep(0.005)
+
+    def start(self, faults=None):
+        """Starts its worker; what the one before had said and nobody has read is dropped."""
+        scene = self.scene
+        scene.bench.processes += 1
+        words = [*scene.bench.command(), "work", scene.run, str(self.worker), *scene.givens(), scene.jobs]
+        pipes = dict.fromkeys(("stdin", "stdout", "stderr"), subprocess.PIPE)
+        self.process = subprocess.Popen([*words, "--boot-id", scene.boot], **pipes, bufsize=0, env=scene.environment(faults))
+        self.rest, self.waiting, self.lines = b"", None, []
+        return self
+
+    def read(self):
+        """Reads what is there, and does what the whole lines say. False at the end, when the status is known."""
+        part = os.read(self.process.stdout.fileno(), 1 << 16)
+        *lines, self.rest = (self.rest + part).split(b"\n")
+        for line in lines:
+            kind, serial, number, _ = line.split(b" ", 3)
+            if kind == b"perform":
+                self.scene.account.append(("said", self.worker, int(serial), int(number)))
+            if self.drops and self.is_dead():
+                break
+            self.take(line.decode())
+        if part:
+            return True
+        self.end()
+        return False
+
+    def is_dead(self):
+        """Whether it has died, or does in a moment."""
+        end = time.monotonic() + 0.05
+        while self.process.poll() is None and time.monotonic() < end:
+            time.sleep(0.002)
+        return self.process.poll() is not None
+
+    def end(self):
+        status = self.process.wait()
+        self.said = self.process.stderr.read().decode("utf-8", "replace")
+        for stream in (self.process.stdin, self.process.stdout, self.process.stderr):
+            stream.close()
+        if status in (OVER, LATER) or status == LEFT and self.leaves:
+            self.acknowledge()
+        self.statuses.append(status)
+        self.process = None
+
+    def acknowledge(self):
+        """What it went on after is noted."""
+        if self.waiting:
+            serial, line, answer = self.waiting
+            self.scene.acknowledged[self.worker, serial] = line, None if answer == "running" else answer
+            self.waiting = None
+
+    def take(self, line):
+        kind, serial, number, text = line.split(" ", 3)
+        want(kind in ("perform", "was"), f"it says: {line}")
+        serial, number = int(serial), int(number)
+        known = folder.read(self.scene.run + "/jobs").decode().split("\n")
+        want(number < len(known) and known[number - 1] == text, f"it says another text: {line}")
+        self.lines.append(line)
+        self.acknowledge()
+        if kind == "perform":
+            self.scene.acknowledged[self.worker, serial] = number, None
+        reply = getattr(self, kind)(serial, number)
+        if reply is None:
+            return
+        answer = reply.split(" ")[0]
+        self.waiting = serial, number, answer
+        if answer == "unbegun":
+            self.scene.account.append(("reopened", self.worker, serial, number))
+        try:
+            words = reply.split(" ")
+            words[1:1] = [str(serial)]
+            self.process.stdin.write((" ".join(words) + (" leave" if self.leaves else " go") + "\n").encode())
+        except BrokenPipeError:
+            self.waiting = None
+
+    def perform(self, serial, line):
+        """Performs the line, with the lock of its command, and says what came of it."""
+        held = self.taken(f"command.{self.worker}.{serial}")
+        if not held:
+            return "running"
+        self.act(serial, line)
+        held.close()
+        return self.after(serial)
+
+    def act(self, serial, line):
+        self.seen[serial] = "done 0"
+        self.scene.performed(self.worker, serial, line)
+
+    def after(self, serial):
+        """What it says of a command that has ended: it is over where its lock can be got anew."""
+        again = self.taken(f"command.{self.worker}.{serial}")
+        if not again:
+            return "running"
+        again.close()
+        os.unlink(f"{self.scene.run}/command.{self.worker}.{serial}")
+        return self.seen.get(serial, "doubt")
+
+    def was(self, serial, line):
+        """What it knows of an intent of an earlier worker; that it knows nothing is final once the command's lock can be got."""
+        return self.after(serial)
+
+    def kill(self):
+        with self.scene.still():
+            if self.process:
+                self.process.kill()
+                self.process.wait()
+
+    def close(self):
+        """Ends, and kills its worker, if there is one."""
+        if self.process:
+            self.kill()
+            for stream in (self.process.stdin, self.process.stdout, self.process.stderr):
+                stream.close()
+            self.process = None
+        if self.lock:
+            self.lock.close()
+
+
+def serve(runners, seconds=30, until=None):
+    """Reads what the workers of these runners say, until each has ended, or something is so."""
+    end = time.monotonic() + seconds
+    while not (until and until()):
+        living = {it.process.stdout.fileno(): it for it in runners if it.process}
+        if not living:
+            return
+        want(time.monotonic() < end, f"it doesn't end: {[(it.worker, it.lines[-1:]) for it in living.values()]}")
+        for file in select.select(list(living), [], [], 0.004 if until else 0.05)[0]:
+            living[file].read()
+
+
+def live(runner, faults=None):
+    """One life of a worker, to its end: its status."""
+    serve([runner.start(faults)])
+    return runner.statuses[-1]
+
+
+def see_out(runners, seconds=120, draws=None):
+    """Starts the workers again until each says that all is done, or that it was told to leave."""
+    end, ended, due = time.monotonic() + seconds, set(), {}
+    while len(ended) < len(runners):
+        want(time.monotonic() < end, f"it isn't over: {[(it.worker, it.statuses[-3:], it.said) for it in runners]}")
+        now = time.monotonic()
+        for it in runners:
+            if not it.process and it not in ended and due.get(it, 0) <= now:
+                it.start()
+        living = [it for it in runners if it.process]
+        if not living:
+            time.sleep(0.005)
+        serve(living, until=lambda: any(not it.process for it in living) or time.monotonic() > now + 0.2)
+        for it in living:
+            if it.process:
+                continue
+            status = it.statuses[-1]
+            want(status in (OVER, LEFT, LATER, KILLED), f"worker {it.worker} ends with status {status}: {it.said}")
+            if status in (OVER, LEFT):
+                ended.add(it)
+            due[it] = time.monotonic() + (draws.uniform(0, 0.1) if draws else 0.01 if len(runners) > 1 else 0)
+
+
+def finish(scene, workers=(1,), is_over=True, draws=None):
+    """New runners for these workers, which see the run out; then the audit."""
+    runners = [Runner(scene, p) for p in workers]
+    try:
+        see_out(runners, draws=draws)
+    finally:
+        for it in runners:
+            it.close()
+    scene.audit(is_over)
+    return runners

@@ -1,0 +1,739 @@
+#!/usr/bin/env python3
+"""A worker in Python with the words, files, lines and statuses of amo_worker, to try the tests of that program on.
+
+  stand_in.py door RUN --workers M [--beta B] JOBS        stand_in.py work RUN P --workers M [--beta B] JOBS
+  stand_in.py status RUN [--json] [--lines KIND]          stand_in.py doubts RUN [--json]
+  stand_in.py answer RUN P.S LINE TEXT done|not-done      stand_in.py answer RUN --from FILE      stand_in.py again RUN
+
+It is plain and slow, and nobody should work with it. AMO_MISTAKE names one of MISTAKES, which it then makes: the tests have to
+show each of them.
+"""
+
+import fcntl
+import os
+import sys
+import time
+
+MISTAKES = ("intent_after_the_act pending_is_open guard_is_removed words_of_another_boot cut_line_is_kept last_journal_wins"
+            " opens_without_settling folder_synced_by_the_maker_alone lists_without_settling").split()
+MISTAKE = os.environ.get("AMO_MISTAKE")
+LOCAL = "ext2 ext3 ext4 xfs btrfs f2fs zfs overlay".split()
+KINDS = "done failed doubt running untouched open".split()
+MOST_JOBS, MOST_WORKERS, MOST_BYTES, VERSION = 4096, 16, 100000, b"amo-run 1"
+LATER = 75
+
+
+class End(Exception):
+    """How it ends: a status, and a line for standard error."""
+
+
+def called(status, path, call, *given):
+    """A call on this file; where it fails, the end with this status."""
+    while True:
+        try:
+            return call(*given)
+        except InterruptedError:
+            continue
+        except OSError as error:
+            if status is None:
+                raise
+            raise End(status, f"{path}: {error.strerror}") from error
+
+
+def opened(path, flags, status):
+    return called(status, path, os.open, path, flags | os.O_CLOEXEC, 0o600)
+
+
+def whole(file, path):
+    """All bytes of an open file."""
+    parts, place = [], 0
+    while part := called(74, path, os.pread, file, 1 << 16, place):
+        parts.append(part)
+        place += len(part)
+    return b"".join(parts)
+
+
+def content(path):
+    """All bytes of a file, or None where there is none; else it has to be read."""
+    try:
+        file = opened(path, os.O_RDONLY, None)
+    except FileNotFoundError:
+        return None
+    except OSError as error:
+        raise End(74, f"{path}: {error.strerror}") from error
+    try:
+        return whole(file, path)
+    finally:
+        os.close(file)
+
+
+def put_at(file, path, data, place):
+    while data:
+        wrote = called(73, path, os.pwrite, file, data, place)
+        data, place = data[wrote:], place + wrote
+
+
+def sync(file, path):
+    called(73, path, os.fsync, file)
+
+
+def sync_folder(path):
+    folder = opened(path, os.O_RDONLY | os.O_DIRECTORY, 73)
+    sync(folder, path)
+    os.close(folder)
+
+
+def has_lock(file, path, how):
+    """Whether it got this lock, and the file is still the one of that name."""
+    try:
+        called(None, path, fcntl.flock, file, how | fcntl.LOCK_NB)
+    except BlockingIOError:
+        return False
+    except OSError as error:
+        raise End(73, f"{path}: {error.strerror}") from error
+    if how == fcntl.LOCK_UN or MISTAKE == "guard_is_removed" and "guard." in path:
+        return True
+    found, held = called(73, path, os.stat, path), os.fstat(file)
+    return (found.st_dev, found.st_ino) == (held.st_dev, held.st_ino)
+
+
+def number(word, most=2**64 - 1):
+    """The number that a word says, or None."""
+    is_one = word.isdigit() and word.isascii() and (word[:1] != b"0" or word == b"0")
+    return int(word) if is_one and len(word) < 21 and int(word) <= most else None
+
+
+def numbers(words, count):
+    found = [number(it) for it in words]
+    return found if len(found) == count and None not in found else None
+
+
+def texts_in(data):
+    """The texts of the blocks up to the first that is closed or cut short, the last gate, and where the blocks end."""
+    texts, gate, place = [], None, 0
+    if MISTAKE == "cut_line_is_kept":
+        texts = [it[1:] for it in data.split(b"\n") if len(it) > 1]
+        return texts, None, len(data) if data.endswith(b"\n") else max(len(data) - 1, 0)
+    while data[place:place + 1] == b"+" and (end := data.find(b"\n", place)) >= 0:
+        texts.append(data[place + 1:end])
+        gate, place = place, end + 1
+    return texts, gate, place
+
+
+class Journal:
+    """A file of texts behind gates, open to be written."""
+
+    def __init__(self, run, name):
+        self.path = f"{run}/{name}"
+        made = not os.path.exists(self.path)
+        self.file = opened(self.path, os.O_RDWR | os.O_CREAT, 73)
+        if made or MISTAKE != "folder_synced_by_the_maker_alone":
+            sync_folder(run)
+
+    def lock(self):
+        return has_lock(self.file, self.path, fcntl.LOCK_EX)
+
+    def settle(self):
+        """Has the disk keep what is read, and a closed gate behind it."""
+        texts, gate, self.end = texts_in(whole(self.file, self.path))
+        if MISTAKE == "opens_without_settling":
+            return texts
+        if texts and gate is not None:
+            put_at(self.file, self.path, b"+", gate)
+            sync(self.file, self.path)
+        called(73, self.path, os.ftruncate, self.file, self.end)
+        sync(self.file, self.path)
+        put_at(self.file, self.path, b"-", self.end)
+        sync(self.file, self.path)
+        return texts
+
+    def put(self, text):
+        put_at(self.file, self.path, text + b"\n-", self.end + 1)
+        sync(self.file, self.path)
+        put_at(self.file, self.path, b"+", self.end)
+        sync(self.file, self.path)
+        self.end += len(text) + 2
+
+
+class Intent:
+    """An intent, its answer as words, and what a person found out."""
+
+    def __init__(self, worker, serial, line, time):
+        self.worker, self.serial, self.line, self.time = worker, serial, line, time
+        self.answer, self.found, self.is_final = None, None, False
+
+    def name(self):
+        return f"{self.worker}.{self.serial}"
+
+    def closes(self):
+        if MISTAKE == "pending_is_open" and self.answer is None:
+            return False
+        return not (self.answer and self.answer[0] == b"unbegun" or self.found == b"not-done")
+
+    def state(self):
+        """Where it stands, of KINDS; only for one that closes its line."""
+        if self.found == b"done":
+            return "done"
+        if self.answer is None:
+            return "doubt" if self.is_final else "running"
+        if self.answer[0] == b"done":
+            return "done" if self.answer[1] == b"0" else "failed"
+        return self.answer[0].decode()
+
+
+def journal_of(worker, name, texts, count):
+    """The intents that texts say; each has to be an entry that may stand there."""
+    intents = []
+    for place, text in enumerate(texts, 1):
+        kind, *rest = text.split(b" ")
+        wanted = {b"intent": 3, b"done": 3, b"doubt": 1, b"unbegun": 1, b"untouched": 2}.get(kind)
+        said = numbers(rest, wanted) if wanted else None
+        is_next = said and kind == b"intent" and said[0] == len(intents) + 1 and 1 <= said[1] <= count
+        is_answer = said and kind != b"intent" and 1 <= said[0] <= len(intents) and intents[said[0] - 1].answer is None
+        if is_answer and kind in (b"done", b"untouched"):
+            is_answer = said[1] <= 255
+        if is_next:
+            intents.append(Intent(worker, *said))
+        elif is_answer:
+            intents[said[0] - 1].answer = [kind, *rest[1:]]
+        else:
+            raise End(65, f"{name}: line {place}: no entry that may stand there")
+    return intents
+
+
+class Ledger:
+    """What answers, journals and jobs say, read in this order."""
+
+    def __init__(self, run):
+        found = texts_in(content(f"{run}/answers") or b"")[0]
+        journals = [texts_in(content(f"{run}/journal.{p}") or b"")[0] for p in range(1, MOST_WORKERS + 1)]
+        self.jobs = content(f"{run}/jobs")
+        self.lines = (self.jobs or b"").split(b"\n")[:-1]
+        self.journals = [journal_of(p, f"{run}/journal.{p}", it, len(self.lines)) for p, it in enumerate(journals, 1)]
+        self.closing = {}
+        for place, text in enumerate(found, 1):
+            kind, *rest = text.split(b" ")
+            said = numbers(rest, 3)
+            it = said and kind in (b"done", b"not-done") and self.intent(*said[:2])
+            if not it or it.found:
+                raise End(65, f"{run}/answers: line {place}: no entry that may stand there")
+            it.found = kind
+        for it in (it for journal in self.journals for it in journal):
+            if it.closes():
+                self.closing.setdefault(it.line, []).append(it)
+            elif MISTAKE == "last_journal_wins":
+                self.closing.pop(it.line, None)
+
+    def intent(self, worker, serial):
+        there = 1 <= worker <= MOST_WORKERS and 1 <= serial <= len(self.journals[worker - 1])
+        return self.journals[worker - 1][serial - 1] if there else None
+
+    def kinds(self):
+        """Of each line its kind, and the intent by which it is closed."""
+        for line in range(1, len(self.lines) + 1):
+            closing = sorted(self.closing.get(line, []), key=lambda it: it.state() != "running")
+            yield (line, closing[0].state(), closing[0]) if closing else (line, "open", None)
+
+    def open_lines(self):
+        return [line for line in range(1, len(self.lines) + 1) if line not in self.closing]
+
+
+def final_ledger(run):
+    """The ledger with the locks of all pending intents that can be got, and those locks; such an intent is final."""
+    held, final = [], set()
+    for journal in Ledger(run).journals:
+        if any(it.answer is None for it in journal):
+            file = Journal(run, f"journal.{journal[0].worker}")
+            runner = opened(f"{run}/runner.{journal[0].worker}", os.O_RDWR | os.O_CREAT, 73)
+            held += [file, runner]
+            if file.lock() and has_lock(runner, f"{run}/runner.{journal[0].worker}", fcntl.LOCK_EX):
+                if MISTAKE != "lists_without_settling":
+                    file.settle()
+                final |= {(journal[0].worker, it.serial) for it in journal if it.answer is None and not is_held(run, it, held)}
+    ledger = Ledger(run)
+    for journal in ledger.journals:
+        for it in journal:
+            it.is_final = (it.worker, it.serial) in final
+    return ledger, held
+
+
+def is_held(run, intent, held):
+    """Whether something of this intent's command is left; else its lock is held from now on."""
+    path = f"{run}/command.{intent.name()}"
+    try:
+        file = opened(path, os.O_RDWR, None)
+    except FileNotFoundError:
+        return False
+    except OSError as error:
+        raise End(73, f"{path}: {error.strerror}") from error
+    held.append(file)
+    return not has_lock(file, path, fcntl.LOCK_EX)
+
+
+def jobs_of(jobs, known, is_first):
+    """The jobs' file, without a last line that has no end, and whether there is one; in the first round that is refused."""
+    data = content(jobs)
+    if data is None:
+        raise End(74, f"{jobs}: there is no such file")
+    file = opened(jobs, os.O_RDONLY, 74)
+    sync(file, jobs)
+    os.close(file)
+    if not data.startswith(known or b""):
+        line = next(k for k, (a, b) in enumerate(zip((known + b"\n").split(b"\n"), (data + b"\n").split(b"\n")), 1) if a != b)
+        raise End(65, f"{jobs}: line {line}: it was another one")
+    lines, seen = data.split(b"\n"), set()
+    last = lines.pop()
+    for place, line in enumerate(lines, 1):
+        why = ("it is empty" if not line else "a NUL byte" if b"\0" in line else "a carriage return" if b"\r" in line else
+               "it is longer than 100000 bytes" if len(line) > MOST_BYTES else "it stands there twice" if line in seen else None)
+        try:
+            line.decode()
+        except UnicodeDecodeError:
+            why = "it is no UTF-8"
+        if why:
+            raise End(65, f"{jobs}: line {place}: {why}")
+        seen.add(line)
+    if last and is_first:
+        raise End(65, f"{jobs}: line {len(lines) + 1}: it has no end")
+    return data[:len(data) - len(last)], bool(last)
+
+
+class Record:
+    """What the record of a round says."""
+
+    def __init__(self, path):
+        data = content(path)
+        texts = data.split(b"\n") if data else []
+        if texts and texts[0].startswith(b"amo-run ") and texts[0] != VERSION:
+            raise End(77, f"{path}: a run of another version")
+        labels = [it.split(b" ") for it in texts[:5]]
+        names = [b"amo-run", b"round", b"boot", b"givens", b"workers"]
+        fits = [it[0] for it in labels] == names and texts[-1] == b""
+        said = fits and numbers(labels[1][1:] + labels[3][1:] + labels[4][1:], 6)
+        self.lines = numbers(texts[5:-1], len(texts[5:-1])) if said else None
+        if data is not None and (self.lines is None or said[1] != len(self.lines) or not 1 <= said[2] <= said[4] <= MOST_WORKERS):
+            raise End(65, f"{path}: line 1: no record of a round")
+        self.round, self.boot = (said[0], texts[2][5:]) if said else (0, None)
+        self.jobs, self.shared, self.beta, self.workers, self.first = said[1:] if said else (0, 0, 0, 0, 0)
+
+    def head(self):
+        """The front of the words of this round."""
+        text = b"amo-words 1\nround %d\nboot %s\ngivens %d %d %d\n" % (self.round, self.boot, self.jobs, self.shared, self.beta)
+        return text.ljust(511) + b"\n"
+
+
+def make_whole(run, name, data, is_synced=True):
+    path = f"{run}/{name}.new"
+    file = opened(path, os.O_RDWR | os.O_CREAT | os.O_TRUNC, 73)
+    put_at(file, path, data, 0)
+    if is_synced:
+        sync(file, path)
+    os.close(file)
+    called(73, path, os.rename, path, f"{run}/{name}")
+    if is_synced:
+        sync_folder(run)
+
+
+def begin_round(it):
+    """Under the exclusive lock of rounds: record and words of the lines that are open. Ends where none is."""
+    ledger = Ledger(it.run)
+    record = Record(f"{it.run}/record")
+    data, is_begun = jobs_of(it.jobs, ledger.jobs, ledger.jobs is None)
+    if data != ledger.jobs:
+        make_whole(it.run, "jobs", data)
+        ledger.lines = data.split(b"\n")[:-1]
+    lines = ledger.open_lines()[:MOST_JOBS]
+    if not lines and is_begun:
+        jobs_of(it.jobs, ledger.jobs, True)
+    if not lines:
+        raise End(0, counts(ledger))
+    n = len(lines)
+    m = min(it.workers, n // 4 + 1)
+    beta = max(it.beta, m) if m > 1 and n >= 2 * (it.beta + m - 2) else m
+    text = b"%s\nround %d\nboot %s\ngivens %d %d %d\n" % (VERSION, record.round + 1, it.boot, n, m, beta)
+    text += b"workers %d %d\n" % (it.workers, it.worker)
+    make_whole(it.run, "record", text + b"".join(b"%d\n" % line for line in lines))
+    head = Record(f"{it.run}/record").head()
+    make_whole(it.run, "words", head + bytes(8 * (m * (n + 3) + 1)), is_synced=False)
+
+
+class Words:
+    """The words of a round, of one of its workers."""
+
+    def __init__(self, run, record, seat):
+        self.path, self.n, self.m, self.seat = f"{run}/words", record.jobs, record.shared, seat
+        self.file = opened(self.path, os.O_RDWR, 74)
+
+    def load(self, word, most):
+        data = b""
+        while len(data) < 8 and (part := called(74, self.path, os.pread, self.file, 8 - len(data), 512 + 8 * word + len(data))):
+            data += part
+        value = int.from_bytes(data, "little")
+        if len(data) < 8 or value > most:
+            raise End(70, f"{self.path}: word {word}: no worker leaves this")
+        return value
+
+    def store(self, word, value):
+        put_at(self.file, self.path, value.to_bytes(8, "little"), 512 + 8 * word)
+
+    def entry(self, p, k):
+        return 2 * self.m + (p - 1) * (self.n + 1) + k
+
+    def row(self, p, k):
+        return self.load(self.entry(p, k), self.n)
+
+    def announced(self, p):
+        return self.load(p, self.n)
+
+    def come_back(self):
+        """The jobs of the own row; one that was claimed and isn't filed is filed."""
+        row = []
+        while len(row) < self.n and (job := self.row(self.seat, len(row) + 1)):
+            row.append(job)
+        claims, job = self.load(self.m + self.seat, self.n), self.announced(self.seat)
+        if claims not in (len(row), len(row) + 1) or len(set(row)) < len(row) or claims > len(row) and (not job or job in row):
+            raise End(70, f"{self.path}: word {self.m + self.seat}: no worker leaves this")
+        if claims > len(row):
+            row.append(job)
+            self.store(self.entry(self.seat, len(row)), job)
+        return row
+
+
+def work_in(words, beta, perform):
+    """Works until too few jobs are open, or it is told to leave; whether it was."""
+    n, m, p = words.n, words.m, words.seat
+    row = words.come_back()
+    known, tried, others = set(row), set(), [q for q in range(1, m + 1) if q != p]
+    front = dict.fromkeys(others, 0)
+    while True:
+        jobs = [j for j in range(1, n + 1) if j not in known and j not in tried]
+        if len(jobs) < beta:
+            return False
+        spare = n - len(known) - (m - 1)
+        job, tried = jobs[(p - 1) * spare // m if spare >= m else p - 1], set()
+        words.store(p, job)
+        tried |= {words.announced(q) for q in others} - {0}
+        for q in others:
+            while found := words.row(q, front[q] + 1):
+                known.add(found)
+                front[q] += 1
+        if job in known or job in tried:
+            continue
+        words.store(m + p, len(row) + 1)
+        leaves = perform(job)
+        row.append(job)
+        known.add(job)
+        words.store(words.entry(p, len(row)), job)
+        if leaves:
+            words.store(p, 0)
+            return True
+
+
+class Partner:
+    """Who performs: lines to standard output, and from standard input."""
+
+    def __init__(self):
+        self.kept = b""
+
+    def ask(self, kind, serial, line, text):
+        """What became of it, as an answer of the journal or None, and whether to leave."""
+        data = b"%s %d %d %s\n" % (kind, serial, line, text)
+        while data:
+            data = data[called(69, "standard output", os.write, 1, data):]
+        while b"\n" not in self.kept:
+            part = called(69, "standard input", os.read, 0, 4096)
+            if not part:
+                raise End(69, "the partner has ended")
+            self.kept += part
+        said, _, self.kept = self.kept.partition(b"\n")
+        words = said.split(b" ")
+        wanted = {b"done": 4, b"doubt": 3, b"unbegun": 3, b"untouched": 4, b"running": 3}.get(words[0])
+        fits = wanted == len(words) and number(words[1]) == serial and words[-1] in (b"go", b"leave")
+        if not fits or wanted == 4 and number(words[2], 255) is None:
+            raise End(76, f"no answer: {said.decode(errors='replace')}")
+        if words[0] == b"done":
+            words.insert(3, b"%d" % time.time())
+        return None if words[0] == b"running" else b" ".join(words[:-1]), words[-1] == b"leave"
+
+
+def guard(run, worker):
+    """The journal of this worker, once nobody else has its number."""
+    if MISTAKE == "guard_is_removed":
+        file = opened(f"{run}/guard.{worker}", os.O_RDWR | os.O_CREAT, 73)
+        if not has_lock(file, f"{run}/guard.{worker}", fcntl.LOCK_EX):
+            raise End(LATER, f"somebody else is worker {worker}")
+        return Journal(run, f"journal.{worker}")
+    journal = Journal(run, f"journal.{worker}")
+    if not journal.lock():
+        raise End(LATER, f"somebody else is worker {worker}")
+    return journal
+
+
+def share_round(it):
+    """Begins a round if nobody is at work; the record of the round, under the shared lock."""
+    path = f"{it.run}/lock.round"
+    made = not os.path.exists(path)
+    file = opened(path, os.O_RDWR | os.O_CREAT, 73)
+    if made or MISTAKE != "folder_synced_by_the_maker_alone":
+        sync_folder(it.run)
+    if has_lock(file, path, fcntl.LOCK_EX):
+        begin_round(it)
+        has_lock(file, path, fcntl.LOCK_UN)
+    for _ in range(100):
+        if has_lock(file, path, fcntl.LOCK_SH):
+            break
+        time.sleep(0.02)
+    else:
+        raise End(LATER, "somebody begins a round")
+    record = Record(f"{it.run}/record")
+    words = content(f"{it.run}/words") or b""
+    if MISTAKE == "words_of_another_boot" and record.boot:
+        return record
+    if record.boot != it.boot or words[:512] != record.head() or len(words) != 512 + 8 * (record.shared * (record.jobs + 3) + 1):
+        raise End(LATER, "record and words are not of this round and boot")
+    return record
+
+
+def work(it):
+    enter(it)
+    journal = guard(it.run, it.worker)
+    texts = journal.settle()
+    ledger = Ledger(it.run)
+    own, partner = ledger.journals[it.worker - 1], Partner()
+    for intent in [it for it in own if it.answer is None]:
+        answer, leaves = partner.ask(b"was", intent.serial, intent.line, ledger.lines[intent.line - 1])
+        if answer:
+            journal.put(answer)
+        if leaves:
+            raise End(69, "the partner said so")
+    record = share_round(it)
+    lines = (content(f"{it.run}/jobs") or b"").split(b"\n")
+    seat = (it.worker - record.first) % record.workers + 1
+    if seat > record.shared or it.worker > record.workers:
+        raise End(LATER, f"no seat in round {record.round} for worker {it.worker}")
+    state = {"serial": len(own)}
+
+    def perform(job):
+        line, state["serial"] = record.lines[job - 1], state["serial"] + 1
+        serial = state["serial"]
+        intent = b"intent %d %d %d" % (serial, line, time.time())
+        if MISTAKE != "intent_after_the_act":
+            journal.put(intent)
+        answer, leaves = partner.ask(b"perform", serial, line, lines[line - 1])
+        if MISTAKE == "intent_after_the_act":
+            journal.put(intent)
+        if answer:
+            journal.put(answer)
+        return leaves
+
+    if work_in(Words(it.run, record, seat), record.beta, perform):
+        raise End(69, "the partner said so")
+    raise End(LATER, f"round {record.round} is over")
+
+
+def type_of(path):
+    """The type of the file system on which a file lies."""
+    found = (b"", b"")
+    for line in (content("/proc/self/mountinfo") or b"").splitlines():
+        words, kind = line.split(b" - ")
+        point = words.split(b" ")[4]
+        if (os.fsencode(path) + b"/").startswith(point.rstrip(b"/") + b"/") and len(point) >= len(found[0]):
+            found = point, kind.split(b" ")[0]
+    return found[1].decode()
+
+
+def enter(it):
+    """Refuses at the door; makes the run's folder, where work or door may."""
+    try:
+        if it.jobs:
+            os.mkdir(it.run, 0o700)
+    except FileExistsError:
+        pass
+    except OSError as error:
+        raise End(73, f"{it.run}: {error.strerror}") from error
+    found = called(77, it.run, os.lstat, it.run)
+    if (found.st_mode & 0o170000) != 0o040000 or found.st_uid != os.geteuid():
+        raise End(77, f"{it.run}: it is no folder of one's own")
+    kind = type_of(os.path.realpath(it.run))
+    if kind not in [*LOCAL, it.kind]:
+        raise End(77, f"{it.run}: it lies on a file system of type {kind}")
+    record = Record(f"{it.run}/record")
+    if it.jobs:
+        known = content(f"{it.run}/jobs")
+        jobs_of(it.jobs, known, known is None)
+        sync_folder(os.path.dirname(os.path.abspath(it.run)))
+    return record
+
+
+def counts(ledger):
+    kinds = [kind for _, kind, _ in ledger.kinds()]
+    return f"lines {len(kinds)} " + " ".join(f"{kind} {kinds.count(kind)}" for kind in KINDS)
+
+
+def alive(run):
+    """The workers whose journals are locked."""
+    for p in range(1, MOST_WORKERS + 1):
+        try:
+            file = opened(f"{run}/journal.{p}", os.O_RDONLY, None)
+        except FileNotFoundError:
+            continue
+        except OSError as error:
+            raise End(74, f"{run}/journal.{p}: {error.strerror}") from error
+        if not has_lock(file, f"{run}/journal.{p}", fcntl.LOCK_SH):
+            yield p
+        os.close(file)
+
+
+def status(it):
+    enter(it)
+    living = list(alive(it.run))
+    ledger, _ = final_ledger(it.run)
+    told = [(kind, found, line) for line, kind, found in ledger.kinds()]
+    if it.is_json:
+        import json
+        kinds = [kind for kind, _, _ in told]
+        intents = [{"intent": found.name(), "line": line, "text": ledger.lines[line - 1].decode(), "state": kind}
+                   for kind, found, line in told if kind in ("doubt", "running", "untouched")]
+        counted = {kind: kinds.count(kind) for kind in KINDS}
+        print(json.dumps({"lines": len(told), **counted, "alive": living, "intents": intents}))
+    elif it.lines:
+        for kind, found, line in told:
+            if kind == it.lines:
+                say(f"{found.name() if found else '-'}\t{line}\t", ledger.lines[line - 1])
+    else:
+        say(counts(ledger))
+        say(" ".join(["alive", *map(str, living)]))
+        for kind, found, line in told:
+            if kind in ("doubt", "running", "untouched"):
+                say(f"{kind} {found.name()} {line} ", ledger.lines[line - 1])
+
+
+def say(text, line=b""):
+    sys.stdout.buffer.write(text.encode() + line + b"\n")
+
+
+def doubts(it):
+    enter(it)
+    ledger, _ = final_ledger(it.run)
+    told = [(line, found) for line, kind, found in ledger.kinds() if kind == "doubt"]
+    if it.is_json:
+        import json
+        print(json.dumps([{"intent": found.name(), "line": line, "text": ledger.lines[line - 1].decode(), "time": found.time}
+                          for line, found in told]))
+    else:
+        for line, found in told:
+            say(f"doubt {found.name()} {line} ", ledger.lines[line - 1] + b" %d" % found.time)
+
+
+def refusal(ledger, name, line, text, verdict):
+    """Why this answer isn't taken, or None; an answer that stands there already is taken again."""
+    words = name.split(b".")
+    said = numbers(words, 2)
+    found = ledger.intent(*said) if said else None
+    if verdict not in (b"done", b"not-done") or not found:
+        return "there is no such intent" if verdict in (b"done", b"not-done") else "neither done nor not-done"
+    if b"%d" % found.line != line or ledger.lines[found.line - 1] != text:
+        return "it is of another line"
+    if found.found:
+        return None if found.found == verdict else "another answer was taken"
+    kind, closing = next((kind, it) for line, kind, it in ledger.kinds() if line == found.line)
+    if closing is not found:
+        return "its line is not closed by it"
+    return None if kind in ("doubt", "untouched", "failed") else f"it is {kind}"
+
+
+def answer(it):
+    enter(it)
+    if it.source:
+        rows = [line.split(b"\t", 2) for line in (content(it.source) or b"").split(b"\n")[:-1]]
+        rows = [[*row[:2], *row[2].rsplit(b"\t", 1)] if len(row) == 3 and b"\t" in row[2] else [b""] * 4 for row in rows]
+    else:
+        rows = [[os.fsencode(word) for word in it.words]]
+    file = Journal(it.run, "answers")
+    called(73, file.path, fcntl.flock, file.file, fcntl.LOCK_EX)
+    file.settle()
+    ledger, _held = final_ledger(it.run)
+    verdicts = {}
+    for place, row in enumerate(rows, 1):
+        why = refusal(ledger, *row) or ("another answer stands above" if verdicts.setdefault(row[0], row[3]) != row[3] else None)
+        if why:
+            raise End(65, f"answer {place}, {row[0].decode(errors='replace')}: {why}")
+    for name, verdict in verdicts.items():
+        said = numbers(name.split(b"."), 2)
+        if not ledger.intent(*said).found:
+            file.put(b"%s %d %d %d" % (verdict, *said, time.time()))
+
+
+def again(it):
+    enter(it)
+    file = Journal(it.run, "answers")
+    called(73, file.path, fcntl.flock, file.file, fcntl.LOCK_EX)
+    file.settle()
+    for intent in (intent for journal in Ledger(it.run).journals for intent in journal):
+        if intent.answer and intent.answer[0] == b"untouched" and not intent.found:
+            file.put(b"not-done %d %d %d" % (intent.worker, intent.serial, time.time()))
+
+
+class Given:
+    """The words of the command line."""
+
+    def __init__(self, words):
+        self.words, options = [], {}
+        wants = {"--workers": 1, "--beta": 1, "--json": 0, "--lines": 1, "--from": 1, "--file-system": 1, "--boot-id": 1}
+        while words:
+            word = words.pop(0)
+            if word.startswith("--") and self.words[:1] != ["answer"] or word in wants:
+                if word not in wants or word in options or len(words) < wants[word]:
+                    raise End(64, f"no such word here: {word}")
+                options[word] = words.pop(0) if wants[word] else True
+            else:
+                self.words.append(word)
+        shapes = {"door": (3, 3), "work": (4, 4), "status": (2, 2), "doubts": (2, 2), "again": (2, 2),
+                  "answer": (2, 2) if "--from" in options else (6, 6)}
+        taken = {"door": "--workers --beta", "work": "--workers --beta", "status": "--json --lines", "doubts": "--json",
+                 "answer": "--from"}
+        self.command = self.words[0] if self.words else None
+        if self.command not in shapes or not shapes[self.command][0] <= len(self.words) <= shapes[self.command][1]:
+            raise End(64, "usage: door, work, status, doubts, answer or again, and RUN")
+        if set(options) - {*taken.get(self.command, "").split(), "--file-system", "--boot-id"}:
+            raise End(64, "an option of another command")
+        self.run, self.kind = self.words[1].rstrip("/"), options.get("--file-system")
+        self.jobs = self.words[-1] if self.command in ("door", "work") else None
+        self.is_json, self.lines, self.source = "--json" in options, options.get("--lines"), options.get("--from")
+        if self.lines not in (None, *KINDS[1:]) or self.lines and self.is_json:
+            raise End(64, "no such kind of lines")
+        if self.jobs:
+            self.workers = self.number(options.get("--workers", ""), MOST_WORKERS)
+            self.beta = self.number(options.get("--beta", "1"), 65535)
+            self.worker = self.number(self.words[2], self.workers) if self.command == "work" else None
+        self.words = self.words[2:]
+        boot = options.get("--boot-id", "/proc/sys/kernel/random/boot_id")
+        self.boot = (content(boot) or b"").split(b"\n")[0]
+
+    @staticmethod
+    def number(word, most):
+        found = number(word.encode(errors="surrogateescape"), most)
+        if not found:
+            raise End(64, f"no number from 1 to {most}: {word}")
+        return found
+
+
+def main(words):
+    if MISTAKE not in (None, "", *MISTAKES):
+        sys.exit(f"no such mistake: {MISTAKE}")
+    it = None
+    try:
+        it = Given(words)
+        {"door": enter, "work": work, "status": status, "doubts": doubts, "answer": answer, "again": again}[it.command](it)
+        sys.stdout.flush()
+    except End as end:
+        print(f"amo_worker: {end.args[1]}", file=sys.stderr)
+        return end.args[0]
+    finally:
+        if MISTAKE == "guard_is_removed" and it and it.command == "work" and os.path.exists(f"{it.run}/guard.{it.worker}"):
+            os.unlink(f"{it.run}/guard.{it.worker}")
+    return 0
+
+
+if __name__ == "__main__":
+    sys.exit(main(sys.argv[1:]))

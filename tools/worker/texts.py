@@ -1,0 +1,171 @@
+"""Files of a run that were cut or changed: each is read as far as it counts, or refused by name and number."""
+
+import fcntl
+import os
+import re
+
+from worker import folder
+from worker.persons import Says, prepared
+from worker.scene import DOOR, LATER, LEFT, OVER, READ, REFUSED, SENSELESS, Runner, each, finish, live, want
+
+OTHERS = b"+-\n \0" + b"019x"
+
+
+def counts_in(out):
+    words = out.split("\n")[0].split(" ")
+    return dict(zip(words[::2], map(int, words[1::2])))
+
+
+def put(path, data):
+    with open(path, "wb") as file:
+        file.write(data)
+
+
+def read_as(scene, name, data):
+    """With these bytes in a file, status says what the auditor reads, or refuses the text that the auditor refuses; no text goes
+    or comes. Whether it was read."""
+    put(f"{scene.run}/{name}", data)
+    before = folder.texts_of(data)
+    try:
+        found = scene.look()
+        wanted = found.counts(found.final())
+    except folder.Refused as refused:
+        status, out, err = scene.call("status", scene.run)
+        name, place = refused.args
+        said = err.replace(scene.run, "RUN")
+        want(status == REFUSED and not out, f"{name}, text {place} is none, and status ends with {status}: {out or err}")
+        want(name in said and re.search(rf"\b{place}\b", said), f"{name}, text {place} is none, and status says {err}")
+        return False
+    status, out, err = scene.call("status", scene.run)
+    counts = counts_in(out)
+    want(status == OVER and sum(counts[kind] for kind in folder.KINDS) == counts["lines"], f"status {status}, {out or err}")
+    if any(len(found.of_line(line)) > 1 for line in range(1, len(found.lines) + 1)):  # no run has that: what it counts as is open
+        counts, wanted = [{name: it[name] for name in ("lines", "open")} for it in (counts, wanted)]
+    want(counts == wanted, f"status says {out}, and there is {wanted}")
+    want(folder.texts_of(folder.read(f"{scene.run}/{name}")) == before, f"texts of {name} went or came by being read")
+    return True
+
+
+def cut_one(scene, name, data, length, works):
+    """Cut at this byte; and, where it is read, the next worker keeps its texts, and puts the next behind them."""
+    put(f"{scene.run}/{name}", data)
+    if read_as(scene, name, data[:length]) and works:
+        runner = Says(scene, 1, ["unbegun"])
+        live(runner)
+        runner.close()
+        texts = folder.texts_of(folder.read(f"{scene.run}/{name}"))
+        kept = folder.texts_of(data[:length])
+        want(runner.statuses[0] in (LEFT, OVER), f"status {runner.statuses}: {runner.said}")
+        want(texts[:len(kept)] == kept, f"there is {texts}, and {kept} was there")
+        want(folder.read(f"{scene.run}/{name}") == folder.blocks_of(texts), f"{name} isn't settled")
+
+
+def journals(bench):
+    """A run with all kinds of entries in a journal and in answers."""
+    scene = prepared(bench, ["done 0", "doubt", "untouched 75", "doubt", "done 3", "unbegun", "dies"], lines=8)
+    scene.answer(1, 2, 2, "not-done")
+    scene.answer(1, 4, 4, "done")
+    return scene
+
+
+def try_cut(bench):
+    """journal and answers cut at each byte: read as the entries of a front, and gone on behind them"""
+    count = 0
+    for name in ("journal.1", "answers"):
+        scene = journals(bench)
+        data = folder.read(f"{scene.run}/{name}")
+        lengths = list(range(len(data)))
+        works = set(lengths if bench.is_long else lengths[::16]) if name == "journal.1" else set()
+        count += each(((scene, name, data, it, it in works) for it in bench.sample(lengths, 110)), cut_one)
+    return f"{count} cuts"
+
+
+def try_changed(bench):
+    """each byte of journal and answers changed: refused by the number of the text, or read as the auditor reads it"""
+    count = 0
+    for name in ("journal.1", "answers"):
+        scene = journals(bench)
+        data = folder.read(f"{scene.run}/{name}")
+        places = [(at, byte) for at in range(len(data)) for byte in OTHERS if data[at] != byte]
+        chosen = places if bench.is_long else bench.draws.sample(places, min(len(places), 110))
+        count += each(((scene, name, data[:at] + bytes([byte]) + data[at + 1:]) for at, byte in chosen), read_as)
+    return f"{count} changes"
+
+
+def try_behind_a_gate(bench):
+    """what stands behind a closed gate counts for nothing, and is gone once somebody goes on"""
+    for end in (b"-intent 8 8 1\n", b"+intent 8 8 1", b"-doubt 1\n+doubt 1\n", b"+doubt 4", b"\0\0\0\0", b"-" * 5000,
+                b"x+doubt 4\n", b""):
+        scene = journals(bench)
+        data = folder.read(f"{scene.run}/journal.1")
+        cut_one(scene, "journal.1", data[:-1] + end, len(data) - 1 + len(end), True)
+
+
+def change_one(bench, name, at, byte):
+    """One byte of record, words or jobs is changed or cut away: a round is begun, or the fault is named; none is done twice."""
+    scene = bench.scene(6, 2)
+    runner = Says(scene, 1, ["done 0", "doubt", "done 0"])
+    live(runner)
+    runner.close()
+    data = folder.read(f"{scene.run}/{name}")
+    put(f"{scene.run}/{name}", data[:at] + (bytes([byte]) + data[at + 1:] if byte is not None else b""))
+    statuses = []
+    for p in (2, 1):
+        runner = Runner(scene, p)
+        statuses.append(live(runner))
+        runner.close()
+        want(statuses[-1] in (OVER, REFUSED, SENSELESS, LATER, DOOR), f"status {statuses}: {runner.said}")
+        want(statuses[-1] in (OVER, LATER) or name in runner.said, f"{name} isn't named: {runner.said}")
+    if REFUSED in statuses or DOOR in statuses:
+        put(f"{scene.run}/{name}", data)
+    finish(scene, (1, 2))
+    want(len(scene.effects()) == 6, f"performed: {scene.effects()}")
+
+
+def try_record_words_jobs(bench):
+    """each byte of record, words and jobs changed or cut away: a new round or a named fault, and no line is performed twice"""
+    scene = bench.scene(6, 2)
+    runner = Says(scene, 1, ["done 0", "doubt", "done 0"])
+    live(runner)
+    runner.close()
+    chosen = []
+    for name, few in (("record", 14), ("words", 8), ("jobs", 8)):
+        size = os.path.getsize(f"{scene.run}/{name}")
+        chosen += [(bench, name, at, bench.draws.choice([*OTHERS, None])) for at in bench.sample(range(size), few)]
+    return f"{each(chosen, change_one)} changes"
+
+
+def share_one(bench, name, change):
+    """Somebody else keeps the round: then record and words that don't fit are left alone, until later."""
+    scene = bench.scene(6, 2)
+    runner = Says(scene, 1, ["done 0", "done 0"])
+    live(runner)
+    other = Runner(scene, 2, is_stray=True)
+    held = open(f"{scene.run}/lock.round", "ab")
+    fcntl.flock(held, fcntl.LOCK_SH | fcntl.LOCK_NB)
+    path = f"{scene.run}/{name}"
+    data = folder.read(path)
+    if change is None:
+        os.unlink(path)
+    else:
+        put(path, change(data))
+    status = live(other)
+    want(status in (LATER, REFUSED, SENSELESS, READ, DOOR), f"status {status}: it goes on with this")
+    want(not other.lines, f"it says {other.lines}")
+    held.close()
+    put(path, data)
+    runner.close()
+    finish(scene, (1, 2))
+    want(len(scene.effects()) == 6, f"performed: {scene.effects()}")
+
+
+def try_of_another(bench):
+    """record or words of another boot, round or givens, cut or missing, while others are at work: nobody goes on with them"""
+    swaps = [(b"round 1", b"round 2"), (b"boot 0", b"boot 1"), (b"givens 6 2 2", b"givens 6 2 3"), (b"givens 6", b"givens 5")]
+    changes = [(name, lambda data, swap=swap: data.replace(*swap, 1)) for name in ("record", "words") for swap in swaps]
+    changes += [("words", lambda data, it=it: data[:it]) for it in (-1, 512, 0)] + [("record", None), ("words", None)]
+    changes += [("words", lambda data: data + bytes(8)), ("words", lambda data: data[:512] + b"\xff" * (len(data) - 512))]
+    return f"{each(((bench, *it) for it in changes), share_one)} changes"
+
+
+PARTS = {"texts": [try_cut, try_changed, try_behind_a_gate, try_record_words_jobs, try_of_another]}
