@@ -1,9 +1,8 @@
 //! To make, read and replace files of a folder.
-use std::fs;
 use std::fs::{DirBuilder, File, Files, OpenOptions};
-use std::io;
 use std::io::{ErrorKind, Write};
 use std::os::unix::fs::{DirBuilderExt, MetadataExt, OpenOptionsExt};
+use std::{fs, io};
 
 /// What a file holds, or nothing where there is none of this name. Any other error is the system's: a file that can't be read is
 /// never taken for one that isn't there.

@@ -8,5 +8,7 @@ mod folder;
 mod locks;
 
 pub use device::FileDevice;
-pub use folder::{create_private, is_mine, make_folder, open_private, read_file, replace_file, sync_folder};
+pub use folder::{
+    create_private, is_mine, make_folder, open_private, read_file, replace_file, sync_folder,
+};
 pub use locks::{is_at, try_exclusive, try_shared};

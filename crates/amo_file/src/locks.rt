@@ -1,9 +1,8 @@
 //! Locks on whole files, which the kernel drops with the last handle of a process that has died.
-use std::fs;
 use std::fs::{File, Files, TryLockError};
-use std::io;
 use std::io::ErrorKind;
 use std::os::unix::fs::MetadataExt;
+use std::{fs, io};
 
 /// Takes the exclusive lock on a file, if nobody else holds a lock on it. Answers whether it has it now.
 pub fn try_exclusive(file: &File) -> io::Result<bool> {
