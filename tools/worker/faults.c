@@ -239,13 +239,13 @@ int openat64(int folder, const char *path, int flags, ...) {
   return open_named(folder, path, flags, mode);
 }
 
-/* Another descriptor of the same open file, where it was given. */
-static int copied(int file, long other) {
-  struct call call = {"copy", names[file], (int)other, 0, file, 0, 0};
+/* Another descriptor of the same open file. */
+static int copied(int file, int command, long lowest) {
+  struct call call = {"copy", names[file], -1, 0, file, 0, 0};
+  long other = enter(&call) < 0 ? -1 : syscall(SYS_fcntl, file, command, lowest);
   if (other >= 0 && other < MOST_FILES)
     memcpy(names[other], names[file], MOST_NAME);
-  number_call(&call);
-  hold_log(&(struct call){0});
+  call.descriptor = (int)other;
   return (int)leave(&call, other, NULL, NULL);
 }
 
@@ -254,15 +254,11 @@ int fcntl(int file, int command, ...) {
   va_start(more, command);
   void *given = va_arg(more, void *);
   va_end(more);
-  long result = syscall(SYS_fcntl, file, command, given);
   int copies = command == F_DUPFD || command == F_DUPFD_CLOEXEC;
-  return copies && file > 2 && counts(file) ? copied(file, result) : (int)result;
+  return copies && file > 2 && counts(file) ? copied(file, command, (long)given) : (int)syscall(SYS_fcntl, file, command, given);
 }
 
-int dup(int file) {
-  long result = syscall(SYS_dup, file);
-  return file > 2 && counts(file) ? copied(file, result) : (int)result;
-}
+int dup(int file) { return file > 2 && counts(file) ? copied(file, F_DUPFD, 0) : (int)syscall(SYS_dup, file); }
 
 int close(int file) {
   if (is_on && file > 2 && file < MOST_FILES)

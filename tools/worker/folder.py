@@ -85,15 +85,16 @@ def intents_of(worker, name, texts, count):
 
 
 class Folder:
-    """What stands in a run's folder."""
+    """What stands in a run's folder: answers are read first, then journals, then jobs, so that workers may go on meanwhile."""
 
     def __init__(self, run):
         self.run, self.intents = run, {}
+        answers = texts_of(read(f"{run}/answers"))
+        journals = {p: texts_of(read(f"{run}/journal.{p}")) for p in range(1, MOST_WORKERS + 1)}
         self.lines = read(f"{run}/jobs").split(b"\n")[:-1]
-        for p in range(1, MOST_WORKERS + 1):
-            texts = texts_of(read(f"{run}/journal.{p}"))
+        for p, texts in journals.items():
             self.intents.update({(p, it.serial): it for it in intents_of(p, f"journal.{p}", texts, len(self.lines))})
-        for place, text in enumerate(texts_of(read(f"{run}/answers")), 1):
+        for place, text in enumerate(answers, 1):
             word, numbers = said_by(FINDING, text) or (None, [0, 0])
             it = self.intents.get(tuple(numbers[:2]))
             if not word or not it or it.found:

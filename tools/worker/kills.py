@@ -171,7 +171,7 @@ def refusals(bench):
     for it in calls if bench.is_long else ends.values():
         number, call, file = int(it[1]), it[2], it[3]
         faults = [errno.ENOSPC if number % 2 and call in ("write", "open", "rename") and it[8] != "r" else errno.EIO]
-        faults = [] if call in ("say", "hear", "copy") else faults
+        faults = [] if call in ("say", "hear") else faults
         faults += [errno.EINTR] if call in INTERRUPTED else []
         faults += ["short"] if call in ("read", "write", "say") and int(it[6]) > 1 else []
         yield from ((bench, number, call, file, str(fault)) for fault in faults)
@@ -235,6 +235,23 @@ def try_killed_answers(bench):
     scene.answer(1, 1, 1, "not-done")
     numbers = [int(it[1]) for it in changes(scene.logged())]
     return f"{each(((bench, it) for it in numbers), answer_killed)} kills"
+
+
+def lister_killed(bench, number):
+    """Who asks for doubts, and settles the journal of one for that, is killed at this call; the next one is told the same."""
+    scene = answerable(bench)
+    want(scene.call("doubts", scene.run, faults=f"{number}:kill_after")[0] == KILLED, "it isn't killed")
+    want(scene.doubts() == [(1, 1, 1)], "it isn't told as a doubt any more")
+    finish(scene)
+    want(sorted(it[2] for it in scene.effects()) == [2, 3], f"performed: {scene.effects()}")
+
+
+def try_killed_listers(bench):
+    """who asks for doubts, killed at each call: the next one is told the same, and workers go on"""
+    scene = answerable(bench)
+    scene.logs = True
+    scene.doubts()
+    return f"{each(((bench, int(it[1])) for it in changes(scene.logged())), lister_killed)} kills"
 
 
 def state_of(runner):
@@ -303,6 +320,7 @@ def try_locks_of_old_files(bench):
     each(((bench, it) for it in ("journal.1", "lock.round")), swap_one)
 
 
-PARTS = {"killed": [try_killed, try_killed_beside, try_killed_and_dropped, try_killed_with_its_runner, try_killed_answers],
+PARTS = {"killed": [try_killed, try_killed_beside, try_killed_and_dropped, try_killed_with_its_runner, try_killed_answers,
+                    try_killed_listers],
          "refused": [try_refused, try_full],
          "numbers": [try_two_of_one_number, try_locks_of_old_files]}

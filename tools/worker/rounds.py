@@ -287,7 +287,7 @@ def try_collisions(bench):
     return f"{each(bench.sample(rows, 60), collide_one)} stops"
 
 
-def read_one(scene, runners, is_list):
+def read_one(scene, is_list):
     """One reader beside the writers: what was performed before it began isn't open, and its counts add up."""
     before = {it[2] for it in scene.effects()}
     lines = len(scene.look().lines)
@@ -303,18 +303,16 @@ def read_one(scene, runners, is_list):
     want(counts["lines"] - counts["open"] >= len(before), f"{counts}, and {len(before)} were performed before")
 
 
-def try_readers(bench):
-    """readers beside four writers, while the jobs' file grows and rounds begin: never a wrong count"""
-    scene = bench.scene(40, 4)
+def read_beside(bench, seed):
+    """200 readers beside four writers of one run."""
+    scene, rounds = bench.scene(40, 4), 0
     runners = [Runner(scene, p) for p in range(1, 5)]
-    wanted, count, rounds = 10000 if bench.is_long else 200, 0, 0
-    while count < wanted and bench.has_time():
+    for count in range(200):
         for it in runners:
             if not it.process:
                 it.start()
         serve([it for it in runners if it.process], until=lambda until=time.monotonic() + 0.004: time.monotonic() > until)
-        read_one(scene, runners, count % 2)
-        count += 1
+        read_one(scene, count % 2)
         if len(scene.effects()) + 12 > 40 + rounds * 20 or count % 40 == 0:
             rounds += 1
             with open(scene.jobs, "a") as file:
@@ -325,7 +323,11 @@ def try_readers(bench):
     scene.audit()
     found = scene.look()
     want(counts_of(scene)[0] == found.counts(found.final()), "at the end the counts are wrong")
-    return f"{count} readers, {len(scene.effects())} lines, {folder.record_of(scene.run)['round']} rounds"
+
+
+def try_readers(bench):
+    """readers beside four writers, while the jobs' file grows and rounds begin: never a wrong count; in the long form 50 times"""
+    return f"{200 * each(((bench, k) for k in range(50 if bench.is_long else 1)), read_beside)} readers"
 
 
 def try_unreadable(bench):

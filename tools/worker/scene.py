@@ -389,13 +389,15 @@ class Runner:
 
 
 def serve(runners, seconds=30, until=None):
-    """Reads what the workers of these runners say, until each has ended, or something is so."""
-    end = time.monotonic() + seconds
+    """Reads what the workers of these runners say, until each has ended, or something is so. A time in which this tool itself was
+    stopped doesn't count."""
+    seen = time.monotonic()
     while not (until and until()):
         living = {it.process.stdout.fileno(): it for it in runners if it.process}
         if not living:
             return
-        want(time.monotonic() < end, f"it doesn't end: {[(it.worker, it.lines[-1:]) for it in living.values()]}")
+        seconds, seen = seconds - min(time.monotonic() - seen, 1), time.monotonic()
+        want(seconds > 0, f"it doesn't end: {[(it.worker, it.lines[-1:]) for it in living.values()]}")
         for file in select.select(list(living), [], [], 0.004 if until else 0.05)[0]:
             living[file].read()
 
@@ -408,10 +410,11 @@ def live(runner, faults=None):
 
 def see_out(runners, seconds=120, draws=None):
     """Starts the workers again until each says that all is done, or that it was told to leave."""
-    end, ended, due = time.monotonic() + seconds, set(), {}
+    seen, ended, due = time.monotonic(), set(), {}
     while len(ended) < len(runners):
-        want(time.monotonic() < end, f"it isn't over: {[(it.worker, it.statuses[-3:], it.said) for it in runners]}")
         now = time.monotonic()
+        seconds, seen = seconds - min(now - seen, 1), now
+        want(seconds > 0, f"it isn't over: {[(it.worker, it.statuses[-3:], it.said) for it in runners]}")
         for it in runners:
             if not it.process and it not in ended and due.get(it, 0) <= now:
                 it.start()
