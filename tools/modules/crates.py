@@ -1,5 +1,6 @@
 """The crates of the repository, as crates.txt lists them, and how rattle checks one."""
 
+import functools
 import json
 import os
 import re
@@ -25,7 +26,9 @@ def files_of(folder):
             yield from (f"{place}/{name}" for name in sorted(names))
 
 
+@functools.lru_cache(maxsize=None)
 def lines_of(folder, ending):
+    """How many lines the files with this ending have, as they were when this was first asked."""
     total = 0
     for file in files_of(folder):
         if file.endswith(ending):

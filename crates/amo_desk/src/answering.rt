@@ -1,8 +1,7 @@
 //! To take what a person found out.
 use crate::asking::now;
 use crate::fault::{Fault, Later, had};
-use crate::folder::sync;
-use crate::guard::{Guarded, lock_of, settled};
+use crate::guard::{Guarded, lock_within, settled};
 use crate::item::Item;
 use crate::looking::{Seen, look_behind};
 use crate::setting::Setting;
@@ -11,15 +10,8 @@ use amo_file::FileDevice;
 use amo_journal::{DeviceError, PutError};
 use amo_ledger::{Fault as Misread, Finding, Verdict};
 use amo_standing::{Refusal, Said, may_answer, read_answers, untouched};
-use std::fs::File;
+use std::fs;
 use std::rt::HostRuntime;
-use std::time::Duration;
-use std::{fs, thread};
-
-/// How often the lock of the answers is tried, and how many milliseconds lie between.
-const TRIES: u32 = 100;
-
-const PAUSE: u64 = 20;
 
 /// Takes an answer of a person. It is refused where the rules of [`may_answer`] say so, or where the text isn't that of the line.
 /// One that was given so already is taken again, and nothing is written.
@@ -110,19 +102,10 @@ fn checked(
 
 /// Takes the lock of the answers, and settles them.
 fn take_answers(rt: HostRuntime, setting: &Setting<'_>) -> Result<Guarded, Fault> {
-    let lock = wait_for_answers(rt, setting)?;
-    sync(rt, setting)?;
+    let Some(lock) = lock_within(rt, setting, Item::Answers)? else {
+        return Err(Fault::Later(Later::Answering));
+    };
     settled(rt, setting, Item::Answers, lock)
-}
-
-fn wait_for_answers(rt: HostRuntime, setting: &Setting<'_>) -> Result<File, Fault> {
-    for _try in 0..TRIES {
-        if let Some(lock) = lock_of(rt, setting, Item::Answers)? {
-            return Ok(lock);
-        }
-        thread::sleep(&rt, Duration::from_millis(PAUSE));
-    }
-    Err(Fault::Later(Later::Answering))
 }
 
 /// Puts these findings, one after the other.

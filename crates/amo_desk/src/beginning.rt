@@ -9,12 +9,12 @@ use crate::folder::replaced;
 use crate::item::Item;
 use crate::round::record_of;
 use crate::setting::{Jobs as Asked, Setting};
-use amo_file::read_file;
 use amo_ledger::{Record, givens_of, open_lines};
 use amo_round::{Jobs, JobsFault, Why, first_difference, head_of, words_len};
 use amo_standing::{Counts, counts, standings};
 use std::alloc::{AllocError, Global};
 use std::fs;
+use std::io::Read;
 use std::rt::HostRuntime;
 
 /// The greatest number of jobs of a round.
@@ -48,10 +48,12 @@ pub(crate) fn begin(
     Ok(None)
 }
 
-/// The bytes of the jobs' file, all of them on the disk: else a power cut might take from it what the run knows.
+/// The bytes of the jobs' file, all of them on the disk: else a power cut might take from it what the run knows. What is synced is
+/// the file that was read, also where another has come into its place meanwhile.
 fn list_of(rt: HostRuntime, asked: &Asked<'_>) -> Result<Vec<u8>, Fault> {
-    let bytes = had(Item::List, fs::read(&rt, asked.list))?;
-    let file = had(Item::List, fs::open(&rt, asked.list))?;
+    let mut file = had(Item::List, fs::open(&rt, asked.list))?;
+    let mut bytes = Vec::new(rt.alloc());
+    had(Item::List, file.read_to_end(&mut bytes))?;
     had(Item::List, file.sync_all())?;
     Ok(bytes)
 }

@@ -9,6 +9,13 @@ use amo_journal::DeviceError;
 use std::fs::File;
 use std::os::unix::fs::MetadataExt;
 use std::rt::HostRuntime;
+use std::thread;
+use std::time::Duration;
+
+/// How often a lock is tried, and how many milliseconds lie between.
+const TRIES: u32 = 100;
+
+const PAUSE: u64 = 20;
 
 /// A journal whose lock this process has. The lock is kept as long as the value is.
 #[derive(Drop)]
@@ -32,7 +39,22 @@ pub(crate) fn lock_of(
     still_there(rt, setting, item, file)
 }
 
-/// The same of a shared lock, on a handle that has none.
+/// The same, tried again and again for two seconds: who looks at a run holds its locks for a moment.
+pub(crate) fn lock_within(
+    rt: HostRuntime,
+    setting: &Setting<'_>,
+    item: Item,
+) -> Result<Option<File>, Fault> {
+    for _try in 0..TRIES {
+        if let Some(lock) = lock_of(rt, setting, item)? {
+            return Ok(Some(lock));
+        }
+        thread::sleep(&rt, Duration::from_millis(PAUSE));
+    }
+    Ok(None)
+}
+
+/// The same of a shared lock, on a handle that has none, tried once.
 pub(crate) fn shared_lock_of(
     rt: HostRuntime,
     setting: &Setting<'_>,
@@ -88,7 +110,7 @@ pub(crate) fn take_number(
     worker: u64,
 ) -> Result<Guarded, Fault> {
     let item = Item::Journal(worker);
-    match lock_of(rt, setting, item)? {
+    match lock_within(rt, setting, item)? {
         Some(lock) => settled(rt, setting, item, lock),
         None => Err(Fault::Later(holder(rt, setting, item))),
     }

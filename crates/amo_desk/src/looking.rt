@@ -2,7 +2,7 @@
 use crate::books::{Books, MOST_WORKERS, Pages, attempts_of, known, texts_of};
 use crate::fault::{Fault, had, written};
 use crate::folder::path_of;
-use crate::guard::{lock_of, settled};
+use crate::guard::{lock_of, lock_within, settled};
 use crate::item::Item;
 use crate::setting::Setting;
 use amo_file::{is_at, open_private, try_exclusive};
@@ -21,6 +21,7 @@ pub(crate) struct Seen {
     pub alive: Vec<u64>,
     /// Pending intents that nobody can answer any more: their journal, their runner's lock and their command's are held here.
     pub finals: Vec<Intent>,
+    /// The locks that are kept as long as this is.
     held: Vec<File>,
 }
 
@@ -29,14 +30,36 @@ pub(crate) struct Seen {
 struct Corner {
     texts: Vec<Vec<u8>>,
     alive: bool,
-    /// Whether nobody runs this worker, so that its commands may be looked at.
+    /// Whether an intent is pending and nobody runs this worker, so that its commands may be looked at.
     idle: bool,
 }
 
-/// Looks at a run: first at what persons found out, then at the journals, then at the jobs.
+impl Corner {
+    /// One of whose commands nothing can be said.
+    fn at_rest(texts: Vec<Vec<u8>>, alive: bool) -> Corner {
+        Corner {
+            texts,
+            alive,
+            idle: false,
+        }
+    }
+}
+
+/// Looks at a run: first at what persons found out, then at the journals, then at the jobs. Who looks holds the lock of what
+/// persons found out meanwhile, so that one doesn't find what another holds and take it for a worker's. Where that lock isn't got it
+/// looks all the same: it may then say of a worker that nobody runs that it is at work, and of a doubt that its command runs.
 pub(crate) fn look(rt: HostRuntime, setting: &Setting<'_>) -> Result<Seen, Fault> {
+    let lock = match lock_within(rt, setting, Item::Answers) {
+        Err(Fault::Memory) => return Err(Fault::Memory),
+        Err(_) => None,
+        Ok(lock) => lock,
+    };
     let answers = texts_of(rt, setting, Item::Answers)?;
-    look_behind(rt, setting, answers)
+    let mut seen = look_behind(rt, setting, answers)?;
+    if let Some(lock) = lock {
+        seen.held.push(lock)?;
+    }
+    Ok(seen)
 }
 
 /// The same where what persons found out was read.
@@ -79,8 +102,7 @@ impl Seen {
     }
 }
 
-/// Looks at a worker's journal. Where nobody has it and an intent is pending, it and the runner's lock are taken and kept, and the
-/// journal is settled, so that what is read is on the disk.
+/// Looks at a worker's journal. One that isn't there isn't made.
 fn corner_of(
     rt: HostRuntime,
     setting: &Setting<'_>,
@@ -90,33 +112,31 @@ fn corner_of(
     let item = Item::Journal(worker);
     let texts = texts_of(rt, setting, item)?;
     if texts.is_empty() {
-        return Ok(Corner {
-            texts,
-            alive: is_held(rt, setting, item)?,
-            idle: false,
-        });
+        let alive = is_held(rt, setting, item)?;
+        return Ok(Corner::at_rest(texts, alive));
     }
-    let Some(lock) = lock_of(rt, setting, item)? else {
-        return Ok(Corner {
-            texts: texts_of(rt, setting, item)?,
-            alive: true,
-            idle: false,
-        });
-    };
+    match lock_of(rt, setting, item)? {
+        Some(lock) => corner_behind(rt, setting, worker, lock, held),
+        None => Ok(Corner::at_rest(texts, true)),
+    }
+}
+
+/// Looks at the journal behind its lock, so that nobody is this worker. Where an intent is pending and nobody runs this worker, both
+/// locks are kept, and the journal is settled, so that what is read is on the disk.
+fn corner_behind(
+    rt: HostRuntime,
+    setting: &Setting<'_>,
+    worker: u64,
+    lock: File,
+    held: &mut Vec<File>,
+) -> Result<Corner, Fault> {
+    let item = Item::Journal(worker);
     let texts = texts_of(rt, setting, item)?;
     if !has_pending(rt.alloc(), item, &texts)? {
-        return Ok(Corner {
-            texts,
-            alive: false,
-            idle: false,
-        });
+        return Ok(Corner::at_rest(texts, false));
     }
     let Some(runner) = lock_of(rt, setting, Item::Runner(worker))? else {
-        return Ok(Corner {
-            texts,
-            alive: false,
-            idle: false,
-        });
+        return Ok(Corner::at_rest(texts, false));
     };
     let guarded = settled(rt, setting, item, lock)?;
     held.push(runner)?;

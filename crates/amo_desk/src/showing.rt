@@ -14,22 +14,30 @@ use std::alloc::{AllocError, Global};
 use std::io::Write;
 use std::rt::HostRuntime;
 
-/// Writes how all lines stand.
+/// Writes how all lines stand. What was held of the run is let go of before: who reads may take his time.
 pub(crate) fn show_status(rt: HostRuntime, setting: &Setting<'_>, form: Form) -> Result<(), Fault> {
-    let seen = look(rt, setting)?;
-    let standings = seen.standings(rt.alloc())?;
-    let texts = texts_of(rt.alloc(), &seen.books.jobs, standings.len())?;
-    let text = status_in(rt.alloc(), form, &seen, &standings, &texts)?;
+    let text = status_now(rt, setting, form)?;
     print(rt, &text)
 }
 
-/// Writes the doubts that are final.
+/// Writes the doubts that are final, in the same way.
 pub(crate) fn show_doubts(rt: HostRuntime, setting: &Setting<'_>, form: Form) -> Result<(), Fault> {
+    let text = doubts_now(rt, setting, form)?;
+    print(rt, &text)
+}
+
+fn status_now(rt: HostRuntime, setting: &Setting<'_>, form: Form) -> Result<Vec<u8>, Fault> {
     let seen = look(rt, setting)?;
     let standings = seen.standings(rt.alloc())?;
     let texts = texts_of(rt.alloc(), &seen.books.jobs, standings.len())?;
-    let text = doubts_in(rt.alloc(), form, &standings, &texts)?;
-    print(rt, &text)
+    Ok(status_in(rt.alloc(), form, &seen, &standings, &texts)?)
+}
+
+fn doubts_now(rt: HostRuntime, setting: &Setting<'_>, form: Form) -> Result<Vec<u8>, Fault> {
+    let seen = look(rt, setting)?;
+    let standings = seen.standings(rt.alloc())?;
+    let texts = texts_of(rt.alloc(), &seen.books.jobs, standings.len())?;
+    Ok(doubts_in(rt.alloc(), form, &standings, &texts)?)
 }
 
 /// The texts of the first so many lines. A line that isn't there has none.
