@@ -20,6 +20,17 @@ use std::rt::HostRuntime;
 /// The greatest number of jobs of a round.
 pub(crate) const MOST_JOBS: usize = 4096;
 
+/// What there is as a round is begun.
+#[derive(Drop)]
+struct Found {
+    /// The bytes of the jobs' file.
+    list: Vec<u8>,
+    /// What the run's files say, with the lines of the jobs' file.
+    books: Books,
+    /// Whether the run doesn't know all of these lines.
+    more: bool,
+}
+
 /// Begins the next round, or answers where all lines stand, if none is open. Whatever there is of an earlier round is as nothing:
 /// the journals alone say which lines are open.
 pub(crate) fn begin(
@@ -30,22 +41,39 @@ pub(crate) fn begin(
     boot: &[u8],
 ) -> Result<Option<Counts>, Fault> {
     let last = record_of(rt, setting)?;
-    let known = known(rt, setting)?;
-    let list = list_of(rt, asked)?;
-    let jobs = grown(rt.alloc(), &known, &list, last.is_some())?;
-    let more = jobs.bytes().len() > known.bytes().len();
-    let books = Books::read(rt.alloc(), &read_pages(rt, setting)?, jobs)?;
-    let open = open_of(rt.alloc(), &books)?;
+    let found = what_there_is(rt, setting, asked, last.is_some())?;
+    let open = open_of(rt.alloc(), &found.books)?;
     if open.is_empty() {
-        whole(&list, books.jobs.bytes(), books.jobs.count())?;
-        return Ok(Some(counted(rt.alloc(), &books)?));
+        return Ok(Some(over(rt.alloc(), &found)?));
     }
-    if more {
-        replaced(rt, setting, Item::Known, books.jobs.bytes(), true)?;
+    if found.more {
+        replaced(rt, setting, Item::Known, found.books.jobs.bytes(), true)?;
     }
     let record = record_for(rt.alloc(), asked, worker, boot, last, open)?;
     make(rt, setting, &record)?;
     Ok(None)
+}
+
+/// Reads what there is, the jobs' file before answers and journals.
+fn what_there_is(
+    rt: HostRuntime,
+    setting: &Setting<'_>,
+    asked: &Asked<'_>,
+    cut: bool,
+) -> Result<Found, Fault> {
+    let known = known(rt, setting)?;
+    let list = list_of(rt, asked)?;
+    let jobs = grown(rt.alloc(), &known, &list, cut)?;
+    let more = jobs.bytes().len() > known.bytes().len();
+    let books = Books::read(rt.alloc(), &read_pages(rt, setting)?, jobs)?;
+    Ok(Found { list, books, more })
+}
+
+/// Where all lines stand, none of which is open.
+fn over(alloc: Global, found: &Found) -> Result<Counts, Fault> {
+    let jobs = &found.books.jobs;
+    whole(&found.list, jobs.bytes(), jobs.count())?;
+    counted(alloc, &found.books)
 }
 
 /// The bytes of the jobs' file, all of them on the disk: else a power cut might take from it what the run knows. What is synced is

@@ -11,7 +11,7 @@ use std::io;
 use thiserror::Error;
 
 /// Why nothing is done in a folder.
-#[derive(Clone, Copy, Debug, PartialEq, Eq, Error)]
+#[derive(Clone, Copy, Debug, Error)]
 pub enum Door {
     /// Its name is a link, or it is no folder.
     #[error("it is no folder, or a link to one")]
@@ -28,7 +28,7 @@ pub enum Door {
 }
 
 /// Why a worker has to come back later.
-#[derive(Clone, Copy, Debug, PartialEq, Eq, Error)]
+#[derive(Clone, Copy, Debug, Error)]
 pub enum Later {
     /// Another process has this number.
     #[error("another process has this number")]

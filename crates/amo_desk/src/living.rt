@@ -34,11 +34,24 @@ pub(crate) fn work(
 ) -> Result<Counts, Fault> {
     enter(rt, setting, jobs)?;
     let boot = boot_id(rt, setting)?;
+    let guarded = take_number(rt, setting, worker)?;
+    live(rt, setting, jobs, worker, &boot, guarded)
+}
+
+/// The same from there on where this process has the number. The lock on the journal is kept to the end.
+fn live(
+    rt: HostRuntime,
+    setting: &Setting<'_>,
+    jobs: &Jobs<'_>,
+    worker: u64,
+    boot: &[u8],
+    guarded: Guarded,
+) -> Result<Counts, Fault> {
     let Guarded {
         journal,
         texts,
         lock: _guard,
-    } = take_number(rt, setting, worker)?;
+    } = guarded;
     let mut talk = Talk {
         rt,
         worker,
@@ -49,16 +62,28 @@ pub(crate) fn work(
         fault: None,
     };
     let serial = ask_past(rt.alloc(), &mut talk, &texts)?;
-    if let Some(lock) = lock_of(rt, setting, Item::Round)? {
-        let begun = begin(rt, setting, jobs, worker, &boot);
-        drop(lock);
-        if let Some(counts) = begun? {
-            return Ok(counts);
-        }
+    if let Some(counts) = begun(rt, setting, jobs, worker, boot)? {
+        return Ok(counts);
     }
-    let joined = join(rt, setting, worker, &boot)?;
+    let joined = join(rt, setting, worker, boot)?;
     talk.jobs = known(rt, setting)?;
     Err(work_in(rt.alloc(), talk, joined, serial))
+}
+
+/// Begins a round, where nobody is at work in another. Answers where all lines stand, if none is open.
+fn begun(
+    rt: HostRuntime,
+    setting: &Setting<'_>,
+    jobs: &Jobs<'_>,
+    worker: u64,
+    boot: &[u8],
+) -> Result<Option<Counts>, Fault> {
+    let Some(lock) = lock_of(rt, setting, Item::Round)? else {
+        return Ok(None);
+    };
+    let begun = begin(rt, setting, jobs, worker, boot);
+    drop(lock);
+    begun
 }
 
 /// The id that the machine has since it was started: one line.

@@ -8,7 +8,7 @@ use clap::{Arg, ArgAction, ArgMatches, Command, Error};
 use std::alloc::{AllocError, Global};
 
 /// How something is shown.
-#[derive(Clone, Copy, Debug, PartialEq, Eq)]
+#[derive(Clone, Copy)]
 pub(crate) enum Form {
     Text,
     Json,
@@ -35,7 +35,7 @@ pub(crate) enum Request<'a> {
 }
 
 /// Why words ask for nothing.
-#[derive(Debug, Drop)]
+#[derive(Drop)]
 pub(crate) enum Misuse {
     Memory,
     /// The words are none of the program's, or ask for help.
@@ -101,6 +101,27 @@ fn flag<'a>(alloc: Global, name: &'a str, help: &'a str) -> Arg<'a> {
         .help(help)
 }
 
+fn door<'a>(alloc: Global) -> Result<Command<'a>, AllocError> {
+    let about = "Whether a worker may begin; makes the folder RUN where there is none";
+    over_jobs(alloc, over_run(alloc, "door", about)?)
+}
+
+fn working<'a>(alloc: Global) -> Result<Command<'a>, AllocError> {
+    let about = "Lives as worker P; its partner is on standard input and output";
+    let command = over_run(alloc, "work", about)?;
+    over_jobs(alloc, command.arg(required(alloc, "P"))?)
+}
+
+fn doubting<'a>(alloc: Global) -> Result<Command<'a>, AllocError> {
+    let command = over_run(alloc, "doubts", "The doubts that are final")?;
+    command.arg(flag(alloc, "json", "as JSON"))
+}
+
+fn trying_again<'a>(alloc: Global) -> Result<Command<'a>, AllocError> {
+    let about = "Has each line tried once more whose command did nothing";
+    over_run(alloc, "again", about)
+}
+
 fn showing<'a>(alloc: Global) -> Result<Command<'a>, AllocError> {
     let lines = Arg::new(alloc, "lines")
         .long("lines")
@@ -114,53 +135,45 @@ fn showing<'a>(alloc: Global) -> Result<Command<'a>, AllocError> {
 }
 
 fn answering<'a>(alloc: Global) -> Result<Command<'a>, AllocError> {
-    let sheet = Arg::new(alloc, "from")
-        .long("from")
-        .conflicts_with("INTENT")?
-        .help(
-            "a file of answers, a line each: P.S, LINE, TEXT and done or not-done, with tabs between",
-        );
-    over_run(
-        alloc,
-        "answer",
-        "Takes what a person found out of an intent",
-    )?
-    .arg(Arg::new(alloc, "INTENT"))?
-    .arg(Arg::new(alloc, "LINE"))?
-    .arg(Arg::new(alloc, "TEXT"))?
-    .arg(Arg::new(alloc, "VERDICT"))?
-    .arg(sheet)
+    let about = "Takes what a person found out of an intent";
+    let command = with_answer(alloc, over_run(alloc, "answer", about)?)?;
+    let sheet = Arg::new(alloc, "from").long("from").help(
+        "a file of answers, a line each: P.S, LINE, TEXT and done or not-done, with tabs between",
+    );
+    command.arg(sheet.conflicts_with("INTENT")?)
+}
+
+/// The words of one answer.
+fn with_answer<'a>(alloc: Global, command: Command<'a>) -> Result<Command<'a>, AllocError> {
+    let command = command.arg(Arg::new(alloc, "INTENT"))?;
+    let command = command.arg(Arg::new(alloc, "LINE"))?;
+    let command = command.arg(Arg::new(alloc, "TEXT"))?;
+    command.arg(Arg::new(alloc, "VERDICT"))
 }
 
 /// The program's command.
 fn program<'a>(alloc: Global) -> Result<Command<'a>, AllocError> {
-    let door = over_run(
-        alloc,
-        "door",
-        "Whether a worker may begin; makes the folder RUN where there is none",
-    )?;
-    let work = over_run(
-        alloc,
-        "work",
-        "Lives as worker P; its partner is on standard input and output",
-    )?
-    .arg(required(alloc, "P"))?;
-    let doubts = over_run(alloc, "doubts", "The doubts that are final")?.arg(flag(
-        alloc, "json", "as JSON",
-    ))?;
-    Command::new(alloc, "amo_worker")
+    let command = Command::new(alloc, "amo_worker")
         .about("A worker of a run: each line of the jobs' file is handed to a partner at most once")
-        .subcommand_required(true)
-        .subcommand(over_jobs(alloc, door)?)?
-        .subcommand(over_jobs(alloc, work)?)?
-        .subcommand(showing(alloc)?)?
-        .subcommand(doubts)?
-        .subcommand(answering(alloc)?)?
-        .subcommand(over_run(
-            alloc,
-            "again",
-            "Has each line tried once more whose command did nothing",
-        )?)
+        .subcommand_required(true);
+    let command = with_workers(alloc, command)?;
+    let command = with_looks(alloc, command)?;
+    with_answers(alloc, command)
+}
+
+fn with_workers<'a>(alloc: Global, command: Command<'a>) -> Result<Command<'a>, AllocError> {
+    let command = command.subcommand(door(alloc)?)?;
+    command.subcommand(working(alloc)?)
+}
+
+fn with_looks<'a>(alloc: Global, command: Command<'a>) -> Result<Command<'a>, AllocError> {
+    let command = command.subcommand(showing(alloc)?)?;
+    command.subcommand(doubting(alloc)?)
+}
+
+fn with_answers<'a>(alloc: Global, command: Command<'a>) -> Result<Command<'a>, AllocError> {
+    let command = command.subcommand(answering(alloc)?)?;
+    command.subcommand(trying_again(alloc)?)
 }
 
 /// The number at an id, if it is one within the range.
