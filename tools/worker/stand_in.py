@@ -15,7 +15,8 @@ import sys
 import time
 
 MISTAKES = ("intent_after_the_act pending_is_open guard_is_removed words_of_another_boot cut_line_is_kept last_journal_wins"
-            " opens_without_settling folder_synced_by_the_maker_alone lists_without_settling").split()
+            " opens_without_settling folder_synced_by_the_maker_alone lists_without_settling own_words_forgotten"
+            " claim_after_the_act").split()
 MISTAKE = os.environ.get("AMO_MISTAKE")
 LOCAL = "ext2 ext3 ext4 xfs btrfs f2fs zfs overlay".split()
 KINDS = "done failed doubt running untouched open".split()
@@ -388,6 +389,8 @@ class Words:
     def come_back(self):
         """The jobs of the own row; one that was claimed and isn't filed is filed."""
         row = []
+        if MISTAKE == "own_words_forgotten":
+            return row
         while len(row) < self.n and (job := self.row(self.seat, len(row) + 1)):
             row.append(job)
         claims, job = self.load(self.m + self.seat, self.n), self.announced(self.seat)
@@ -419,8 +422,11 @@ def work_in(words, beta, perform):
                 front[q] += 1
         if job in known or job in tried:
             continue
-        words.store(m + p, len(row) + 1)
+        if MISTAKE != "claim_after_the_act":
+            words.store(m + p, len(row) + 1)
         leaves = perform(job)
+        if MISTAKE == "claim_after_the_act":
+            words.store(m + p, len(row) + 1)
         row.append(job)
         known.add(job)
         words.store(words.entry(p, len(row)), job)
