@@ -280,7 +280,7 @@ def jobs_of(jobs, known, is_first):
     sync(file, jobs)
     os.close(file)
     if not data.startswith(known or b""):
-        line = next(k for k, (a, b) in enumerate(zip((known + b"\n").split(b"\n"), (data + b"\n").split(b"\n")), 1) if a != b)
+        line = os.path.commonprefix([known, data]).count(b"\n") + 1
         raise End(65, f"{jobs}: line {line}: it was another one")
     lines, seen = data.split(b"\n"), set()
     last = lines.pop()
