@@ -21,6 +21,7 @@ MISTAKES = [
     ("folder_synced_by_the_maker_alone", power.try_killed_and_cut, GONE),
     ("own_words_forgotten", crowd.try_crew_killed, TWICE),
     ("claim_after_the_act", crowd.try_crew_killed, TWICE),
+    ("readers_without_a_lock", crowd.try_readers_beside_each_other, "a final doubt running"),
 ]
 CHEAPEST = 2
 

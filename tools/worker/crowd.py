@@ -109,6 +109,7 @@ def readers_of(scene, draws, count=READERS):
 def begin_beside(scene, counts, draws):
     """A worker is begun beside readers: it isn't told to come back. Nobody answers it, and it is killed."""
     readers, runner = readers_of(scene, draws, 4), Runner(scene, 1)
+    runner.was = lambda serial, line: None
     serve([runner.start(f"{draws.randint(1, 60)}:slow")], until=lambda: runner.lines)
     if runner.statuses:
         counts.add("a worker told to come back" if runner.statuses == [LATER] else "a worker refused", runner.said)
@@ -122,7 +123,9 @@ def answer_beside(scene, counts, draws):
     readers = readers_of(scene, draws, 4)
     answer = Reader(scene, "answer", "1.1", "1", "job 1", "not-done", faults=f"{draws.randint(1, 90)}:slow")
     status, _, err = answer.ended()
-    if status != OVER:
+    if status == OVER:
+        scene.note_answer(1, 1, 1, "not-done")
+    else:
         counts.add("an answer refused", f"status {status}: {err}")
     for it in readers:
         it.ended()

@@ -184,6 +184,10 @@ class Scene:
         text = self.look().lines[line - 1].decode()
         status, _, err = self.call("answer", self.run, f"{worker}.{serial}", str(line), text, verdict)
         want(status == OVER, f"answer {worker}.{serial} {verdict}: status {status}, {err}")
+        self.note_answer(worker, serial, line, verdict)
+
+    def note_answer(self, worker, serial, line, verdict):
+        """Notes that this answer was taken."""
         self.account.append(("reopened" if verdict == "not-done" else "found", worker, serial, line))
         self.answers[worker, serial] = verdict
 
