@@ -8,7 +8,7 @@ import time
 
 from worker.folder import read
 from worker.kills import Waiting, answerable, state_of
-from worker.scene import KILLED, LATER, OVER, Runner, finish, see_out, serve, want
+from worker.scene import KILLED, LATER, OVER, Runner, finish, serve, want
 
 READERS = 8
 
@@ -23,28 +23,58 @@ def drawn_kill(draws, filed, spare):
         return f"{draws.randint(1, 300 + filed)}:kill_{when}"
     if mood < 0.65:
         return f"s{draws.randint(1, 14)}:kill_{when}"
-    return f"s{draws.randint(1, int(1 + 40 * spare))}:kill_{when}" if mood < 0.9 or spare < 2 else None
+    return f"s{draws.randint(1, int(1 + 30 * spare))}:kill_{when}"
+
+
+class Late(Runner):
+    """A runner whose commands take a while: it answers some milliseconds after it was told."""
+
+    def __init__(self, scene, worker, draws):
+        super().__init__(scene, worker)
+        self.draws, self.due, self.reply = draws, 0, None
+
+    def start(self, faults=None):
+        self.reply = None
+        return super().start(faults)
+
+    def perform(self, serial, line):
+        self.reply = serial, line, super().perform(serial, line)
+        self.due = time.monotonic() + self.draws.random() * (0.1 if self.scene.bench.is_slow() else 0.02)
+
+    def answer_late(self):
+        if self.process and self.reply and time.monotonic() > self.due:
+            reply, self.reply = self.reply, None
+            self.answer(*reply)
+
+
+def work_for(runners, seconds):
+    """Serves these runners so long, or until one of their workers has ended."""
+    end = time.monotonic() + seconds
+    while time.monotonic() < end and all(it.process for it in runners):
+        for it in runners:
+            it.answer_late()
+        serve(runners, until=lambda slice=time.monotonic() + 0.001: time.monotonic() > slice)
 
 
 def kill_crew(bench, lines, kills, seed):
     """Four workers do these lines, and are killed so many times in all, at calls or from outside. Answers the run and its kills."""
     draws = random.Random(seed)
     scene = bench.scene(lines, 4)
-    runners = [Runner(scene, p) for p in range(1, 5)]
+    runners = [Late(scene, p, draws) for p in range(1, 5)]
     count = lambda: sum(it.statuses.count(KILLED) for it in runners)
     while count() < kills and len(scene.by) < lines and bench.has_time():
         for it in runners:
             if not it.process:
                 it.start(drawn_kill(draws, len(scene.by), (lines - len(scene.by)) / (kills - count())))
-        until = time.monotonic() + draws.random() * 0.05
-        serve(runners, until=lambda: time.monotonic() > until or not all(it.process for it in runners))
+        work_for(runners, draws.random() * 0.05)
         for it in runners:
             if it.process and draws.random() < 0.02:
                 it.kill()
-    see_out(runners, seconds=600, draws=draws)
+    kills = count()
     for it in runners:
         it.close()
-    return scene, count()
+    finish(scene, range(1, 5))
+    return scene, kills
 
 
 def try_crew_killed(bench):

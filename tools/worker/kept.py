@@ -87,7 +87,7 @@ def jobs_one(bench, number, how):
     status = live(runner, number and f"{number}:{errno.EIO}")
     if not number:
         runner.close()
-        return [int(it[1]) for it in scene.logged() if it[2:4] == ["sync", "JOBS"] and int(it[7]) >= 0]
+        return sorted({int(it[1]) for it in scene.logged() if it[2:4] == ["sync", "JOBS"]})
     want(status in (READ, WRITE) and names_file(runner.said, "JOBS", scene), f"status {status}: {runner.said}")
     serve([runner.start()], until=lambda: len(scene.effects()) > 1)
     power.cut([runner], how)

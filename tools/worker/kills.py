@@ -264,7 +264,7 @@ def reached(bench, try_one, *more):
 
 def try_no_memory(bench):
     """each allocation of a life, and of each command, refused: it ends by saying so, shows nothing, and nothing is lost"""
-    if not os.path.exists(f"{bench.room}/memory.so") or bench.program.endswith(".py"):
+    if not os.path.exists(f"{bench.room}/memory.so") or bench.is_slow():
         bench.skipped.append("memory is refused to a program over glibc alone")
         return None
     rows = [(live_without,), (call_without, ["status"]), (call_without, ["doubts", "--json"]),

@@ -62,7 +62,11 @@ class Bench:
         self.library, self.runners, self.watches, self.end, self.last = f"{self.room}/faults.so", [], True, None, None
 
     def command(self):
-        return [sys.executable, "-I", "-S", self.program] if self.program.endswith(".py") else [self.program]
+        return [sys.executable, "-I", "-S", self.program] if self.is_slow() else [self.program]
+
+    def is_slow(self):
+        """Whether it is a program in Python, which takes a tenth of a second to begin."""
+        return self.program.endswith(".py")
 
     def close(self):
         """Ends what a test has left."""
@@ -352,15 +356,17 @@ class Runner:
         if kind == "perform":
             self.scene.acknowledged[self.worker, serial] = number, None
         reply = getattr(self, kind)(serial, number)
-        if reply is None:
-            return
-        answer = reply.split(" ")[0]
-        self.waiting = serial, number, answer
-        if answer == "unbegun":
+        if reply is not None:
+            self.answer(serial, number, reply)
+
+    def answer(self, serial, number, reply):
+        """Says this of an intent to the worker, and goes by it where the worker can hear no more."""
+        words = reply.split(" ")
+        self.waiting = serial, number, words[0]
+        if words[0] == "unbegun":
             self.scene.account.append(("reopened", self.worker, serial, number))
+        words[1:1] = [str(serial)]
         try:
-            words = reply.split(" ")
-            words[1:1] = [str(serial)]
             self.process.stdin.write((" ".join(words) + (" leave" if self.leaves else " go") + "\n").encode())
         except BrokenPipeError:
             self.waiting = None
