@@ -203,6 +203,13 @@ class Power:
         self.disk = Disk(self.scene, self.draws, self.fails)
         self.begin()
 
+    def keep_all(self):
+        """From now on all that there is is on the disk."""
+        with self.scene.still():
+            self.performs = self.close()
+            os.truncate(self.scene.log, 0)
+            self.disk = Disk(self.scene, self.draws, self.fails)
+
     def keep(self, left, jobs):
         """Puts the log and what was left away, for who looks for the cause of something wrong, and begins another log."""
         os.rename(self.scene.log, f"{self.scene.log}.{self.scene.boots}")

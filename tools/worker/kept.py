@@ -96,6 +96,7 @@ def jobs_one(bench, number, how):
         status, _, err = scene.call("work", scene.run, "1", *scene.givens(), scene.jobs)
         want(status == REFUSED and "line 5" in err, f"status {status}: {err}")
         scene.write_jobs([f"job {k}" for k in range(1, 6)])
+        power.keep_all()
     settle_doubts(scene)
     power.close()
 
