@@ -4,7 +4,7 @@ acknowledged line that is gone. Without the mistake the stand-in passes them."""
 import os
 import re
 
-from worker import kills, persons, power, rounds, scene, texts
+from worker import crowd, kills, persons, power, rounds, scene, texts
 
 STAND_IN = os.path.join(os.path.dirname(os.path.realpath(__file__)), "stand_in.py")
 TWICE, GONE, DOUBT = "performed twice", "performed twice|acknowledged line is gone", "(?s)status says .* doubt 2 .*'doubt': 1,"
@@ -19,6 +19,9 @@ MISTAKES = [
     ("intent_after_the_act", kills.try_killed, TWICE),
     ("opens_without_settling", power.try_failed_sync_and_cut, GONE),
     ("folder_synced_by_the_maker_alone", power.try_killed_and_cut, GONE),
+    ("own_words_forgotten", crowd.try_crew_killed, TWICE),
+    ("claim_after_the_act", crowd.try_crew_killed, TWICE),
+    ("readers_without_a_lock", crowd.try_readers_beside_each_other, "a final doubt running"),
 ]
 CHEAPEST = 2
 

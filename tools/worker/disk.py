@@ -71,7 +71,7 @@ class Disk:
 
     def __init__(self, scene, draws, fails=None):
         self.scene, self.draws, self.fails = scene, draws, fails
-        self.names, self.moves, self.handles, self.journals, self.performs = {}, [], {}, {}, 0
+        self.names, self.moves, self.handles, self.journals, self.performs, self.lies = {}, [], {}, {}, 0, False
         self.jobs, self.is_there, self.is_kept = File(content(scene.jobs)), os.path.isdir(scene.run), os.path.isdir(scene.run)
         for name in os.listdir(scene.run) if self.is_there else ():
             self.names[name] = File(content(f"{scene.run}/{name}"))
@@ -97,6 +97,7 @@ class Disk:
                 self.sync_folder(file, result)
             elif name == "sync":
                 held.sync() if result >= 0 else held.fail(self.draws, self.fails)
+                self.lies = self.lies or result < 0 and file == "JOBS"  # no program writes that file again
             elif name == "write" and result > 0:
                 held.write(place, bytes.fromhex(more))
             elif name == "cut" and result >= 0:
@@ -143,7 +144,7 @@ class Disk:
             want(not journal.pending, f"{what}, and something of it isn't synced")
             want(last.startswith(b"intent %s %s " % (serial, line)), f"{what}, and the last text on the disk is {last}")
             want(jobs and bytes(jobs.kept).count(b"\n") >= int(line) and not jobs.pending, f"{what}, and jobs isn't synced")
-            want(self.jobs.kept.startswith(jobs.kept), f"{what}, and the jobs' file isn't synced as far as jobs holds it")
+            want(self.lies or self.jobs.kept.startswith(jobs.kept), f"{what}, and the jobs' file isn't synced as far as jobs holds it")
             for _, new, _ in self.moves:
                 want(new not in (name, "jobs", "record"), f"{what}, and the folder isn't synced since there is {new}")
             want(self.is_kept, f"{what}, and the folder above isn't synced since the run's folder was made")
@@ -197,10 +198,24 @@ class Power:
             if left is not None:
                 left.update(dict.fromkeys(self.runners_files(how), b""))
             self.rebuild(left, jobs)
-            os.truncate(self.scene.log, 0)
+            self.keep(left, jobs)
         self.scene.start_machine()
         self.disk = Disk(self.scene, self.draws, self.fails)
         self.begin()
+
+    def keep_all(self):
+        """From now on all that there is is on the disk."""
+        with self.scene.still():
+            self.performs = self.close()
+            os.truncate(self.scene.log, 0)
+            self.disk = Disk(self.scene, self.draws, self.fails)
+
+    def keep(self, left, jobs):
+        """Puts the log and what was left away, for who looks for the cause of something wrong, and begins another log."""
+        os.rename(self.scene.log, f"{self.scene.log}.{self.scene.boots}")
+        open(self.scene.log, "wb").close()
+        with open(f"{self.scene.room}/left.{self.scene.boots}", "w") as file:
+            file.write("".join(f"{name} {data}\n" for name, data in [("JOBS", jobs), *(left or {}).items()]))
 
     def runners_files(self, how):
         """Of the locks that runners made, which nobody syncs, those that are left."""

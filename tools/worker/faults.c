@@ -11,8 +11,11 @@
                before a call until it is written down: the order of lines is that of the calls, over all processes.
    AMO_BYTES   set where MORE is to have what was written to files, and not to the partner alone
    AMO_FAULTS  NUMBER:WHAT, with commas between: WHAT befalls the call of this number, from 1, or with NUMBER+ each from there on
-               that needs room on the disk. WHAT is kill_before, kill_after, stop_before, stop_after, short (half of the bytes are
-               moved), or an error number.
+               that needs room on the disk; with sNUMBER it is counted from the first line that is said to the partner. WHAT is
+               kill_before, kill_after, stop_before, stop_after, slow (it begins 30 milliseconds later), short (half of the bytes
+               are moved), or an error number.
+   AMO_HARNESS the process that tries: its own children are killed when it dies. What these have begun isn't: it is to see its
+               own parent die, as a worker its runner, and ends by that.
 
    No sync goes to the disk: what it would keep is what the log says. So tests are quick, and a power cut is made from the log. */
 #define _GNU_SOURCE
@@ -25,17 +28,20 @@
 #include <stdlib.h>
 #include <string.h>
 #include <sys/file.h>
+#include <sys/prctl.h>
 #include <sys/stat.h>
 #include <sys/syscall.h>
 #include <sys/uio.h>
+#include <time.h>
 #include <unistd.h>
 
 enum { MOST_FILES = 1024, MOST_FAULTS = 16, MOST_NAME = 64 };
-enum { KILL_BEFORE = -1, KILL_AFTER = -2, STOP_BEFORE = -3, STOP_AFTER = -4, SHORT = -5, NONE = 0 }; /* else an error number */
+enum { KILL_BEFORE = -1, KILL_AFTER = -2, STOP_BEFORE = -3, STOP_AFTER = -4, SHORT = -5, SLOW = -6, NONE = 0 };
+/* else an error number */
 
 struct fault {
   long number;
-  int onwards, what;
+  int onwards, since_said, what;
 };
 
 /* One call: what it is, on what, and what befalls it. */
@@ -47,13 +53,13 @@ struct call {
 
 static const char *run, *jobs;
 static int is_on, log_file = -1, keeps_bytes, fault_count;
-static long calls;
+static long calls, calls_since_said;
 static struct fault faults[MOST_FAULTS];
 static char names[MOST_FILES][MOST_NAME]; /* of each open descriptor that counts; empty: it doesn't */
 
 static int fault_named(const char *word) {
-  static const char *const words[] = {"kill_before", "kill_after", "stop_before", "stop_after", "short"};
-  for (int k = 0; k < 5; k++)
+  static const char *const words[] = {"kill_before", "kill_after", "stop_before", "stop_after", "short", "slow"};
+  for (int k = 0; k < 6; k++)
     if (strncmp(word, words[k], strlen(words[k])) == 0)
       return -1 - k;
   return atoi(word);
@@ -63,7 +69,8 @@ static void read_faults(const char *text) {
   while (text && *text && fault_count < MOST_FAULTS) {
     char *end;
     struct fault *it = &faults[fault_count++];
-    it->number = strtol(text, &end, 10);
+    it->since_said = *text == 's';
+    it->number = strtol(text + it->since_said, &end, 10);
     it->onwards = *end == '+';
     it->what = fault_named(end + it->onwards + 1);
     text = strchr(end, ',');
@@ -71,8 +78,16 @@ static void read_faults(const char *text) {
   }
 }
 
+/* Has a child of the harness killed when that dies. */
+static void die_with_harness(void) {
+  const char *harness = getenv("AMO_HARNESS");
+  if (harness && getppid() == atoi(harness))
+    prctl(PR_SET_PDEATHSIG, SIGKILL);
+}
+
 __attribute__((constructor)) static void begin(void) {
   const char *path = getenv("AMO_LOG");
+  die_with_harness();
   run = getenv("AMO_RUN"), jobs = getenv("AMO_JOBS"), keeps_bytes = getenv("AMO_BYTES") != NULL;
   is_on = run != NULL;
   read_faults(getenv("AMO_FAULTS"));
@@ -134,11 +149,15 @@ static int takes_room(const struct call *call) {
 /* Gives the call its number, and what befalls it. */
 static void number_call(struct call *call) {
   call->number = ++calls;
+  calls_since_said += calls_since_said > 0 || strcmp(call->name, "say") == 0;
   for (int k = 0; k < fault_count; k++) {
     const struct fault *it = &faults[k];
-    if (it->onwards ? call->number >= it->number && takes_room(call) : call->number == it->number)
+    long number = it->since_said ? calls_since_said : calls;
+    if (it->onwards ? number >= it->number && takes_room(call) : number == it->number)
       call->fault = it->what;
   }
+  if (call->fault == SLOW)
+    nanosleep(&(struct timespec){0, 30000000}, NULL);
   if (call->fault == STOP_BEFORE)
     end_by(SIGSTOP);
 }

@@ -6,7 +6,7 @@ import shutil
 import signal
 
 from worker import folder
-from worker.scene import KILLED, LATER, LEFT, READ, WRITE, Runner, each, finish, live, see_out, serve, want
+from worker.scene import KILLED, LATER, LEFT, MEMORY, OVER, READ, WRITE, Runner, each, finish, live, see_out, serve, want
 
 CHANGES = ("write", "cut", "sync", "rename", "lock", "folder", "remove", "say", "hear")
 INTERRUPTED = ("open", "read", "write", "cut", "sync", "lock", "say", "hear")
@@ -201,6 +201,81 @@ def try_full(bench):
     return f"{each(((bench, it) for it in bench.sample(numbers, 12)), full_from)} disks"
 
 
+def refused_memory(scene, number):
+    """From now on processes of this run are refused their allocation of this number."""
+    bench = scene.bench
+    told = f"{scene.room}/refused"
+    if os.path.exists(told):
+        os.unlink(told)
+    scene.more = {"AMO_MEMORY": str(number), "AMO_REFUSED": told, "LD_PRELOAD": f"{bench.library} {bench.room}/memory.so"}
+    return lambda: os.path.exists(told)
+
+
+def live_without(bench, number):
+    """A first life without one allocation: it ends by saying so, or it goes on; the next one goes on. Whether it came so far."""
+    scene = bench.scene(4, 2)
+    runner, was_refused = Runner(scene, 1), refused_memory(scene, number)
+    status = live(runner)
+    if not was_refused():
+        return False
+    said = status == MEMORY and "memory" in runner.said and runner.said.count("\n") == 1
+    want(said or status == LATER, f"without allocation {number}: status {status}, {runner.said!r}")
+    scene.more = {}
+    see_out([runner])
+    runner.close()
+    scene.audit()
+    want_all_told(scene)
+    return True
+
+
+def call_without(bench, number, words):
+    """A command without one allocation: it says so and shows nothing, or all. Whether it came so far."""
+    scene = prepared_call(bench)
+    was_refused = refused_memory(scene, number)
+    status, out, err = scene.call(words[0], scene.run, *words[1:])
+    if not was_refused():
+        return False
+    said = status == MEMORY and not out and "memory" in err and err.count("\n") == 1
+    want(said or status == OVER, f"{words[0]} without allocation {number}: status {status}, {out or err!r}")
+    scene.more = {}
+    if words[0] == "answer":
+        scene.answer(1, 1, 1, "done")
+    return True
+
+
+def prepared_call(bench):
+    """A run with a doubt, of which a command tells."""
+    scene = bench.scene(3, 1)
+    runner = Runner(scene, 1)
+    runner.after = lambda serial: "doubt"
+    runner.leaves = True
+    live(runner)
+    runner.close()
+    return scene
+
+
+def reached(bench, try_one, *more):
+    """How many allocations there are, at least half of them known: the first number doubled that isn't reached."""
+    number = 1
+    while try_one(bench, number, *more):
+        number *= 2
+    return number
+
+
+def try_no_memory(bench):
+    """each allocation of a life, and of each command, refused: it ends by saying so, shows nothing, and nothing is lost"""
+    if not os.path.exists(f"{bench.room}/memory.so") or bench.is_slow():
+        bench.skipped.append("memory is refused to a program over glibc alone")
+        return None
+    rows = [(live_without,), (call_without, ["status"]), (call_without, ["doubts", "--json"]),
+            (call_without, ["answer", "1.1", "1", "job 1", "done"])]
+    count = 0
+    for try_one, *more in rows:
+        numbers = range(1, reached(bench, try_one, *more))
+        count += each(((bench, it, *more) for it in bench.sample(numbers, 6)), try_one)
+    return f"{count} refusals"
+
+
 def answer_killed(bench, number):
     """Who answers is killed at this call; the answer is there then, or is taken when it is given again."""
     scene, fault = answerable(bench), f"{number}:kill_after"
@@ -322,5 +397,5 @@ def try_locks_of_old_files(bench):
 
 PARTS = {"killed": [try_killed, try_killed_beside, try_killed_and_dropped, try_killed_with_its_runner, try_killed_answers,
                     try_killed_listers],
-         "refused": [try_refused, try_full],
+         "refused": [try_refused, try_full, try_no_memory],
          "numbers": [try_two_of_one_number, try_locks_of_old_files]}

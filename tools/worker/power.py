@@ -1,7 +1,6 @@
 """Cuts of power over the simulated disk, and what has to be on it before a line is performed."""
 
 import errno
-import random
 
 from worker.disk import Power
 from worker.folder import read, texts_of
@@ -152,10 +151,11 @@ def try_listed_and_cut(bench):
 
 
 def try_failed_sync_and_cut(bench):
-    """each sync fails and keeps nothing, later ones say that all is well, and the power is cut: no line is performed twice"""
+    """each sync, also of the folder, fails and keeps nothing, later ones say that all is well, and the power is cut: no line is
+    performed twice"""
     count = 0
     for beside in (False, True):
-        numbers = [int(it[1]) for it in life_points(bench, beside) if it[2] == "sync" and it[3] not in (".", "..", "JOBS")]
+        numbers = [int(it[1]) for it in life_points(bench, beside) if it[2] == "sync" and it[3] != "JOBS"]
         ways = ("none", "all", "drawn") if bench.is_long else ("none",)
         count += each(((bench, it, errno.EIO, how, beside) for it in numbers for how in ways), cut_one)
     return f"{count} syncs"
@@ -243,80 +243,6 @@ def try_order(bench):
     return f"{performs} performs"
 
 
-class Moody(Runner):
-    """A runner that now and then doesn't begin a command and says so, and that may die before or after one."""
-
-    def __init__(self, scene, worker, draws):
-        super().__init__(scene, worker)
-        self.draws, self.dies = draws, False
-
-    def perform(self, serial, line):
-        mood = self.draws.random()
-        if mood < 0.08:
-            return "unbegun"
-        if mood < 0.12:
-            self.dies = True
-            return None
-        reply = super().perform(serial, line)
-        self.dies = mood > 0.92
-        return None if self.dies else reply
-
-
-def storm(bench, seed):
-    """A run with kills, failed calls, deaths of runners, a jobs' file that grows, persons who answer, and cuts of power."""
-    draws = random.Random(seed)
-    scene = bench.scene(draws.randint(1, 4), draws.choice([1, 1, 2, 2, 3]), makes=False)
-    power, count = Power(scene, draws), 0
-    for _ in range(draws.randint(1, 4)):
-        runners = [Moody(scene, p, draws) for p in range(1, scene.workers + 1) if draws.random() < 0.8]
-        for _ in range(draws.randint(1, 3)):
-            living = [it for it in runners if not it.process and not it.dies]
-            for it in living:
-                it.start(drawn_faults(draws))
-            until = len(scene.account) + draws.randint(1, 6)
-            serve([it for it in runners if it.process],
-                  until=lambda: len(scene.account) >= until or any(it.dies for it in runners))
-            for it in runners:
-                if it.dies:
-                    it.close()
-        if draws.random() < 0.2:
-            power.grow(b"job %d more\n" % (100 + count))
-            count += 1
-        between(scene, power, runners, draws)
-    settle_doubts(scene)
-    return power.close()
-
-
-def drawn_faults(draws):
-    mood, number = draws.random(), draws.choice([draws.randint(1, 60), draws.randint(1, 250)])
-    if mood < 0.4:
-        return f"{number}:kill_after"
-    if mood < 0.6:
-        return f"{number}:{errno.EIO}"
-    return f"{number}:{errno.EIO},{number + draws.randint(1, 40)}:kill_after" if mood < 0.7 else None
-
-
-def between(scene, power, runners, draws):
-    """Some of the runners die; a person asks, and perhaps answers; then power is cut, mostly."""
-    for it in runners:
-        if draws.random() < 0.6:
-            it.close()
-    if draws.random() < 0.5:
-        listed, performed = scene.doubts(), [it[2] for it in scene.effects()]
-        for worker, serial, line in listed:
-            if draws.random() < 0.4:
-                scene.answer(worker, serial, line, "done" if line in performed else "not-done")
-    if draws.random() < 0.8:
-        power.cut(runners)
-    for it in runners:
-        it.close()
-
-
-def try_storms(bench):
-    """runs drawn at random, with cuts of power: no line twice, nothing acknowledged gone, no doubt performed later"""
-    return f"{each(((bench, f'{bench.seed}.{k}') for k in range(10000 if bench.is_long else 100)), storm)} storms"
-
-
-PARTS = {"order": [try_order], "storms": [try_storms],
+PARTS = {"order": [try_order],
          "cuts": [try_cut_at_each_call, try_killed_and_cut, try_door_killed_and_cut, try_listed_and_cut, try_failed_sync_and_cut,
                   try_failed_answers_and_cut, try_words_of_another_boot]}

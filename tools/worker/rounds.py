@@ -3,6 +3,7 @@
 import errno
 import os
 import random
+import re
 import shutil
 import signal
 import time
@@ -10,7 +11,7 @@ import time
 from worker import folder
 from worker.kills import state_of
 from worker.persons import Says, counts_of
-from worker.scene import DOOR, LATER, OVER, READ, REFUSED, WRITE, Runner, each, finish, live, see_out, serve, want
+from worker.scene import DOOR, LATER, OVER, READ, REFUSED, SENSELESS, WRITE, Runner, each, finish, live, see_out, serve, want
 
 
 def begun(bench, lines=9, workers=2):
@@ -133,6 +134,37 @@ def try_last_line(bench):
         file.write("1\n")
     finish(scene, (1, 2))
     want(len(scene.effects()) == 11, f"performed: {scene.effects()}")
+
+
+def torn_one(bench, whole, length, tail):
+    """The jobs' file ends within this byte, or in something else behind it: it is refused by the line where it isn't what the run
+    knows, or by the last line once no other is open; whole again, it is taken."""
+    scene = begun(bench, 4)
+    known, data = folder.read(scene.jobs), whole[:length] + tail
+    with open(scene.jobs, "wb") as file:
+        file.write(data)
+    runner, statuses = Runner(scene, 1), [LATER]
+    while statuses[-1] == LATER:
+        statuses.append(live(runner))
+    runner.close()
+    same = os.path.commonprefix([known, data])
+    line = same.count(b"\n") + 1 if len(same) < len(known) else data.count(b"\n") + 1
+    is_whole = len(same) == len(known) and data.endswith(b"\n")
+    named = f"line {line}:" in runner.said and "jobs" in runner.said.replace(scene.run, "")
+    want(statuses[-1] == (OVER if is_whole else REFUSED) and (is_whole or named), f"statuses {statuses}, {runner.said}")
+    done = 2 if len(same) < len(known) else data.count(b"\n")
+    want(len(scene.effects()) == done, f"{done} lines are whole, and performed are {scene.effects()}")
+    with open(scene.jobs, "wb") as file:
+        file.write(whole)
+    finish(scene, (1, 2))
+    want(len(scene.effects()) == 6, f"performed: {scene.effects()}")
+
+
+def try_jobs_torn(bench):
+    """a jobs' file that ends within a line, at each byte, or in NULs or other bytes: refused by the line, and taken when it is whole"""
+    whole = b"".join(b"job %d\n" % k for k in range(1, 7))
+    rows = [(bench, whole, length, tail) for length in range(len(whole)) for tail in (b"", b"\0\0\0", b"\xff\xfe", b"+-")]
+    return f"{each(bench.sample(rows, 14), torn_one)} files"
 
 
 def try_many_lines(bench):
@@ -287,6 +319,88 @@ def try_collisions(bench):
     return f"{each(bench.sample(rows, 60), collide_one)} stops"
 
 
+def spoil_one(bench, word, value):
+    """A word gets this value, that no worker leaves, while worker 1 has a line in its hand; worker 2 begins, and worker 1 goes on.
+    Each ends by naming the word, or has nothing to do with it. Once both have ended the next round begins with new words."""
+    scene = bench.scene(8, 2)
+    first, second = Runner(scene, 1), Runner(scene, 2)
+    first.perform = lambda *given: Runner.perform(first, *given) if len(first.lines) < 3 else None
+    serve([first.start()], until=lambda: len(first.lines) > 2)
+    with open(f"{scene.run}/words", "r+b") as file:
+        file.seek(512 + 8 * word)
+        file.write(value.to_bytes(8, "little"))
+    serve([second.start()])
+    del first.perform
+    first.process.stdin.write(answer_to(first).encode())
+    serve([first])
+    for it in (first, second):
+        named = it.statuses == [SENSELESS] and re.search(rf"word {word}\b", it.said)
+        want(named or it.statuses == [LATER], f"worker {it.worker} ends with {it.statuses}: {it.said}")
+        it.close()
+    finish(scene, (1, 2))
+    want(len(scene.effects()) == 8, f"performed: {scene.effects()}")
+
+
+def answer_to(runner):
+    """Performs the line that this runner's worker said last: the answer to it."""
+    serial, line = map(int, runner.lines[-1].split(" ")[1:3])
+    reply = Runner.perform(runner, serial, line)
+    return f"{reply.split(' ')[0]} {serial} 0 go\n"
+
+
+def return_one(bench, spoil):
+    """Worker 2 has two lines behind it and is killed; its words are changed so that no worker leaves them so, while worker 1 is at
+    work. It goes on with nothing until both have ended and the next round is begun."""
+    scene = bench.scene(8, 2)
+    first, second = Runner(scene, 1), Runner(scene, 2)
+    first.perform = lambda serial, line: None
+    serve([first.start()], until=lambda: first.lines)
+    second.perform = lambda *given: Runner.perform(second, *given) if len(second.lines) < 3 else None
+    serve([second.start()], until=lambda: len(second.lines) > 2)
+    second.kill()
+    serve([second])
+    path, record = f"{scene.run}/words", folder.record_of(scene.run)
+    words = bytearray(folder.read(path))
+    spoil(memoryview(words)[512:].cast("Q"), record["m"], record["n"])
+    with open(path, "r+b") as file:
+        file.write(words)
+    second.perform = lambda serial, line: None
+    serve([second.start()], until=lambda: second.lines and second.lines[-1].startswith("perform"))
+    want(second.statuses[-1] == SENSELESS and "words" in second.said, f"status {second.statuses}: {second.said} {second.lines}")
+    scene.account.append(("performed", 1, 1, 1))
+    for it in (first, second):
+        it.close()
+    finish(scene, (1, 2))
+
+
+def spoils():
+    """Changes of worker 2's words that no worker leaves: its count of claims, its announcement, its row."""
+    seat = 2
+
+    def row(words, m, n, place, value):
+        words[2 * m + (seat - 1) * (n + 1) + place] = value
+
+    def entry(words, m, n, place):
+        return words[2 * m + (seat - 1) * (n + 1) + place]
+
+    def claims(words, m, value):
+        words[m + seat] = value
+
+    yield lambda words, m, n: claims(words, m, 1)
+    yield lambda words, m, n: claims(words, m, 5)
+    yield lambda words, m, n: row(words, m, n, 2, entry(words, m, n, 1))
+    yield lambda words, m, n: row(words, m, n, 1, n + 1)
+    yield lambda words, m, n: words.__setitem__(seat, n + 1)
+    yield lambda words, m, n: words.__setitem__(seat, entry(words, m, n, 1))
+
+
+def try_words_spoiled(bench):
+    """words of values that no worker leaves, while others work: it is named, or nothing to do with; each line is done once"""
+    rows = [(bench, word, value) for word in range(2 * (8 + 3) + 1) for value in (9, 2**32 + 1, 2**64 - 1)]
+    count = each(bench.sample(rows, 10), spoil_one)
+    return f"{count + each(((bench, it) for it in spoils()), return_one)} changes"
+
+
 def read_one(scene, is_list):
     """One reader beside the writers: what was performed before it began isn't open, and its counts add up."""
     before = {it[2] for it in scene.effects()}
@@ -380,6 +494,7 @@ def try_failed_readers(bench):
     return f"{count} refusals"
 
 
-PARTS = {"rounds": [try_changes, try_givens, try_seats, try_closing_wins, try_jobs_changed, try_last_line, try_many_lines],
-         "crews": [try_crews, try_collisions, try_stopped_in_a_round, try_stopped_between_rounds],
+PARTS = {"rounds": [try_changes, try_givens, try_seats, try_closing_wins, try_jobs_changed, try_jobs_torn, try_last_line,
+                    try_many_lines],
+         "crews": [try_crews, try_collisions, try_words_spoiled, try_stopped_in_a_round, try_stopped_between_rounds],
          "readers": [try_readers, try_unreadable, try_failed_readers]}

@@ -44,6 +44,7 @@ def each(items, try_one):
             try_one(*it)
         except Wrong as wrong:
             wrongs.append(f"{' '.join(str(part)[-60:] for part in it if isinstance(part, (str, int, bytes)))}: {wrong}")
+            bench.last.tell(wrongs[-1])
             if len(wrongs) == 20:
                 break
         bench.close()
@@ -58,10 +59,14 @@ class Bench:
     def __init__(self, program, room, is_long, seed, mistake=None):
         self.program, self.room, self.is_long, self.mistake = os.path.abspath(program), os.path.realpath(room), is_long, mistake
         self.draws, self.seed, self.scenes, self.skipped, self.processes = random.Random(seed), seed, 0, [], 0
-        self.library, self.runners, self.watches, self.end = f"{self.room}/faults.so", [], True, None
+        self.library, self.runners, self.watches, self.end, self.last = f"{self.room}/faults.so", [], True, None, None
 
     def command(self):
-        return [sys.executable, "-I", "-S", self.program] if self.program.endswith(".py") else [self.program]
+        return [sys.executable, "-I", "-S", self.program] if self.is_slow() else [self.program]
+
+    def is_slow(self):
+        """Whether it is a program in Python, which takes a tenth of a second to begin."""
+        return self.program.endswith(".py")
 
     def close(self):
         """Ends what a test has left."""
@@ -82,7 +87,8 @@ class Bench:
     def scene(self, lines=3, workers=1, **more):
         """A new run, in a folder of its own."""
         self.scenes += 1
-        return Scene(self, tempfile.mkdtemp(dir=self.room), lines, workers, **more)
+        self.last = Scene(self, tempfile.mkdtemp(dir=self.room), lines, workers, **more)
+        return self.last
 
 
 class Scene:
@@ -92,8 +98,8 @@ class Scene:
         """Makes the run's folder itself, or leaves that to the door."""
         self.bench, self.room, self.workers, self.beta = bench, room, workers, beta
         self.run, self.jobs, self.boot, self.log = f"{room}/run", f"{room}/jobs", f"{room}/boot", f"{room}/log"
-        self.account, self.acknowledged, self.answers = [], {}, {}
-        self.boots, self.logs, self.keeps, self.is_still = 0, False, False, False
+        self.account, self.acknowledged, self.answers, self.by = [], {}, {}, {}
+        self.boots, self.logs, self.keeps, self.is_still, self.more = 0, False, False, False, {}
         self.write_jobs([f"job {k}" for k in range(1, lines + 1)])
         self.start_machine()
         if makes:
@@ -118,10 +124,11 @@ class Scene:
 
     def environment(self, faults=None):
         """What a process of this run is given: the library of faults, and where it writes the calls down."""
-        named = {"PATH": os.environ["PATH"], "LD_PRELOAD": self.bench.library, "AMO_RUN": self.run, "AMO_JOBS": self.jobs}
+        named = {"PATH": os.environ["PATH"], "LD_PRELOAD": self.bench.library, "AMO_RUN": self.run, "AMO_JOBS": self.jobs,
+                 "AMO_HARNESS": str(os.getpid())}
         extra = {"AMO_FAULTS": faults, "AMO_LOG": self.log if self.logs else None, "AMO_BYTES": "yes" if self.keeps else None,
                  "AMO_MISTAKE": self.bench.mistake}
-        return {**named, **{name: value for name, value in extra.items() if value}}
+        return {**named, **{name: value for name, value in extra.items() if value}, **self.more}
 
     def call(self, command, *words, faults=None):
         """A command that ends by itself: its status and what it wrote on both streams."""
@@ -153,12 +160,17 @@ class Scene:
 
     def performed(self, worker, serial, line):
         """Notes that this line was performed, and stops where it was before."""
-        before = [it for it in self.effects() if it[2] == line]
+        before, self.by[line] = self.by.get(line), f"{worker}.{serial}"
         self.account.append(("performed", worker, serial, line))
-        want(not before, f"performed twice: line {line} by {worker}.{serial}, and before by {before[:1]}")
+        want(not before, f"performed twice: line {line} by {worker}.{serial}, and before by {before}")
 
     def effects(self):
         return [it[1:] for it in self.account if it[0] == "performed"]
+
+    def tell(self, wrong):
+        """Writes down what is wrong and what the account says, for who looks for the cause."""
+        with open(f"{self.room}/account", "w") as file:
+            file.write("".join(f"{it}\n" for it in [wrong, *self.account, self.acknowledged, self.answers]))
 
     def doubts(self):
         """Asks for the doubts, and notes that they were listed."""
@@ -176,6 +188,10 @@ class Scene:
         text = self.look().lines[line - 1].decode()
         status, _, err = self.call("answer", self.run, f"{worker}.{serial}", str(line), text, verdict)
         want(status == OVER, f"answer {worker}.{serial} {verdict}: status {status}, {err}")
+        self.note_answer(worker, serial, line, verdict)
+
+    def note_answer(self, worker, serial, line, verdict):
+        """Notes that this answer was taken."""
         self.account.append(("reopened" if verdict == "not-done" else "found", worker, serial, line))
         self.answers[worker, serial] = verdict
 
@@ -287,6 +303,7 @@ class Runner:
         *lines, self.rest = (self.rest + part).split(b"\n")
         for line in lines:
             kind, serial, number, _ = line.split(b" ", 3)
+            self.see_kept(kind, int(serial), int(number))
             if kind == b"perform":
                 self.scene.account.append(("said", self.worker, int(serial), int(number)))
             if self.drops and self.is_dead():
@@ -296,6 +313,13 @@ class Runner:
             return True
         self.end()
         return False
+
+    def see_kept(self, kind, serial, number):
+        """No intent is said anew that was acknowledged, and none asked for whose answer was: else that is gone."""
+        line, answer = self.scene.acknowledged.get((self.worker, serial), (None, None))
+        is_new = line is None if kind == b"perform" else line in (None, number) and answer is None
+        said = f"{kind.decode()} {self.worker}.{serial} of line {number}"
+        want(is_new, f"an acknowledged line is gone: it says {said}, and there was {answer or 'the intent'} of line {line}")
 
     def is_dead(self):
         """Whether it has died, or does in a moment."""
@@ -332,15 +356,17 @@ class Runner:
         if kind == "perform":
             self.scene.acknowledged[self.worker, serial] = number, None
         reply = getattr(self, kind)(serial, number)
-        if reply is None:
-            return
-        answer = reply.split(" ")[0]
-        self.waiting = serial, number, answer
-        if answer == "unbegun":
+        if reply is not None:
+            self.answer(serial, number, reply)
+
+    def answer(self, serial, number, reply):
+        """Says this of an intent to the worker, and goes by it where the worker can hear no more."""
+        words = reply.split(" ")
+        self.waiting = serial, number, words[0]
+        if words[0] == "unbegun":
             self.scene.account.append(("reopened", self.worker, serial, number))
+        words[1:1] = [str(serial)]
         try:
-            words = reply.split(" ")
-            words[1:1] = [str(serial)]
             self.process.stdin.write((" ".join(words) + (" leave" if self.leaves else " go") + "\n").encode())
         except BrokenPipeError:
             self.waiting = None

@@ -15,7 +15,8 @@ import sys
 import time
 
 MISTAKES = ("intent_after_the_act pending_is_open guard_is_removed words_of_another_boot cut_line_is_kept last_journal_wins"
-            " opens_without_settling folder_synced_by_the_maker_alone lists_without_settling").split()
+            " opens_without_settling folder_synced_by_the_maker_alone lists_without_settling own_words_forgotten"
+            " claim_after_the_act readers_without_a_lock").split()
 MISTAKE = os.environ.get("AMO_MISTAKE")
 LOCAL = "ext2 ext3 ext4 xfs btrfs f2fs zfs overlay".split()
 KINDS = "done failed doubt running untouched open".split()
@@ -132,6 +133,9 @@ class Journal:
 
     def lock(self):
         return has_lock(self.file, self.path, fcntl.LOCK_EX)
+
+    def close(self):
+        os.close(self.file)
 
     def settle(self):
         """Has the disk keep what is read, and a closed gate behind it."""
@@ -279,7 +283,7 @@ def jobs_of(jobs, known, is_first):
     sync(file, jobs)
     os.close(file)
     if not data.startswith(known or b""):
-        line = next(k for k, (a, b) in enumerate(zip((known + b"\n").split(b"\n"), (data + b"\n").split(b"\n")), 1) if a != b)
+        line = os.path.commonprefix([known, data]).count(b"\n") + 1
         raise End(65, f"{jobs}: line {line}: it was another one")
     lines, seen = data.split(b"\n"), set()
     last = lines.pop()
@@ -388,6 +392,8 @@ class Words:
     def come_back(self):
         """The jobs of the own row; one that was claimed and isn't filed is filed."""
         row = []
+        if MISTAKE == "own_words_forgotten":
+            return row
         while len(row) < self.n and (job := self.row(self.seat, len(row) + 1)):
             row.append(job)
         claims, job = self.load(self.m + self.seat, self.n), self.announced(self.seat)
@@ -419,8 +425,11 @@ def work_in(words, beta, perform):
                 front[q] += 1
         if job in known or job in tried:
             continue
-        words.store(m + p, len(row) + 1)
+        if MISTAKE != "claim_after_the_act":
+            words.store(m + p, len(row) + 1)
         leaves = perform(job)
+        if MISTAKE == "claim_after_the_act":
+            words.store(m + p, len(row) + 1)
         row.append(job)
         known.add(job)
         words.store(words.entry(p, len(row)), job)
@@ -465,8 +474,19 @@ def guard(run, worker):
         return Journal(run, f"journal.{worker}")
     journal = Journal(run, f"journal.{worker}")
     if not journal.lock():
-        raise End(LATER, f"somebody else is worker {worker}")
+        held = readers_lock(run)  # so that it is no reader who has it
+        if not journal.lock():
+            raise End(LATER, f"somebody else is worker {worker}")
+        held.close()
     return journal
+
+
+def readers_lock(run):
+    """The lock of answers, once no reader has it: each keeps it as long as it holds locks of workers."""
+    file = Journal(run, "answers")
+    if MISTAKE != "readers_without_a_lock":
+        called(73, file.path, fcntl.flock, file.file, fcntl.LOCK_EX)
+    return file
 
 
 def share_round(it):
@@ -586,6 +606,7 @@ def alive(run):
 
 def status(it):
     enter(it)
+    _readers = readers_lock(it.run)
     living = list(alive(it.run))
     ledger, _ = final_ledger(it.run)
     told = [(kind, found, line) for line, kind, found in ledger.kinds()]
@@ -614,6 +635,7 @@ def say(text, line=b""):
 
 def doubts(it):
     enter(it)
+    _readers = readers_lock(it.run)
     ledger, _ = final_ledger(it.run)
     told = [(line, found) for line, kind, found in ledger.kinds() if kind == "doubt"]
     if it.is_json:
@@ -649,8 +671,7 @@ def answer(it):
         rows = [[*row[:2], *row[2].rsplit(b"\t", 1)] if len(row) == 3 and b"\t" in row[2] else [b""] * 4 for row in rows]
     else:
         rows = [[os.fsencode(word) for word in it.words]]
-    file = Journal(it.run, "answers")
-    called(73, file.path, fcntl.flock, file.file, fcntl.LOCK_EX)
+    file = readers_lock(it.run)
     file.settle()
     ledger, _held = final_ledger(it.run)
     verdicts = {}
@@ -666,8 +687,7 @@ def answer(it):
 
 def again(it):
     enter(it)
-    file = Journal(it.run, "answers")
-    called(73, file.path, fcntl.flock, file.file, fcntl.LOCK_EX)
+    file = readers_lock(it.run)
     file.settle()
     for intent in (intent for journal in Ledger(it.run).journals for intent in journal):
         if intent.answer and intent.answer[0] == b"untouched" and not intent.found:

@@ -47,7 +47,9 @@ def read_as(scene, name, data):
 
 
 def cut_one(scene, name, data, length, works):
-    """Cut at this byte; and, where it is read, the next worker keeps its texts, and puts the next behind them."""
+    """Cut at this byte; and, where it is read, the next worker keeps its texts, and puts the next behind them. What is cut away was
+    acknowledged, and isn't looked for."""
+    scene.acknowledged.clear()
     put(f"{scene.run}/{name}", data)
     if read_as(scene, name, data[:length]) and works:
         runner = Says(scene, 1, ["unbegun"])
