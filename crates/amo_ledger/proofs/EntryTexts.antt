@@ -19,13 +19,13 @@ use Rattle.amo_ledger.proofs.Words.{lacks_by_test, AreWords, words, split, two_r
 
 -- codes
 
-code_reads : (n : ℕ) → n < 2 ^ 8 → code_in n ≡ Some n
+pub code_reads : (n : ℕ) → n < 2 ^ 8 → code_in n ≡ Some n
 code_reads n fits = ap (λ b. cond b None (Some n)) (not_more n fits)
   where
     not_more : (k : ℕ) → k < 2 ^ 8 → nat_lt 255 k ≡ false
     not_more k h = grind (arith, nat_tests)
 
-code_printed : (n c : ℕ) → code_in n ≡ Some c → (n ≡ c) × (c < 2 ^ 8)
+pub code_printed : (n c : ℕ) → code_in n ≡ Some c → (n ≡ c) × (c < 2 ^ 8)
 code_printed n c h = by_test (nat_lt 255 n) refl h
   where
     at_most : (k : ℕ) → nat_lt 255 k ≡ false → k < 2 ^ 8

@@ -87,14 +87,14 @@ at_most : (a b : ℕ) → nat_le a b ≡ true → a ≤ b
 at_most a b t = grind (arith, nat_tests)
 
 -- what a sound record keeps of its numbers
-record KeepsLimits (r : RecordView) : Type 0 where
+pub record KeepsLimits (r : RecordView) : Type 0 where
   pub jobs : r.givens.jobs ≤ 4096
   pub sharing : r.givens.workers ≤ r.workers
   pub workers : r.workers ≤ 16
   pub beta : r.givens.beta ≤ 65535
   pub first : r.first ≤ r.workers
 
-limits : (r : RecordView) → is_sound r ≡ true → KeepsLimits r
+pub limits : (r : RecordView) → is_sound r ≡ true → KeepsLimits r
 limits r h =
     let (about_jobs, others) = and_parts ((r.givens.jobs == length r.lines) && (nat_le r.givens.jobs 4096 && ascends_from 0 r.lines)) _ h in
     let (one, jobs) = and_parts (r.givens.jobs == length r.lines) _ about_jobs in

@@ -17,7 +17,7 @@ pub use entry::{Answer, Entry};
 pub use fault::Fault;
 pub use finding::{Finding, Verdict, first_misplaced, is_undone, read_findings};
 pub use journal::{Attempt, journal_of, note, pending, read_entries};
-pub use numbers::{number, three, two};
+pub use numbers::{number, number_of_bytes, three, two};
 pub use open::{open_lines, opens};
 pub use put::{put_entry, put_finding};
 pub use record::Record;

@@ -40,9 +40,9 @@ fn begins_strictly(text: &[u8]) -> bool
     !text.is_empty() && (text[0] > b'0' || (text[0] == b'0' && text.len() == 1))
 }
 
-/// The number that the bytes say. What is no text says none.
+/// The number that the bytes say, read as by `number`. What is no text says none.
 #[tactic(auto, using(crate::proofs::Words::number_no_text))]
-pub(crate) fn number_of(bytes: &[u8]) -> Option<u64>
+pub fn number_of_bytes(bytes: &[u8]) -> Option<u64>
     ensures { result ≡ number_in bytes.now }
 {
     match str::from_utf8(bytes) {
@@ -53,7 +53,7 @@ pub(crate) fn number_of(bytes: &[u8]) -> Option<u64>
 
 /// The two numbers that the bytes say.
 #[tactic(auto, using(crate::proofs::Words::two_no_text))]
-pub(crate) fn two_of(bytes: &[u8]) -> Option<(u64, u64)>
+pub(crate) fn two_of_bytes(bytes: &[u8]) -> Option<(u64, u64)>
     ensures { result ≡ two_in bytes.now }
 {
     match str::from_utf8(bytes) {
@@ -64,7 +64,7 @@ pub(crate) fn two_of(bytes: &[u8]) -> Option<(u64, u64)>
 
 /// The three numbers that the bytes say.
 #[tactic(auto, using(crate::proofs::Words::three_no_text))]
-pub(crate) fn three_of(bytes: &[u8]) -> Option<(u64, u64, u64)>
+pub(crate) fn three_of_bytes(bytes: &[u8]) -> Option<(u64, u64, u64)>
     ensures { result ≡ three_in bytes.now }
 {
     match str::from_utf8(bytes) {

@@ -5,7 +5,7 @@ ghost use Rattle.std.specs.Str.{bytes_eq};
 ghost use Rattle.amo_ledger.specs.Numbers.{number_in, read_all};
 ghost use Rattle.amo_ledger.specs.Records.{RecordView, said_by, ended, texts_of, text_of_record, ascends_from, is_sound, IsRecord, texts_from, labelled, head_in, record_behind, record_of, record_in};
 
-use crate::numbers::{number_of, three_of, two_of};
+use crate::numbers::{number_of_bytes, three_of_bytes, two_of_bytes};
 use crate::round::Givens;
 use std::alloc::{AllocError, Global};
 use std::mem;
@@ -199,9 +199,9 @@ fn text_at(texts: &[Vec<u8>], i: usize) -> &[u8]
 fn head_of(round: &[u8], givens: &[u8], workers: &[u8]) -> Option<(u64, Givens, u64, u64)>
     ensures { result ≡ head_in round.now givens.now workers.now }
 {
-    let round = number_of(labelled(b"round ", round)?)?;
-    let (jobs, shared, beta) = three_of(labelled(b"givens ", givens)?)?;
-    let (workers, first) = two_of(labelled(b"workers ", workers)?)?;
+    let round = number_of_bytes(labelled(b"round ", round)?)?;
+    let (jobs, shared, beta) = three_of_bytes(labelled(b"givens ", givens)?)?;
+    let (workers, first) = two_of_bytes(labelled(b"workers ", workers)?)?;
     let givens = Givens {
         jobs,
         workers: shared,
@@ -226,7 +226,7 @@ fn numbers_of(alloc: Global, texts: &[Vec<u8>]) -> Result<Option<Vec<u64>>, Allo
 {
     let mut numbers = Vec::new(alloc);
     for text in texts {
-        let Some(number) = number_of(text) else {
+        let Some(number) = number_of_bytes(text) else {
             return Ok(None);
         };
         numbers.push(number)?;

@@ -1,14 +1,14 @@
 -- Two records with one head say the same of their words.
 use Rattle.std.proofs.Common.{◌≡◌, ℕ, zero, suc, ◌-◌, ◌^◌, ◌<◌, true, List, [], ◌∷◌, ◌++◌, length, get_or, replicate, Option, Some, unwrap_or, codes, decimal, refl, sym, ap, ◌∙◌, arith, append-nil}
-use Rattle.std.specs.Prelude.{nat_lt, nat_le, ◌==◌, ◌&&◌}
+use Rattle.std.specs.Prelude.{nat_lt}
 use Rattle.std.specs.List.{AllByRecursion}
-use Rattle.std.proofs.lemmas.Bool.{and_parts, leb-true}
 use Rattle.std.proofs.lemmas.Fmt.{decimal_injective}
 use Rattle.std.proofs.lemmas.List.{append_cancel_left, same_from_push}
 use Rattle.std.proofs.lemmas.Option.{cond_some}
 use Rattle.amo_ledger.specs.declared.round.Givens.{Givens}
 use Rattle.amo_ledger.specs.Numbers.{three_in}
-use Rattle.amo_ledger.specs.Records.{RecordView, IsRecord, is_sound, ascends_from, ended}
+use Rattle.amo_ledger.specs.Records.{RecordView, IsRecord, is_sound, ended}
+use Rattle.amo_ledger.proofs.RecordTexts.{limits}
 use Rattle.amo_ledger.proofs.Words.{Lacks, lacks_append, lacks_by_test, decimal_lacks, three_reads}
 use Rattle.amo_round.specs.Heads.{head_lines, head_text, head_of}
 use Rattle.amo_round.specs.Lines.{lines_in}
@@ -23,19 +23,8 @@ record Fits (g : Givens) : Type 0 where
 
 fits : (r : RecordView) → is_sound r ≡ true → Fits r.givens
 fits r h =
-    let (about_jobs, others) = and_parts ((r.givens.jobs == length r.lines) && (nat_le r.givens.jobs 4096 && ascends_from 0 r.lines)) _ h in
-    let (one, jobs) = and_parts (r.givens.jobs == length r.lines) _ about_jobs in
-    let (few, ascend) = and_parts (nat_le r.givens.jobs 4096) _ jobs in
-    let (sharing, rest) = and_parts (nat_le 1 r.givens.workers && (nat_le r.givens.workers r.workers && nat_le r.workers 16)) _ others in
-    let (some, within) = and_parts (nat_le 1 r.givens.workers) _ sharing in
-    let (share, workers) = and_parts (nat_le r.givens.workers r.workers) _ within in
-    let (betas, firsts) = and_parts (nat_le r.givens.workers r.givens.beta && nat_le r.givens.beta 65535) _ rest in
-    let (low, high) = and_parts (nat_le r.givens.workers r.givens.beta) _ betas in
-    record {
-      jobs = omega (arith, leb-true r.givens.jobs 4096 few);
-      workers = omega (arith, leb-true r.givens.workers r.workers share, leb-true r.workers 16 workers);
-      beta = omega (arith, leb-true r.givens.beta 65535 high);
-    }
+    let kept = limits r h in
+    record { jobs = omega (arith, kept.jobs); workers = omega (arith, kept.sharing, kept.workers); beta = omega (arith, kept.beta) }
 
 -- the line of the givens
 abbrev numbers : Givens → List ℕ

@@ -1,5 +1,6 @@
 pub mod ByIntent
 pub mod Closers
+pub mod JsonTexts
 pub mod Noting
 pub mod OneKind
 pub mod Opened

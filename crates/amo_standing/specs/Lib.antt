@@ -1,6 +1,7 @@
 pub mod Answers
 pub mod Counts
 pub mod Deciding
+pub mod Headings
 pub mod Json
 pub mod Rows
 pub mod Said

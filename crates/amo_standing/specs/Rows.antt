@@ -2,11 +2,13 @@
 use Rattle.std.specs.Prelude.{ℕ, ◌+◌, Bool, true, false, List, [], ◌∷◌, ◌++◌, codes, slice_index_or, if◌then◌else◌}
 use Rattle.std.specs.Fmt.{decimal}
 use Rattle.amo_standing.specs.declared.count.Counts.{Counts}
+use Rattle.amo_standing.specs.declared.heading.Style.TheVariants.{Words}
 use Rattle.amo_standing.specs.declared.rows.Form.{Form}
 use Rattle.amo_standing.specs.declared.rows.Form.TheVariants.{Status, Doubts, Kind}
 use Rattle.amo_standing.specs.declared.standing.Standing.{Standing}
 use Rattle.amo_standing.specs.declared.state.State.{State}
 use Rattle.amo_standing.specs.declared.state.State.TheVariants.{Open, Done, Failed, Doubt, Untouched, Running}
+use Rattle.amo_standing.specs.Headings.{counts_text}
 use Rattle.amo_standing.specs.States.{is}
 
 -- a tab
@@ -68,18 +70,6 @@ abbrev pub rows_from : (ℕ → Standing → List ℕ → List ℕ) → ℕ → 
 rows_from row k [] texts = []
 rows_from row k (s ∷ ss) texts = row (k + 1) s (slice_index_or texts k []) ++ rows_from row (k + 1) ss texts
 
--- how many lines there are, and how many are done, failed and in doubt
-abbrev pub counts_front : Counts → List ℕ
-counts_front c = codes "lines " ++ (decimal c.lines ++ (codes " done " ++ (decimal c.done ++ (codes " failed " ++ (decimal c.failed ++ (codes " doubt " ++ decimal c.doubt))))))
-
--- how many are running, untouched and open
-abbrev pub counts_back : Counts → List ℕ
-counts_back c = codes " running " ++ (decimal c.running ++ (codes " untouched " ++ (decimal c.untouched ++ (codes " open " ++ (decimal c.open ++ line_end)))))
-
--- how many stand how
-abbrev pub counts_line : Counts → List ℕ
-counts_line c = counts_front c ++ counts_back c
-
 -- the numbers, each behind a blank
 abbrev pub spaced : List ℕ → List ℕ
 spaced [] = []
@@ -87,4 +77,4 @@ spaced (p ∷ ps) = codes " " ++ (decimal p ++ spaced ps)
 
 -- the status: the counts, the workers that are alive, and the rows
 abbrev pub status_text : Counts → List ℕ → List Standing → List (List ℕ) → List ℕ
-status_text c alive standings texts = counts_line c ++ (codes "alive" ++ (spaced alive ++ (line_end ++ rows_from status_row 0 standings texts)))
+status_text c alive standings texts = counts_text Words c ++ (line_end ++ (codes "alive" ++ (spaced alive ++ (line_end ++ rows_from status_row 0 standings texts))))

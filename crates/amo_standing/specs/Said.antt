@@ -1,13 +1,15 @@
 -- Answers of persons as they are written: the intent, the number of its line, the line's text and the verdict, a tab between
 -- each two.
-use Rattle.std.specs.Prelude.{◌<◌, ◌-◌, ◌^◌, ℕ, ◌==◌, nat_lt, List, [], ◌∷◌, ◌++◌, codes, length, take, drop, Option, Some, None, option_and_then, if◌then◌else◌}
+use Rattle.std.specs.Prelude.{◌≡◌, ◌≢◌, ◌<◌, ◌≤◌, ◌-◌, ◌^◌, ℕ, ◌==◌, nat_lt, List, [], ◌∷◌, ◌++◌, codes, length, slice_index_or, take, drop, Option, Some, None, option_and_then, if◌then◌else◌}
 use Rattle.std.specs.Fmt.{decimal}
 use Rattle.std.specs.List.{after_first, before_first, position_or_len}
 use Rattle.std.specs.Str.{bytes_eq}
+use Rattle.amo_ledger.specs.declared.fault.Fault.{Fault}
+use Rattle.amo_ledger.specs.declared.fault.Fault.TheVariants.{Memory, Refused}
 use Rattle.amo_ledger.specs.declared.finding.Verdict.{Verdict}
 use Rattle.amo_ledger.specs.declared.finding.Verdict.TheVariants.{Done, NotDone}
 use Rattle.amo_ledger.specs.Findings.{verdict_in, word_of}
-use Rattle.amo_ledger.specs.Numbers.{number_in}
+use Rattle.amo_ledger.specs.Numbers.{number_in, read_all}
 use Rattle.amo_standing.specs.declared.said.Said.{Said}
 use Rattle.amo_standing.specs.declared.state.Intent.{Intent}
 use Rattle.amo_standing.specs.Rows.{tab}
@@ -79,3 +81,9 @@ lines_from (b ∷ bs) begun = if b == 10 then begun ∷ lines_from bs [] else li
 -- the lines of a file
 abbrev pub lines_in : List ℕ → List (List ℕ)
 lines_in bytes = lines_from bytes []
+
+-- why a file of these lines is refused: the line of this number, from 1, says no answer, and each line before it says one
+abbrev pub IsRefused : List (List ℕ) → Fault → Type 0
+IsRefused lines Memory = Unit {0}
+IsRefused lines (Refused number) =
+    (1 ≤ number) × (number ≤ length lines) × (said_in (slice_index_or lines (number - 1) []) ≡ None) × (read_all said_in (take (number - 1) lines) ≢ None)

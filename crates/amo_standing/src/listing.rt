@@ -1,8 +1,9 @@
 //! The status of a run, the lines that stand so, and the doubts, as texts.
-ghost use Rattle.std.specs.Prelude.{◌≡◌, ◌≤◌, ◌++◌, codes, length, map, string_bytes, IfOk, OnOk};
-ghost use Rattle.amo_standing.specs.Rows.{counts_back, counts_front, counts_line, doubt_row, kind_row, line_end, rows_from, spaced, status_text};
+ghost use Rattle.std.specs.Prelude.{◌≡◌, ◌≤◌, ◌++◌, codes, length, map, IfOk, OnOk};
+ghost use Rattle.amo_standing.specs.Rows.{doubt_row, kind_row, line_end, rows_from, spaced, status_text};
 
 use crate::count::Counts;
+use crate::heading::{Style, push_counts};
 use crate::rows::{Form, push_rows};
 use crate::standing::Standing;
 use crate::state::State;
@@ -21,7 +22,8 @@ pub fn status_text(
     ensures { IfOk result (λ text. text.items ≡ status_text counts.now alive.now standings.now (map (λ t. t.now) texts.now)) }
 {
     let mut text = Vec::new(alloc);
-    push_counts(&mut text, alloc, counts)?;
+    push_counts(&mut text, alloc, Style::Words, counts)?;
+    text.push(b'\n')?;
     push_alive(&mut text, alloc, alive)?;
     push_rows(&mut text, alloc, Form::Status, standings, texts)?;
     Ok(text)
@@ -55,35 +57,6 @@ pub fn doubts_text(
     let mut text = Vec::new(alloc);
     push_rows(&mut text, alloc, Form::Doubts, standings, texts)?;
     Ok(text)
-}
-
-/// Adds the line of the counts.
-fn push_counts(text: &mut Vec<u8>, alloc: Global, counts: &Counts) -> Result<(), AllocError>
-    ensures { OnOk result (text.new.items ≡ text.old.items ++ counts_line counts.now) }
-{
-    let front = counts_front(alloc, counts)?;
-    let back = counts_back(alloc, counts)?;
-    text.extend_from_slice(front.as_bytes())?;
-    text.extend_from_slice(back.as_bytes())
-}
-
-fn counts_front(alloc: Global, counts: &Counts) -> Result<String, AllocError>
-    ensures { IfOk result (λ text. string_bytes text ≡ counts_front counts.now) }
-{
-    let lines = counts.lines;
-    let done = counts.done;
-    let failed = counts.failed;
-    let doubt = counts.doubt;
-    format!(in alloc; "lines {lines} done {done} failed {failed} doubt {doubt}")
-}
-
-fn counts_back(alloc: Global, counts: &Counts) -> Result<String, AllocError>
-    ensures { IfOk result (λ text. string_bytes text ≡ counts_back counts.now) }
-{
-    let running = counts.running;
-    let untouched = counts.untouched;
-    let opened = counts.open;
-    format!(in alloc; " running {running} untouched {untouched} open {opened}\n")
 }
 
 /// Adds the line of the workers that are alive.

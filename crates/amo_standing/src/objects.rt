@@ -1,11 +1,10 @@
 //! The status of a run and the doubts, as JSON.
-ghost use Rattle.std.specs.List.{All};
 ghost use Rattle.std.specs.Prelude.{◌≡◌, ◌≤◌, ◌<◌, ◌+◌, ◌++◌, ◌||◌, [], false, length, map, slice_index_or, string_bytes, IfOk, OnOk};
-ghost use Rattle.std.specs.Str.{IsUtf8};
 ghost use Rattle.json.specs.Print.{quoted};
-ghost use Rattle.amo_standing.specs.Json.{comma_if, doubts_json, is_shown, json_back, json_front, json_head, json_numbers, json_row, json_rows, json_tail, status_json};
+ghost use Rattle.amo_standing.specs.Json.{comma_if, doubts_json, is_shown, json_head, json_numbers, json_row, json_rows, json_tail, status_json, text_or_null};
 
 use crate::count::Counts;
+use crate::heading::{Style, push_counts};
 use crate::rows::{is_listed, push_parts, state_word, text_at};
 use crate::standing::Standing;
 use crate::state::{State, is};
@@ -23,10 +22,11 @@ pub fn status_json(
     texts: &[&[u8]],
 ) -> Result<Vec<u8>, AllocError>
     requires { length standings.now ≤ length texts.now }
-    ensures { All IsUtf8 (map (λ t. t.now) texts.now) → IfOk result (λ text. text.items ≡ status_json counts.now alive.now standings.now (map (λ t. t.now) texts.now)) }
+    ensures { IfOk result (λ text. text.items ≡ status_json counts.now alive.now standings.now (map (λ t. t.now) texts.now)) }
 {
     let mut text = Vec::new(alloc);
-    push_json_counts(&mut text, alloc, counts)?;
+    text.extend_from_slice(b"{")?;
+    push_counts(&mut text, alloc, Style::Members, counts)?;
     text.extend_from_slice(b",\"alive\":[")?;
     push_numbers(&mut text, alloc, alive)?;
     text.extend_from_slice(b"],\"intents\":[")?;
@@ -42,42 +42,13 @@ pub fn doubts_json(
     texts: &[&[u8]],
 ) -> Result<Vec<u8>, AllocError>
     requires { length standings.now ≤ length texts.now }
-    ensures { All IsUtf8 (map (λ t. t.now) texts.now) → IfOk result (λ text. text.items ≡ doubts_json standings.now (map (λ t. t.now) texts.now)) }
+    ensures { IfOk result (λ text. text.items ≡ doubts_json standings.now (map (λ t. t.now) texts.now)) }
 {
     let mut text = Vec::new(alloc);
     text.push(b'[')?;
     push_json_rows(&mut text, alloc, true, standings, texts)?;
     text.extend_from_slice(b"]\n")?;
     Ok(text)
-}
-
-/// Adds the members that tell the counts.
-fn push_json_counts(text: &mut Vec<u8>, alloc: Global, counts: &Counts) -> Result<(), AllocError>
-    ensures { OnOk result (text.new.items ≡ text.old.items ++ (json_front counts.now ++ json_back counts.now)) }
-{
-    let front = json_front(alloc, counts)?;
-    let back = json_back(alloc, counts)?;
-    text.extend_from_slice(front.as_bytes())?;
-    text.extend_from_slice(back.as_bytes())
-}
-
-fn json_front(alloc: Global, counts: &Counts) -> Result<String, AllocError>
-    ensures { IfOk result (λ text. string_bytes text ≡ json_front counts.now) }
-{
-    let lines = counts.lines;
-    let done = counts.done;
-    let failed = counts.failed;
-    let doubt = counts.doubt;
-    format!(in alloc; "{{\"lines\":{lines},\"done\":{done},\"failed\":{failed},\"doubt\":{doubt}")
-}
-
-fn json_back(alloc: Global, counts: &Counts) -> Result<String, AllocError>
-    ensures { IfOk result (λ text. string_bytes text ≡ json_back counts.now) }
-{
-    let running = counts.running;
-    let untouched = counts.untouched;
-    let opened = counts.open;
-    format!(in alloc; ",\"running\":{running},\"untouched\":{untouched},\"open\":{opened}")
 }
 
 /// Adds the numbers, a comma between each two.
@@ -113,7 +84,7 @@ fn push_json_rows(
     texts: &[&[u8]],
 ) -> Result<(), AllocError>
     requires { length standings.now ≤ length texts.now }
-    ensures { All IsUtf8 (map (λ t. t.now) texts.now) → OnOk result (text.new.items ≡ text.old.items ++ json_rows timed false 0 standings.now (map (λ t. t.now) texts.now)) }
+    ensures { OnOk result (text.new.items ≡ text.old.items ++ json_rows timed false 0 standings.now (map (λ t. t.now) texts.now)) }
 {
     let mut later = false;
     for (i, standing) in standings.iter().enumerate() {
@@ -134,13 +105,13 @@ fn push_json_row(
     texts: &[&[u8]],
 ) -> Result<(), AllocError>
     requires { i < length texts.now }
-    ensures { All IsUtf8 (map (λ t. t.now) texts.now) → OnOk result (text.new.items ≡ text.old.items ++ json_row timed later (i + 1) standing.now (slice_index_or (map (λ t. t.now) texts.now) i [])) }
+    ensures { OnOk result (text.new.items ≡ text.old.items ++ json_row timed later (i + 1) standing.now (slice_index_or (map (λ t. t.now) texts.now) i [])) }
 {
     if !is_shown(timed, standing.state) {
         return Ok(());
     }
     let head = json_head(alloc, i as u64 + 1, standing)?;
-    let middle = quoted(alloc, text_at(texts, i))?;
+    let middle = text_or_null(alloc, text_at(texts, i))?;
     let tail = json_tail(alloc, timed, standing)?;
     push_comma(text, later)?;
     push_parts(text, head.as_bytes(), middle.as_bytes(), tail.as_bytes())
@@ -184,12 +155,20 @@ fn json_tail(alloc: Global, timed: bool, standing: &Standing) -> Result<String, 
     }
 }
 
-/// A text as a JSON string.
-fn quoted(alloc: Global, job: &[u8]) -> Result<String, AllocError>
-    ensures { IsUtf8 job.now → IfOk result (λ text. string_bytes text ≡ quoted job.now) }
+/// A text as a JSON string. Bytes that are no text are `null`.
+#[tactic(auto, using(crate::proofs::JsonTexts::a_text, crate::proofs::JsonTexts::no_text))]
+fn text_or_null(alloc: Global, bytes: &[u8]) -> Result<String, AllocError>
+    ensures { IfOk result (λ said. string_bytes said ≡ text_or_null bytes.now) }
 {
-    match str::from_utf8(job) {
-        Ok(text) => Value::try_from_str(alloc, text)?.to_string(alloc),
+    match str::from_utf8(bytes) {
+        Ok(text) => quoted(alloc, text),
         Err(_) => String::from_str(alloc, "null"),
     }
+}
+
+/// A text as a JSON string.
+fn quoted(alloc: Global, text: &str) -> Result<String, AllocError>
+    ensures { IfOk result (λ said. string_bytes said ≡ quoted text.now) }
+{
+    Value::try_from_str(alloc, text)?.to_string(alloc)
 }

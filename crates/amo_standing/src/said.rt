@@ -2,14 +2,12 @@
 ghost use Rattle.std.specs.Fmt.{decimal};
 ghost use Rattle.std.specs.Prelude.{◌≡◌, ◌==◌, ◌<◌, ◌^◌, ℕ, Some, length, map, option_map, position, IfOk, IfErr, IfSome, IfNone};
 ghost use Rattle.amo_ledger.specs.declared.finding.Verdict.{Verdict as VerdictView};
-ghost use Rattle.amo_ledger.specs.Faults.{SaysNothing};
 ghost use Rattle.amo_ledger.specs.Findings.{verdict_in, word_of};
 ghost use Rattle.amo_ledger.specs.Numbers.{read_all};
-ghost use Rattle.amo_standing.specs.Said.{before_end, intent_in, intent_text, lines_in, place_in, said_by, said_in, split_at, verdict_behind, words_in};
+ghost use Rattle.amo_standing.specs.Said.{IsRefused, before_end, intent_in, intent_text, lines_in, place_in, said_by, said_in, split_at, verdict_behind, words_in};
 
-use crate::number::number_of;
 use crate::state::Intent;
-use amo_ledger::{Fault, Verdict};
+use amo_ledger::{Fault, Verdict, number_of_bytes};
 use std::alloc::{AllocError, Global};
 use std::mem;
 
@@ -28,7 +26,7 @@ pub struct Said {
 /// is refused, by its number.
 pub fn read_answers(alloc: Global, bytes: &[u8]) -> Result<Vec<Said>, Fault>
     ensures exact { IfOk result (λ said. read_all said_in (lines_in bytes.now) ≡ Some (map said_by said.items)) }
-    ensures refused { IfErr result (SaysNothing said_in (lines_in bytes.now)) }
+    ensures refused { IfErr result (IsRefused (lines_in bytes.now)) }
 {
     let lines = lines_of(alloc, bytes)?;
     said_on(alloc, &lines)
@@ -37,7 +35,7 @@ pub fn read_answers(alloc: Global, bytes: &[u8]) -> Result<Vec<Said>, Fault>
 /// What each line says.
 fn said_on(alloc: Global, lines: &[Vec<u8>]) -> Result<Vec<Said>, Fault>
     ensures exact { IfOk result (λ said. read_all said_in (map (λ line. line.items) lines.now) ≡ Some (map said_by said.items)) }
-    ensures refused { IfErr result (SaysNothing said_in (map (λ line. line.items) lines.now)) }
+    ensures refused { IfErr result (IsRefused (map (λ line. line.items) lines.now)) }
 {
     let mut said = Vec::new(alloc);
     for line in lines {
@@ -121,7 +119,7 @@ fn place_of(intent: &[u8], line: &[u8]) -> Option<(Intent, u64)>
     ensures { result ≡ place_in intent.now line.now }
 {
     let intent = intent_of(intent)?;
-    let line = number_of(line)?;
+    let line = number_of_bytes(line)?;
     Some((intent, line))
 }
 
@@ -129,8 +127,8 @@ fn intent_of(text: &[u8]) -> Option<Intent>
     ensures { result ≡ intent_in text.now }
 {
     let (worker, serial) = split_at(text, b'.')?;
-    let worker = number_of(worker)?;
-    let serial = number_of(serial)?;
+    let worker = number_of_bytes(worker)?;
+    let serial = number_of_bytes(serial)?;
     Some(Intent { worker, serial })
 }
 

@@ -1,10 +1,9 @@
 -- What is said in answer is heard, and what is heard was said so.
 use Rattle.std.proofs.Common.{◌≡◌, ◌≢◌, inl, inr, ℕ, ◌^◌, ◌<◌, Bool, true, false, cond, List, ◌∷◌, ◌++◌, Option, Some, None, refl, sym, ap, subst, ◌∙◌, arith}
-use Rattle.std.specs.Prelude.{nat_lt, not, ◌==◌, codes, option_and_then, unwrap_or, IfSome}
+use Rattle.std.specs.Prelude.{not, ◌==◌, codes, option_and_then, unwrap_or, IfSome}
 use Rattle.std.specs.Fmt.{decimal}
 use Rattle.std.specs.List.{list_all}
 use Rattle.std.specs.Str.{bytes_eq, IsAscii, IsUtf8}
-use Rattle.std.proofs.lemmas.Bool.Decides.{nat_tests}
 use Rattle.std.proofs.lemmas.Fmt.{IsAscii-decimal}
 use Rattle.std.proofs.lemmas.Str.{IsUtf8-from_ascii, IsAscii-append}
 use Rattle.std.proofs.lemmas.Str.Ascii.{IsAscii-cons}
@@ -17,6 +16,7 @@ use Rattle.amo_course.specs.declared.answer.Way.{Way}
 use Rattle.amo_course.specs.declared.answer.Way.TheVariants.{Go, Leave}
 use Rattle.amo_ledger.specs.Numbers.{number_in, has_blank, first_word, other_words}
 use Rattle.amo_ledger.specs.Entries.{code_in}
+use Rattle.amo_ledger.proofs.EntryTexts.{code_reads, code_printed}
 use Rattle.amo_ledger.proofs.NumberTexts.{reads_printed, printed_of_read}
 use Rattle.amo_ledger.proofs.Words.{lacks_by_test, decimal_lacks, AreWords, words, split, and_then_some, blank_and, either_way, ascii_by_test}
 use Rattle.amo_talk.specs.Replies.{word_of, text_of_answer, text_of, FitsAnswer, Fits, way_in, number_and_way_in, code_and_way_in, reply_of_word, said_in, reply_in}
@@ -26,24 +26,6 @@ some_is e = cc
 
 none_some : {A : Type 0} {x : A} → None ≡ Some x → ⊥
 none_some e = cc
-
--- codes
-
-code_reads : (n : ℕ) → n < 2 ^ 8 → code_in n ≡ Some n
-code_reads n fits = ap (λ b. cond b None (Some n)) (not_more n fits)
-  where
-    not_more : (k : ℕ) → k < 2 ^ 8 → nat_lt 255 k ≡ false
-    not_more k h = grind (arith, nat_tests)
-
-code_printed : (n c : ℕ) → code_in n ≡ Some c → (n ≡ c) × (c < 2 ^ 8)
-code_printed n c h = by_test (nat_lt 255 n) refl h
-  where
-    at_most : (k : ℕ) → nat_lt 255 k ≡ false → k < 2 ^ 8
-    at_most k t = grind (arith, nat_tests)
-
-    by_test : (b : Bool) → nat_lt 255 n ≡ b → cond b None (Some n) ≡ Some c → (n ≡ c) × (c < 2 ^ 8)
-    by_test true t e = absurd (cc)
-    by_test false t e = let is : n ≡ c = cc in (is, subst (λ k. k < 2 ^ 8) is (at_most n t))
 
 -- what is said is heard
 

@@ -1,30 +1,16 @@
-use Rattle.std.proofs.Common.{◌≡◌, ◌+◌, ◌≤◌, ◌++◌, ◌∷◌, [], ℕ, Vec, Global, map, take, length, get_or, Some, sym, ap, ◌∙◌, arith}
-use Rattle.std.proofs.lemmas.List.{map_push, take_more, get_or-map, length-map, length-take-le}
-use Rattle.amo_ledger.specs.Entries.{entry_in, entries_in}
-use Rattle.amo_ledger.proofs.TextLists.{one_more, length_read}
+use Rattle.std.proofs.Common.{Some, sym, ap, ◌∙◌, arith}
+use Rattle.amo_ledger.specs.Entries.{entry_in}
+use Rattle.amo_ledger.proofs.TextLists.{reads_on, stops_at}
 use Rattle.amo_ledger.proofs.journal.read_entries.Goals as goal
 
 pub loop-text-preserved : goal.loop-text-preserved
 loop-text-preserved c =
-    let texts = c.args.texts.now in
-    let i = c.loop-text.text-index in
-    let next : take (i + 1) texts ≡ take i texts ++ c.text-item.result ∷ [] = take_more texts i c.text-item.result c.loop-text-test.true ∙ ap (λ x. take i texts ++ x ∷ []) (sym c.text-item.is) in
-    let more : map (λ (v : Vec ℕ Global). v.items) (take (i + 1) texts) ≡ map (λ (v : Vec ℕ Global). v.items) (take i texts) ++ c.text-item.result.items ∷ [] =
-    ap (map (λ (v : Vec ℕ Global). v.items)) next ∙ map_push (λ (v : Vec ℕ Global). v.items) (take i texts) c.text-item.result in
-    let says : entry_in c.text-item.result.items ≡ Some c.in-Some.entry = ap entry_in (sym c.deref.ensures.value) ∙ sym c.in-Some.ensures.exact in
-    ap entries_in more ∙ one_more entry_in (map (λ (v : Vec ℕ Global). v.items) (take i texts)) c.loop-text.entries.items c.text-item.result.items c.in-Some.entry c.loop-text.invariant says ∙ ap Some (sym c.in_ok-push.ensures.items)
+    reads_on entry_in c.args.texts.now c.loop-text.text-index c.loop-text.entries.items c.text-item.result c.in-Some.entry c.loop-text-test.true c.text-item.is c.loop-text.invariant
+    (ap entry_in (sym c.deref.ensures.value) ∙ sym c.in-Some.ensures.exact)
+    ∙ ap Some (sym c.in_ok-push.ensures.items)
 
 pub returns-in_default-clause-refused : goal.returns-in_default-clause-refused
 returns-in_default-clause-refused c =
-    let texts = c.args.texts.now in
-    let i = c.loop-text.text-index in
-    let f = λ (v : Vec ℕ Global). v.items in
-    let size : length (map f (take i texts)) ≡ length c.loop-text.entries.items = length_read entry_in (map f (take i texts)) c.loop-text.entries.items c.loop-text.invariant in
-    let within : i ≤ length texts = omega (arith, c.loop-text-test.true) in
-    let is : c.len.result ≡ i = omega (arith, c.len.ensures, size, length-map (take i texts) f, length-take-le i texts within) in (
-      omega (arith, is),
-      omega (arith, is, length-map texts f, c.loop-text-test.true),
-      ap (λ k. entry_in (get_or (map f texts) k [])) (omega (arith, is))
-          ∙ ap entry_in (get_or-map f texts i c.text-item.result [] c.loop-text-test.true ∙ ap f (sym c.text-item.is) ∙ sym c.deref.ensures.value)
-          ∙ sym c.in_default.ensures.exact,
-    )
+    let stop = stops_at entry_in c.args.texts.now c.loop-text.text-index c.len.result c.loop-text.entries.items c.text-item.result c.loop-text-test.true c.text-item.is c.loop-text.invariant
+    (omega (arith, c.len.ensures)) (ap entry_in (sym c.deref.ensures.value) ∙ sym c.in_default.ensures.exact) in
+    stop.0
