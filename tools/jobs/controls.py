@@ -1,0 +1,4 @@
+"""."""
+MISTAKES = []
+CHEAPEST = 0
+PARTS = {}
