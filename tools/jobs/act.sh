@@ -14,6 +14,7 @@ deaf) trap '' TERM INT HUP; did 0.1; sleep 0.2 ;;
 amp) (did 0.4) & ;;
 nohup) export file name; nohup sh -c 'sleep 0.4; echo "did $name" >> "$file"' > "$room/nohup.$AMO_LINE" 2>&1 & ;;
 setsid) export file name; setsid sh -c 'sleep 0.4; echo "did $name" >> "$file"' & ;;
+hundred) did 0; exit 100 ;;
 dies) did 0.02; kill -9 $$ ;;
 *) did 0 ;;
 esac

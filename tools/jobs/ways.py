@@ -246,8 +246,10 @@ def try_growing(bench):
     until(lambda: os.listdir(scene.effects), "a command has begun")
     scene.grow(["quick", "fail"])
     scene.grow(["quick"], end="")
-    scene.see_out(crew)
-    want(len(kinds_of(scene)) == 5, f"a line without its end is left out: {kinds_of(scene)}")
+    scene.ends(crew, REFUSED)
+    want(kinds_of(scene) == ["done"] * 4 + ["failed"], f"a line without its end is left out: {kinds_of(scene)}")
+    want("6\tquick" not in scene.call("status", "--lines", "failed") and "\t5\t5 fail\n" in scene.call("status", "--lines", "failed"),
+         "lines are printed with tabs")
     with open(scene.jobs, "a") as file:
         file.write("\n")
     scene.see_out()
@@ -272,31 +274,42 @@ def try_killed_in_turn(bench):
 
 def try_disk_full(bench):
     """a full disk: nothing is performed without an intent, an end that was seen waits for room, and then all goes on"""
-    scene = bench.scene(["quick"] * 40)
-    disk = f"{scene.room}/disk"
-    os.mkdir(disk)
-    mounted = subprocess.run(["mount", "-t", "tmpfs", "-o", "size=120k", "tmpfs", disk], stderr=subprocess.DEVNULL)
-    if mounted.returncode:
-        bench.skipped.append("a full disk, since no tmpfs can be mounted")
-        return None
-    try:
-        scene.run, scene.options, scene.file_system = f"{disk}/run", ["--results", f"{scene.room}/results"], "tmpfs"
-        with open(f"{disk}/ballast", "wb") as file:
-            file.write(b"x" * 60 * 1024)
-        crew = scene.start()
-        until(lambda: crew.poll() is not None or "goes on trying" in scene.tale(), "the disk is full")
-        found = crew.poll()
-        want(found in (None, WRITE, LEFT), f"status {found}")
-        count = len(os.listdir(scene.effects))
-        os.unlink(f"{disk}/ballast")
-        if found is None:
-            want(crew.wait(20) in (DONE, WRITE), f"status {crew.poll()}: {scene.tale()[-500:]}")
-        scene.see_out()
-        scene.audit()
-        return f"full after {count} of 40"
-    finally:
-        bench.close()
-        subprocess.run(["umount", "-l", disk])
+    told = []
+    for long_codes in (0, 17):
+        scene = bench.scene(["hundred"] * long_codes + ["other"] * (120 - long_codes), 1, ["--halt", "0"])
+        disk = f"{scene.room}/disk"
+        os.mkdir(disk)
+        if subprocess.run(["mount", "-t", "tmpfs", "-o", "size=40k", "tmpfs", disk], stderr=subprocess.DEVNULL).returncode:
+            bench.skipped.append("a full disk, since no tmpfs can be mounted")
+            return None
+        try:
+            told.append(fill(scene, disk))
+        finally:
+            bench.close()
+            subprocess.run(["umount", "-l", disk])
+    return ", ".join(told)
+
+
+def fill(scene, disk):
+    """A run on this small disk, which is full until it has stopped or waits."""
+    scene.run, scene.file_system = f"{disk}/run", "tmpfs"
+    scene.options += ["--results", f"{scene.room}/results"]
+    with open(f"{disk}/ballast", "wb") as file:
+        file.write(b"x" * 16 * 1024)
+    crew = scene.start()
+    until(lambda: crew.poll() is not None or "goes on trying" in scene.tale(), "the disk is full", 30)
+    waits, count = crew.poll() is None, len(os.listdir(scene.effects))
+    if not waits:
+        scene.ends(crew, WRITE)
+        want(len(scene.look().intents) == count, "something was performed without an intent")
+        scene.ends(scene.start(), WRITE)
+        want(len(os.listdir(scene.effects)) == count, "something was performed while the disk was full")
+    os.unlink(f"{disk}/ballast")
+    if waits:
+        want(crew.wait(30) in (DONE, FAILED), f"status {crew.poll()}: {scene.tale()[-500:]}")
+    want(scene.see_out() in (DONE, FAILED) and not scene.listed, f"a full disk leaves a doubt: {scene.listed}")
+    scene.audit()
+    return f"full after {count} of 120, " + ("an end waited for room" if waits else "no intent could be put")
 
 
 PARTS = {"ways": [
