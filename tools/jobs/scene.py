@@ -16,6 +16,7 @@ from worker import folder
 HERE = os.path.dirname(os.path.realpath(__file__))
 DONE, FAILED, DOUBTFUL, WORDS, REFUSED, LEFT, WRITE, READ, LATER = 0, 1, 2, 64, 65, 69, 73, 74, 75
 KILLED = -signal.SIGKILL
+UNHEARD = (-signal.SIGHUP, -signal.SIGTERM, -signal.SIGINT, 130)  # of a signal that came before a crew took any
 COMMAND = [f"{HERE}/act.sh"]
 
 
@@ -156,10 +157,10 @@ class Scene:
                 self.tell(line, "did by-hand")
         return len(found)
 
-    def see_out(self, crew=None, seconds=90, pause=0.3, again=True, during=None, **how):
+    def see_out(self, crew=None, seconds=90, pause=0.3, again=True, during=None, workers_of=lambda: None):
         """Starts crews, with a person beside them, until no line is open, in doubt or running; the status of the last one."""
         end = time.monotonic() + seconds
-        crew = crew or self.start(**how)
+        crew = crew or self.start(workers=workers_of())
         while True:
             want(time.monotonic() < end, f"it isn't over: {self.statuses[-5:]} {self.tale()[-500:]}")
             try:
@@ -170,7 +171,7 @@ class Scene:
                     during(crew)
                 continue
             self.statuses.append(status)
-            want(status in (DONE, FAILED, DOUBTFUL, LEFT, LATER, KILLED), f"a crew ends with status {status}: {self.tale()[-800:]}")
+            want(status in (DONE, FAILED, DOUBTFUL, LEFT, LATER, KILLED, *UNHEARD), f"a crew ends with status {status}: {self.tale()[-800:]}")
             self.person()
             if status == FAILED and again and "untouched" in self.look().kinds().values():
                 self.call("again")
@@ -178,7 +179,7 @@ class Scene:
                 return status
             elif status == DOUBTFUL:
                 time.sleep(0.1)
-            crew = self.start(**how)
+            crew = self.start(workers=workers_of())
 
     def audit(self):
         """What no run may show."""

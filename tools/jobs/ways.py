@@ -8,14 +8,8 @@ import sys
 import time
 
 from jobs.scene import DONE, DOUBTFUL, FAILED, KILLED, LATER, LEFT, READ, REFUSED, WORDS, WRITE, want
+from jobs.rules import until
 from worker import folder
-
-
-def until(is_so, what, seconds=20):
-    end = time.monotonic() + seconds
-    while not is_so():
-        want(time.monotonic() < end, f"it never is so: {what}")
-        time.sleep(0.01)
 
 
 def kinds_of(scene):

@@ -1,0 +1,122 @@
+"""The rules against which each control is a mistake, each in a run that is made for it."""
+
+import os
+import signal
+import time
+
+from jobs.scene import DONE, LATER, LEFT, want
+
+
+def until(is_so, what, seconds=20):
+    """Waits for something."""
+    end = time.monotonic() + seconds
+    while not is_so():
+        want(time.monotonic() < end, f"it never is so: {what}")
+        time.sleep(0.01)
+
+
+def orphan(bench):
+    """A run whose crew was killed after its command had begun, and before that did anything."""
+    scene = bench.scene(["late", "quick", "quick"])
+    crew = scene.start()
+    until(lambda: [it for it in scene.tales(1) if it[0] == "begun"], "the command has begun")
+    crew.kill()
+    crew.wait()
+    return scene
+
+
+def try_orphan(bench):
+    """a command whose runner was killed is running, for the next runner and for who asks, until nothing of it is left"""
+    scene = orphan(bench)
+    scene.person()
+    scene.see_out()
+    scene.audit()
+    want(scene.listed, "its end, which nobody saw, is no doubt")
+
+
+def try_running_is_not_answered(bench):
+    """a person who is too quick is refused"""
+    scene = orphan(bench)
+    scene.call("answer", "1.1", "1", "1 late", "not-done", status=None)
+    scene.see_out()
+    scene.audit()
+
+
+def try_two_persons(bench):
+    """of two who saw one doubt the later one answers nothing that came after it"""
+    scene = orphan(bench)
+    os.kill(int(scene.tales(1)[0][2]), signal.SIGKILL)
+    until(lambda: "1.1, line 1" in scene.call("doubts"), "it is listed")
+    scene.call("answer", "1.1", "1", "1 late", "not-done")
+    crew = scene.start()
+    until(lambda: [it for it in scene.tales(1) if it[0] == "did"], "it is performed once more")
+    crew.kill()
+    crew.wait()
+    scene.call("answer", "1.1", "1", "1 late", "not-done", status=None)
+    scene.see_out()
+    scene.audit()
+
+
+def try_late_line(bench):
+    """what a worker said that is dead by the time it is read is dropped, and was certainly not begun"""
+    scene = bench.scene(["slow", "quick", "slow"])
+    scene.see_out(scene.start(plan="2:~runner+worker"))
+    scene.audit()
+    want(not scene.listed, f"it is listed as a doubt: {scene.listed}")
+
+
+def try_two_crews(bench):
+    """while a runner is stopped nobody else is the runner of its worker, so that no end that it saw is lost"""
+    scene = bench.scene(["quick", "quick"])
+    crew = scene.start(plan="5:~runner+worker")
+    until(lambda: len(scene.tales(1) + scene.tales(2)) > 1, "a command has ended")
+    time.sleep(0.2)
+    second = scene.start()
+    want(crew.wait(30) == DONE and second.wait(30) in (DONE, LATER), f"both end: {scene.tale()[-300:]}")
+    scene.see_out()
+    scene.audit()
+    want(not scene.listed and " is in doubt" not in scene.tale(), f"an end that was seen is a doubt: {scene.tale()[-300:]}")
+
+
+def try_left_behind(bench):
+    """what a shell leaves behind with & has the lock, and its line is neither done nor a doubt before that ends"""
+    scene = bench.scene(["late_amp", "quick"])
+    crew = scene.start()
+    until(lambda: crew.poll() is not None or "runs on" in scene.tale(), "something is left behind")
+    for it in scene.look().intents.values():
+        is_true = it.line != 1 or it.answer != "done" or ["did", it.name()] in scene.tales(1)
+        want(is_true, f"line 1 counts as done by {it.name()}, which did nothing yet")
+    crew.kill()
+    crew.wait()
+    scene.see_out()
+    scene.audit()
+
+
+def try_closed(bench):
+    """what closes all descriptors but the standard ones, as sudo does, has the lock"""
+    scene = bench.scene(["closes", "quick"])
+    crew = scene.start()
+    until(lambda: [it for it in scene.tales(1) if it[0] == "begun"], "the command has begun")
+    time.sleep(0.1)
+    crew.kill()
+    crew.wait()
+    scene.see_out()
+    scene.audit()
+
+
+def try_noted_after_all(bench):
+    """a runner whose worker died with an answer ends only once a next one has noted it, though a stop was asked for"""
+    scene = bench.scene(["slow", "quick"])
+    crew = scene.start(plan="5:worker")
+    until(lambda: scene.tales(1) + scene.tales(2), "a command has begun")
+    crew.send_signal(signal.SIGTERM)
+    want(crew.wait(30) == LEFT, f"status {crew.poll()}")
+    scene.see_out()
+    scene.audit()
+    want(not scene.listed, f"an end that was seen is a doubt: {scene.listed}")
+
+
+PARTS = {"rules": [
+    try_orphan, try_running_is_not_answered, try_two_persons, try_late_line, try_two_crews, try_left_behind, try_closed,
+    try_noted_after_all,
+]}
