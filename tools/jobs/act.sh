@@ -1,6 +1,6 @@
 #!/bin/sh
-# act.sh ROOM TEXT: the command of the tests. TEXT is a number and what to do; what happens is appended to ROOM/effects/LINE, a line
-# each: `begun P.S PROCESS`, `did P.S`. The intent is the name of the lock that stands as standard input.
+# act.sh ROOM TEXT: the command of the tests. TEXT is a number and what to do; what happens is appended to ROOM/effects/LINE, a
+# line each: `begun P.S PROCESS`, `did P.S`. The intent is the name of the lock that stands as standard input.
 room=$1 what=${2#* } file=$1/effects/$AMO_LINE
 name=$(readlink "/proc/$$/fd/0") name=${name##*/command.}
 echo "begun $name $$" >> "$file"

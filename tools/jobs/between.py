@@ -1,9 +1,10 @@
 #!/usr/bin/env python3
 """Stands between a runner and its worker, hands on each line, and kills or stops somebody at one moment.
 
-AMO_REAL is the program of the worker. AMO_ROOM has `effects`, and `moments`, which counts them over all workers of a run: before and
-after each line of the worker is handed on, once the command has begun and once it did its work, and before and after each answer is
-handed on. AMO_PLAN is NUMBER:WHO+WHO, of runner, worker and command, each with `~` before it where it is stopped for a while."""
+AMO_REAL is the program of the worker. AMO_ROOM has `effects`, and `moments`, which counts them over all workers of a run: before
+and after each line of the worker is handed on, once the command has begun and once it did its work, and before and after each
+answer is handed on. AMO_PLAN is NUMBER:WHO+WHO, of runner, worker and command, each with `~` before it where it is stopped for a
+while."""
 
 import fcntl
 import os

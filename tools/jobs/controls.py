@@ -1,9 +1,9 @@
-"""Controls: amo_jobs, or the stand-in for its worker, makes a mistake, and a test has to show it. Without the mistake it passes."""
+"""Controls: amo_jobs, or the stand-in for its worker, makes a mistake, and a test has to show it."""
 
 import os
 import re
 
-from jobs import directed, rules, scene
+from jobs import rules, scene
 
 HERE = os.path.dirname(os.path.realpath(__file__))
 TWICE, LISTED = "performed twice|performed after it was", "is a doubt|as a doubt|though no runner"
@@ -14,20 +14,22 @@ OF_THE_WORKER = [
     ("lists_what_runs", rules.try_orphan, TWICE),
     ("answers_what_runs", rules.try_running_is_not_answered, TWICE),
 ]
+INPUT = ["words, stdin=lock,", "words, stdin=subprocess.DEVNULL,"]
+FURTHER = ["pass_fds=self.locks[1:],", "pass_fds=(),"]
 # Of amo_jobs: the mistake, what stands there and what in its place, by pairs, and the same two.
 OF_THE_RUNNER = [
-    ("lock_is_not_handed_on", ["words, stdin=lock,", "words, stdin=subprocess.DEVNULL,", "pass_fds=self.locks[1:],", "pass_fds=(),"],
-     rules.try_orphan, TWICE),
-    ("lock_only_as_standard_input", ["pass_fds=self.locks[1:],", "pass_fds=(),"], rules.try_left_behind, TWICE + "|did nothing"),
-    ("lock_only_as_a_further_descriptor", ["words, stdin=lock,", "words, stdin=subprocess.DEVNULL,"], rules.try_closed, TWICE),
+    ("lock_is_not_handed_on", INPUT + FURTHER, rules.try_orphan, TWICE),
+    ("lock_only_as_standard_input", FURTHER, rules.try_left_behind, TWICE + "|did nothing"),
+    ("lock_only_as_a_further_descriptor", INPUT, rules.try_closed, TWICE),
     ("runner_without_lock", ['locked(f"{self.given.run}/runner.{self.number}", True)', 'os.open("/dev/null", os.O_RDONLY)'],
      rules.try_two_crews, LISTED),
     ("late_line_is_carried_out", [
         'self.saw(serial, "unbegun")\n            while', 'self.late = serial, int(number), text\n            while',
         '        if self.crew.is_stopping:\n            return self.saw(serial, "unbegun")\n',
-        '        if getattr(self, "late", None):\n            late, self.late = self.late, None\n            yield from self.perform(*late)\n',
+        '        if getattr(self, "late", None) and self.ends > 2:\n            late, self.late = self.late, None\n'
+        '            yield from self.perform(*late)\n',
     ], rules.try_late_line, TWICE),
-    ("end_is_forgotten", ['        if serial in self.seen:\n            return self.seen[serial]\n', ''], directed.try_killed, LISTED),
+    ("end_is_forgotten", ['        if serial in self.seen:\n            return self.seen[serial]\n', ''], rules.try_kept, LISTED),
     ("ends_before_it_is_noted", ["return not self.seen and (", "return ("], rules.try_noted_after_all, LISTED),
     ("running_is_an_end", ['return f"running {serial}"\n            yield', 'return self.ended(command)\n            yield'],
      rules.try_left_behind, TWICE + "|did nothing"),
@@ -78,5 +80,5 @@ def shown(bench, name, test, wanted):
     return "shown: " + wrong.split(";")[0].replace("\n", " ")[:110]
 
 
-PARTS = {"controls": [of_the_runner(*OF_THE_RUNNER[0]), of_the_worker(*OF_THE_WORKER[0]), *(of_the_worker(*it) for it in OF_THE_WORKER[1:]),
-                      *(of_the_runner(*it) for it in OF_THE_RUNNER[1:])]}
+ALL = [[of_the_worker(*it) for it in OF_THE_WORKER], [of_the_runner(*it) for it in OF_THE_RUNNER]]
+PARTS = {"controls": [ALL[0][0], ALL[1][0], *ALL[0][1:], *ALL[1][1:]]}

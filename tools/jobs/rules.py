@@ -59,7 +59,7 @@ def try_two_persons(bench):
 
 def try_late_line(bench):
     """what a worker said that is dead by the time it is read is dropped, and was certainly not begun"""
-    scene = bench.scene(["slow", "quick", "slow"])
+    scene = bench.scene(["slow"] * 6)
     scene.see_out(scene.start(plan="2:~runner+worker"))
     scene.audit()
     want(not scene.listed, f"it is listed as a doubt: {scene.listed}")
@@ -104,6 +104,16 @@ def try_closed(bench):
     scene.audit()
 
 
+def try_kept(bench):
+    """an end that a runner saw is told to the next worker, where the one before died with the answer"""
+    for moment in (5, 6):
+        scene = bench.scene(["slow", "quick"])
+        scene.see_out(scene.start(plan=f"{moment}:worker"))
+        scene.audit()
+        is_kept = not scene.listed and "in doubt: its runner" not in scene.tale()
+        want(is_kept, f"an end that was seen is a doubt: {scene.tale()[-300:]}")
+
+
 def try_noted_after_all(bench):
     """a runner whose worker died with an answer ends only once a next one has noted it, though a stop was asked for"""
     scene = bench.scene(["slow", "quick"])
@@ -118,5 +128,5 @@ def try_noted_after_all(bench):
 
 PARTS = {"rules": [
     try_orphan, try_running_is_not_answered, try_two_persons, try_late_line, try_two_crews, try_left_behind, try_closed,
-    try_noted_after_all,
+    try_kept, try_noted_after_all,
 ]}

@@ -1,5 +1,5 @@
-"""What the parts of tools/kill_jobs share: a run of amo_jobs in a folder of its own, whose commands write down what they do, a person
-who looks at each listed doubt and answers truthfully at once, and the audit of it all."""
+"""What the parts of tools/kill_jobs share: a run of amo_jobs in a folder of its own, whose commands write down what they do, a
+person who looks at each listed doubt and answers truthfully at once, and the audit of it all."""
 
 import json
 import os
@@ -95,10 +95,10 @@ class Scene:
         return [sys.executable, "-I", self.bench.program, command, "--run", self.run, "--worker-program", worker,
                 "--boot-id", self.boot, *(["--file-system", self.file_system] if self.file_system else []), *words]
 
-    def start(self, *more, plan=None, workers=None, command=None, jobs=None, **how):
+    def start(self, *more, plan=None, workers=None, command=None, **how):
         """Starts a crew. What it says goes to a file."""
         self.bench.add("crews")
-        words = ["--workers", str(workers or self.workers), *self.options, *more, jobs or self.jobs, "--", *(command or self.command)]
+        words = ["--workers", str(workers or self.workers), *self.options, *more, self.jobs, "--", *(command or self.command)]
         with open(f"{self.room}/said", "ab") as said:
             crew = subprocess.Popen(self.words("crew", *words, plan=plan), stdin=subprocess.DEVNULL, stdout=said, stderr=said,
                                     env=self.environment(plan), start_new_session=True, **how)
@@ -139,7 +139,7 @@ class Scene:
         return [it.split(" ") for it in folder.read(f"{self.effects}/{line}").decode().splitlines()]
 
     def person(self, by_hand=0.3):
-        """Looks at the effect of each listed doubt, and answers. Some that were not done are done by hand, once that is answered."""
+        """Looks at the effect of each listed doubt, and answers. Some that were not done are done by hand, once it is answered."""
         if not os.path.exists(f"{self.run}/jobs"):
             return 0
         found = re.findall(r"^(\d+\.\d+), line (\d+): (.*)$", self.call("doubts"), re.M)
@@ -171,7 +171,7 @@ class Scene:
                     during(crew)
                 continue
             self.statuses.append(status)
-            want(status in (DONE, FAILED, DOUBTFUL, LEFT, LATER, KILLED, *UNHEARD), f"a crew ends with status {status}: {self.tale()[-800:]}")
+            want(status in (DONE, FAILED, DOUBTFUL, LEFT, LATER, KILLED, *UNHEARD), f"status {status}: {self.tale()[-800:]}")
             self.person()
             if status == FAILED and again and "untouched" in self.look().kinds().values():
                 self.call("again")

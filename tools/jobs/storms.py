@@ -1,5 +1,5 @@
-"""Random runs: 1 to 4 workers, up to 60 jobs, whose runners, workers and commands are killed and stopped at any time, whose machine
-is started anew, whose lists grow, and whose number of workers changes."""
+"""Random runs: 1 to 4 workers, up to 60 jobs, whose runners, workers and commands are killed and stopped at any time, whose
+machine is started anew, whose lists grow, and whose number of workers changes."""
 
 import os
 import random
@@ -42,8 +42,7 @@ class Storm:
         if now > self.begun + self.calm or now < self.due:
             return
         self.due = now + self.draws.expovariate(2)
-        what = self.draws.choice(["worker", "worker", "command", "command", "runner", "runner", "all", "stop", "stop", "reboot", "grow",
-                                  "term"])
+        what = self.draws.choice("worker worker command command runner runner all stop stop reboot grow term".split())
         self.bench.add(what)
         getattr(self, f"befall_{what}")(crew)
 
@@ -59,7 +58,8 @@ class Storm:
                 pass
 
     def befall_worker(self, crew):
-        self.kill(self.draws.sample(self.some("work"), min(len(self.some("work")), 1)) if self.some("work") else [])
+        found = self.some("work")
+        self.kill(self.draws.sample(found, 1) if found else [])
 
     def befall_command(self, crew):
         found = self.some(self.scene.command[0])
@@ -83,8 +83,8 @@ class Storm:
         if found:
             stopped = self.draws.choice(found)
             self.kill([stopped], signal.SIGSTOP)
-            subprocess.Popen(["sh", "-c", f"sleep {self.draws.uniform(0.1, 1):.2f}; kill -CONT {stopped}"], start_new_session=True,
-                             stderr=subprocess.DEVNULL)
+            goes_on = f"sleep {self.draws.uniform(0.1, 1):.2f}; kill -CONT {stopped}"
+            subprocess.Popen(["sh", "-c", goes_on], start_new_session=True, stderr=subprocess.DEVNULL)
             if self.draws.random() < 0.5:
                 crew.kill()
 

@@ -1,4 +1,4 @@
-"""What commands may do and say, and what amo_jobs makes of it: ends, arguments, signals, timeouts, leftovers, refusals, outputs."""
+"""What commands may do and say, and what amo_jobs makes of it: ends, arguments, signals, timeouts, leftovers, refusals."""
 
 import os
 import re
@@ -22,8 +22,8 @@ def try_ends(bench):
     scene = bench.scene(["quick", "fail", "nothing", "dies", "quick"], 1, ["--untouched", "75,76"])
     scene.ends(scene.start(), DOUBTFUL)
     want(kinds_of(scene) == ["done", "failed", "untouched", "doubt", "done"], f"{kinds_of(scene)}")
-    want(scene.call("status", status=DOUBTFUL).startswith("5 lines: 2 done, 1 failed, 1 in doubt, 0 running, 1 untouched, 0 open\n"),
-         scene.call("status", status=None))
+    told = scene.call("status", status=DOUBTFUL)
+    want(told.startswith("5 lines: 2 done, 1 failed, 1 in doubt, 0 running, 1 untouched, 0 open\n"), told)
     told = scene.call("doubts")
     want(re.search(r"^\d+\.\d+, line 4: 4 dies$", told, re.M), told)
     want(scene.see_out(again=False) == FAILED, "an untouched line and a failed one are status 1")
@@ -37,8 +37,8 @@ def try_ends(bench):
     scene.call("status", status=DONE)
 
 
-ODD = ["plain", "two  blanks ", "$(touch broken)", "`touch broken`; touch broken", "-rf", "--run", "{}", "it's \"quoted\"", "*", "täglich",
-       "a\ttab", "\x1b[31mred", "back\\slash", "#no comment", "x" * 99999]
+ODD = ["plain", "two  blanks ", "$(touch broken)", "`touch broken`; touch broken", "-rf", "--run", "{}", "it's \"quoted\"", "*",
+       "täglich", "a\ttab", "\x1b[31mred", "back\\slash", "#no comment", "x" * 99999]
 
 
 def try_arguments(bench):
@@ -123,7 +123,7 @@ def try_last_net(bench):
 
 
 def try_leftovers(bench):
-    """what a command leaves behind by &, nohup or setsid is running until it ends; the worker goes on meanwhile, and its end is kept"""
+    """what a command leaves behind by &, nohup or setsid is running until it ends; the worker goes on meanwhile"""
     scene = bench.scene(["amp", "nohup", "setsid", "quick", "slow", "slow", "slow"], 1, ["--linger", "0.05"])
     scene.ends(scene.start(), DONE)
     want("something that it began runs on" in scene.tale(), "nothing was left behind")
@@ -201,8 +201,8 @@ def try_work(bench):
     """workers each with a runner of their own"""
     scene = bench.scene(["quick", "slow", "fail"] * 4)
     words = ["--workers", "3", scene.jobs, "--", *scene.command]
-    crews = [subprocess.Popen(scene.words("work", "--worker", str(p), *words), stdin=subprocess.DEVNULL, stderr=subprocess.DEVNULL,
-                              env=scene.environment()) for p in (1, 2, 3)]
+    how = dict(stdin=subprocess.DEVNULL, stderr=subprocess.DEVNULL, env=scene.environment())
+    crews = [subprocess.Popen(scene.words("work", "--worker", str(p), *words), **how) for p in (1, 2, 3)]
     scene.crews += crews
     for it in crews:
         scene.ends(it, FAILED)
@@ -219,7 +219,8 @@ def try_outputs(bench):
         options = [f"{scene.room}/{it}" if it == "results" else it for it in options]
         scene.ends(scene.start(*options, command=["sh", "-c", "echo paid; echo slowly >&2; kill -9 $$", "sh"]), DOUBTFUL)
         place = options[1] if options else scene.run
-        want(folder.read(f"{place}/out.1.1") == b"paid\n" and folder.read(f"{place}/err.1.1") == b"slowly\n", f"{os.listdir(place)}")
+        found = folder.read(f"{place}/out.1.1"), folder.read(f"{place}/err.1.1")
+        want(found == (b"paid\n", b"slowly\n"), f"{os.listdir(place)}")
         told = scene.call("doubts")
         want("| paid\n" in told and "| slowly\n" in told and "line 1: pay\n" in told, told)
 
@@ -229,7 +230,8 @@ def try_streams(bench):
     for closing in ("<&- >&- 2>&-", "2>/dev/full", "2>&1 | true"):
         scene = bench.scene(["quick", "amp", "quick"])
         words = scene.words("crew", "--workers", "1", *scene.options, scene.jobs, "--", *scene.command)
-        subprocess.run(["sh", "-c", f'"$@" {closing}', "sh", *words], env=scene.environment(), timeout=30, stderr=subprocess.DEVNULL)
+        shell = ["sh", "-c", f'"$@" {closing}', "sh", *words]
+        subprocess.run(shell, env=scene.environment(), timeout=30, stderr=subprocess.DEVNULL)
         scene.audit()
 
 
@@ -242,8 +244,7 @@ def try_growing(bench):
     scene.grow(["quick"], end="")
     scene.ends(crew, REFUSED)
     want(kinds_of(scene) == ["done"] * 4 + ["failed"], f"a line without its end is left out: {kinds_of(scene)}")
-    want("6\tquick" not in scene.call("status", "--lines", "failed") and "\t5\t5 fail\n" in scene.call("status", "--lines", "failed"),
-         "lines are printed with tabs")
+    want(scene.call("status", "--lines", "failed").endswith("\t5\t5 fail\n"), "lines are printed with tabs")
     with open(scene.jobs, "a") as file:
         file.write("\n")
     scene.see_out()
@@ -307,6 +308,6 @@ def fill(scene, disk):
 
 
 PARTS = {"ways": [
-    try_ends, try_arguments, try_refusals, try_lists, try_timeout, try_last_net, try_leftovers, try_first_signal, try_second_signal,
-    try_halt, try_one_runner, try_work, try_outputs, try_streams, try_growing, try_killed_in_turn, try_disk_full,
+    try_ends, try_arguments, try_refusals, try_lists, try_timeout, try_last_net, try_leftovers, try_first_signal,
+    try_second_signal, try_halt, try_one_runner, try_work, try_outputs, try_streams, try_growing, try_killed_in_turn, try_disk_full,
 ]}
