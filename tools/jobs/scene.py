@@ -139,7 +139,7 @@ class Scene:
         return [it.split(" ") for it in folder.read(f"{self.effects}/{line}").decode().splitlines()]
 
     def person(self, by_hand=0.3):
-        """Looks at the effect of each listed doubt, and answers. Some that were not done are done by hand, once it is answered."""
+        """Looks at the effect of each listed doubt, and answers. Some that were not done are done by hand after that."""
         if not os.path.exists(f"{self.run}/jobs"):
             return 0
         found = re.findall(r"^(\d+\.\d+), line (\d+): (.*)$", self.call("doubts"), re.M)

@@ -309,5 +309,6 @@ def fill(scene, disk):
 
 PARTS = {"ways": [
     try_ends, try_arguments, try_refusals, try_lists, try_timeout, try_last_net, try_leftovers, try_first_signal,
-    try_second_signal, try_halt, try_one_runner, try_work, try_outputs, try_streams, try_growing, try_killed_in_turn, try_disk_full,
+    try_second_signal, try_halt, try_one_runner, try_work, try_outputs, try_streams, try_growing, try_killed_in_turn,
+    try_disk_full,
 ]}
