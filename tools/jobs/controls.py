@@ -9,7 +9,7 @@ HERE = os.path.dirname(os.path.realpath(__file__))
 TWICE, LISTED = "performed twice|performed after it was", "is a doubt|as a doubt|though no runner"
 # Of the stand-in: a mistake, the test that has to show it, and what it has to say.
 OF_THE_WORKER = [
-    ("pending_is_open", rules.try_orphan, TWICE),
+    ("pending_is_open", rules.try_words_lost, TWICE),
     ("answers_by_line", rules.try_two_persons, TWICE),
     ("lists_what_runs", rules.try_orphan, TWICE),
     ("answers_what_runs", rules.try_running_is_not_answered, TWICE),

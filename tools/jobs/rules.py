@@ -4,7 +4,7 @@ import os
 import signal
 import time
 
-from jobs.scene import DONE, LATER, LEFT, want
+from jobs.scene import DONE, DOUBTFUL, LATER, LEFT, want
 
 
 def until(is_so, what, seconds=20):
@@ -15,9 +15,9 @@ def until(is_so, what, seconds=20):
         time.sleep(0.01)
 
 
-def orphan(bench):
+def orphan(bench, kind="late"):
     """A run whose crew was killed after its command had begun, and before that did anything."""
-    scene = bench.scene(["late", "quick", "quick"])
+    scene = bench.scene([kind, "quick", "quick"])
     crew = scene.start()
     until(lambda: [it for it in scene.tales(1) if it[0] == "begun"], "the command has begun")
     crew.kill()
@@ -32,6 +32,14 @@ def try_orphan(bench):
     scene.see_out()
     scene.audit()
     want(scene.listed, "its end, which nobody saw, is no doubt")
+
+
+def try_words_lost(bench):
+    """where the words are lost a new round is begun, and what runs is no part of it"""
+    scene = orphan(bench, "later")
+    os.unlink(f"{scene.run}/words")
+    scene.see_out()
+    scene.audit()
 
 
 def try_running_is_not_answered(bench):
@@ -72,7 +80,7 @@ def try_two_crews(bench):
     until(lambda: len(scene.tales(1) + scene.tales(2)) > 1, "a command has ended")
     time.sleep(0.2)
     second = scene.start()
-    want(crew.wait(30) == DONE and second.wait(30) in (DONE, LATER), f"both end: {scene.tale()[-300:]}")
+    want(crew.wait(30) in (DONE, DOUBTFUL) and second.wait(30) in (DONE, DOUBTFUL, LATER), f"both end: {scene.tale()[-300:]}")
     scene.see_out()
     scene.audit()
     want(not scene.listed and " is in doubt" not in scene.tale(), f"an end that was seen is a doubt: {scene.tale()[-300:]}")
@@ -83,6 +91,7 @@ def try_left_behind(bench):
     scene = bench.scene(["late_amp", "quick"])
     crew = scene.start()
     until(lambda: crew.poll() is not None or "runs on" in scene.tale(), "something is left behind")
+    time.sleep(0.3)
     for it in scene.look().intents.values():
         is_true = it.line != 1 or it.answer != "done" or ["did", it.name()] in scene.tales(1)
         want(is_true, f"line 1 counts as done by {it.name()}, which did nothing yet")
@@ -120,13 +129,13 @@ def try_noted_after_all(bench):
     crew = scene.start(plan="5:worker")
     until(lambda: scene.tales(1) + scene.tales(2), "a command has begun")
     crew.send_signal(signal.SIGTERM)
-    want(crew.wait(30) == LEFT, f"status {crew.poll()}")
+    want(crew.wait(30) in (LEFT, DOUBTFUL), f"status {crew.poll()}")
     scene.see_out()
     scene.audit()
     want(not scene.listed, f"an end that was seen is a doubt: {scene.listed}")
 
 
 PARTS = {"rules": [
-    try_orphan, try_running_is_not_answered, try_two_persons, try_late_line, try_two_crews, try_left_behind, try_closed,
-    try_kept, try_noted_after_all,
+    try_orphan, try_words_lost, try_running_is_not_answered, try_two_persons, try_late_line, try_two_crews, try_left_behind,
+    try_closed, try_kept, try_noted_after_all,
 ]}
