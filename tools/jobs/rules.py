@@ -15,45 +15,63 @@ def until(is_so, what, seconds=20):
         time.sleep(0.01)
 
 
-def orphan(bench, kind="late"):
-    """A run whose crew was killed after its command had begun, and before that did anything."""
-    scene = bench.scene([kind, "quick", "quick"])
+def orphan(bench):
+    """A run whose crew was killed after its command had begun, and which stands still before it does anything; and that command."""
+    scene = bench.scene(["late", "quick", "quick"])
     crew = scene.start()
     until(lambda: [it for it in scene.tales(1) if it[0] == "begun"], "the command has begun")
+    command = int(scene.tales(1)[0][2])
+    os.kill(command, signal.SIGSTOP)
+    want(len(scene.tales(1)) == 1, "the command was too quick for this test")
     crew.kill()
     crew.wait()
-    return scene
+    return scene, command
+
+
+def go_on(command):
+    """Has a command that stands still go on to its end."""
+    os.kill(command, signal.SIGCONT)
+    until(lambda: not os.path.exists(f"/proc/{command}"), "the command ends")
 
 
 def try_orphan(bench):
     """a command whose runner was killed is running, for the next runner and for who asks, until nothing of it is left"""
-    scene = orphan(bench)
+    scene, command = orphan(bench)
     scene.person()
+    status = scene.start().wait(30)
+    scene.person()
+    counts = scene.counts(status=None)
+    go_on(command)
     scene.see_out()
     scene.audit()
+    want(status == DOUBTFUL and counts["running"] == 1, f"it was no longer running: {counts}, status {status}")
     want(scene.listed, "its end, which nobody saw, is no doubt")
 
 
 def try_words_lost(bench):
     """where the words are lost a new round is begun, and what runs is no part of it"""
-    scene = orphan(bench, "later")
+    scene, command = orphan(bench)
     os.unlink(f"{scene.run}/words")
+    scene.start().wait(30)
+    go_on(command)
     scene.see_out()
     scene.audit()
 
 
 def try_running_is_not_answered(bench):
     """a person who is too quick is refused"""
-    scene = orphan(bench)
+    scene, command = orphan(bench)
     scene.call("answer", "1.1", "1", "1 late", "not-done", status=None)
+    scene.start().wait(30)
+    go_on(command)
     scene.see_out()
     scene.audit()
 
 
 def try_two_persons(bench):
     """of two who saw one doubt the later one answers nothing that came after it"""
-    scene = orphan(bench)
-    os.kill(int(scene.tales(1)[0][2]), signal.SIGKILL)
+    scene, command = orphan(bench)
+    os.kill(command, signal.SIGKILL)
     until(lambda: "1.1, line 1" in scene.call("doubts"), "it is listed")
     scene.call("answer", "1.1", "1", "1 late", "not-done")
     crew = scene.start()

@@ -111,14 +111,14 @@ def try_timeout(bench):
 
 def try_last_net(bench):
     """where the runner is gone the kernel's timer ends the command"""
-    scene = bench.scene(["never"], 1, ["--timeout", "0.5", "--grace", "0.1"])
+    scene = bench.scene(["never"], 1, ["--timeout", "3", "--grace", "0.1"])
     script = "import sys, time; open(sys.argv[1] + '/begun', 'w').close(); time.sleep(60)"
     crew = scene.start(command=[sys.executable, "-c", script, scene.room])
     until(lambda: os.path.exists(f"{scene.room}/begun"), "the command runs")
     want(scene.counts(status=DOUBTFUL)["running"] == 1, "it is running")
     crew.kill()
     crew.wait()
-    until(lambda: not list(scene.processes(script)), "the timer ends it", 5)
+    until(lambda: not list(scene.processes(script)), "the timer ends it", 9)
     want(scene.counts(status=None)["doubt"] == 1, "it is in doubt then")
 
 
@@ -131,12 +131,14 @@ def try_leftovers(bench):
     scene = bench.scene([], 1, ["--linger", "0.05"])
     with open(scene.jobs, "w") as file:
         file.write("stays\n")
-    scene.ends(scene.start(command=["sh", "-c", f"sleep 1.5 & echo $! > {scene.room}/left", "sh"]), DOUBTFUL)
+    script = f"cd {scene.room}; (while ! [ -e over ]; do sleep 0.05; done) & echo $! > left"
+    scene.ends(scene.start(command=["sh", "-c", script, "sh"]), DOUBTFUL)
     left = folder.read(f"{scene.room}/left").decode().strip()
-    want(f"process {left} (sleep 1.5)" in scene.tale(), f"who holds it isn't told: {scene.tale()}")
+    want(f"process {left} (sh -c" in scene.tale(), f"who holds it isn't told: {scene.tale()}")
     want(f"process {left} " in scene.call("status", status=DOUBTFUL), "the status names nobody")
     want(scene.call("doubts") == "", "it is listed while it runs")
     scene.call("answer", "1.1", "1", "stays", "not-done", status=REFUSED)
+    open(f"{scene.room}/over", "w").close()
     until(lambda: scene.call("doubts"), "it is listed once it has ended")
 
 
