@@ -95,6 +95,42 @@ def try_lists(bench):
     scene.ends(scene.start(), DONE)
 
 
+def try_answers(bench):
+    """the doubts that are printed with tabs are answered by a file, all or none; a wrong text and a second answer are refused"""
+    scene = bench.scene(["dies", "dies", "quick", "dies"])
+    scene.ends(scene.start(), DOUBTFUL)
+    rows = scene.call("status", "--lines", "doubt").splitlines()
+    want([it.split("\t")[1:] for it in rows] == [["1", "1 dies"], ["2", "2 dies"], ["4", "4 dies"]], f"{rows}")
+    for name, verdicts, status in (("wrong", ["done", "done", "maybe"], REFUSED), ("right", ["done", "done", "not-done"], DONE),
+                                   ("other", ["not-done", "done", "not-done"], REFUSED), ("right", None, DONE)):
+        path = f"{scene.room}/{name}"
+        if verdicts:
+            with open(path, "w") as file:
+                file.write("".join(f"{row}\t{verdict}\n" for row, verdict in zip(rows, verdicts)))
+        scene.call("answer", "--from", path, status=status)
+        wanted = ["doubt", "doubt", "done", "doubt"] if name == "wrong" else ["done", "done", "done", "open"]
+        want(kinds_of(scene) == wanted, f"after {name}: {kinds_of(scene)}")
+    scene.call("answer", "--", rows[0].split("\t")[0], "1", "another text", "done", status=REFUSED)
+
+
+def try_status(bench):
+    """the status tells who is alive, how all lines stand, how fast it goes, and which process holds what runs"""
+    scene = bench.scene(["quick", "late", "quick", "quick", "quick"])
+    crew = scene.start()
+    until(lambda: [it for it in scene.tales(2) if it[0] == "begun"], "the command has begun")
+    name, process = scene.tales(2)[0][1:]
+    os.kill(int(process), signal.SIGSTOP)
+    time.sleep(1)
+    told = scene.call("status", status=DOUBTFUL)
+    os.kill(int(process), signal.SIGCONT)
+    wanted = rf"^running {re.escape(name)}, line 2: 2 late -- process {process} \(.*act.sh"
+    want(re.search(wanted, told, re.M), told)
+    want(re.search(r"^5 lines: \d done, 0 failed, 0 in doubt, 1 running, 0 untouched, \d open\nworkers alive: 1", told), told)
+    want(" 1 done" not in told or "a second, over at " in told, told)
+    scene.ends(crew, DONE)
+    want("workers alive: none" in scene.call("status"), "nobody is alive at the end")
+
+
 def try_timeout(bench):
     """a timeout sends TERM and then KILL to the whole group, and the job is in doubt; one that ends in time isn't"""
     scene = bench.scene([], 3, ["--timeout", "0.4", "--grace", "0.3", "--linger", "0.1"])
@@ -104,7 +140,7 @@ def try_timeout(bench):
         deaf) trap '' TERM; sleep 9; sleep 9;; esac"""
     begun = time.monotonic()
     scene.ends(scene.start(command=["sh", "-c", script, "sh"]), DOUBTFUL)
-    want(time.monotonic() - begun < 6, "the timeout came late")
+    want(time.monotonic() - begun < 8, "the timeout came late")
     want(kinds_of(scene) == ["done", "doubt", "doubt"], f"{kinds_of(scene)}")
     want(os.path.exists(f"{scene.room}/polite"), "TERM never came")
 
@@ -310,7 +346,7 @@ def fill(scene, disk):
 
 
 PARTS = {"ways": [
-    try_ends, try_arguments, try_refusals, try_lists, try_timeout, try_last_net, try_leftovers, try_first_signal,
-    try_second_signal, try_halt, try_one_runner, try_work, try_outputs, try_streams, try_growing, try_killed_in_turn,
+    try_ends, try_arguments, try_refusals, try_lists, try_answers, try_status, try_timeout, try_last_net, try_leftovers,
+    try_first_signal, try_second_signal, try_halt, try_one_runner, try_work, try_outputs, try_streams, try_growing, try_killed_in_turn,
     try_disk_full,
 ]}
