@@ -46,11 +46,11 @@ def befall(process, is_killed):
         subprocess.Popen(["sh", "-c", f"sleep {STOPPED}; kill -CONT {process}"], stdin=subprocess.DEVNULL, start_new_session=True)
 
 
-def moment(worker, name, line):
+def moment(worker, name, line, kind):
     if number() != int(AT):
         return
     with open(f"{ROOM}/befallen", "a") as file:
-        file.write(f"{AT}:{WHO} at {name} of line {line}\n")
+        file.write(f"{AT}:{WHO} {name} of line {line} {kind}\n")
     words = WHO.split("+")
     for who in sorted(words, key="command ~command runner ~runner worker ~worker".split().index):
         if who.endswith("command"):
@@ -83,22 +83,22 @@ def relay(worker, number_of_worker):
             return
         kind, serial, line = said.split(b" ")[:3]
         name, line = f"{number_of_worker}.{serial.decode()}", int(line)
-        moment(worker, name, line)
+        moment(worker, name, line, "unsaid")
         sys.stdout.buffer.write(said)
         sys.stdout.buffer.flush()
-        moment(worker, name, line)
+        moment(worker, name, line, "said")
         if kind == b"perform" and WHO:
             for word in ("begun", "did"):
                 if wait_for(word, name, line):
-                    moment(worker, name, line)
+                    moment(worker, name, line, word)
         answer = sys.stdin.buffer.readline()
-        moment(worker, name, line)
+        moment(worker, name, line, "unanswered")
         if not answer.endswith(b"\n"):
             worker.stdin.close()
             return
         worker.stdin.write(answer)
         worker.stdin.flush()
-        moment(worker, name, line)
+        moment(worker, name, line, "answered")
 
 
 def main(words):

@@ -143,7 +143,7 @@ def try_kept(bench):
 
 def try_noted_after_all(bench):
     """a runner whose worker died with an answer ends only once a next one has noted it, though a stop was asked for"""
-    scene = bench.scene(["slow", "quick"])
+    scene = bench.scene(["late", "late"])
     crew = scene.start(plan="5:worker")
     until(lambda: scene.tales(1) + scene.tales(2), "a command has begun")
     crew.send_signal(signal.SIGTERM)

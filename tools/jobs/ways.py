@@ -136,11 +136,11 @@ def try_timeout(bench):
     scene = bench.scene([], 3, ["--timeout", "0.4", "--grace", "0.3", "--linger", "0.1"])
     with open(scene.jobs, "w") as file:
         file.write("in time\npolite\ndeaf\n")
-    script = f"""cd {scene.room}; case $1 in polite) trap 'echo TERM > polite; exit 0' TERM; sleep 9 & wait;;
-        deaf) trap '' TERM; sleep 9; sleep 9;; esac"""
+    script = f"""cd {scene.room}; case $1 in polite) trap 'echo TERM > polite; exit 0' TERM; sleep 30 & wait;;
+        deaf) trap '' TERM; sleep 30; sleep 30;; esac"""
     begun = time.monotonic()
     scene.ends(scene.start(command=["sh", "-c", script, "sh"]), DOUBTFUL)
-    want(time.monotonic() - begun < 8, "the timeout came late")
+    want(time.monotonic() - begun < 25, "the timeout came late")
     want(kinds_of(scene) == ["done", "doubt", "doubt"], f"{kinds_of(scene)}")
     want(os.path.exists(f"{scene.room}/polite"), "TERM never came")
 
@@ -181,9 +181,9 @@ def try_leftovers(bench):
 def try_first_signal(bench):
     """the first signal lets the command end and has its end noted; no further job is begun"""
     for number in (signal.SIGINT, signal.SIGTERM, signal.SIGHUP):
-        scene = bench.scene(["slow"] * 3)
+        scene = bench.scene(["late", "quick", "quick"])
         crew = scene.start()
-        until(lambda: scene.tales(1) or scene.tales(2) or scene.tales(3), "a command has begun")
+        until(lambda: scene.tales(1), "a command has begun")
         crew.send_signal(number)
         scene.ends(crew, LEFT)
         want(sorted(kinds_of(scene)) == ["done", "open", "open"], f"{number}: {kinds_of(scene)}")
