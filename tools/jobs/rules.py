@@ -7,7 +7,7 @@ import time
 from jobs.scene import DONE, DOUBTFUL, LATER, LEFT, want
 
 
-def until(is_so, what, seconds=20):
+def until(is_so, what, seconds=60):
     """Waits for something."""
     end = time.monotonic() + seconds
     while not is_so():
@@ -38,7 +38,7 @@ def try_orphan(bench):
     """a command whose runner was killed is running, for the next runner and for who asks, until nothing of it is left"""
     scene, command = orphan(bench)
     scene.person()
-    status = scene.start().wait(30)
+    status = scene.start().wait(100)
     scene.person()
     counts = scene.counts(status=None)
     go_on(command)
@@ -52,7 +52,7 @@ def try_words_lost(bench):
     """where the words are lost a new round is begun, and what runs is no part of it"""
     scene, command = orphan(bench)
     os.unlink(f"{scene.run}/words")
-    scene.start().wait(30)
+    scene.start().wait(100)
     go_on(command)
     scene.see_out()
     scene.audit()
@@ -62,7 +62,7 @@ def try_running_is_not_answered(bench):
     """a person who is too quick is refused"""
     scene, command = orphan(bench)
     scene.call("answer", "1.1", "1", "1 late", "not-done", status=None)
-    scene.start().wait(30)
+    scene.start().wait(100)
     go_on(command)
     scene.see_out()
     scene.audit()
@@ -98,7 +98,7 @@ def try_two_crews(bench):
     until(lambda: len(scene.tales(1) + scene.tales(2)) > 1, "a command has ended")
     time.sleep(0.2)
     second = scene.start()
-    want(crew.wait(30) in (DONE, DOUBTFUL) and second.wait(30) in (DONE, DOUBTFUL, LATER), f"both end: {scene.tale()[-300:]}")
+    want(crew.wait(100) in (DONE, DOUBTFUL) and second.wait(100) in (DONE, DOUBTFUL, LATER), f"both end: {scene.tale()[-300:]}")
     scene.see_out()
     scene.audit()
     want(not scene.listed and " is in doubt" not in scene.tale(), f"an end that was seen is a doubt: {scene.tale()[-300:]}")
@@ -147,7 +147,7 @@ def try_noted_after_all(bench):
     crew = scene.start(plan="5:worker")
     until(lambda: scene.tales(1) + scene.tales(2), "a command has begun")
     crew.send_signal(signal.SIGTERM)
-    want(crew.wait(30) in (LEFT, DOUBTFUL), f"status {crew.poll()}")
+    want(crew.wait(100) in (LEFT, DOUBTFUL), f"status {crew.poll()}")
     scene.see_out()
     scene.audit()
     want(not scene.listed, f"an end that was seen is a doubt: {scene.listed}")

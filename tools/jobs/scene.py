@@ -109,7 +109,7 @@ class Scene:
         """What the crews have said."""
         return folder.read(f"{self.room}/said").decode("utf-8", "replace")
 
-    def ends(self, crew, status, seconds=30):
+    def ends(self, crew, status, seconds=100):
         """Waits for the end of a crew, which has to have this status."""
         try:
             found = crew.wait(seconds)
@@ -119,7 +119,7 @@ class Scene:
 
     def call(self, command, *words, status=DONE):
         """A command for persons: what it writes. None in place of a status takes any."""
-        ran = subprocess.run(self.words(command, *words), stdin=subprocess.DEVNULL, capture_output=True, timeout=60,
+        ran = subprocess.run(self.words(command, *words), stdin=subprocess.DEVNULL, capture_output=True, timeout=120,
                              env=self.environment())
         want(status in (None, ran.returncode), f"{command}: status {ran.returncode}: {(ran.stdout + ran.stderr).decode()[-500:]}")
         return ran.stdout.decode()
@@ -157,7 +157,7 @@ class Scene:
                 self.tell(line, "did by-hand")
         return len(found)
 
-    def see_out(self, crew=None, seconds=90, pause=0.3, again=True, during=None, workers_of=lambda: None):
+    def see_out(self, crew=None, seconds=240, pause=0.3, again=True, during=None, workers_of=lambda: None):
         """Starts crews, with a person beside them, until no line is open, in doubt or running; the status of the last one."""
         end = time.monotonic() + seconds
         crew = crew or self.start(workers=workers_of())

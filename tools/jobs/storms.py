@@ -27,7 +27,7 @@ class Storm:
         self.begun = time.monotonic()
 
     def run(self):
-        self.scene.see_out(during=self.befall, workers_of=self.count, seconds=150)
+        self.scene.see_out(during=self.befall, workers_of=self.count, seconds=300)
         self.scene.audit()
 
     def count(self):
