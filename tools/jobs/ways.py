@@ -268,6 +268,8 @@ def try_streams(bench):
         words = scene.words("crew", "--workers", "1", *scene.options, scene.jobs, "--", *scene.command)
         shell = ["sh", "-c", f'"$@" {closing}', "sh", *words]
         subprocess.run(shell, env=scene.environment(), timeout=100, stderr=subprocess.DEVNULL)
+        want({*kinds_of(scene)} <= {"done", "doubt", "running"}, f"it has ended before: {kinds_of(scene)}")
+        scene.see_out()
         scene.audit()
 
 
