@@ -1,0 +1,67 @@
+"""Runner, worker and command killed, or stopped for longer than a restart takes, at each line of the protocol in turn, each alone
+and together."""
+
+from jobs.scene import FAILED, Wrong, want
+from worker import folder
+
+WHO = ("runner", "worker", "command", "runner+worker", "runner+command", "worker+command", "runner+worker+command")
+STOPPED = ("~runner", "~worker", "~command", "runner+~worker", "runner+~command", "runner+worker+~command", "~runner+worker",
+           "runner+~worker+~command", "~runner+~command")
+KINDS = ["slow", "amp", "fail"]
+# These leave no doubt, since an end that a runner saw isn't lost with its worker; but where a worker died before what it said came
+# to its runner, which then knows nothing.
+LEAVE_NO_DOUBT = ("worker", "~runner", "~worker", "~command", "~runner+worker", "~runner+~command")
+
+
+def befall(bench, number, who, kinds, workers):
+    """One run in which this befalls these at this moment."""
+    scene = bench.scene(kinds, workers)
+    scene.see_out(scene.start(plan=f"{number}:{who}"))
+    scene.audit()
+    told = folder.read(f"{scene.room}/befallen").decode()
+    bench.add("befallen", told.count("\n"))
+    may_leave = who not in LEAVE_NO_DOUBT or "unsaid" in told
+    want(may_leave or not scene.listed, f"a doubt though no runner or command was killed: {told.strip()}, {scene.listed}")
+
+
+def moments(bench, kinds, workers):
+    """How many moments a run has in which nothing befalls anybody."""
+    scene = bench.scene(kinds, workers)
+    scene.ends(scene.start(plan="0:runner"), FAILED)
+    scene.audit()
+    return len(folder.read(f"{scene.room}/moments"))
+
+
+def each_moment(bench, whos, kinds, workers, count):
+    whole = moments(bench, kinds, workers)
+    cases = [(number, who) for number in range(1, whole + 1) for who in whos]
+    wrongs, tried = [], 0
+    for number, who in bench.sample(cases, count):
+        if not bench.has_time() or len(wrongs) == 5:
+            break
+        tried += 1
+        try:
+            befall(bench, number, who, kinds, workers)
+        except Wrong as wrong:
+            wrongs.append(f"{who} at moment {number} of {whole}: {wrong}")
+        bench.close()
+    want(not wrongs, f"{len(wrongs)} of {tried} tried: " + "; ".join(wrongs[:3]))
+    return f"{tried} of {len(cases)} cases, {bench.counts}"
+
+
+def try_killed(bench):
+    """killed at each line in turn: no line is performed twice, each doubt is told, and no end that was seen is lost"""
+    return each_moment(bench, WHO, KINDS, 1, 24)
+
+
+def try_killed_together(bench):
+    """the same with two workers"""
+    return each_moment(bench, WHO, KINDS + ["setsid", "quick", "slow", "nohup", "deaf"], 2, 6)
+
+
+def try_stopped(bench):
+    """stopped for longer than a restart takes, and continued"""
+    return each_moment(bench, STOPPED, KINDS, 1, 12)
+
+
+PARTS = {"killed": [try_killed, try_killed_together], "stopped": [try_stopped]}

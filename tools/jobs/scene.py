@@ -1,0 +1,237 @@
+"""What the parts of tools/kill_jobs share: a run of amo_jobs in a folder of its own, whose commands write down what they do, a
+person who looks at each listed doubt and answers truthfully at once, and the audit of it all."""
+
+import json
+import os
+import random
+import re
+import signal
+import subprocess
+import sys
+import tempfile
+import time
+
+from worker import folder
+
+HERE = os.path.dirname(os.path.realpath(__file__))
+DONE, FAILED, DOUBTFUL, WORDS, REFUSED, LEFT, WRITE, READ, LATER = 0, 1, 2, 64, 65, 69, 73, 74, 75
+KILLED = -signal.SIGKILL
+UNHEARD = (-signal.SIGHUP, -signal.SIGTERM, -signal.SIGINT, 130)  # of a signal that came before a crew took any
+COMMAND = [f"{HERE}/act.sh"]
+
+
+class Wrong(Exception):
+    """What is wrong with the program."""
+
+
+def want(so, what):
+    if not so:
+        raise Wrong(what)
+
+
+class Bench:
+    """What is tried: amo_jobs and a worker, in a folder."""
+
+    def __init__(self, program, worker, room, is_long, seed, mistake=None):
+        self.program, self.worker, self.room = os.path.abspath(program), os.path.abspath(worker), os.path.realpath(room)
+        self.is_long, self.seed, self.draws, self.mistake = is_long, seed, random.Random(seed), mistake
+        self.scenes, self.skipped, self.end, self.counts = [], [], None, {}
+
+    def scene(self, *given, **more):
+        self.scenes.append(Scene(self, *given, **more))
+        return self.scenes[-1]
+
+    def close(self):
+        for it in self.scenes:
+            it.close()
+        self.scenes.clear()
+
+    def has_time(self):
+        return self.end is None or time.monotonic() < self.end
+
+    def add(self, name, more=1):
+        self.counts[name] = self.counts.get(name, 0) + more
+
+    def sample(self, whole, count):
+        """All of these in the long form, in some order; else so many of them, spread."""
+        whole = list(whole)
+        if self.is_long:
+            return self.draws.sample(whole, len(whole))
+        return [whole[k * len(whole) // count] for k in range(count)] if len(whole) > count else whole
+
+
+class Scene:
+    """One run."""
+
+    def __init__(self, bench, kinds, workers=1, options=("--linger", "0.2"), command=None):
+        self.bench, self.workers, self.options, self.room = bench, workers, list(options), tempfile.mkdtemp(dir=bench.room)
+        self.run, self.jobs, self.boot, self.effects = (f"{self.room}/{it}" for it in ("run", "jobs", "boot", "effects"))
+        self.command, self.crews, self.statuses, self.said, self.boots = command or COMMAND + [self.room], [], [], "", 0
+        self.kinds, self.listed, self.file_system = [], [], None
+        os.mkdir(self.effects)
+        self.grow(kinds)
+        self.start_machine()
+
+    def grow(self, kinds, end="\n"):
+        """Lines are added to the list; each is its number and what its command has to do."""
+        with open(self.jobs, "a") as file:
+            for kind in kinds:
+                self.kinds.append(kind)
+                file.write(f"{len(self.kinds)} {kind}{end}")
+
+    def start_machine(self):
+        """A boot id that was never there before."""
+        self.boots += 1
+        with open(self.boot, "w") as file:
+            file.write(f"{self.boots:08x}-1111-4222-8333-{os.getpid():012x}\n")
+
+    def environment(self, plan=None, **more):
+        named = {"PATH": os.environ["PATH"], "AMO_REAL": self.bench.worker, "AMO_ROOM": self.room, "AMO_PLAN": plan,
+                 "AMO_MISTAKE": self.bench.mistake, **more}
+        return {name: value for name, value in named.items() if value}
+
+    def words(self, command, *words, plan=None):
+        worker = f"{HERE}/between.py" if plan else self.bench.worker
+        return [sys.executable, "-I", self.bench.program, command, "--run", self.run, "--worker-program", worker,
+                "--boot-id", self.boot, *(["--file-system", self.file_system] if self.file_system else []), *words]
+
+    def start(self, *more, plan=None, workers=None, command=None, **how):
+        """Starts a crew. What it says goes to a file."""
+        self.bench.add("crews")
+        words = ["--workers", str(workers or self.workers), *self.options, *more, self.jobs, "--", *(command or self.command)]
+        with open(f"{self.room}/said", "ab") as said:
+            crew = subprocess.Popen(self.words("crew", *words, plan=plan), stdin=subprocess.DEVNULL, stdout=said, stderr=said,
+                                    env=self.environment(plan), start_new_session=True, **how)
+        self.crews.append(crew)
+        return crew
+
+    def tale(self):
+        """What the crews have said."""
+        return folder.read(f"{self.room}/said").decode("utf-8", "replace")
+
+    def ends(self, crew, status, seconds=100):
+        """Waits for the end of a crew, which has to have this status."""
+        try:
+            found = crew.wait(seconds)
+        except subprocess.TimeoutExpired:
+            raise Wrong(f"it doesn't end: {self.tale()[-500:]}") from None
+        want(found == status, f"status {found} in place of {status}: {self.tale()[-500:]}")
+
+    def call(self, command, *words, status=DONE):
+        """A command for persons: what it writes. None in place of a status takes any."""
+        ran = subprocess.run(self.words(command, *words), stdin=subprocess.DEVNULL, capture_output=True, timeout=120,
+                             env=self.environment())
+        want(status in (None, ran.returncode), f"{command}: status {ran.returncode}: {(ran.stdout + ran.stderr).decode()[-500:]}")
+        return ran.stdout.decode()
+
+    def counts(self, status=None):
+        return json.loads(self.call("status", "--json", status=status))
+
+    def look(self):
+        return folder.Folder(self.run)
+
+    def tell(self, line, text):
+        with open(f"{self.effects}/{line}", "a") as file:
+            file.write(f"{text}\n")
+
+    def tales(self, line):
+        """What the commands of a line and the person have written down, each a list of words."""
+        return [it.split(" ") for it in folder.read(f"{self.effects}/{line}").decode().splitlines()]
+
+    def person(self, by_hand=0.3):
+        """Looks at the effect of each listed doubt, and answers. Some that were not done are done by hand after that."""
+        if not os.path.exists(f"{self.run}/jobs"):
+            return 0
+        found = re.findall(r"^(\d+\.\d+), line (\d+): (.*)$", self.call("doubts"), re.M)
+        for name, line, text in found:
+            self.listed.append(name)
+            self.tell(line, f"listed {name}")
+            is_done = ["did", name] in self.tales(line)
+            hand = not is_done and self.bench.draws.random() < by_hand
+            verdict = "done" if is_done or hand else "not-done"
+            self.call("answer", "--", name, line, text, verdict)
+            self.bench.add("doubts")
+            self.bench.add(verdict)
+            self.tell(line, f"answered {name} {verdict}")
+            if hand:
+                self.tell(line, "did by-hand")
+        return len(found)
+
+    def see_out(self, crew=None, seconds=240, pause=0.3, again=True, during=None, workers_of=lambda: None):
+        """Starts crews, with a person beside them, until no line is open, in doubt or running; the status of the last one."""
+        end = time.monotonic() + seconds
+        crew = crew or self.start(workers=workers_of())
+        while True:
+            want(time.monotonic() < end, f"it isn't over: {self.statuses[-5:]} {self.tale()[-500:]}")
+            try:
+                status = crew.wait(pause)
+            except subprocess.TimeoutExpired:
+                self.person()
+                if during:
+                    during(crew)
+                continue
+            self.statuses.append(status)
+            want(status in (DONE, FAILED, DOUBTFUL, LEFT, LATER, KILLED, *UNHEARD), f"status {status}: {self.tale()[-800:]}")
+            self.person()
+            if status == FAILED and again and "untouched" in self.look().kinds().values():
+                self.call("again")
+            elif status in (DONE, FAILED):
+                return status
+            elif status == DOUBTFUL:
+                time.sleep(0.1)
+            crew = self.start(workers=workers_of())
+
+    def audit(self):
+        """What no run may show."""
+        for line in range(1, len(self.kinds) + 1):
+            self.audit_line(line, self.tales(line))
+        try:
+            found = self.look()
+        except folder.Refused as refused:
+            raise Wrong(f"a journal is refused: {refused.args[0]}, text {refused.args[1]}") from refused
+        kinds = found.kinds(found.final())
+        want(len(kinds) == len(self.kinds), f"the run knows {len(kinds)} of {len(self.kinds)} lines")
+        for line, kind in kinds.items():
+            want(kind in ("done", "failed", "untouched"), f"line {line} is {kind} at the end")
+        for it in found.intents.values():
+            told = self.tales(it.line)
+            is_true = it.answer != "done" or ["did", it.name()] in told
+            want(is_true, f"line {it.line} counts as done by {it.name()}, which did nothing: {told}")
+            is_kept = it.answer not in ("unbegun", "untouched") or ["did", it.name()] not in told
+            want(is_kept, f"line {it.line} counts as {it.answer} by {it.name()}, which did it: {told}")
+        counts = self.counts()
+        want({it: counts[it] for it in found.counts()} == found.counts(found.final()), f"the status is {counts}")
+        want(not [it for it in os.listdir(self.run) if it.startswith("command.")], f"locks are left: {os.listdir(self.run)}")
+
+    def audit_line(self, line, told):
+        did = [it for it in told if it[0] == "did"]
+        want(len(did) < 2, f"performed twice: line {line}: {told}")
+        for place, it in enumerate(told):
+            later = [after for after in told[place + 1:] if after[0] == "did"]
+            if it[0] == "listed":
+                want(["did", it[1]] not in later, f"performed after it was listed: line {line}: {told}")
+            if it[0] == "answered" and it[2] == "done":
+                want(not later or later == [["did", "by-hand"]], f"performed after it was answered done: line {line}: {told}")
+
+    def close(self):
+        """Ends what is left: crews, and their workers and commands, which know the folder by their words."""
+        for it in self.crews:
+            if it.poll() is None:
+                it.kill()
+                it.wait()
+        for process in self.processes():
+            try:
+                os.kill(process, signal.SIGKILL)
+            except ProcessLookupError:
+                pass
+
+    def processes(self, word=""):
+        """The processes that have this run's folder, and this word, in their command line."""
+        for process in filter(str.isdecimal, os.listdir("/proc")):
+            try:
+                with open(f"/proc/{process}/cmdline", "rb") as file:
+                    words = file.read().decode("utf-8", "replace").split("\0")
+            except OSError:
+                continue
+            if any(it.startswith(f"{self.room}/") or it == self.room for it in words) and (not word or word in words):
+                yield int(process)

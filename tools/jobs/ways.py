@@ -1,0 +1,352 @@
+"""What commands may do and say, and what amo_jobs makes of it: ends, arguments, signals, timeouts, leftovers, refusals."""
+
+import os
+import re
+import signal
+import subprocess
+import sys
+import time
+
+from jobs.scene import DONE, DOUBTFUL, FAILED, KILLED, LATER, LEFT, READ, REFUSED, WORDS, WRITE, want
+from jobs.rules import until
+from worker import folder
+
+
+def kinds_of(scene):
+    found = scene.look()
+    return list(found.kinds(found.final()).values())
+
+
+def try_ends(bench):
+    """each end of a command stands as it is: 0, another status, untouched, a signal"""
+    scene = bench.scene(["quick", "fail", "nothing", "dies", "quick"], 1, ["--untouched", "75,76"])
+    scene.ends(scene.start(), DOUBTFUL)
+    want(kinds_of(scene) == ["done", "failed", "untouched", "doubt", "done"], f"{kinds_of(scene)}")
+    told = scene.call("status", status=DOUBTFUL)
+    want(told.startswith("5 lines: 2 done, 1 failed, 1 in doubt, 0 running, 1 untouched, 0 open\n"), told)
+    told = scene.call("doubts")
+    want(re.search(r"^\d+\.\d+, line 4: 4 dies$", told, re.M), told)
+    want(scene.see_out(again=False) == FAILED, "an untouched line and a failed one are status 1")
+    scene.call("again")
+    want(kinds_of(scene)[2] == "open", "again opens the untouched line")
+    want(scene.see_out() == FAILED, "a failed line is status 1")
+    scene.audit()
+    name = next(it.name() for it in scene.look().intents.values() if it.line == 2)
+    scene.call("answer", "--", name, "2", "2 fail", "done")
+    scene.ends(scene.start(), DONE)
+    scene.call("status", status=DONE)
+
+
+ODD = ["plain", "two  blanks ", "$(touch broken)", "`touch broken`; touch broken", "-rf", "--run", "{}", "it's \"quoted\"", "*",
+       "täglich", "a\ttab", "\x1b[31mred", "back\\slash", "#no comment", "x" * 99999]
+
+
+def try_arguments(bench):
+    """a job is one whole argument, whatever stands in it, and AMO_JOB and AMO_LINE say the same"""
+    script = 'printf "%s\\n" "$#" "$1" "$2" "$AMO_JOB" "$AMO_LINE"'
+    for where in (["{}", "last"], ["first"]):
+        scene = bench.scene([], 2, [])
+        with open(scene.jobs, "w") as file:
+            file.write("".join(f"{text}\n" for text in ODD))
+        scene.ends(scene.start(command=["sh", "-c", script, "sh", *where]), DONE)
+        for it in scene.look().intents.values():
+            text = ODD[it.line - 1]
+            words = [text, "last"] if where[0] == "{}" else ["first", text]
+            found = folder.read(f"{scene.run}/out.{it.name()}").decode()
+            want(found == "".join(f"{word}\n" for word in ["2", *words, text, str(it.line)]), f"{text[:40]}: {found[:200]}")
+        want(not os.path.exists("broken"), "a job was read by a shell")
+
+
+def try_refusals(bench):
+    """another command and another folder are refused without their word, and a job within a longer argument always"""
+    scene = bench.scene(["quick"])
+    for command in (["sh", "-c", "send {}"], ["x{}"], ["{}", "x"]):
+        scene.ends(scene.start(command=command), WORDS)
+    want(not os.path.exists(scene.run), "a refused call made the folder")
+    scene.ends(scene.start(command=["./there-is-none"]), LEFT)
+    scene.ends(scene.start(), REFUSED)
+    want(kinds_of(scene) in ([], ["open"]), "a command that can't be started performed something")
+    scene.ends(scene.start("--command-changed"), DONE)
+    first = scene.run
+    scene.run = f"{scene.room}/other"
+    scene.ends(scene.start(), REFUSED)
+    want(not os.path.exists(scene.run), "a refused call made the folder")
+    scene.ends(scene.start("--new-run", command=["true"]), DONE)
+    scene.run = first
+    scene.ends(scene.start(), REFUSED)
+    for words in (["--workers", "17"], ["--workers", "0"], ["--timeout", "x"], ["--untouched", "256"], ["--halt", "-1"]):
+        scene.ends(scene.start(*words), WORDS)
+    scene.call("work", "--worker", "2", "--workers", "1", scene.jobs, "--", "true", status=WORDS)
+    scene.call("stat", status=WORDS)
+    scene.call("answer", "1.1", "1", status=WORDS)
+
+
+def try_lists(bench):
+    """the door's refusals are handed on, and nothing is performed"""
+    for content, status in ((b"a\n\nb\n", REFUSED), (b"a\na\n", REFUSED), (b"a\nb", REFUSED), (None, READ)):
+        scene = bench.scene([])
+        os.unlink(scene.jobs)
+        if content is not None:
+            with open(scene.jobs, "wb") as file:
+                file.write(content)
+        scene.ends(scene.start(), status)
+        want(not os.listdir(scene.effects), "something was performed")
+    scene = bench.scene([])
+    scene.ends(scene.start(), DONE)
+
+
+def try_answers(bench):
+    """the doubts that are printed with tabs are answered by a file, all or none; a wrong text and a second answer are refused"""
+    scene = bench.scene(["dies", "dies", "quick", "dies"])
+    scene.ends(scene.start(), DOUBTFUL)
+    rows = scene.call("status", "--lines", "doubt").splitlines()
+    want([it.split("\t")[1:] for it in rows] == [["1", "1 dies"], ["2", "2 dies"], ["4", "4 dies"]], f"{rows}")
+    for name, verdicts, status in (("wrong", ["done", "done", "maybe"], REFUSED), ("right", ["done", "done", "not-done"], DONE),
+                                   ("other", ["not-done", "done", "not-done"], REFUSED), ("right", None, DONE)):
+        path = f"{scene.room}/{name}"
+        if verdicts:
+            with open(path, "w") as file:
+                file.write("".join(f"{row}\t{verdict}\n" for row, verdict in zip(rows, verdicts)))
+        scene.call("answer", "--from", path, status=status)
+        wanted = ["doubt", "doubt", "done", "doubt"] if name == "wrong" else ["done", "done", "done", "open"]
+        want(kinds_of(scene) == wanted, f"after {name}: {kinds_of(scene)}")
+    scene.call("answer", "--", rows[0].split("\t")[0], "1", "another text", "done", status=REFUSED)
+
+
+def try_status(bench):
+    """the status tells who is alive, how all lines stand, how fast it goes, and which process holds what runs"""
+    scene = bench.scene(["quick", "late", "quick", "quick", "quick"])
+    crew = scene.start()
+    until(lambda: [it for it in scene.tales(2) if it[0] == "begun"], "the command has begun")
+    name, process = scene.tales(2)[0][1:]
+    os.kill(int(process), signal.SIGSTOP)
+    time.sleep(1)
+    told = scene.call("status", status=DOUBTFUL)
+    os.kill(int(process), signal.SIGCONT)
+    wanted = rf"^running {re.escape(name)}, line 2: 2 late -- process {process} \(.*act.sh"
+    want(re.search(wanted, told, re.M), told)
+    want(re.search(r"^5 lines: \d done, 0 failed, 0 in doubt, 1 running, 0 untouched, \d open\nworkers alive: 1", told), told)
+    want(" 1 done" not in told or "a second, over at " in told, told)
+    scene.ends(crew, DONE)
+    want("workers alive: none" in scene.call("status"), "nobody is alive at the end")
+
+
+def try_timeout(bench):
+    """a timeout sends TERM and then KILL to the whole group, and the job is in doubt; one that ends in time isn't"""
+    scene = bench.scene([], 3, ["--timeout", "0.4", "--grace", "0.3", "--linger", "0.1"])
+    with open(scene.jobs, "w") as file:
+        file.write("in time\npolite\ndeaf\n")
+    script = f"""cd {scene.room}; case $1 in polite) trap 'echo TERM > polite; exit 0' TERM; sleep 300 & wait;;
+        deaf) trap '' TERM; sleep 300; sleep 300;; esac"""
+    scene.ends(scene.start(command=["sh", "-c", script, "sh"]), DOUBTFUL)
+    want(kinds_of(scene) == ["done", "doubt", "doubt"], f"{kinds_of(scene)}")
+    want(os.path.exists(f"{scene.room}/polite"), "TERM never came")
+
+
+def try_last_net(bench):
+    """where the runner is gone the kernel's timer ends the command"""
+    scene = bench.scene(["never"], 1, ["--timeout", "3", "--grace", "0.1"])
+    script = "import sys, time; open(sys.argv[1] + '/begun', 'w').close(); time.sleep(60)"
+    crew = scene.start(command=[sys.executable, "-c", script, scene.room])
+    until(lambda: os.path.exists(f"{scene.room}/begun"), "the command runs")
+    want(scene.counts(status=DOUBTFUL)["running"] == 1, "it is running")
+    crew.kill()
+    crew.wait()
+    until(lambda: not list(scene.processes(script)), "the timer ends it", 30)
+    want(scene.counts(status=None)["doubt"] == 1, "it is in doubt then")
+
+
+def try_leftovers(bench):
+    """what a command leaves behind by &, nohup or setsid is running until it ends; the worker goes on meanwhile"""
+    scene = bench.scene(["amp", "nohup", "setsid", "quick", "slow", "slow", "slow"], 1, ["--linger", "0.05"])
+    scene.ends(scene.start(), DONE)
+    want("something that it began runs on" in scene.tale(), "nothing was left behind")
+    scene.audit()
+    scene = bench.scene([], 1, ["--linger", "0.05"])
+    with open(scene.jobs, "w") as file:
+        file.write("stays\n")
+    script = f"cd {scene.room}; (while ! [ -e over ]; do sleep 0.05; done) & echo $! > left"
+    scene.ends(scene.start(command=["sh", "-c", script, "sh"]), DOUBTFUL)
+    left = folder.read(f"{scene.room}/left").decode().strip()
+    want(f"process {left} (sh -c" in scene.tale(), f"who holds it isn't told: {scene.tale()}")
+    want(f"process {left} " in scene.call("status", status=DOUBTFUL), "the status names nobody")
+    want(scene.call("doubts") == "", "it is listed while it runs")
+    scene.call("answer", "1.1", "1", "stays", "not-done", status=REFUSED)
+    open(f"{scene.room}/over", "w").close()
+    until(lambda: scene.call("doubts"), "it is listed once it has ended")
+
+
+def try_first_signal(bench):
+    """the first signal lets the command end and has its end noted; no further job is begun"""
+    for number in (signal.SIGINT, signal.SIGTERM, signal.SIGHUP):
+        scene = bench.scene(["late", "quick", "quick"])
+        crew = scene.start()
+        until(lambda: scene.tales(1), "a command has begun")
+        crew.send_signal(number)
+        scene.ends(crew, LEFT)
+        want(sorted(kinds_of(scene)) == ["done", "open", "open"], f"{number}: {kinds_of(scene)}")
+        want(scene.see_out() == DONE and not scene.listed, "a stop in order leaves no doubt")
+        scene.audit()
+
+
+def try_second_signal(bench):
+    """a further signal is handed on to the commands; a hangup that is ignored, as under nohup, stops nothing"""
+    scene = bench.scene([], 1, [])
+    with open(scene.jobs, "w") as file:
+        file.write("one\ntwo\n")
+    script = f"trap 'exit 5' INT; : > {scene.room}/begun; sleep 0.1; while :; do sleep 0.1; done"
+    crew = scene.start(command=["sh", "-c", script, "sh"])
+    until(lambda: os.path.exists(f"{scene.room}/begun"), "the command has begun")
+    time.sleep(0.1)
+    crew.send_signal(signal.SIGTERM)
+    until(lambda: "no further job" in scene.tale(), "the first one is told")
+    crew.send_signal(signal.SIGINT)
+    scene.ends(crew, LEFT)
+    want(sorted(kinds_of(scene)) == ["failed", "open"], f"{kinds_of(scene)}")
+    scene = bench.scene(["slow", "slow"])
+    crew = scene.start(preexec_fn=lambda: signal.signal(signal.SIGHUP, signal.SIG_IGN))
+    until(lambda: os.listdir(scene.effects), "a command has begun")
+    crew.send_signal(signal.SIGHUP)
+    scene.ends(crew, DONE)
+
+
+def try_halt(bench):
+    """failures in a row stop the crew: ten where none was good before, else as many as --halt says"""
+    for options, count, good in (([], 10, 0), (["--halt", "3"], 3, 0), (["--halt", "0"], 30, 0), (["--halt", "4"], 5, 1)):
+        scene = bench.scene([], 1, options)
+        with open(scene.jobs, "w") as file:
+            file.write("".join(f"{k}\n" for k in range(1, 31)))
+        script = f'[ {good} = 1 ] && [ "$1" = 1 ]'
+        scene.ends(scene.start(command=["sh", "-c", script, "sh"]), LEFT if count < 30 else FAILED)
+        closed = len([it for it in kinds_of(scene) if it != "open"])
+        want(closed == count, f"{options}: {closed} lines are closed, not {count}")
+
+
+def try_one_runner(bench):
+    """a second crew of a run gets no number, and performs nothing"""
+    scene = bench.scene(["slow"] * 4, 2)
+    crew = scene.start()
+    until(lambda: os.listdir(scene.effects), "a command has begun")
+    second = scene.start()
+    scene.ends(crew, DONE)
+    want(second.wait(100) in (DONE, LATER), "the second one ends")
+    scene.audit()
+
+
+def try_work(bench):
+    """workers each with a runner of their own"""
+    scene = bench.scene(["quick", "slow", "fail"] * 4)
+    words = ["--workers", "3", scene.jobs, "--", *scene.command]
+    how = dict(stdin=subprocess.DEVNULL, stderr=subprocess.DEVNULL, env=scene.environment())
+    crews = [subprocess.Popen(scene.words("work", "--worker", str(p), *words), **how) for p in (1, 2, 3)]
+    scene.crews += crews
+    for it in crews:
+        scene.ends(it, FAILED)
+    scene.audit()
+    want(len({it.worker for it in scene.look().intents.values()}) > 1, "one worker did all")
+
+
+def try_outputs(bench):
+    """what a command prints is kept, elsewhere where that is asked for, and shown with its doubt"""
+    for options in ([], ["--results", "results"]):
+        scene = bench.scene([], 1, [])
+        with open(scene.jobs, "w") as file:
+            file.write("pay\n")
+        options = [f"{scene.room}/{it}" if it == "results" else it for it in options]
+        scene.ends(scene.start(*options, command=["sh", "-c", "echo paid; echo slowly >&2; kill -9 $$", "sh"]), DOUBTFUL)
+        place = options[1] if options else scene.run
+        found = folder.read(f"{place}/out.1.1"), folder.read(f"{place}/err.1.1")
+        want(found == (b"paid\n", b"slowly\n"), f"{os.listdir(place)}")
+        told = scene.call("doubts")
+        want("| paid\n" in told and "| slowly\n" in told and "line 1: pay\n" in told, told)
+
+
+def try_streams(bench):
+    """no standard stream that is closed, and no terminal that is gone, ends a crew"""
+    for closing in ("<&- >&- 2>&-", "2>/dev/full", "2>&1 | true"):
+        scene = bench.scene(["quick", "amp", "quick"])
+        words = scene.words("crew", "--workers", "1", *scene.options, scene.jobs, "--", *scene.command)
+        shell = ["sh", "-c", f'"$@" {closing}', "sh", *words]
+        subprocess.run(shell, env=scene.environment(), timeout=100, stderr=subprocess.DEVNULL)
+        want({*kinds_of(scene)} <= {"done", "doubt", "running"}, f"it has ended before: {kinds_of(scene)}")
+        scene.see_out()
+        scene.audit()
+
+
+def try_growing(bench):
+    """a list may grow while it runs; one that is edited is refused; open lines can be printed"""
+    scene = bench.scene(["slow"] * 3)
+    crew = scene.start()
+    until(lambda: os.listdir(scene.effects), "a command has begun")
+    scene.grow(["quick", "fail"])
+    scene.grow(["quick"], end="")
+    scene.ends(crew, REFUSED)
+    want(kinds_of(scene) == ["done"] * 4 + ["failed"], f"a line without its end is left out: {kinds_of(scene)}")
+    want(scene.call("status", "--lines", "failed").endswith("\t5\t5 fail\n"), "lines are printed with tabs")
+    with open(scene.jobs, "a") as file:
+        file.write("\n")
+    scene.see_out()
+    scene.audit()
+    with open(scene.jobs, "r+") as file:
+        file.write("X")
+    scene.ends(scene.start(), REFUSED)
+
+
+def try_killed_in_turn(bench):
+    """the crew killed again and again: each kill costs no more doubts than commands that ran"""
+    scene, kills = bench.scene(["slow", "quick", "amp", "slow", "fail", "slow"], 2), 0
+    for _ in range(3):
+        crew, before = scene.start(), sum(len(scene.tales(it)) for it in range(1, 7))
+        until(lambda: sum(len(scene.tales(it)) for it in range(1, 7)) > before or crew.poll() is not None, "a command has begun")
+        crew.kill()
+        kills += crew.wait() == KILLED
+    scene.see_out()
+    scene.audit()
+    return f"{kills} kills, {len(scene.listed)} doubts"
+
+
+def try_disk_full(bench):
+    """a full disk: nothing is performed without an intent, an end that was seen waits for room, and then all goes on"""
+    told = []
+    for long_codes in (0, 17):
+        scene = bench.scene(["hundred"] * long_codes + ["other"] * (120 - long_codes), 1, ["--halt", "0"])
+        disk = f"{scene.room}/disk"
+        os.mkdir(disk)
+        if subprocess.run(["mount", "-t", "tmpfs", "-o", "size=40k", "tmpfs", disk], stderr=subprocess.DEVNULL).returncode:
+            bench.skipped.append("a full disk, since no tmpfs can be mounted")
+            return None
+        try:
+            told.append(fill(scene, disk))
+        finally:
+            bench.close()
+            subprocess.run(["umount", "-l", disk])
+    return ", ".join(told)
+
+
+def fill(scene, disk):
+    """A run on this small disk, which is full until it has stopped or waits."""
+    scene.run, scene.file_system = f"{disk}/run", "tmpfs"
+    scene.options += ["--results", f"{scene.room}/results"]
+    with open(f"{disk}/ballast", "wb") as file:
+        file.write(b"x" * 16 * 1024)
+    crew = scene.start()
+    until(lambda: crew.poll() is not None or "goes on trying" in scene.tale(), "the disk is full", 90)
+    waits, count = crew.poll() is None, len(os.listdir(scene.effects))
+    if not waits:
+        scene.ends(crew, WRITE)
+        want(len(scene.look().intents) == count, "something was performed without an intent")
+        scene.ends(scene.start(), WRITE)
+        want(len(os.listdir(scene.effects)) == count, "something was performed while the disk was full")
+    os.unlink(f"{disk}/ballast")
+    if waits:
+        want(crew.wait(100) in (DONE, FAILED), f"status {crew.poll()}: {scene.tale()[-500:]}")
+    want(scene.see_out() in (DONE, FAILED) and not scene.listed, f"a full disk leaves a doubt: {scene.listed}")
+    scene.audit()
+    return f"full after {count} of 120, " + ("an end waited for room" if waits else "no intent could be put")
+
+
+PARTS = {"ways": [
+    try_ends, try_arguments, try_refusals, try_lists, try_answers, try_status, try_timeout, try_last_net, try_leftovers,
+    try_first_signal, try_second_signal, try_halt, try_one_runner, try_work, try_outputs, try_streams, try_growing, try_killed_in_turn,
+    try_disk_full,
+]}
