@@ -93,7 +93,7 @@ def jobs_one(bench, number, how):
     power.cut([runner], how)
     known = read(f"{scene.run}/jobs")
     if not read(scene.jobs).startswith(known):
-        status, _, err = scene.call("work", scene.run, "1", *scene.givens(), scene.jobs)
+        status, _, err = scene.call("door", scene.run, *scene.givens(), scene.jobs)
         want(status == REFUSED and "line 5" in err, f"status {status}: {err}")
         scene.write_jobs([f"job {k}" for k in range(1, 6)])
         power.keep_all()
@@ -131,7 +131,7 @@ class Moody(Runner):
             return
         with self.scene.still():
             self.process.send_signal(signal.SIGCONT if self.is_stopped else signal.SIGSTOP)
-            while not self.is_stopped and state_of(self) not in "TZ":
+            while not self.is_stopped and self.process.poll() is None and state_of(self) not in "TZ":
                 time.sleep(0.001)
         self.is_stopped = not self.is_stopped
 

@@ -321,7 +321,7 @@ def try_collisions(bench):
 
 def spoil_one(bench, word, value):
     """A word gets this value, that no worker leaves, while worker 1 has a line in its hand; worker 2 begins, and worker 1 goes on.
-    Each ends by naming the word, or has nothing to do with it. Once both have ended the next round begins with new words."""
+    Each ends by naming the word by which it noticed, or has nothing to do with it. Once both have ended the next round begins with new words."""
     scene = bench.scene(8, 2)
     first, second = Runner(scene, 1), Runner(scene, 2)
     first.perform = lambda *given: Runner.perform(first, *given) if len(first.lines) < 3 else None
@@ -334,7 +334,7 @@ def spoil_one(bench, word, value):
     first.process.stdin.write(answer_to(first).encode())
     serve([first])
     for it in (first, second):
-        named = it.statuses == [SENSELESS] and re.search(rf"word {word}\b", it.said)
+        named = it.statuses == [SENSELESS] and re.search(r"word \d+\b", it.said)
         want(named or it.statuses == [LATER], f"worker {it.worker} ends with {it.statuses}: {it.said}")
         it.close()
     finish(scene, (1, 2))
