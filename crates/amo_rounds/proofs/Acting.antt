@@ -1,6 +1,5 @@
 -- What a process does, or what comes about behind its back, keeps the rounds good and each process where it may be.
-use Rattle.std.proofs.Common.{◌≡◌, ℕ, ◌+◌, ◌≤◌, Bool, true, false, List, [], ◌∷◌, ◌++◌, Option, Some, None, refl, sym, ap, ◌∙◌, subst}
-use Rattle.std.specs.Prelude.{⊤}
+use Rattle.std.proofs.Common.{◌≡◌, ℕ, ◌+◌, ◌≤◌, List, [], ◌∷◌, ◌++◌, Option, Some, None, refl, sym, subst}
 use Rattle.std.proofs.lemmas.Bool.{true≢false}
 use Rattle.amo_kk.specs.Givens.{IsWorker}
 use Rattle.amo_course.specs.declared.model.Deed.{Deed}
@@ -17,9 +16,9 @@ use Rattle.amo_rounds.specs.File.{File, after_put}
 use Rattle.amo_rounds.specs.World.{Place, Away, Before, Inside, Round, World, with_at, lines_of, lines_at}
 use Rattle.amo_rounds.specs.Run.{entries_of_try, has_fallen, place_after, place_missing, with_moment, with_moment_at, MayJoin, MayBeIn, MayAct, MayMiss}
 use Rattle.amo_rounds.proofs.Files.{after_tight, after_kept}
-use Rattle.amo_rounds.proofs.Moments.{worker_of, longer, stands_after, stands_broken, stands_first}
+use Rattle.amo_rounds.proofs.Moments.{longer, stands_after, stands_broken, stands_first}
 use Rattle.amo_rounds.proofs.Records.{sound_parts}
-use Rattle.amo_rounds.proofs.Stages.{is_broken, is_asking, not_broken, asks_on, entries_of_deed, IsPut, put_then}
+use Rattle.amo_rounds.proofs.Stages.{not_broken, asks_on, entries_of_deed, IsPut, put_then}
 use Rattle.amo_rounds.proofs.Counted.{IsCounted, counted_then, counted_grown}
 use Rattle.amo_rounds.proofs.Sane.{at_number, IsGood, IsGoodIf, IsReady, FitsIn, HasSeat, seat_in, Fits, fits_still}
 
@@ -55,7 +54,7 @@ module _ (rounds : ℕ → Option Round) (last : ℕ) (good : (k : ℕ) → IsGo
           (λ b. after_tight (has_fallen d) f es tight),
           subst (λ x. IsPut lines x (stage_after s d)) (sym kept) (put_then lines time f.kept s d e ready.1),
           subst (λ x. IsCounted (intents x) (stage_after s d)) (sym kept)
-          (counted_grown (intents f.kept) (entries_of_deed lines time d) (stage_after s d) (counted_then (intents f.kept) lines time s d e ready.2) f.kept refl),
+              (counted_grown (intents f.kept) (entries_of_deed lines time d) (stage_after s d) (counted_then (intents f.kept) lines time s d e ready.2) f.kept refl),
         )
 
     acted_in : (o : Option Round) → IsGoodIf o → (f : File Entry) (q : ℕ) → MayBeIn o (Does q d) → FitsIn o f p q
@@ -64,7 +63,7 @@ module _ (rounds : ℕ → Option Round) (last : ℕ) (good : (k : ℕ) → IsGo
     acted_in (Some r) fine f q may h = (
       h.0,
       subst (λ s. IsReady r.written.lines (after_deed r.written.lines f) s) (sym (stands_after r.givens r.moments fine.history q d may.0))
-      (ready_then r.written.lines f (stage_at (scene_of r.givens r.moments) q) may.1 h.1),
+          (ready_then r.written.lines f (stage_at (scene_of r.givens r.moments) q) may.1 h.1),
     )
 
     pub acted_fits : (f : File Entry) (place : Place) → MayAct rounds place d → Fits rounds last f p place

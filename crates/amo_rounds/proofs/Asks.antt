@@ -1,14 +1,13 @@
 -- Who asks for intents stands where what it has done leads, each deed of which was due.
-use Rattle.std.proofs.Common.{◌≡◌, ℕ, List, [], ◌∷◌, ◌++◌, Option, Some, None, refl, sym, ap, ◌∙◌, subst}
-use Rattle.std.specs.Prelude.{⊤, ◌==◌, if◌then◌else◌}
-use Rattle.std.proofs.lemmas.Option.{same_Some}
+use Rattle.std.proofs.Common.{◌≡◌, ℕ, List, [], ◌∷◌, Option, Some, None, refl, ap, ◌∙◌, subst}
+use Rattle.std.specs.Prelude.{⊤}
 use Rattle.amo_course.specs.declared.model.Deed.{Deed}
 use Rattle.amo_course.specs.declared.model.Deed.TheVariants.{Fell}
 use Rattle.amo_course.specs.declared.model.Try.{Try}
 use Rattle.amo_course.specs.Stage.{Stage, Asking, Broken}
-use Rattle.amo_course.specs.Course.{try_of, due, stage_after, stage_after_all, AreDue, Stands}
+use Rattle.amo_course.specs.Course.{try_of, due, stage_after, Stands}
 use Rattle.amo_course.proofs.Deeds.{stage_after_more, due_more}
-use Rattle.amo_rounds.specs.World.{Place, Away, Before, Inside, Round, World, first_world, Event, Dies, Starts, RoundBegins, Joins, Acts, Misses, Says, SaysUnheard, SaysUnread, Stops, with_at}
+use Rattle.amo_rounds.specs.World.{Place, Away, Before, Inside, Round, World, first_world, Event, Dies, Starts, RoundBegins, Joins, Acts, Misses, Says, SaysUnheard, SaysUnread, Stops}
 use Rattle.amo_rounds.specs.Run.{left_in, place_after, place_missing, world_after, MayAct, MayMiss, MayHappen, IsRunFrom, IsRun, world_after_all, world_of}
 use Rattle.amo_rounds.specs.Asked.{Asker, with_more, asker_after, asker_after_all, asker_of}
 use Rattle.amo_rounds.proofs.Sane.{at_number, at_both}

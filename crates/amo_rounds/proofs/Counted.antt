@@ -1,10 +1,9 @@
 -- The serial numbers of a journal's intents count on without a gap: by the number of those that there are.
-use Rattle.std.proofs.Common.{◌≡◌, ℕ, zero, suc, ◌+◌, ◌<◌, ◌≤◌, Bool, true, false, cond, List, [], ◌∷◌, ◌++◌, length, Option, Some, None, refl, sym, ap, ◌∙◌, subst, arith}
-use Rattle.std.specs.Prelude.{⊤, is_none, option_and_then, option_map, ◌==◌, ◌&&◌, if◌then◌else◌}
+use Rattle.std.proofs.Common.{◌≡◌, ℕ, zero, suc, ◌+◌, ◌<◌, ◌≤◌, Bool, true, false, List, [], ◌∷◌, ◌++◌, length, Option, Some, None, refl, sym, ap, ◌∙◌, subst, arith}
+use Rattle.std.specs.Prelude.{⊤, is_none, option_map, ◌==◌, ◌&&◌, if◌then◌else◌}
 use Rattle.std.proofs.lemmas.Bool.{true≢false}
 use Rattle.std.proofs.lemmas.Option.{none-some, same_Some, cond_some, option_and_then_some}
 use Rattle.std.proofs.lemmas.List.{length_push}
-use Rattle.amo_sets.specs.Lists.{numbered}
 use Rattle.amo_process.specs.Heard.{told_by, doubted_by}
 use Rattle.amo_process.specs.Stepped.{ProcessView, process_after, may_leave, is_refused, access_of}
 use Rattle.amo_process.specs.declared.access.Access.{Access}
@@ -26,7 +25,7 @@ use Rattle.amo_ledger.specs.declared.entry.Entry.{Entry}
 use Rattle.amo_ledger.specs.declared.entry.Entry.TheVariants.{Intent as IntentOf, Answer as AnswerTo}
 use Rattle.amo_ledger.specs.declared.journal.Attempt.{Attempt}
 use Rattle.amo_ledger.specs.Grammar.{intent_in, intents}
-use Rattle.amo_ledger.specs.Journals.{answered, answered_to, is_line, noted, journal_from, journal_of}
+use Rattle.amo_ledger.specs.Journals.{answered, is_line, noted, journal_from, journal_of}
 use Rattle.amo_rounds.proofs.Files.{Grows}
 use Rattle.amo_rounds.proofs.Stages.{is_performing, any_then, entries_of_deed}
 

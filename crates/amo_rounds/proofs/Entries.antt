@@ -1,5 +1,5 @@
 -- Intents among the entries of a journal.
-use Rattle.std.proofs.Common.{◌≡◌, ◌≢◌, ⊎_elim, ℕ, zero, suc, ◌+◌, ◌≤◌, Bool, true, false, List, [], ◌∷◌, ◌++◌, length, Some, refl, sym, ap, ◌∙◌, subst, append_assoc, arith}
+use Rattle.std.proofs.Common.{◌≡◌, ⊎_elim, ℕ, zero, suc, ◌+◌, ◌≤◌, Bool, true, false, List, [], ◌∷◌, ◌++◌, length, Some, refl, sym, ap, ◌∙◌, subst, append_assoc, arith}
 use Rattle.std.specs.List.{AllByRecursion, filter}
 use Rattle.std.specs.Prelude.{cond, ◌||◌, ◌==◌}
 use Rattle.std.proofs.lemmas.Bool.{true≢false, cases_eq, eqb-true}
@@ -12,7 +12,7 @@ use Rattle.amo_ledger.specs.declared.finding.Finding.{Finding}
 use Rattle.amo_ledger.specs.declared.journal.Attempt.{Attempt}
 use Rattle.amo_ledger.specs.Findings.{is_undone}
 use Rattle.amo_ledger.specs.Journals.{journal_of}
-use Rattle.amo_ledger.specs.Open.{IsAnswer, OpensNot, NoneOpens, HasIntent, is_open, open_lines, numbers}
+use Rattle.amo_ledger.specs.Open.{IsAnswer, NoneOpens, HasIntent, is_open, open_lines, numbers}
 use Rattle.amo_ledger.proofs.ClosingWins.{closed_with}
 use Rattle.amo_rounds.proofs.Files.{Grows}
 use Rattle.amo_rounds.proofs.Openings.{all_right}

@@ -1,7 +1,7 @@
 -- A line is handed over at most once more than it is said of its intents that they weren't begun or done.
 use Rattle.std.proofs.Common.{◌≡◌, ⊎_elim, inl, inr, ℕ, suc, ◌+◌, ◌≤◌, Bool, true, false, ◌&&◌, ◌||◌, List, [], ◌∷◌, ◌++◌, length, refl, sym, ap, ◌∙◌, subst, arith, append_assoc}
-use Rattle.std.specs.Prelude.{⊤, ◌⊎◌, ◌==◌, if◌then◌else◌}
-use Rattle.std.proofs.lemmas.Bool.{true≢false, false_from_ne_true, eq-eqb, eqb-true, ne_eqb, and_parts, and_from, or_cases, or_parts, or_from, or_left, or_right, cases_Bool}
+use Rattle.std.specs.Prelude.{⊤, ◌==◌, if◌then◌else◌}
+use Rattle.std.proofs.lemmas.Bool.{true≢false, false_from_ne_true, eq-eqb, eqb-true, and_parts, and_from, or_cases, or_parts, or_from, or_left, or_right}
 use Rattle.amo_rounds.specs.World.{World, first_world, Event}
 use Rattle.amo_rounds.specs.Run.{world_after, IsRunFrom, IsRun, Handing, handings_by, handings_from, handings, openings_by, openings_from, openings, is_among, IsOneOf, names_of, AreDifferent, common, names_of_line}
 use Rattle.amo_rounds.proofs.Openings.{among_more}
@@ -77,7 +77,7 @@ no_more names (o ∷ os) is different there known = by (is_among is o.0 o.1) ref
         (λ (same : ((o.0 == p) && (o.1 == n)) ≡ true). absurd (
         let parts = and_parts (o.0 == p) (o.1 == n) same in
         let gone : is_among (without o.0 o.1 is) p n ≡ false = subst (λ x. is_among (without o.0 o.1 is) x n ≡ false) (eqb-true o.0 p parts.0)
-            (subst (λ x. is_among (without o.0 o.1 is) o.0 x ≡ false) (eqb-true o.1 n parts.1) (without_it o.0 o.1 is)) in
+        (subst (λ x. is_among (without o.0 o.1 is) o.0 x ≡ false) (eqb-true o.1 n parts.1) (without_it o.0 o.1 is)) in
         true≢false (sym h ∙ gone)))
         (λ (later : is_among os p n ≡ true). later)
         (or_cases ((o.0 == p) && (o.1 == n)) (is_among os p n) (there p n (without_less o.0 o.1 is p n h)))
@@ -196,7 +196,7 @@ all_said w said [] line sane run = tt
 all_said w said (e ∷ es) line sane run =
     let after = sane_after w said sane e run.0 in
     let rest = subst (λ l. AllButLast l (names_of_line line (handings_from (world_after w e) es))) (append_assoc said (openings_by w e) (openings_from (world_after w e) es))
-        (all_said (world_after w e) (said ++ openings_by w e) es line after run.1) in
+    (all_said (world_after w e) (said ++ openings_by w e) es line after run.1) in
     ⊎_elim
     (λ (none : handings_by w e ≡ []). subst (λ l. AllButLast (said ++ openings_from w (e ∷ es)) (names_of_line line (l ++ handings_from (world_after w e) es))) (sym none) rest)
     (λ (one : (h : Handing) × (handings_by w e ≡ h ∷ [])).

@@ -17,8 +17,8 @@ use Rattle.amo_ledger.specs.declared.finding.Finding.{Finding}
 use Rattle.amo_ledger.specs.declared.finding.Verdict.TheVariants.{NotDone}
 use Rattle.amo_ledger.specs.declared.journal.Attempt.{Attempt}
 use Rattle.amo_ledger.specs.Records.{RecordView}
-use Rattle.amo_rounds.specs.World.{World, Event, Dies, Starts, RoundBegins, Joins, Acts, Misses, Says, Stops, IsNumber}
-use Rattle.amo_rounds.specs.Run.{IsRun, handings, openings, is_among, AreUnperformed, performed_lines, names_of}
+use Rattle.amo_rounds.specs.World.{Event, Dies, Starts, RoundBegins, Joins, Acts, Misses, Says, Stops, IsNumber}
+use Rattle.amo_rounds.specs.Run.{IsRun, handings, openings, AreUnperformed, performed_lines, names_of}
 
 -- what holds of each of 1..n
 abbrev AllUpTo : ℕ → (ℕ → Type 0) → Type 0
@@ -105,7 +105,160 @@ abbrev pub truly : ℕ → ℕ → Bool
 truly p n = p == 2
 
 pub is_run : IsRun events
-is_run = ((number_1, refl), (record { nobody = each _ ((((((((((((((((tt, refl), refl), refl), refl), refl), refl), refl), refl), refl), refl), refl), refl), refl), refl), refl), refl); grown = omega arith; findings = []; findings_seen = ([], refl); entries = λ p. []; entries_seen = each _ ((((((((((((((((tt, ([], refl, tt)), ([], refl, tt)), ([], refl, tt)), ([], refl, tt)), ([], refl, tt)), ([], refl, tt)), ([], refl, tt)), ([], refl, tt)), ([], refl, tt)), ([], refl, tt)), ([], refl, tt)), ([], refl, tt)), ([], refl, tt)), ([], refl, tt)), ([], refl, tt)), ([], refl, tt)); attempts = λ p. []; journals = each _ ((((((((((((((((tt, refl), refl), refl), refl), refl), refl), refl), refl), refl), refl), refl), refl), refl), refl), refl), refl); are_open = λ line h. h; sound = refl; jobs = refl; workers = refl; beta = refl }, (record { number = number_1; asked = refl; joinable = refl; round = _; stands = refl; seat = refl; attempts = []; journal = refl; next = refl }, ((number_1, (only_worker, refl, refl)), ((number_1, (only_worker, refl, refl)), ((number_1, (only_worker, refl, refl)), ((number_1, (only_worker, refl, tt)), ((number_1, (only_worker, refl, tt)), ((number_1, (only_worker, refl)), (tt, ((number_1, refl), (record { nobody = each _ ((((((((((((((((tt, refl), refl), refl), refl), refl), refl), refl), refl), refl), refl), refl), refl), refl), refl), refl), refl); grown = omega arith; findings = []; findings_seen = ([], refl); entries = λ p. []; entries_seen = each _ ((((((((((((((((tt, ([], refl, tt)), ([], refl, tt)), ([], refl, tt)), ([], refl, tt)), ([], refl, tt)), ([], refl, tt)), ([], refl, tt)), ([], refl, tt)), ([], refl, tt)), ([], refl, tt)), ([], refl, tt)), ([], refl, tt)), ([], refl, tt)), ([], refl, tt)), ([], refl, tt)), ([], refl, tt)); attempts = λ p. []; journals = each _ ((((((((((((((((tt, refl), refl), refl), refl), refl), refl), refl), refl), refl), refl), refl), refl), refl), refl), refl), refl); are_open = λ line h. h; sound = refl; jobs = refl; workers = refl; beta = refl }, (record { number = number_1; asked = refl; joinable = refl; round = _; stands = refl; seat = refl; attempts = []; journal = refl; next = refl }, ((number_1, (only_worker, refl, refl)), ((number_1, (only_worker, refl, refl)), ((number_1, (only_worker, refl, refl)), ((number_1, (only_worker, refl, tt)), ((number_1, (only_worker, refl, tt)), ((number_1, (only_worker, refl, tt)), ((number_1, (only_worker, refl)), ((number_1, refl), ((number_1, refl), ((number_1, refl), (tt, (record { number = number_1; attempts = in_doubt ∷ []; journal = refl; low = omega arith; high = omega arith }, ((number_2, refl), (record { nobody = each _ ((((((((((((((((tt, refl), refl), refl), refl), refl), refl), refl), refl), refl), refl), refl), refl), refl), refl), refl), refl); grown = omega arith; findings = undone ∷ []; findings_seen = ([], refl); entries = λ p. if p == 1 then IntentOf 1 1 20 ∷ AnswerTo 1 NotedDoubt ∷ [] else []; entries_seen = each _ ((((((((((((((((tt, ([], refl, tt)), ([], refl, tt)), ([], refl, tt)), ([], refl, tt)), ([], refl, tt)), ([], refl, tt)), ([], refl, tt)), ([], refl, tt)), ([], refl, tt)), ([], refl, tt)), ([], refl, tt)), ([], refl, tt)), ([], refl, tt)), ([], refl, tt)), ([], refl, tt)), ([], refl, tt)); attempts = λ p. if p == 1 then in_doubt ∷ [] else []; journals = each _ ((((((((((((((((tt, refl), refl), refl), refl), refl), refl), refl), refl), refl), refl), refl), refl), refl), refl), refl), refl); are_open = λ line h. h; sound = refl; jobs = refl; workers = refl; beta = refl }, (record { number = number_2; asked = refl; joinable = refl; round = _; stands = refl; seat = refl; attempts = []; journal = refl; next = refl }, ((number_2, (only_worker, refl, refl)), ((number_2, (only_worker, refl, refl)), ((number_2, (only_worker, refl, refl)), ((number_2, (only_worker, refl, tt)), ((number_2, (only_worker, refl, tt)), ((number_2, (only_worker, refl, tt)), ((number_2, (only_worker, refl, tt)), ((number_2, (only_worker, refl, tt)), ((number_2, (only_worker, refl, tt)), tt)))))))))))))))))))))))))))))))))))))
+is_run = (
+  (number_1, refl),
+  (
+    record {
+      nobody = each _ ((((((((((((((((tt, refl), refl), refl), refl), refl), refl), refl), refl), refl), refl), refl), refl), refl), refl), refl), refl);
+      grown = omega arith;
+      findings = [];
+      findings_seen = ([], refl);
+      entries = λ p. [];
+      entries_seen = each _ ((((((((((((((((tt, ([], refl, tt)), ([], refl, tt)), ([], refl, tt)), ([], refl, tt)), ([], refl, tt)), ([], refl, tt)), ([], refl, tt)), ([], refl, tt)), ([], refl, tt)), ([], refl, tt)), ([], refl, tt)), ([], refl, tt)), ([], refl, tt)), ([], refl, tt)), ([], refl, tt)), ([], refl, tt));
+      attempts = λ p. [];
+      journals = each _ ((((((((((((((((tt, refl), refl), refl), refl), refl), refl), refl), refl), refl), refl), refl), refl), refl), refl), refl), refl);
+      are_open = λ line h. h;
+      sound = refl;
+      jobs = refl;
+      workers = refl;
+      beta = refl;
+    },
+    (
+      record { number = number_1; asked = refl; joinable = refl; round = _; stands = refl; seat = refl; attempts = []; journal = refl; next = refl },
+      (
+        (number_1, (only_worker, refl, refl)),
+        (
+          (number_1, (only_worker, refl, refl)),
+          (
+            (number_1, (only_worker, refl, refl)),
+            (
+              (number_1, (only_worker, refl, tt)),
+              (
+                (number_1, (only_worker, refl, tt)),
+                (
+                  (number_1, (only_worker, refl)),
+                  (
+                    tt,
+                    (
+                      (number_1, refl),
+                      (
+                        record {
+                          nobody = each _ ((((((((((((((((tt, refl), refl), refl), refl), refl), refl), refl), refl), refl), refl), refl), refl), refl), refl), refl), refl);
+                          grown = omega arith;
+                          findings = [];
+                          findings_seen = ([], refl);
+                          entries = λ p. [];
+                          entries_seen = each _ ((((((((((((((((tt, ([], refl, tt)), ([], refl, tt)), ([], refl, tt)), ([], refl, tt)), ([], refl, tt)), ([], refl, tt)), ([], refl, tt)), ([], refl, tt)), ([], refl, tt)), ([], refl, tt)), ([], refl, tt)), ([], refl, tt)), ([], refl, tt)), ([], refl, tt)), ([], refl, tt)), ([], refl, tt));
+                          attempts = λ p. [];
+                          journals = each _ ((((((((((((((((tt, refl), refl), refl), refl), refl), refl), refl), refl), refl), refl), refl), refl), refl), refl), refl), refl);
+                          are_open = λ line h. h;
+                          sound = refl;
+                          jobs = refl;
+                          workers = refl;
+                          beta = refl;
+                        },
+                        (
+                          record { number = number_1; asked = refl; joinable = refl; round = _; stands = refl; seat = refl; attempts = []; journal = refl; next = refl },
+                          (
+                            (number_1, (only_worker, refl, refl)),
+                            (
+                              (number_1, (only_worker, refl, refl)),
+                              (
+                                (number_1, (only_worker, refl, refl)),
+                                (
+                                  (number_1, (only_worker, refl, tt)),
+                                  (
+                                    (number_1, (only_worker, refl, tt)),
+                                    (
+                                      (number_1, (only_worker, refl, tt)),
+                                      (
+                                        (number_1, (only_worker, refl)),
+                                        (
+                                          (number_1, refl),
+                                          (
+                                            (number_1, refl),
+                                            (
+                                              (number_1, refl),
+                                              (
+                                                tt,
+                                                (
+                                                  record { number = number_1; attempts = in_doubt ∷ []; journal = refl; low = omega arith; high = omega arith },
+                                                  (
+                                                    (number_2, refl),
+                                                    (
+                                                      record {
+                                                        nobody = each _ ((((((((((((((((tt, refl), refl), refl), refl), refl), refl), refl), refl), refl), refl), refl), refl), refl), refl), refl), refl);
+                                                        grown = omega arith;
+                                                        findings = undone ∷ [];
+                                                        findings_seen = ([], refl);
+                                                        entries = λ p. if p == 1 then IntentOf 1 1 20 ∷ AnswerTo 1 NotedDoubt ∷ [] else [];
+                                                        entries_seen = each _ ((((((((((((((((tt, ([], refl, tt)), ([], refl, tt)), ([], refl, tt)), ([], refl, tt)), ([], refl, tt)), ([], refl, tt)), ([], refl, tt)), ([], refl, tt)), ([], refl, tt)), ([], refl, tt)), ([], refl, tt)), ([], refl, tt)), ([], refl, tt)), ([], refl, tt)), ([], refl, tt)), ([], refl, tt));
+                                                        attempts = λ p. if p == 1 then in_doubt ∷ [] else [];
+                                                        journals = each _ ((((((((((((((((tt, refl), refl), refl), refl), refl), refl), refl), refl), refl), refl), refl), refl), refl), refl), refl), refl);
+                                                        are_open = λ line h. h;
+                                                        sound = refl;
+                                                        jobs = refl;
+                                                        workers = refl;
+                                                        beta = refl;
+                                                      },
+                                                      (
+                                                        record { number = number_2; asked = refl; joinable = refl; round = _; stands = refl; seat = refl; attempts = []; journal = refl; next = refl },
+                                                        (
+                                                          (number_2, (only_worker, refl, refl)),
+                                                          (
+                                                            (number_2, (only_worker, refl, refl)),
+                                                            (
+                                                              (number_2, (only_worker, refl, refl)),
+                                                              (
+                                                                (number_2, (only_worker, refl, tt)),
+                                                                (
+                                                                  (number_2, (only_worker, refl, tt)),
+                                                                  (
+                                                                    (number_2, (only_worker, refl, tt)),
+                                                                    (
+                                                                      (number_2, (only_worker, refl, tt)),
+                                                                      (
+                                                                        (number_2, (only_worker, refl, tt)),
+                                                                        (
+                                                                          (number_2, (only_worker, refl, tt)),
+                                                                          tt,
+                                                                        ),
+                                                                      ),
+                                                                    ),
+                                                                  ),
+                                                                ),
+                                                              ),
+                                                            ),
+                                                          ),
+                                                        ),
+                                                      ),
+                                                    ),
+                                                  ),
+                                                ),
+                                              ),
+                                            ),
+                                          ),
+                                        ),
+                                      ),
+                                    ),
+                                  ),
+                                ),
+                              ),
+                            ),
+                          ),
+                        ),
+                      ),
+                    ),
+                  ),
+                ),
+              ),
+            ),
+          ),
+        ),
+      ),
+    ),
+  ),
+)
 
 pub names : names_of (handings events) ≡ (1, 1) ∷ (2, 1) ∷ []
 names = refl

@@ -1,7 +1,7 @@
 -- What is kept of a file, and what is read of it, after a put, a settling and a stop.
 use Rattle.std.specs.Prelude.{if◌then◌else◌}
 use Rattle.std.proofs.Common.{◌≡◌, Bool, true, false, ℕ, List, [], ◌∷◌, ◌++◌, take, refl, sym, ap, ◌∙◌, subst, append_assoc, append-nil}
-use Rattle.amo_rounds.specs.File.{File, read_of, settled, behind, with_put, with_unheard, with_unread, after_put, after_stop}
+use Rattle.amo_rounds.specs.File.{File, read_of, settled, behind, with_unheard, after_put, after_stop}
 
 -- new is old with more behind it
 abbrev pub Grows : {A : Type 0} → List A → List A → Type 0

@@ -1,5 +1,5 @@
 -- What was handed over, and what a later event may do of its line.
-use Rattle.std.proofs.Common.{◌≡◌, ◌⊎◌, inl, inr, ⊎_elim, ℕ, ◌+◌, ◌≤◌, Bool, true, false, ◌||◌, List, [], ◌∷◌, ◌++◌, length, Option, Some, None, take, refl, sym, ap, ◌∙◌, subst, append-nil, append_assoc}
+use Rattle.std.proofs.Common.{◌≡◌, ◌⊎◌, inl, inr, ⊎_elim, ℕ, ◌+◌, ◌≤◌, true, false, List, [], ◌∷◌, ◌++◌, Option, Some, None, take, refl, sym, ap, ◌∙◌, subst, append-nil, append_assoc}
 use Rattle.std.specs.Prelude.{⊤, ◌==◌}
 use Rattle.std.proofs.lemmas.Bool.{true≢false, cases_Bool, eq-eqb, or_left, or_right}
 use Rattle.amo_sets.specs.Lists.{numbered, table}
@@ -18,18 +18,16 @@ use Rattle.amo_history.specs.declared.model.Moment.{Moment}
 use Rattle.amo_history.specs.declared.model.Moment.TheVariants.{Does, Loses, Begins}
 use Rattle.amo_history.proofs.Courses.{performing_at}
 use Rattle.amo_ledger.specs.declared.entry.Entry.{Entry}
-use Rattle.amo_ledger.specs.declared.finding.Finding.{Finding}
-use Rattle.amo_ledger.specs.declared.journal.Attempt.{Attempt}
 use Rattle.amo_ledger.specs.Findings.{is_undone}
 use Rattle.amo_ledger.specs.Grammar.{intents}
 use Rattle.amo_ledger.specs.Open.{OpensNot, NoneOpens, is_open}
 use Rattle.amo_ledger.specs.Records.{RecordView}
-use Rattle.amo_rounds.specs.File.{File, read_of, settled, with_put, with_unheard, after_put, after_stop}
+use Rattle.amo_rounds.specs.File.{File, read_of, settled, with_unheard, after_put}
 use Rattle.amo_rounds.specs.World.{Place, Away, Before, Inside, Round, World, Event, Dies, Starts, RoundBegins, Joins, Acts, Misses, Says, SaysUnheard, SaysUnread, Stops, IsNumber, with_at, lines_of, lines_at}
-use Rattle.amo_rounds.specs.Run.{entries_of_try, has_fallen, with_moment, with_moment_at, world_after, MayBegin, MayBeIn, MayAct, MayMiss, MayHappen, IsRunFrom, world_after_all, Handing, handings_of_try, handings_by, handings_from, openings_by, openings_from, is_among, IsOneOf}
+use Rattle.amo_rounds.specs.Run.{entries_of_try, has_fallen, with_moment, with_moment_at, world_after, MayBegin, MayBeIn, MayAct, MayMiss, MayHappen, IsRunFrom, world_after_all, Handing, handings_of_try, handings_by, openings_by, openings_from, is_among, IsOneOf}
 use Rattle.amo_rounds.proofs.Files.{Grows, grows_none, after_grows}
 use Rattle.amo_rounds.proofs.Openings.{among_more, all_left, undone_left}
-use Rattle.amo_rounds.proofs.Entries.{HasEntry, entry_stays, entry_before, stays_closed, IsAmong, among_table, open_there}
+use Rattle.amo_rounds.proofs.Entries.{HasEntry, entry_stays, entry_before, stays_closed, among_table, open_there}
 use Rattle.amo_rounds.proofs.Moments.{handed_job, handed_first, handed_then}
 use Rattle.amo_rounds.proofs.Records.{one_job, line_there}
 use Rattle.amo_rounds.proofs.Stages.{IsPut, asks_only}
@@ -116,7 +114,7 @@ opened_then w said h g r lines sane was may j is line = ⊎_elim
     let fewer = undone_left h.worker h.serial may.findings more (subst (λ l. is_undone l h.worker h.serial ≡ false) findings_split found) in
     let undone = subst (λ k. is_undone may.findings k h.serial ≡ false) (sym at.place) fewer in
     let closed = stays_closed lines may.findings at.before at.after (may.attempts h.worker) (may.entries h.worker) h.serial h.line
-        entry none undone (may.journals h.worker was.number) in
+    entry none undone (may.journals h.worker was.number) in
     let there = subst (λ l. has r.lines l ≡ true) line (line_there r may.sound j is.low (subst (λ k. j ≤ k) may.jobs is.high)) in
     let opened = open_there may.findings (table 16 may.attempts) lines h.line (may.are_open h.line there) in
     true≢false (sym opened ∙ ap (λ l. is_open may.findings l h.line) at.is ∙ closed)))
@@ -263,7 +261,7 @@ module _ (w : World) (said : List (ℕ × ℕ)) (sane : IsSane w said) (p : ℕ)
   found k q at moment n j may hands given =
       let fits : Fits w.rounds w.last (w.journals p) p (Inside k q) = subst (λ place. Fits w.rounds w.last (w.journals p) p place) at (sane.places p) in
       let here = here_at (w.rounds w.last) w p q n j (moment q) refl (at ∙ ap (λ x. Inside x q) fits.0) (sane.rounds w.last)
-          (subst (λ x. FitsIn (w.rounds x) (w.journals p) p q) fits.0 fits.1) (subst (λ x. MayBeIn (w.rounds x) (moment q)) fits.0 may) hands given in
+      (subst (λ x. FitsIn (w.rounds x) (w.journals p) p q) fits.0 fits.1) (subst (λ x. MayBeIn (w.rounds x) (moment q)) fits.0 may) hands given in
       record {
         seat = q;
         here = here;
@@ -332,7 +330,7 @@ now_handed w said e h now =
           (subst (λ l. HasEntry h.serial l (w.journals h.worker).kept) now.line here.entry);
       past = subst (λ o. IsPast o (said ++ openings_by w e) h) (sym (now.afterwards ∙ ap (with_moment now.moment) here.stands)) (λ j is line. inr (
           let same = one_job here.round.written here.good.sound j now.job is.low (subst (λ k. j ≤ k) here.good.jobs is.high)
-              here.job.low (subst (λ k. now.job ≤ k) here.good.jobs here.job.high) (line ∙ sym now.line) in
+          here.job.low (subst (λ k. now.job ≤ k) here.good.jobs here.job.high) (line ∙ sym now.line) in
           ap (λ k. has (handed_jobs (here.round.moments ++ now.moment ∷ [])) k) same
           ∙ ap (λ l. has l now.job) (handed_then here.round.moments now.moment)
           ∙ has-append (handed_jobs here.round.moments) (handed_by now.moment) now.job

@@ -1,21 +1,21 @@
 -- A history with one moment more, and the job that is handed over in it.
-use Rattle.std.proofs.Common.{◌≡◌, ◌≢◌, ⊎_elim, ℕ, ◌≤◌, Bool, true, false, ◌||◌, List, [], ◌∷◌, ◌++◌, Option, Some, refl, sym, ap, ◌∙◌, subst, append_assoc, append-nil}
+use Rattle.std.proofs.Common.{◌≡◌, ◌≢◌, ⊎_elim, ℕ, false, List, [], ◌∷◌, ◌++◌, Some, refl, sym, ap, ◌∙◌, subst, append_assoc, append-nil}
 use Rattle.std.specs.Prelude.{◌==◌}
 use Rattle.std.proofs.lemmas.Bool.{true≢false, cases_eq, ne_eqb, or_from}
-use Rattle.amo_sets.specs.Lists.{numbered, put}
+use Rattle.amo_sets.specs.Lists.{numbered}
 use Rattle.amo_sets.specs.Sets.{has, AreDistinct}
 use Rattle.amo_sets.proofs.Numbers.{numbered-put_other, has_push}
 use Rattle.amo_kk.specs.Givens.{IsWorker, IsJob}
 use Rattle.amo_kk.specs.Lawful.{FitsPhase}
 use Rattle.amo_kk.specs.declared.givens.Givens.{Givens}
 use Rattle.amo_process.specs.Heard.{standing_of}
-use Rattle.amo_process.specs.Shared.{Shared, first_shared, shared_after_all, shared_of}
+use Rattle.amo_process.specs.Shared.{first_shared, shared_of}
 use Rattle.amo_process.specs.declared.model.Happening.{Happening}
 use Rattle.amo_process.proofs.Hearing.{going_sound}
 use Rattle.amo_course.specs.declared.model.Deed.{Deed}
 use Rattle.amo_course.specs.declared.model.Try.{Try}
 use Rattle.amo_course.specs.declared.model.Try.TheVariants.{Perform}
-use Rattle.amo_course.specs.Stage.{Stage, Gone, Broken}
+use Rattle.amo_course.specs.Stage.{Gone, Broken}
 use Rattle.amo_course.specs.Course.{due, stage_after, first_stage}
 use Rattle.amo_history.specs.Scene.{Scene, first_scene, stage_at, scene_after, scene_after_all, scene_of, MayBe, IsHistoryFrom, IsHistory, handed_by, handed_jobs}
 use Rattle.amo_history.specs.declared.model.Moment.{Moment}

@@ -1,12 +1,12 @@
 -- No intent is handed over twice: its worker and its serial number are of one intent.
-use Rattle.std.proofs.Common.{◌≡◌, ⊎_elim, ℕ, ◌+◌, ◌<◌, ◌≤◌, Bool, true, false, ◌&&◌, ◌||◌, List, [], ◌∷◌, ◌++◌, Option, Some, None, refl, sym, ap, ◌∙◌, subst, arith, inl, inr}
-use Rattle.std.specs.Prelude.{⊤, ◌⊎◌, ◌==◌}
+use Rattle.std.proofs.Common.{◌≡◌, ⊎_elim, ℕ, ◌+◌, ◌<◌, ◌≤◌, true, false, ◌&&◌, List, [], ◌∷◌, ◌++◌, Option, Some, None, refl, sym, ap, ◌∙◌, subst, arith, inl, inr}
+use Rattle.std.specs.Prelude.{⊤, ◌==◌}
 use Rattle.std.proofs.lemmas.Bool.{true≢false, and_parts, or_from, false_from_ne_true, eqb-true}
 use Rattle.amo_course.specs.declared.model.Deed.{Deed}
 use Rattle.amo_course.specs.declared.model.Try.{Try}
 use Rattle.amo_course.specs.declared.model.Try.TheVariants.{Perform}
-use Rattle.amo_course.specs.Stage.{Stage, Performing, Asking, Broken}
-use Rattle.amo_course.specs.Course.{try_of, stage_after, first_stage}
+use Rattle.amo_course.specs.Stage.{Stage, Performing, Asking}
+use Rattle.amo_course.specs.Course.{try_of, stage_after}
 use Rattle.amo_history.specs.Scene.{stage_at, scene_of}
 use Rattle.amo_history.specs.declared.model.Moment.{Moment}
 use Rattle.amo_history.specs.declared.model.Moment.TheVariants.{Does, Loses, Begins}
@@ -18,11 +18,11 @@ use Rattle.amo_rounds.specs.World.{Place, Away, Before, Inside, Round, World, fi
 use Rattle.amo_rounds.specs.Run.{left_in, place_after, place_missing, with_moment, with_moment_at, world_after, MayJoin, MayBeIn, MayAct, MayMiss, MayHappen, IsRunFrom, IsRun, Handing, handings_by, handings_from, handings, openings_by, is_among, IsOneOf, names_of, AreDifferent}
 use Rattle.amo_rounds.proofs.Moments.{worker_of, stands_after, stands_broken, stands_first}
 use Rattle.amo_rounds.proofs.Stages.{is_performing}
-use Rattle.amo_rounds.proofs.Counted.{intents_grow, IsCounted, IsBehind, behind_unless, behind_then}
+use Rattle.amo_rounds.proofs.Counted.{intents_grow, IsBehind, behind_unless, behind_then}
 use Rattle.amo_rounds.proofs.Sane.{at_number, IsGood, IsGoodIf, FitsIn, HasSeat, seat_in, number_in, Fits, stands_still, IsSane, first_sane}
 use Rattle.amo_rounds.proofs.Acting.{seat_worker, seat_joined}
 use Rattle.amo_rounds.proofs.Steps.{sane_after}
-use Rattle.amo_rounds.proofs.Handed.{kept_grows, IsNow, handed_now, IsOfTry, of_try, one_at_most, split_one}
+use Rattle.amo_rounds.proofs.Handed.{kept_grows, IsNow, handed_now, of_try, one_at_most, split_one}
 
 -- the next intent that this worker of the round hands over has a greater number
 abbrev BehindIn : Option Round → ℕ → ℕ → Type 0

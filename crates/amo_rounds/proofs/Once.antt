@@ -1,6 +1,6 @@
 -- No line is performed twice.
-use Rattle.std.proofs.Common.{◌≡◌, ◌⊎◌, inl, inr, ⊎_elim, ℕ, Bool, true, false, ◌||◌, List, [], ◌∷◌, ◌++◌, Option, Some, None, refl, sym, ap, ◌∙◌, subst, append_assoc}
-use Rattle.std.specs.Prelude.{⊤, ◌==◌, if◌then◌else◌}
+use Rattle.std.proofs.Common.{◌≡◌, inl, inr, ⊎_elim, ℕ, Bool, true, false, List, [], ◌∷◌, ◌++◌, Option, Some, None, refl, sym, ap, ◌∙◌, subst, append_assoc}
+use Rattle.std.specs.Prelude.{◌==◌, if◌then◌else◌}
 use Rattle.std.proofs.lemmas.Bool.{true≢false, ne_eqb, or_from}
 use Rattle.amo_sets.specs.Sets.{has, AreDistinct}
 use Rattle.amo_sets.proofs.Numbers.{has-append}
@@ -8,13 +8,13 @@ use Rattle.amo_history.specs.Scene.{IsHistory}
 use Rattle.amo_ledger.specs.declared.entry.Entry.{Entry}
 use Rattle.amo_ledger.proofs.Seats.{one_each}
 use Rattle.amo_rounds.specs.File.{File}
-use Rattle.amo_rounds.specs.World.{Place, Inside, Round, World, first_world, Event, Dies, Starts, RoundBegins, Joins, Acts, Misses, Says, SaysUnheard, SaysUnread, Stops}
-use Rattle.amo_rounds.specs.Run.{world_after, MayHappen, IsRunFrom, IsRun, world_after_all, world_of, Handing, handings_of_try, handings_by, handings_from, handings, openings_by, openings_from, openings, is_among, AreUnperformed, performed_lines, IsOneOf}
-use Rattle.amo_rounds.proofs.Openings.{among_more, among_last}
+use Rattle.amo_rounds.specs.World.{Inside, Round, World, first_world, Event}
+use Rattle.amo_rounds.specs.Run.{world_after, MayHappen, IsRunFrom, IsRun, world_after_all, world_of, Handing, handings_by, handings_from, handings, openings_by, openings_from, openings, is_among, AreUnperformed, performed_lines, IsOneOf}
+use Rattle.amo_rounds.proofs.Openings.{among_more}
 use Rattle.amo_rounds.proofs.Records.{sound_parts}
 use Rattle.amo_rounds.proofs.Sane.{FitsIn, Fits, IsGoodIf, IsSane, first_sane}
 use Rattle.amo_rounds.proofs.Steps.{sane_after, sane_after_all}
-use Rattle.amo_rounds.proofs.Handed.{one_at_most, split_one, WasHanded, IsNow, handed_after, handed_now, now_handed, opened_before, handed_after_all}
+use Rattle.amo_rounds.proofs.Handed.{one_at_most, split_one, WasHanded, handed_after, handed_now, now_handed, opened_before, handed_after_all}
 
 module _ (performed : ℕ → ℕ → Bool) where
   lines-append : (xs ys : List Handing) → performed_lines performed (xs ++ ys) ≡ performed_lines performed xs ++ performed_lines performed ys

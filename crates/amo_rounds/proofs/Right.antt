@@ -1,5 +1,5 @@
 -- What a process in a round may do by its log may be in the run.
-use Rattle.std.proofs.Common.{◌≡◌, ℕ, ◌≤◌, List, [], ◌∷◌, ◌++◌, Option, Some, None, refl, sym, ap, ◌∙◌, subst}
+use Rattle.std.proofs.Common.{◌≡◌, ℕ, ◌≤◌, List, [], ◌∷◌, ◌++◌, Some, sym, subst}
 use Rattle.amo_kk.specs.Givens.{IsWorker}
 use Rattle.amo_course.specs.Course.{AreDue, first_stage, MayTry}
 use Rattle.amo_course.specs.declared.model.Deed.{Deed}
@@ -8,13 +8,11 @@ use Rattle.amo_history.specs.Log.{Log, log_of}
 use Rattle.amo_history.specs.Scene.{scene_of, IsTrue}
 use Rattle.amo_history.specs.declared.model.Moment.TheVariants.{Does, Loses}
 use Rattle.amo_history.proofs.Logs.{call_may_be, deed_may_be}
-use Rattle.amo_ledger.specs.declared.entry.Entry.{Entry}
 use Rattle.amo_ledger.proofs.Seats.{in_range}
-use Rattle.amo_rounds.specs.File.{File}
-use Rattle.amo_rounds.specs.World.{Inside, Round, World, Event}
+use Rattle.amo_rounds.specs.World.{Inside, Round, Event}
 use Rattle.amo_rounds.specs.Run.{MayBeIn, MayAct, MayMiss, IsRun, world_of}
 use Rattle.amo_rounds.proofs.Records.{sound_parts}
-use Rattle.amo_rounds.proofs.Sane.{IsGood, IsGoodIf, FitsIn, IsSane}
+use Rattle.amo_rounds.proofs.Sane.{IsGood, IsGoodIf, FitsIn}
 use Rattle.amo_rounds.proofs.Once.{sane_of, fits_there}
 
 module _ (es : List Event) (run : IsRun es) (p k q : ℕ) (at : (world_of es).places p ≡ Inside k q) (r : Round) (is : (world_of es).rounds k ≡ Some r) (l : Log) (log : log_of q r.moments ≡ Some l) where

@@ -1,8 +1,7 @@
 -- What holds in each run at each moment, of the intents of which it was said that they weren't begun or done.
-use Rattle.std.proofs.Common.{◌≡◌, ◌≢◌, ⊎_elim, ℕ, ◌≤◌, Bool, true, false, List, [], ◌∷◌, ◌++◌, Option, Some, None, refl, sym, ap, ◌∙◌, subst}
-use Rattle.std.specs.Prelude.{⊤, ◌==◌, if◌then◌else◌}
+use Rattle.std.proofs.Common.{◌≡◌, ⊎_elim, ℕ, true, false, List, [], ◌∷◌, ◌++◌, Option, Some, None, refl, sym, ap, ◌∙◌, subst}
+use Rattle.std.specs.Prelude.{⊤, if◌then◌else◌}
 use Rattle.std.proofs.lemmas.Bool.{true≢false, cases_eq, eq-eqb, ne_eqb}
-use Rattle.amo_kk.specs.Givens.{IsWorker}
 use Rattle.amo_course.specs.Stage.{Stage}
 use Rattle.amo_history.specs.Scene.{stage_at, scene_of, IsHistory}
 use Rattle.amo_history.specs.declared.model.Moment.{Moment}

@@ -1,10 +1,10 @@
 -- What the contracts of journals say of a device's file, as a list of entries.
-use Rattle.std.proofs.Common.{◌≡◌, ◌⊎◌, ⊎_elim, ℕ, List, [], ◌∷◌, ◌++◌, Some, refl, sym, ap, ◌∙◌, subst, append-nil}
+use Rattle.std.proofs.Common.{◌≡◌, ⊎_elim, ℕ, List, [], ◌∷◌, ◌++◌, Some, sym, ap, ◌∙◌, append-nil}
 use Rattle.amo_journal.specs.Journal.{IsAtRest}
 use Rattle.amo_ledger.specs.declared.entry.Entry.{Entry}
 use Rattle.amo_ledger.specs.declared.finding.Finding.{Finding}
 use Rattle.amo_ledger.specs.Puts.{entries_of, findings_of, StandsForOneMoreOrNot, SaysOneMoreOrNot}
-use Rattle.amo_rounds.specs.File.{File, read_of, with_unheard, after_stop}
+use Rattle.amo_rounds.specs.File.{read_of, with_unheard, after_stop}
 use Rattle.amo_rounds.specs.Shown.{all_kept, IsShownBy}
 
 kept_read : {A : Type 0} (xs : List A) → xs ≡ read_of (after_stop 0 (all_kept xs))

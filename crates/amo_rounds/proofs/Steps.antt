@@ -1,6 +1,5 @@
 -- Each event keeps the world sane.
-use Rattle.std.proofs.Common.{◌≡◌, ℕ, ◌≤◌, Bool, true, false, ◌+◌, List, [], ◌∷◌, ◌++◌, Option, Some, None, take, refl, sym, ap, ◌∙◌, subst, append-nil, append_assoc}
-use Rattle.std.specs.Prelude.{⊤}
+use Rattle.std.proofs.Common.{◌≡◌, ℕ, false, ◌+◌, List, [], ◌∷◌, ◌++◌, Some, take, refl, sym, ap, ◌∙◌, subst, append-nil, append_assoc}
 use Rattle.amo_kk.specs.declared.givens.Givens.{Givens}
 use Rattle.amo_course.specs.declared.model.Deed.{Deed}
 use Rattle.amo_course.specs.declared.model.Try.{Try}
@@ -15,7 +14,7 @@ use Rattle.amo_ledger.specs.Grammar.{intents}
 use Rattle.amo_ledger.specs.Open.{OpensNot, NoneOpens}
 use Rattle.amo_ledger.specs.Records.{RecordView}
 use Rattle.amo_rounds.specs.File.{File, read_of, settled, with_put, with_unheard, with_unread, after_put, after_stop}
-use Rattle.amo_rounds.specs.World.{Place, Away, Before, Inside, Round, World, Event, Dies, Starts, RoundBegins, Joins, Acts, Misses, Says, SaysUnheard, SaysUnread, Stops, with_at, lines_at}
+use Rattle.amo_rounds.specs.World.{Away, Before, Inside, Round, World, Event, Dies, Starts, RoundBegins, Joins, Acts, Misses, Says, SaysUnheard, SaysUnread, Stops, with_at, lines_at}
 use Rattle.amo_rounds.specs.Run.{entries_of_try, has_fallen, left_in, place_after, place_missing, with_moment, with_moment_at, world_after, MayBegin, MayJoin, MayAct, MayMiss, MayHappen, IsRunFrom, world_after_all, opened_by_entries, opened_by_finding, openings_by, openings_from, is_among}
 use Rattle.amo_rounds.proofs.Files.{all_of, after_all, unheard_all, read_settled, stopped_all}
 use Rattle.amo_rounds.proofs.Openings.{among_parts, all_left, all_right, all_both, all_taken, none_opens, not_undone, undone_left, undone_taken}

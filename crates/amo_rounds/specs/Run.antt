@@ -11,7 +11,7 @@ use Rattle.amo_course.specs.declared.model.Deed.TheVariants.{Fell}
 use Rattle.amo_course.specs.declared.model.Try.{Try}
 use Rattle.amo_course.specs.declared.model.Try.TheVariants.{Intend, Perform, Note}
 use Rattle.amo_course.specs.declared.past.Intent.{Intent}
-use Rattle.amo_course.specs.Stage.{Stage, Asking, Broken}
+use Rattle.amo_course.specs.Stage.{Asking, Broken}
 use Rattle.amo_course.specs.Course.{try_of, due, stage_after}
 use Rattle.amo_history.specs.Scene.{scene_of, MayBe}
 use Rattle.amo_history.specs.declared.model.Moment.{Moment}
@@ -27,7 +27,7 @@ use Rattle.amo_ledger.specs.Journals.{journal_of, pending_from}
 use Rattle.amo_ledger.specs.Open.{opens, open_lines, IsAnswer}
 use Rattle.amo_ledger.specs.Records.{RecordView, is_sound}
 use Rattle.amo_ledger.specs.Rounds.{seat_of}
-use Rattle.amo_rounds.specs.File.{File, read_of, settled, with_put, with_unheard, with_unread, after_put, after_stop}
+use Rattle.amo_rounds.specs.File.{read_of, settled, with_put, with_unheard, with_unread, after_put, after_stop}
 use Rattle.amo_rounds.specs.World.{Place, Away, Before, Inside, Round, World, first_world, Event, Dies, Starts, RoundBegins, Joins, Acts, Misses, Says, SaysUnheard, SaysUnread, Stops, IsNumber, is_inside, with_at, lines_at}
 
 -- what comes into a journal
