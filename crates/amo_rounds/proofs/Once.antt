@@ -9,7 +9,7 @@ use Rattle.amo_ledger.specs.declared.entry.Entry.{Entry}
 use Rattle.amo_ledger.proofs.Seats.{one_each}
 use Rattle.amo_rounds.specs.File.{File}
 use Rattle.amo_rounds.specs.World.{Inside, Round, World, first_world, Event}
-use Rattle.amo_rounds.specs.Run.{world_after, MayHappen, IsRunFrom, IsRun, world_after_all, world_of, Handing, handings_by, handings_from, handings, openings_by, openings_from, openings, is_among, AreUnperformed, performed_lines, IsOneOf}
+use Rattle.amo_rounds.specs.Run.{world_after, MayHappen, IsRunFrom, IsRun, world_after_all, world_of, Handing, handings_by, handings_from, handings, openings_by, openings_from, openings, is_among, AreUnperformed, performed_lines, IsOneOf, IsKept}
 use Rattle.amo_rounds.proofs.Openings.{among_more}
 use Rattle.amo_rounds.proofs.Records.{sound_parts}
 use Rattle.amo_rounds.proofs.Sane.{FitsIn, Fits, IsGoodIf, IsSane, first_sane}
@@ -93,6 +93,9 @@ each_handed w said (e ∷ es) sane run h one =
 
 pub sane_of : (es : List Event) → IsRun es → IsSane (world_of es) (openings es)
 sane_of es run = sane_after_all first_world [] es first_sane run
+
+pub kept_for_ever : (es : List Event) (h : Handing) → IsRun es → IsOneOf (handings es) h → IsKept (world_of es) h
+kept_for_ever es h run one = (each_handed first_world [] es first_sane run h one).entry
 
 pub again_only_opened : (before after : List Event) (e : Event) (h k : Handing) → IsRun (before ++ e ∷ after) → IsOneOf (handings before) h → IsOneOf (handings_by (world_of before) e) k
     → h.line ≡ k.line → is_among (openings before) h.worker h.serial ≡ true

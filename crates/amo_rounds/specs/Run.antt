@@ -299,3 +299,7 @@ common names (i ∷ is) = if is_among names i.0 i.1 then i ∷ common names is e
 abbrev pub names_of_line : (line : ℕ) → List Handing → List (ℕ × ℕ)
 names_of_line line [] = []
 names_of_line line (h ∷ hs) = if h.line == line then (h.worker, h.serial) ∷ names_of_line line hs else names_of_line line hs
+
+-- its intent is in the journal, and every stop leaves it there
+abbrev pub IsKept : World → Handing → Type 0
+IsKept w h = (front : List Entry) × (time : ℕ) × (back : List Entry) × ((w.journals h.worker).kept ≡ front ++ IntentOf h.serial h.line time ∷ back)

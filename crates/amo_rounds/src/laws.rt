@@ -15,7 +15,7 @@ ghost use Rattle.amo_rounds.specs.File.{read_of, with_unheard, after_stop};
 ghost use Rattle.amo_rounds.specs.Shown.{all_kept, IsShownBy};
 ghost use Rattle.amo_rounds.specs.Asked.{Asker, asker_of};
 ghost use Rattle.amo_rounds.specs.World.{Before, Inside, Round, Event};
-ghost use Rattle.amo_rounds.specs.Run.{left_in, MayAct, MayMiss, IsRun, world_of, Handing, handings_by, handings, openings, is_among, AreUnperformed, performed_lines, IsOneOf, names_of, AreDifferent, common, names_of_line};
+ghost use Rattle.amo_rounds.specs.Run.{left_in, MayAct, MayMiss, IsRun, world_of, Handing, handings_by, handings, openings, is_among, AreUnperformed, performed_lines, IsOneOf, names_of, AreDifferent, common, names_of_line, IsKept};
 
 use amo_journal::Device;
 
@@ -42,8 +42,14 @@ pub fn a_line_is_handed_over_once_more_than_opened()
         → length (names_of_line line (handings es)) ≤ length (common (names_of_line line (handings es)) (openings es)) + 1 }
 {}
 
-/// No intent is handed over twice: its worker and its serial number are those of one intent for ever, also where the machine stops
-/// while it is put. So what is said of an intent is said of one command.
+/// The intent by which a line was handed over stays in its journal, whatever happens then: no stop of the machine takes it.
+pub fn what_is_handed_over_is_kept()
+    ensures { (es : List Event) (handing : Handing) → IsRun es → IsOneOf (handings es) handing → IsKept (world_of es) handing }
+{}
+
+/// No intent is handed over twice, and no two that are handed over, ever, have one worker and one serial number. So what is said of
+/// an intent is said of one command at most: the number of an intent is given again only where a stop has taken it while it was put,
+/// before it was handed over.
 pub fn an_intent_is_handed_over_once()
     ensures { (es : List Event) → IsRun es → AreDifferent (names_of (handings es)) }
 {}
