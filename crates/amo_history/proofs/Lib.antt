@@ -1,11 +1,13 @@
-mod Stages
-mod Claims
-mod Spent
-mod Histories
-mod Once
-mod Logs
+-- The crates above lean on these too:
+pub mod Stages
+pub mod Claims
+pub mod Spent
+pub mod Histories
+pub mod Once
+pub mod Courses
+pub mod Logs
+-- These serve this crate alone.
 mod Example
-mod Courses
 mod Handed
 mod Found
 mod Farewell

@@ -1,0 +1,276 @@
+-- There are runs: the machine stops while the only intent is put, and it is lost; a process dies while its partner performs the line;
+-- a person says that it wasn't done, and another process performs it in another round.
+use Rattle.std.proofs.Common.{◌≡◌, ℕ, zero, suc, ◌≤◌, Bool, true, false, List, [], ◌∷◌, Some, None, refl, arith, ⊎_elim, subst, sym}
+use Rattle.std.specs.Prelude.{⊤, ◌==◌, ◌&&◌, ◌||◌, if◌then◌else◌}
+use Rattle.std.proofs.lemmas.Bool.{cases_eq, and_parts, eqb-true}
+use Rattle.amo_kk.specs.Givens.{IsWorker}
+use Rattle.amo_kk.specs.Limits.{within_limits}
+use Rattle.amo_kk.specs.declared.givens.Givens.{Givens}
+use Rattle.amo_course.specs.declared.answer.Answer.TheVariants.{Done, Doubt}
+use Rattle.amo_course.specs.declared.answer.Reply.TheVariants.{Answered}
+use Rattle.amo_course.specs.declared.answer.Way.TheVariants.{Go, Leave}
+use Rattle.amo_course.specs.declared.model.Deed.TheVariants.{Loaded, Stored, Intended, Performed, Noted, Asked}
+use Rattle.amo_course.specs.declared.model.Try.TheVariants.{Intend, Perform}
+use Rattle.amo_ledger.specs.declared.entry.Answer.TheVariants.{Doubt as NotedDoubt}
+use Rattle.amo_ledger.specs.declared.entry.Entry.TheVariants.{Intent as IntentOf, Answer as AnswerTo}
+use Rattle.amo_ledger.specs.declared.finding.Finding.{Finding}
+use Rattle.amo_ledger.specs.declared.finding.Verdict.TheVariants.{NotDone}
+use Rattle.amo_ledger.specs.declared.journal.Attempt.{Attempt}
+use Rattle.amo_ledger.specs.Records.{RecordView}
+use Rattle.amo_rounds.specs.World.{Event, Dies, Starts, RoundBegins, Joins, Acts, Misses, Says, Stops, IsNumber}
+use Rattle.amo_rounds.specs.Run.{IsRun, handings, openings, AreUnperformed, performed_lines, names_of}
+
+-- what holds of each of 1..n
+abbrev AllUpTo : ℕ → (ℕ → Type 0) → Type 0
+AllUpTo zero P = ⊤
+AllUpTo (suc n) P = AllUpTo n P × P (suc n)
+
+up_to : (n : ℕ) (P : ℕ → Type 0) → AllUpTo n P → (p : ℕ) → 1 ≤ p → p ≤ n → P p
+up_to zero P all p low high = absurd (omega arith)
+up_to (suc n) P all p low high = ⊎_elim
+    (λ (e : p ≡ suc n). subst P (sym e) all.1)
+    (λ (m : p ≡ suc n → ⊥). up_to n P all.0 p low (omega arith))
+    (cases_eq p (suc n))
+
+each : (P : ℕ → Type 0) → AllUpTo 16 P → (p : ℕ) → IsNumber p → P p
+each P all p is = up_to 16 P all p is.low is.high
+
+abbrev one_job : Givens
+one_job = record { jobs = 1; workers = 1; beta = 1; limits = within_limits 1 1 1 refl }
+
+only_worker : IsWorker one_job 1
+only_worker = record { low = omega arith; high = omega arith }
+
+number_1 : IsNumber 1
+number_1 = record { low = omega arith; high = omega arith }
+
+number_2 : IsNumber 2
+number_2 = record { low = omega arith; high = omega arith }
+
+-- the record of a round of this number that worker `first` of two has begun
+abbrev record_by : (round first : ℕ) → RecordView
+record_by round first = record { round = round; boot = []; givens = record { jobs = 1; workers = 1; beta = 1 }; workers = 2; first = first; lines = 1 ∷ [] }
+
+abbrev pending : Attempt
+pending = record { line = 1; time = 20; answer = None }
+
+abbrev in_doubt : Attempt
+in_doubt = record { line = 1; time = 20; answer = Some NotedDoubt }
+
+abbrev undone : Finding
+undone = record { verdict = NotDone; worker = 1; serial = 1; time = 40 }
+
+abbrev pub events : List Event
+events =
+    Starts 1 [] ∷
+    RoundBegins one_job (record_by 1 1) 1 ∷
+    Joins 1 1 1 ∷
+    Acts 1 10 (Loaded 1 0) ∷
+    Acts 1 10 (Loaded 2 0) ∷
+    Acts 1 10 (Loaded 3 0) ∷
+    Acts 1 10 (Stored 1 1) ∷
+    Acts 1 10 (Stored 2 1) ∷
+    Misses 1 10 (Intend 1 1) ∷
+    Stops (λ p. 0) 0 ∷
+    Starts 1 [] ∷
+    RoundBegins one_job (record_by 2 1) 1 ∷
+    Joins 1 1 1 ∷
+    Acts 1 20 (Loaded 1 0) ∷
+    Acts 1 20 (Loaded 2 0) ∷
+    Acts 1 20 (Loaded 3 0) ∷
+    Acts 1 20 (Stored 1 1) ∷
+    Acts 1 20 (Stored 2 1) ∷
+    Acts 1 20 (Intended 1 1) ∷
+    Misses 1 20 (Perform 1 1) ∷
+    Starts 1 (pending ∷ []) ∷
+    Acts 1 30 (Asked 1 1 (Answered 1 Doubt Leave)) ∷
+    Acts 1 30 (Noted 1 Doubt) ∷
+    Dies 1 ∷
+    Says undone ∷
+    Starts 2 [] ∷
+    RoundBegins one_job (record_by 3 2) 1 ∷
+    Joins 2 1 1 ∷
+    Acts 2 50 (Loaded 1 0) ∷
+    Acts 2 50 (Loaded 2 0) ∷
+    Acts 2 50 (Loaded 3 0) ∷
+    Acts 2 50 (Stored 1 1) ∷
+    Acts 2 50 (Stored 2 1) ∷
+    Acts 2 50 (Intended 1 1) ∷
+    Acts 2 50 (Performed 1 1 (Answered 1 (Done 0) Go)) ∷
+    Acts 2 50 (Noted 1 (Done 0)) ∷
+    Acts 2 50 (Stored 3 1) ∷ []
+
+-- by all but the intent of which the person spoke
+abbrev pub truly : ℕ → ℕ → Bool
+truly p n = p == 2
+
+pub is_run : IsRun events
+is_run = (
+  (number_1, refl),
+  (
+    record {
+      nobody = each _ ((((((((((((((((tt, refl), refl), refl), refl), refl), refl), refl), refl), refl), refl), refl), refl), refl), refl), refl), refl);
+      grown = omega arith;
+      findings = [];
+      findings_seen = ([], refl);
+      entries = λ p. [];
+      entries_seen = each _ ((((((((((((((((tt, ([], refl, tt)), ([], refl, tt)), ([], refl, tt)), ([], refl, tt)), ([], refl, tt)), ([], refl, tt)), ([], refl, tt)), ([], refl, tt)), ([], refl, tt)), ([], refl, tt)), ([], refl, tt)), ([], refl, tt)), ([], refl, tt)), ([], refl, tt)), ([], refl, tt)), ([], refl, tt));
+      attempts = λ p. [];
+      journals = each _ ((((((((((((((((tt, refl), refl), refl), refl), refl), refl), refl), refl), refl), refl), refl), refl), refl), refl), refl), refl);
+      are_open = λ line h. h;
+      sound = refl;
+      jobs = refl;
+      workers = refl;
+      beta = refl;
+    },
+    (
+      record { number = number_1; asked = refl; joinable = refl; round = _; stands = refl; seat = refl; attempts = []; journal = refl; next = refl },
+      (
+        (number_1, (only_worker, refl, refl)),
+        (
+          (number_1, (only_worker, refl, refl)),
+          (
+            (number_1, (only_worker, refl, refl)),
+            (
+              (number_1, (only_worker, refl, tt)),
+              (
+                (number_1, (only_worker, refl, tt)),
+                (
+                  (number_1, (only_worker, refl)),
+                  (
+                    tt,
+                    (
+                      (number_1, refl),
+                      (
+                        record {
+                          nobody = each _ ((((((((((((((((tt, refl), refl), refl), refl), refl), refl), refl), refl), refl), refl), refl), refl), refl), refl), refl), refl);
+                          grown = omega arith;
+                          findings = [];
+                          findings_seen = ([], refl);
+                          entries = λ p. [];
+                          entries_seen = each _ ((((((((((((((((tt, ([], refl, tt)), ([], refl, tt)), ([], refl, tt)), ([], refl, tt)), ([], refl, tt)), ([], refl, tt)), ([], refl, tt)), ([], refl, tt)), ([], refl, tt)), ([], refl, tt)), ([], refl, tt)), ([], refl, tt)), ([], refl, tt)), ([], refl, tt)), ([], refl, tt)), ([], refl, tt));
+                          attempts = λ p. [];
+                          journals = each _ ((((((((((((((((tt, refl), refl), refl), refl), refl), refl), refl), refl), refl), refl), refl), refl), refl), refl), refl), refl);
+                          are_open = λ line h. h;
+                          sound = refl;
+                          jobs = refl;
+                          workers = refl;
+                          beta = refl;
+                        },
+                        (
+                          record { number = number_1; asked = refl; joinable = refl; round = _; stands = refl; seat = refl; attempts = []; journal = refl; next = refl },
+                          (
+                            (number_1, (only_worker, refl, refl)),
+                            (
+                              (number_1, (only_worker, refl, refl)),
+                              (
+                                (number_1, (only_worker, refl, refl)),
+                                (
+                                  (number_1, (only_worker, refl, tt)),
+                                  (
+                                    (number_1, (only_worker, refl, tt)),
+                                    (
+                                      (number_1, (only_worker, refl, tt)),
+                                      (
+                                        (number_1, (only_worker, refl)),
+                                        (
+                                          (number_1, refl),
+                                          (
+                                            (number_1, refl),
+                                            (
+                                              (number_1, refl),
+                                              (
+                                                tt,
+                                                (
+                                                  record { number = number_1; attempts = in_doubt ∷ []; journal = refl; low = omega arith; high = omega arith },
+                                                  (
+                                                    (number_2, refl),
+                                                    (
+                                                      record {
+                                                        nobody = each _ ((((((((((((((((tt, refl), refl), refl), refl), refl), refl), refl), refl), refl), refl), refl), refl), refl), refl), refl), refl);
+                                                        grown = omega arith;
+                                                        findings = undone ∷ [];
+                                                        findings_seen = ([], refl);
+                                                        entries = λ p. if p == 1 then IntentOf 1 1 20 ∷ AnswerTo 1 NotedDoubt ∷ [] else [];
+                                                        entries_seen = each _ ((((((((((((((((tt, ([], refl, tt)), ([], refl, tt)), ([], refl, tt)), ([], refl, tt)), ([], refl, tt)), ([], refl, tt)), ([], refl, tt)), ([], refl, tt)), ([], refl, tt)), ([], refl, tt)), ([], refl, tt)), ([], refl, tt)), ([], refl, tt)), ([], refl, tt)), ([], refl, tt)), ([], refl, tt));
+                                                        attempts = λ p. if p == 1 then in_doubt ∷ [] else [];
+                                                        journals = each _ ((((((((((((((((tt, refl), refl), refl), refl), refl), refl), refl), refl), refl), refl), refl), refl), refl), refl), refl), refl);
+                                                        are_open = λ line h. h;
+                                                        sound = refl;
+                                                        jobs = refl;
+                                                        workers = refl;
+                                                        beta = refl;
+                                                      },
+                                                      (
+                                                        record { number = number_2; asked = refl; joinable = refl; round = _; stands = refl; seat = refl; attempts = []; journal = refl; next = refl },
+                                                        (
+                                                          (number_2, (only_worker, refl, refl)),
+                                                          (
+                                                            (number_2, (only_worker, refl, refl)),
+                                                            (
+                                                              (number_2, (only_worker, refl, refl)),
+                                                              (
+                                                                (number_2, (only_worker, refl, tt)),
+                                                                (
+                                                                  (number_2, (only_worker, refl, tt)),
+                                                                  (
+                                                                    (number_2, (only_worker, refl, tt)),
+                                                                    (
+                                                                      (number_2, (only_worker, refl, tt)),
+                                                                      (
+                                                                        (number_2, (only_worker, refl, tt)),
+                                                                        (
+                                                                          (number_2, (only_worker, refl, tt)),
+                                                                          tt,
+                                                                        ),
+                                                                      ),
+                                                                    ),
+                                                                  ),
+                                                                ),
+                                                              ),
+                                                            ),
+                                                          ),
+                                                        ),
+                                                      ),
+                                                    ),
+                                                  ),
+                                                ),
+                                              ),
+                                            ),
+                                          ),
+                                        ),
+                                      ),
+                                    ),
+                                  ),
+                                ),
+                              ),
+                            ),
+                          ),
+                        ),
+                      ),
+                    ),
+                  ),
+                ),
+              ),
+            ),
+          ),
+        ),
+      ),
+    ),
+  ),
+)
+
+pub names : names_of (handings events) ≡ (1, 1) ∷ (2, 1) ∷ []
+names = refl
+
+pub lines : performed_lines truly (handings events) ≡ 1 ∷ []
+lines = refl
+
+pub unperformed : AreUnperformed truly (openings events)
+unperformed p n h =
+    let first = and_parts (1 == p) (1 == n) (true_of ((1 == p) && (1 == n)) h) in
+    subst (λ k. (k == 2) ≡ false) (eqb-true 1 p first.0) refl
+  where
+    true_of : (b : Bool) → (b || false) ≡ true → b ≡ true
+    true_of true h = refl
+    true_of false h = h

@@ -1,0 +1,356 @@
+-- What was handed over, and what a later event may do of its line.
+use Rattle.std.proofs.Common.{◌≡◌, ◌⊎◌, inl, inr, ⊎_elim, ℕ, ◌+◌, ◌≤◌, true, false, List, [], ◌∷◌, ◌++◌, Option, Some, None, take, refl, sym, ap, ◌∙◌, subst, append-nil, append_assoc}
+use Rattle.std.specs.Prelude.{⊤, ◌==◌}
+use Rattle.std.proofs.lemmas.Bool.{true≢false, cases_Bool, eq-eqb, or_left, or_right}
+use Rattle.amo_sets.specs.Lists.{numbered, table}
+use Rattle.amo_sets.specs.Sets.{has}
+use Rattle.amo_sets.proofs.Numbers.{has-append}
+use Rattle.amo_kk.specs.Givens.{IsJob, IsWorker}
+use Rattle.amo_kk.specs.declared.givens.Givens.{Givens}
+use Rattle.amo_process.specs.Stepped.{ProcessView}
+use Rattle.amo_course.specs.declared.model.Deed.{Deed}
+use Rattle.amo_course.specs.declared.model.Try.{Try}
+use Rattle.amo_course.specs.declared.model.Try.TheVariants.{Load, Store, Find, Intend, Perform, Note, Ask}
+use Rattle.amo_course.specs.Stage.{Stage, Performing}
+use Rattle.amo_course.specs.Course.{try_of, due}
+use Rattle.amo_history.specs.Scene.{stage_at, scene_of, MayBe, handed_by, handed_by_try, handed_jobs}
+use Rattle.amo_history.specs.declared.model.Moment.{Moment}
+use Rattle.amo_history.specs.declared.model.Moment.TheVariants.{Does, Loses, Begins}
+use Rattle.amo_history.proofs.Courses.{performing_at}
+use Rattle.amo_ledger.specs.declared.entry.Entry.{Entry}
+use Rattle.amo_ledger.specs.Findings.{is_undone}
+use Rattle.amo_ledger.specs.Grammar.{intents}
+use Rattle.amo_ledger.specs.Open.{OpensNot, NoneOpens, is_open}
+use Rattle.amo_ledger.specs.Records.{RecordView}
+use Rattle.amo_rounds.specs.File.{File, read_of, settled, with_unheard, after_put}
+use Rattle.amo_rounds.specs.World.{Place, Away, Before, Inside, Round, World, Event, Dies, Starts, RoundBegins, Joins, Acts, Misses, Says, SaysUnheard, SaysUnread, Stops, IsNumber, with_at, lines_of, lines_at}
+use Rattle.amo_rounds.specs.Run.{entries_of_try, has_fallen, with_moment, with_moment_at, world_after, MayBegin, MayBeIn, MayAct, MayMiss, MayHappen, IsRunFrom, world_after_all, Handing, handings_of_try, handings_by, openings_by, openings_from, is_among, IsOneOf}
+use Rattle.amo_rounds.proofs.Files.{Grows, grows_none, after_grows}
+use Rattle.amo_rounds.proofs.Openings.{among_more, all_left, undone_left}
+use Rattle.amo_rounds.proofs.Entries.{HasEntry, entry_stays, entry_before, stays_closed, among_table, open_there}
+use Rattle.amo_rounds.proofs.Moments.{handed_job, handed_first, handed_then}
+use Rattle.amo_rounds.proofs.Records.{one_job, line_there}
+use Rattle.amo_rounds.proofs.Stages.{IsPut, asks_only}
+use Rattle.amo_rounds.proofs.Counted.{IsCounted}
+use Rattle.amo_rounds.proofs.Sane.{at_number, IsGood, IsGoodIf, Fits, FitsIn, IsSane}
+use Rattle.amo_rounds.proofs.Steps.{sane_after}
+
+-- In the round that stands, each job of its line was handed over already, unless it was said that the intent wasn't begun or done.
+abbrev pub IsPast : Option Round → List (ℕ × ℕ) → Handing → Type 0
+IsPast None said h = ⊤
+IsPast (Some r) said h = (j : ℕ) → IsJob r.givens j → numbered 0 r.written.lines j ≡ h.line → (is_among said h.worker h.serial ≡ true) ⊎ (has (handed_jobs r.moments) j ≡ true)
+
+-- It was handed over: its intent is kept.
+pub record WasHanded (w : World) (said : List (ℕ × ℕ)) (h : Handing) : Type 0 where
+  pub number : IsNumber h.worker
+  pub entry : HasEntry h.serial h.line (w.journals h.worker).kept
+  pub past : IsPast (w.rounds w.last) said h
+
+-- what is kept stays
+
+pub kept_grows : (w : World) (e : Event) (p : ℕ) → Grows (w.journals p).kept ((world_after w e).journals p).kept
+kept_grows w (Dies o) p = grows_none (w.journals p).kept
+kept_grows w (Starts o es) p = at_number (λ (f : File Entry). Grows (w.journals p).kept f.kept) w.journals o (settled (w.journals o)) p
+    (λ e. subst (λ x. Grows (w.journals x).kept (settled (w.journals o)).kept) (sym e) ((w.journals o).loose, refl))
+    (λ n. grows_none (w.journals p).kept)
+kept_grows w (RoundBegins g r lines) p = grows_none (w.journals p).kept
+kept_grows w (Joins o q n) p = grows_none (w.journals p).kept
+kept_grows w (Acts o time d) p =
+    let es = entries_of_try (lines_at w.rounds (w.places o)) time (try_of d) in
+    let f = after_put (has_fallen d) (w.journals o) es in
+    at_number (λ (f : File Entry). Grows (w.journals p).kept f.kept) w.journals o f p
+    (λ e. subst (λ x. Grows (w.journals x).kept f.kept) (sym e) (after_grows (has_fallen d) (w.journals o) es))
+    (λ n. grows_none (w.journals p).kept)
+kept_grows w (Misses o time t) p =
+    let f = with_unheard (w.journals o) (entries_of_try (lines_at w.rounds (w.places o)) time t) in
+    at_number (λ (f : File Entry). Grows (w.journals p).kept f.kept) w.journals o f p
+    (λ e. subst (λ x. Grows (w.journals x).kept f.kept) (sym e) (grows_none (w.journals o).kept))
+    (λ n. grows_none (w.journals p).kept)
+kept_grows w (Says f) p = grows_none (w.journals p).kept
+kept_grows w (SaysUnheard f) p = grows_none (w.journals p).kept
+kept_grows w (SaysUnread f) p = grows_none (w.journals p).kept
+kept_grows w (Stops left n) p = (take (left p) ((w.journals p).loose ++ (w.journals p).hidden), refl)
+
+-- what is past stays past
+
+past_more : (o : Option Round) (said more : List (ℕ × ℕ)) (h : Handing) → IsPast o said h → IsPast o (said ++ more) h
+past_more None said more h past = tt
+past_more (Some r) said more h past = λ j is line. ⊎_elim
+    (λ (a : is_among said h.worker h.serial ≡ true). inl (among_more said more h.worker h.serial a))
+    (λ (b : has (handed_jobs r.moments) j ≡ true). inr b)
+    (past j is line)
+
+past_moment : (o : Option Round) (m : Moment) (said : List (ℕ × ℕ)) (h : Handing) → IsPast o said h → IsPast (with_moment m o) said h
+past_moment None m said h past = tt
+past_moment (Some r) m said h past = λ j is line. ⊎_elim
+    (λ (a : is_among said h.worker h.serial ≡ true). inl a)
+    (λ (b : has (handed_jobs r.moments) j ≡ true). inr (ap (λ l. has l j) (handed_then r.moments m) ∙ has-append (handed_jobs r.moments) (handed_by m) j ∙ or_left _ _ b))
+    (past j is line)
+
+past_in : (rounds : ℕ → Option Round) (k : ℕ) (m : Moment) (last : ℕ) (said : List (ℕ × ℕ)) (h : Handing) → IsPast (rounds last) said h → IsPast (with_at rounds k (with_moment m (rounds k)) last) said h
+past_in rounds k m last said h past = at_number (λ o. IsPast o said h) rounds k (with_moment m (rounds k)) last
+    (λ e. past_moment (rounds k) m said h (subst (λ x. IsPast (rounds x) said h) e past))
+    (λ n. past)
+
+past_at : (place : Place) (moment : ℕ → Moment) (rounds : ℕ → Option Round) (last : ℕ) (said : List (ℕ × ℕ)) (h : Handing) → IsPast (rounds last) said h → IsPast (with_moment_at place moment rounds last) said h
+past_at Away moment rounds last said h past = past
+past_at (Before s) moment rounds last said h past = past
+past_at (Inside k q) moment rounds last said h past = past_in rounds k (moment q) last said h past
+
+-- a line that is in a new round was opened
+opened_then : (w : World) (said : List (ℕ × ℕ)) (h : Handing) (g : Givens) (r : RecordView) (lines : ℕ) → IsSane w said → WasHanded w said h → MayBegin w g r lines
+    → (j : ℕ) → IsJob g j → numbered 0 r.lines j ≡ h.line → is_among said h.worker h.serial ≡ true
+opened_then w said h g r lines sane was may j is line = ⊎_elim
+    (λ (yes : is_among said h.worker h.serial ≡ true). yes)
+    (λ (no : is_among said h.worker h.serial ≡ false). absurd (
+    let at = among_table may.attempts 16 h.worker was.number.low was.number.high in
+    let (missed, split, answers) = may.entries_seen h.worker was.number in
+    let (more, findings_split) = may.findings_seen in
+    let (front, time, back, stands) = entry_stays h.serial h.line (w.journals h.worker).kept (read_of (w.journals h.worker)) ((w.journals h.worker).loose, refl) was.entry in
+    let entry = entry_before h.serial h.line (may.entries h.worker) missed answers front time back (sym split ∙ stands) in
+    let read = all_left (OpensNot h.serial) (read_of (w.journals h.worker)) (w.journals h.worker).hidden (sane.answers h.worker h.serial no) in
+    let none = all_left (OpensNot h.serial) (may.entries h.worker) missed (subst (λ l. NoneOpens h.serial l) split read) in
+    let found = undone_left h.worker h.serial (read_of w.findings) w.findings.hidden (sane.findings h.worker h.serial no) in
+    let fewer = undone_left h.worker h.serial may.findings more (subst (λ l. is_undone l h.worker h.serial ≡ false) findings_split found) in
+    let undone = subst (λ k. is_undone may.findings k h.serial ≡ false) (sym at.place) fewer in
+    let closed = stays_closed lines may.findings at.before at.after (may.attempts h.worker) (may.entries h.worker) h.serial h.line
+    entry none undone (may.journals h.worker was.number) in
+    let there = subst (λ l. has r.lines l ≡ true) line (line_there r may.sound j is.low (subst (λ k. j ≤ k) may.jobs is.high)) in
+    let opened = open_there may.findings (table 16 may.attempts) lines h.line (may.are_open h.line there) in
+    true≢false (sym opened ∙ ap (λ l. is_open may.findings l h.line) at.is ∙ closed)))
+    (cases_Bool (is_among said h.worker h.serial))
+
+module _ (w : World) (said : List (ℕ × ℕ)) (sane : IsSane w said) (h : Handing) (was : WasHanded w said h) where
+  still : (more : List (ℕ × ℕ)) → IsPast (w.rounds w.last) (said ++ more) h
+  still more = past_more (w.rounds w.last) said more h was.past
+
+  past_after : (e : Event) → MayHappen w e → IsPast ((world_after w e).rounds (world_after w e).last) (said ++ openings_by w e) h
+  past_after (Dies p) may = still []
+  past_after (Starts p es) may = still []
+  past_after (RoundBegins g r lines) may = at_number (λ o. IsPast o (said ++ []) h) w.rounds (w.last + 1) (Some (record { givens = g; written = r; moments = [] })) (w.last + 1)
+      (λ e j is line. inl (among_more said [] h.worker h.serial (opened_then w said h g r lines sane was may j is line)))
+      (λ n. absurd (n refl))
+  past_after (Joins p q n) may = past_in w.rounds w.last (Begins q n) w.last (said ++ []) h (still [])
+  past_after (Acts p time d) may = past_at (w.places p) (λ q. Does q d) w.rounds w.last (said ++ openings_by w (Acts p time d)) h (still (openings_by w (Acts p time d)))
+  past_after (Misses p time t) may = past_at (w.places p) (λ q. Loses q t) w.rounds w.last (said ++ openings_by w (Misses p time t)) h (still (openings_by w (Misses p time t)))
+  past_after (Says f) may = still (openings_by w (Says f))
+  past_after (SaysUnheard f) may = still (openings_by w (SaysUnheard f))
+  past_after (SaysUnread f) may = still (openings_by w (SaysUnread f))
+  past_after (Stops left n) may = still []
+
+  pub handed_after : (e : Event) → MayHappen w e → WasHanded (world_after w e) (said ++ openings_by w e) h
+  handed_after e may = record {
+    number = was.number;
+    entry = entry_stays h.serial h.line (w.journals h.worker).kept ((world_after w e).journals h.worker).kept (kept_grows w e h.worker) was.entry;
+    past = past_after e may;
+  }
+
+-- Here worker p hands job j of the last round over, by intent n, in this moment.
+pub record IsHere (w : World) (p n j : ℕ) (m : Moment) : Type 0 where
+  pub round : Round
+  pub stands : w.rounds w.last ≡ Some round
+  pub good : IsGood round
+  pub entry : HasEntry n (numbered 0 round.written.lines j) (w.journals p).kept
+  pub job : IsJob round.givens j
+  pub fresh : has (handed_jobs round.moments) j ≡ false
+  pub hands : handed_by m ≡ j ∷ []
+  -- where its process stands, and the number of its journal's intents
+  pub seat : ℕ
+  pub inside : w.places p ≡ Inside w.last seat
+  pub process : ProcessView
+  pub stage : stage_at (scene_of round.givens round.moments) seat ≡ Performing n process j
+  pub counted : n ≡ intents (w.journals p).kept
+
+here_at : (o : Option Round) (w : World) (p q n j : ℕ) (m : Moment) → w.rounds w.last ≡ o → w.places p ≡ Inside w.last q → IsGoodIf o → FitsIn o (w.journals p) p q → MayBeIn o m
+    → handed_by m ≡ j ∷ []
+    → ((r : Round) → MayBe r.givens (scene_of r.givens r.moments) m → IsWorker r.givens q × (due (stage_at (scene_of r.givens r.moments) q) ≡ Some (Perform n j))) → IsHere w p n j m
+here_at None w p q n j m is inside good fits may hands given = absurd may
+here_at (Some r) w p q n j m is inside good fits may hands given =
+    let it = given r may in
+    let at = performing_at (stage_at (scene_of r.givens r.moments) q) n j it.1 in
+    record {
+      round = r;
+      stands = is;
+      good = good;
+      entry = subst (λ s. IsPut r.written.lines (w.journals p).kept s) at.1 fits.1.1;
+      job = handed_job r.givens r.moments good.history q n j it.0 it.1;
+      fresh = handed_first r.givens r.moments good.history m j may hands;
+      hands = hands;
+      seat = q;
+      inside = inside;
+      process = at.0;
+      stage = at.1;
+      counted = subst (IsCounted (intents (w.journals p).kept)) at.1 fits.1.2;
+    }
+
+-- what a try hands over
+abbrev pub handing : (p : ℕ) → List ℕ → (n j : ℕ) → Handing
+handing p lines n j = record { worker = p; serial = n; line = numbered 0 lines j }
+
+pub record IsOfTry (p : ℕ) (lines : List ℕ) (t : Try) (h : Handing) : Type 0 where
+  pub serial : ℕ
+  pub job : ℕ
+  pub try_is : t ≡ Perform serial job
+  pub is : handing p lines serial job ≡ h
+
+pub of_try : (p : ℕ) (lines : List ℕ) (t : Try) (h : Handing) → IsOneOf (handings_of_try p lines t) h → IsOfTry p lines t h
+of_try p lines (Load a) h one = absurd one
+of_try p lines (Store a b) h one = absurd one
+of_try p lines (Find j) h one = absurd one
+of_try p lines (Intend n j) h one = absurd one
+of_try p lines (Perform n j) h one = record { serial = n; job = j; try_is = refl; is = ⊎_elim (λ (e : handing p lines n j ≡ h). e) (λ none. absurd none) one }
+of_try p lines (Note n c) h one = absurd one
+of_try p lines (Ask n line) h one = absurd one
+
+-- an event hands over one at most
+
+one_by_try : (p : ℕ) (lines : List ℕ) (t : Try) → (handings_of_try p lines t ≡ []) ⊎ ((h : Handing) × (handings_of_try p lines t ≡ h ∷ []))
+one_by_try p lines (Load a) = inl refl
+one_by_try p lines (Store a b) = inl refl
+one_by_try p lines (Find j) = inl refl
+one_by_try p lines (Intend n j) = inl refl
+one_by_try p lines (Perform n j) = inr (_, refl)
+one_by_try p lines (Note n c) = inl refl
+one_by_try p lines (Ask n line) = inl refl
+
+pub one_at_most : (w : World) (e : Event) → (handings_by w e ≡ []) ⊎ ((h : Handing) × (handings_by w e ≡ h ∷ []))
+one_at_most w (Dies p) = inl refl
+one_at_most w (Starts p es) = inl refl
+one_at_most w (RoundBegins g r lines) = inl refl
+one_at_most w (Joins p q n) = inl refl
+one_at_most w (Acts p time d) = one_by_try p (lines_at w.rounds (w.places p)) (try_of d)
+one_at_most w (Misses p time t) = one_by_try p (lines_at w.rounds (w.places p)) t
+one_at_most w (Says f) = inl refl
+one_at_most w (SaysUnheard f) = inl refl
+one_at_most w (SaysUnread f) = inl refl
+one_at_most w (Stops left n) = inl refl
+
+-- what is among two lists is in one of them
+pub split_one : (xs ys : List Handing) (h : Handing) → IsOneOf (xs ++ ys) h → IsOneOf xs h ⊎ IsOneOf ys h
+split_one [] ys h one = inr one
+split_one (x ∷ xs) ys h one = ⊎_elim
+    (λ (e : x ≡ h). inl (inl e))
+    (λ (o : IsOneOf (xs ++ ys) h). ⊎_elim (λ (a : IsOneOf xs h). inl (inr a)) (λ (b : IsOneOf ys h). inr b) (split_one xs ys h o))
+    one
+
+-- What an event hands over: it is handed over in the last round.
+pub record IsNow (w : World) (e : Event) (h : Handing) : Type 0 where
+  pub number : IsNumber h.worker
+  pub job : ℕ
+  pub moment : Moment
+  pub here : IsHere w h.worker h.serial job moment
+  pub line : numbered 0 here.round.written.lines job ≡ h.line
+  pub afterwards : (world_after w e).rounds (world_after w e).last ≡ with_moment moment (w.rounds w.last)
+
+-- the round of this number after this moment
+pub moment_there : (rounds : ℕ → Option Round) (k last : ℕ) → k ≡ last → (m : Moment) → with_at rounds k (with_moment m (rounds k)) last ≡ with_moment m (rounds last)
+moment_there rounds k last e m = at_number (λ o. o ≡ with_moment m (rounds last)) rounds k (with_moment m (rounds k)) last
+    (λ same. ap (λ x. with_moment m (rounds x)) e)
+    (λ n. absurd (n (sym e)))
+
+module _ (w : World) (said : List (ℕ × ℕ)) (sane : IsSane w said) (p : ℕ) where
+  record Found (place : Place) (moment : ℕ → Moment) (n j : ℕ) : Type 0 where
+    pub seat : ℕ
+    pub here : IsHere w p n j (moment seat)
+    pub lines : lines_at w.rounds place ≡ here.round.written.lines
+    pub afterwards : with_moment_at place moment w.rounds w.last ≡ with_moment (moment seat) (w.rounds w.last)
+
+  found : (k q : ℕ) → w.places p ≡ Inside k q → (moment : ℕ → Moment) (n j : ℕ) → MayBeIn (w.rounds k) (moment q) → handed_by (moment q) ≡ j ∷ []
+      → ((r : Round) → MayBe r.givens (scene_of r.givens r.moments) (moment q) → IsWorker r.givens q × (due (stage_at (scene_of r.givens r.moments) q) ≡ Some (Perform n j)))
+      → Found (Inside k q) moment n j
+  found k q at moment n j may hands given =
+      let fits : Fits w.rounds w.last (w.journals p) p (Inside k q) = subst (λ place. Fits w.rounds w.last (w.journals p) p place) at (sane.places p) in
+      let here = here_at (w.rounds w.last) w p q n j (moment q) refl (at ∙ ap (λ x. Inside x q) fits.0) (sane.rounds w.last)
+      (subst (λ x. FitsIn (w.rounds x) (w.journals p) p q) fits.0 fits.1) (subst (λ x. MayBeIn (w.rounds x) (moment q)) fits.0 may) hands given in
+      record {
+        seat = q;
+        here = here;
+        lines = ap (λ x. lines_of (w.rounds x)) fits.0 ∙ ap lines_of here.stands;
+        afterwards = moment_there w.rounds k w.last fits.0 (moment q);
+      }
+
+  asks_nothing : (s : Stage) → w.places p ≡ Before s → (n j : ℕ) → due s ≡ Some (Perform n j) → ⊥
+  asks_nothing s at n j e =
+      let fits : Fits w.rounds w.last (w.journals p) p (Before s) = subst (λ place. Fits w.rounds w.last (w.journals p) p place) at (sane.places p) in
+      asks_only s n j fits.0 e
+
+  acts_here : (place : Place) → w.places p ≡ place → (d : Deed) (n j : ℕ) → try_of d ≡ Perform n j → MayAct w.rounds place d → Found place (λ q. Does q d) n j
+  acts_here Away at d n j is may = absurd may
+  acts_here (Before s) at d n j is may = absurd (asks_nothing s at n j (may ∙ ap (λ t. Some t) is))
+  acts_here (Inside k q) at d n j is may = found k q at (λ q. Does q d) n j may (ap handed_by_try is) (λ r it. (it.0, it.1 ∙ ap (λ t. Some t) is))
+
+  misses_here : (place : Place) → w.places p ≡ place → (t : Try) (n j : ℕ) → t ≡ Perform n j → MayMiss w.rounds place t → Found place (λ q. Loses q t) n j
+  misses_here Away at t n j is may = absurd may
+  misses_here (Before s) at t n j is may = absurd (asks_nothing s at n j (may ∙ ap (λ t. Some t) is))
+  misses_here (Inside k q) at t n j is may = found k q at (λ q. Loses q t) n j may (ap handed_by_try is) (λ r it. (it.0, it.1 ∙ ap (λ t. Some t) is))
+
+  now_acted : (time : ℕ) (d : Deed) (h : Handing) → IsNumber p → (of : IsOfTry p (lines_at w.rounds (w.places p)) (try_of d) h) → Found (w.places p) (λ q. Does q d) of.serial of.job → IsNow w (Acts p time d) h
+  now_acted time d h number of it = subst (λ x. IsNow w (Acts p time d) x) of.is (record {
+    number = number;
+    job = of.job;
+    moment = Does it.seat d;
+    here = it.here;
+    line = ap (λ l. numbered 0 l of.job) (sym it.lines);
+    afterwards = it.afterwards;
+  })
+
+  now_missed : (time : ℕ) (t : Try) (h : Handing) → IsNumber p → (of : IsOfTry p (lines_at w.rounds (w.places p)) t h) → Found (w.places p) (λ q. Loses q t) of.serial of.job → IsNow w (Misses p time t) h
+  now_missed time t h number of it = subst (λ x. IsNow w (Misses p time t) x) of.is (record {
+    number = number;
+    job = of.job;
+    moment = Loses it.seat t;
+    here = it.here;
+    line = ap (λ l. numbered 0 l of.job) (sym it.lines);
+    afterwards = it.afterwards;
+  })
+
+pub handed_now : (w : World) (said : List (ℕ × ℕ)) → IsSane w said → (e : Event) → MayHappen w e → (h : Handing) → IsOneOf (handings_by w e) h → IsNow w e h
+handed_now w said sane (Dies p) may h one = absurd one
+handed_now w said sane (Starts p es) may h one = absurd one
+handed_now w said sane (RoundBegins g r lines) may h one = absurd one
+handed_now w said sane (Joins p q n) may h one = absurd one
+handed_now w said sane (Acts p time d) may h one =
+    let of = of_try p (lines_at w.rounds (w.places p)) (try_of d) h one in
+    now_acted w said sane p time d h may.0 of (acts_here w said sane p (w.places p) refl d of.serial of.job of.try_is may.1)
+handed_now w said sane (Misses p time t) may h one =
+    let of = of_try p (lines_at w.rounds (w.places p)) t h one in
+    now_missed w said sane p time t h may.0 of (misses_here w said sane p (w.places p) refl t of.serial of.job of.try_is may.1)
+handed_now w said sane (Says f) may h one = absurd one
+handed_now w said sane (SaysUnheard f) may h one = absurd one
+handed_now w said sane (SaysUnread f) may h one = absurd one
+handed_now w said sane (Stops left n) may h one = absurd one
+
+-- what is handed over now was handed over afterwards
+pub now_handed : (w : World) (said : List (ℕ × ℕ)) (e : Event) (h : Handing) → IsNow w e h → WasHanded (world_after w e) (said ++ openings_by w e) h
+now_handed w said e h now =
+    let here = now.here in
+    record {
+      number = now.number;
+      entry = entry_stays h.serial h.line (w.journals h.worker).kept ((world_after w e).journals h.worker).kept (kept_grows w e h.worker)
+          (subst (λ l. HasEntry h.serial l (w.journals h.worker).kept) now.line here.entry);
+      past = subst (λ o. IsPast o (said ++ openings_by w e) h) (sym (now.afterwards ∙ ap (with_moment now.moment) here.stands)) (λ j is line. inr (
+          let same = one_job here.round.written here.good.sound j now.job is.low (subst (λ k. j ≤ k) here.good.jobs is.high)
+          here.job.low (subst (λ k. now.job ≤ k) here.good.jobs here.job.high) (line ∙ sym now.line) in
+          ap (λ k. has (handed_jobs (here.round.moments ++ now.moment ∷ [])) k) same
+          ∙ ap (λ l. has l now.job) (handed_then here.round.moments now.moment)
+          ∙ has-append (handed_jobs here.round.moments) (handed_by now.moment) now.job
+          ∙ or_right (has (handed_jobs here.round.moments) now.job) (has (handed_by now.moment) now.job)
+          (ap (λ l. has l now.job) here.hands ∙ or_left (now.job == now.job) false (eq-eqb now.job now.job refl))));
+    }
+
+-- a line that was handed over is handed over again only where it was opened
+pub opened_before : (w : World) (said : List (ℕ × ℕ)) (e : Event) (h k : Handing) → WasHanded w said h → IsNow w e k → h.line ≡ k.line → is_among said h.worker h.serial ≡ true
+opened_before w said e h k was now same =
+    let here = now.here in
+    let past : IsPast (Some here.round) said h = subst (λ o. IsPast o said h) here.stands was.past in
+    ⊎_elim
+    (λ (yes : is_among said h.worker h.serial ≡ true). yes)
+    (λ (b : has (handed_jobs here.round.moments) now.job ≡ true). absurd (true≢false (sym b ∙ here.fresh)))
+    (past now.job here.job (now.line ∙ sym same))
+
+pub handed_after_all : (w : World) (said : List (ℕ × ℕ)) (es : List Event) (h : Handing) → IsSane w said → IsRunFrom w es → WasHanded w said h
+    → WasHanded (world_after_all w es) (said ++ openings_from w es) h
+handed_after_all w said [] h sane run was = subst (λ l. WasHanded w l h) (sym (append-nil said)) was
+handed_after_all w said (e ∷ es) h sane run was =
+    subst (λ l. WasHanded (world_after_all (world_after w e) es) l h) (append_assoc said (openings_by w e) (openings_from (world_after w e) es))
+    (handed_after_all (world_after w e) (said ++ openings_by w e) es h (sane_after w said sane e run.0) run.1 (handed_after w said sane h was e run.0))
