@@ -31,7 +31,7 @@ class Said:
         self.places = [(found[1], int(found[2]), line) for line in lines for found in [PLACE.match(line)] if found]
         self.waiting = {found[1].split("::")[-1] for found in map(WAITS.match, lines) if found}
         self.is_stale = bool(STALE.search(text))
-        self.reached = status in (0, 1) and lines[-1].startswith("logic=") and not self.is_stale
+        self.reached = status in (0, 1) and lines[-1].startswith(("logic=", "only=")) and not self.is_stale
         self.last = next((it for it in lines if "error" in it), lines[0]) if not self.reached else lines[-1]
 
     def own_reason(self, symbol):
@@ -54,8 +54,11 @@ class Said:
         return None
 
 
-def run(crate, bodies, kept):
-    """One check of a copy of the crate with these bodies in it, over what `kept` holds."""
+def run(crate, bodies, kept, functions):
+    """One check of a copy of the crate with these bodies in it, over what `kept` holds: of these functions and those that they
+    call. Where one of them can't be named, all of the crate is checked."""
+    paths = sorted({it.path() for it in functions})
+    only = [word for it in paths for word in ("--only", it)] if paths and "" not in paths else []
     with tempfile.TemporaryDirectory(prefix="wrong-bodies-") as room:
         for part in PARTS:
             if os.path.isdir(f"{crate.folder}/{part}"):
@@ -68,9 +71,12 @@ def run(crate, bodies, kept):
             with open(f"{room}/{path}", "w", encoding="utf-8") as held:
                 held.write("\n".join(lines))
         how = {"cwd": room, "stdin": subprocess.DEVNULL, "stdout": subprocess.PIPE, "stderr": subprocess.STDOUT, "errors": "replace"}
-        ran = subprocess.run(crate.check(kept), **how)
+        ran = subprocess.run([*crate.check(kept), *only], **how)
         if ran.returncode == -signal.SIGKILL:
             # most likely for memory
+            ran = subprocess.run([*crate.check(kept), *only], **how)
+        if only and ran.returncode == 2:
+            # a name fits none, or several
             ran = subprocess.run(crate.check(kept), **how)
     return Said(ran.stdout, ran.returncode)
 

@@ -1,12 +1,9 @@
 """The crates of the repository, as crates.txt lists them, and how rattle checks one."""
 
 import functools
-import json
 import os
 import re
 import shutil
-import subprocess
-import tempfile
 
 PARTS = ("src", "specs", "proofs")
 NO_KIT = "`rt` is not on the path; README.md says under 'Build and run' what has to be installed"
@@ -56,27 +53,18 @@ class Crate:
 
     def check(self, kept):
         """The words of a check of this crate, in a folder that holds its files, over what earlier checks kept."""
-        words = check_of(self.kit, self.name, "src/main.rt" if self.is_program else "src/lib.rt", ["std", *self.of_kit], kept)
+        words = [f"{self.kit}/bin/rattle", "check", "--crate-name", self.name]
+        words += ["src/main.rt" if self.is_program else "src/lib.rt"]
+        for name in ["std", *self.of_kit]:
+            words += ["--extern", f"{name}={self.kit}/rlibs/{name}.rlib"]
+        words += ["-L", f"dependency={self.kit}/rlibs"]
         for dep in self.deps:
             words += ["--extern", f"{dep.name}={dep.rlib}"]
         for dep in self.below():
             words += ["-L", f"dependency={os.path.dirname(dep.rlib)}"]
-        return words
-
-    def begin_with_library(self, kept, place):
-        """Gives `kept`, in the folder of that name where a check looks, the modules that were proved as the library was made: a
-        check loads those whose text and whose imports are the same, and proves the others. A program has none to give."""
-        made = f"{self.rlib}/toolchain"
-        if self.is_program or not self.is_current() or not os.path.isfile(f"{made}/checked.json"):
-            return
-        os.makedirs(f"{kept}/{place}")
-        with open(f"{made}/checked.json", encoding="utf-8") as rows, open(f"{made}/checked.a", "rb") as modules:
-            for name, start, length in map(json.loads, rows):
-                if "/" in name:
-                    continue
-                modules.seek(start)
-                with open(f"{kept}/{place}/{name}.oantt", "wb") as held:
-                    held.write(modules.read(length))
+        words += ["--antt-project", f"{self.kit}/rattle/logic/antt-project.json"]
+        words += ["--logic-built", f"{self.kit}/logic_built", "--jobs", "1", "--links", f"{self.name}="]
+        return [*words, "--incremental", kept]
 
     def size(self):
         return sum(lines_of(self.folder, it) for it in (".rt", ".antt"))
@@ -106,26 +94,6 @@ class Crate:
     def is_over(self):
         """Whether each library below is made."""
         return all(it.is_made() for it in self.deps)
-
-
-def check_of(kit, name, root, libraries, kept):
-    """The words of a check of a crate that stands on these libraries of the toolchain alone."""
-    words = [f"{kit}/bin/rattle", "check", "--crate-name", name, root]
-    for it in libraries:
-        words += ["--extern", f"{it}={kit}/rlibs/{it}.rlib"]
-    words += ["-L", f"dependency={kit}/rlibs"]
-    words += ["--antt-project", f"{kit}/rattle/logic/antt-project.json", "--logic-built", f"{kit}/logic_built"]
-    return [*words, "--jobs", "1", "--links", f"{name}=", "--incremental", kept]
-
-
-def place_of_kept(kit):
-    """The name of the one folder that a check makes in what it keeps, by a check of a crate with nothing in it."""
-    with tempfile.TemporaryDirectory(prefix="empty-crate-") as room:
-        os.makedirs(f"{room}/src")
-        with open(f"{room}/src/lib.rt", "w", encoding="utf-8"):
-            pass
-        subprocess.run(check_of(kit, "empty", "src/lib.rt", ["std"], f"{room}/kept"), cwd=room, stdin=subprocess.DEVNULL, stdout=subprocess.DEVNULL)
-        return os.listdir(f"{room}/kept")[0]
 
 
 def copy_of(kept, to):

@@ -24,6 +24,13 @@ class Function:
     def has(self, line):
         return self.first <= line <= self.last
 
+    def path(self):
+        """By which name a check can be asked for this function: its own, or, of a trait's method, which has both names in one
+        word, that of its module; empty in the crate's root."""
+        if not self.block:
+            return "::".join([*self.module(), self.name])
+        return "::".join(self.module()) if self.block.trait else f"{self.block.type}::{self.name}"
+
     def symbols(self, crate, told):
         """Which of these names of a check are this function's: `crate::module::Type::name`, of a trait's method with both
         names in one word, below the type's own module."""
