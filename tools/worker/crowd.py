@@ -8,14 +8,14 @@ import time
 
 from worker.folder import read
 from worker.kills import Waiting, answerable, state_of
-from worker.scene import KILLED, LATER, OVER, Runner, finish, serve, want
+from worker.scene import KILLED, LATER, OVER, Runner, finish, see_out, serve, want
 
 READERS = 8
 
 
 def drawn_kill(draws, filed, spare):
-    """A kill at a call: one of the first, one of those by which a worker comes back to its words, or one of those by which it works,
-    right after it has spoken or some lines later, the fewer the fewer lines there are for each kill that is still to be made."""
+    """A kill at a call: one of the first, one of those by which a worker comes back to its words, or one of those by which it
+    works, right after it has spoken or some lines later, the fewer the fewer lines there are for each kill to come."""
     mood, when = draws.random(), draws.choice(["before", "after"])
     if mood < 0.15:
         return f"{draws.randint(1, 200)}:kill_{when}"
@@ -73,7 +73,10 @@ def kill_crew(bench, lines, kills, seed):
     kills = count()
     for it in runners:
         it.close()
-    finish(scene, range(1, 5))
+    runners = [Runner(scene, p) for p in range(1, 5)]
+    see_out(runners, seconds=600, draws=draws)
+    for it in runners:
+        it.close()
     return scene, kills
 
 
@@ -174,7 +177,7 @@ def read_beside_each_other(bench, counts, seed):
 
 
 def try_readers_beside_each_other(bench):
-    """8 readers at once beside a dead worker and its doubt: all say the same, keep no worker from beginning, no person from answering"""
+    """8 readers at once beside a dead worker and its doubt: all say the same, and keep no worker and no person from going on"""
     counts = Counts()
     for k in range(40 if bench.is_long else 1):
         if bench.has_time():

@@ -144,7 +144,8 @@ class Disk:
             want(not journal.pending, f"{what}, and something of it isn't synced")
             want(last.startswith(b"intent %s %s " % (serial, line)), f"{what}, and the last text on the disk is {last}")
             want(jobs and bytes(jobs.kept).count(b"\n") >= int(line) and not jobs.pending, f"{what}, and jobs isn't synced")
-            want(self.lies or self.jobs.kept.startswith(jobs.kept), f"{what}, and the jobs' file isn't synced as far as jobs holds it")
+            is_kept = self.lies or self.jobs.kept.startswith(jobs.kept)
+            want(is_kept, f"{what}, and the jobs' file isn't synced as far as jobs holds it")
             for _, new, _ in self.moves:
                 want(new not in (name, "jobs", "record"), f"{what}, and the folder isn't synced since there is {new}")
             want(self.is_kept, f"{what}, and the folder above isn't synced since the run's folder was made")

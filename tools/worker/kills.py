@@ -212,8 +212,8 @@ def refused_memory(scene, number):
 
 
 def live_without(bench, number):
-    """A first life without one allocation: it ends by saying so, or it goes on; the next one goes on. Whether it came so far. (Where
-    the words are read that is a fault of the words.)"""
+    """A first life without one allocation: it ends by saying so, or it goes on; the next one goes on. Whether it came so far. While
+    the words are read that counts as a fault of the words."""
     scene = bench.scene(4, 2)
     runner, was_refused = Runner(scene, 1), refused_memory(scene, number)
     status = live(runner)

@@ -161,7 +161,7 @@ def torn_one(bench, whole, length, tail):
 
 
 def try_jobs_torn(bench):
-    """a jobs' file that ends within a line, at each byte, or in NULs or other bytes: refused by the line, and taken when it is whole"""
+    """a jobs' file that ends within a line, at each byte, or in NULs or others: refused by the line, and taken when it is whole"""
     whole = b"".join(b"job %d\n" % k for k in range(1, 7))
     rows = [(bench, whole, length, tail) for length in range(len(whole)) for tail in (b"", b"\0\0\0", b"\xff\xfe", b"+-")]
     return f"{each(bench.sample(rows, 14), torn_one)} files"
@@ -321,7 +321,7 @@ def try_collisions(bench):
 
 def spoil_one(bench, word, value):
     """A word gets this value, that no worker leaves, while worker 1 has a line in its hand; worker 2 begins, and worker 1 goes on.
-    Each ends by naming the word by which it noticed, or has nothing to do with it. Once both have ended the next round begins with new words."""
+    Each ends by naming the word by which it noticed, or has nothing to do with it. Then the next round begins with new words."""
     scene = bench.scene(8, 2)
     first, second = Runner(scene, 1), Runner(scene, 2)
     first.perform = lambda *given: Runner.perform(first, *given) if len(first.lines) < 3 else None
