@@ -6,7 +6,7 @@ import shutil
 import signal
 
 from worker import folder
-from worker.scene import KILLED, LATER, LEFT, MEMORY, OVER, READ, WORDS, WRITE, Runner, each, finish, live, see_out, serve, want
+from worker.scene import KILLED, LATER, LEFT, MEMORY, OVER, READ, WRITE, Runner, each, finish, live, see_out, serve, want
 
 CHANGES = ("write", "cut", "sync", "rename", "lock", "folder", "remove", "say", "hear")
 INTERRUPTED = ("open", "read", "write", "cut", "sync", "lock", "say", "hear")
@@ -212,14 +212,13 @@ def refused_memory(scene, number):
 
 
 def live_without(bench, number):
-    """A first life without one allocation: it ends by saying so, or it goes on; the next one goes on. Whether it came so far. While
-    the words are read that counts as a fault of the words."""
+    """A first life without one allocation: it ends by saying so, or it goes on; the next one goes on. Whether it came so far."""
     scene = bench.scene(4, 2)
     runner, was_refused = Runner(scene, 1), refused_memory(scene, number)
     status = live(runner)
     if not was_refused():
         return False
-    said = status in (MEMORY, WORDS) and "memory" in runner.said and runner.said.count("\n") == 1
+    said = status == MEMORY and "memory" in runner.said and runner.said.count("\n") == 1
     want(said or status == LATER, f"without allocation {number}: status {status}, {runner.said!r}")
     scene.more = {}
     see_out([runner])
@@ -236,7 +235,7 @@ def call_without(bench, number, words):
     status, out, err = scene.call(words[0], scene.run, *words[1:])
     if not was_refused():
         return False
-    said = status in (MEMORY, WORDS) and not out and "memory" in err and err.count("\n") == 1
+    said = status == MEMORY and not out and "memory" in err and err.count("\n") == 1
     want(said or status == OVER, f"{words[0]} without allocation {number}: status {status}, {out or err!r}")
     scene.more = {}
     if words[0] == "answer":

@@ -1,7 +1,7 @@
 //! To look at a run, as a person does: with what nobody is at any more held, so that it stays so while it is looked at.
 use crate::books::{Books, MOST_WORKERS, Pages, attempts_of, known, texts_of};
 use crate::fault::{Fault, had, written};
-use crate::folder::path_of;
+use crate::folder::{bytes_of, path_of};
 use crate::guard::{lock_of, lock_within, settled};
 use crate::item::Item;
 use crate::setting::Setting;
@@ -49,17 +49,22 @@ impl Corner {
 /// persons found out meanwhile, so that one doesn't find what another holds and take it for a worker's. Where that lock isn't got it
 /// looks all the same: it may then say of a worker that nobody runs that it is at work, and of a doubt that its command runs.
 pub(crate) fn look(rt: HostRuntime, setting: &Setting<'_>) -> Result<Seen, Fault> {
-    let lock = match lock_within(rt, setting, Item::Answers) {
-        Err(Fault::Memory) => return Err(Fault::Memory),
-        Err(_) => None,
-        Ok(lock) => lock,
-    };
+    let lock = among_readers(rt, setting)?;
     let answers = texts_of(rt, setting, Item::Answers)?;
     let mut seen = look_behind(rt, setting, answers)?;
     if let Some(lock) = lock {
         seen.held.push(lock)?;
     }
     Ok(seen)
+}
+
+/// The lock of what persons found out, if it is got. Where nobody has found out anything yet, and its file can't be made, as on a
+/// full disk, there is none.
+fn among_readers(rt: HostRuntime, setting: &Setting<'_>) -> Result<Option<File>, Fault> {
+    match lock_within(rt, setting, Item::Answers) {
+        Err(Fault::Write(..)) if bytes_of(rt, setting, Item::Answers)?.is_none() => Ok(None),
+        got => got,
+    }
 }
 
 /// The same where what persons found out was read.

@@ -4,6 +4,7 @@ ghost use Rattle.std.specs.Prelude.{◌≤◌, IfOk};
 use crate::setting::{Jobs, Setting};
 use amo_ledger::number;
 use amo_standing::State;
+use clap::error::ErrorKind;
 use clap::{Arg, ArgAction, ArgMatches, Command, Error};
 use std::alloc::{AllocError, Global};
 
@@ -52,7 +53,11 @@ impl From<AllocError> for Misuse {
 
 impl From<Error> for Misuse {
     fn from(error: Error) -> Self {
-        Misuse::Words(error)
+        if error.kind() == ErrorKind::OutOfMemory {
+            Misuse::Memory
+        } else {
+            Misuse::Words(error)
+        }
     }
 }
 
