@@ -3,6 +3,8 @@
 import os
 import re
 
+import source
+
 FOLDER = "wrong-bodies"
 
 
@@ -14,6 +16,7 @@ class Body:
         self.is_twin = file.endswith(".twin")
         self.label = f"{crate.name}/{self.name}"
         self.lines, self.functions, self.trouble = {}, [], None
+        self.calls = set()
         self.verdict, self.why, self.tries = None, "", []
 
     def read(self, folder, functions):
@@ -26,7 +29,9 @@ class Body:
             return
         for path, text in now.items():
             pairs = zip(was[path].split("\n"), text.split("\n"))
-            self.lines.update({(path, number): new for number, (old, new) in enumerate(pairs, 1) if old != new})
+            changed = [(number, old, new) for number, (old, new) in enumerate(pairs, 1) if old != new]
+            self.lines.update({(path, number): new for number, _, new in changed})
+            self.calls.update(*(calls_of(new) - calls_of(old) for _, old, new in changed if path.startswith("src/")))
         if not self.lines:
             self.trouble = "it changes nothing"
         for path, number in (it for it in self.lines if it[0].startswith("src/")):
@@ -47,19 +52,22 @@ class Body:
 
     def may_call(self, other):
         """Whether a function that this body changes may call one that the other changes."""
-        named = {it.name for it in other.functions}
-        words = {word for (path, _), text in self.lines.items() if path.startswith("src/") for word in re.findall(r"\w+", text)}
-        return bool(named & words.union(*(it.words for it in self.functions)))
+        return any(it.name in self.calls.union(*(held.called for held in self.functions)) for it in other.functions)
 
     def meets(self, other):
         """Whether the two can't stand in one copy."""
         same = set(map(id, self.functions)) & set(map(id, other.functions)) or self.lines.keys() & other.lines.keys()
         calls, called = self.may_call(other), other.may_call(self)
-        # (two that call one another are a cycle, which is refused before any proof)
-        return bool(same or calls and called or calls and other.changes_head() or called and self.changes_head())
+        # (two that call one another are a cycle, which is refused before any proof: there is none but by a call that comes new)
+        is_cycle = calls and called and any(it.name in one.calls for one, two in ((self, other), (other, self)) for it in two.functions)
+        return bool(same or is_cycle or calls and other.changes_head() or called and self.changes_head())
 
     def has(self, path, number):
         return any(it.file == path and it.has(number) for it in self.functions)
+
+
+def calls_of(line):
+    return source.called_in(re.findall(r"\w+|::|\S", line))
 
 
 def applied(text, folder):

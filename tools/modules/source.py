@@ -16,6 +16,7 @@ class Function:
         self.file, self.name, self.block, self.cycle = file, name, block, cycle
         self.first, self.opens, self.last = lines
         self.words = set(words)
+        self.called = called_in(words)
 
     def module(self):
         inside = self.file.removeprefix("src/").removesuffix(".rt").split("/")
@@ -67,6 +68,14 @@ class Block:
         self.trait = cut is not None or keyword == "trait"
         self.type = last_name(named)
         self.words = [it for it in head if WORD.match(it) and it not in (*generics, "for", "mut", "dyn")]
+
+
+def called_in(words):
+    """The names that may be called where these words stand: those before a bracket, and the last of a path. A field's, a
+    local's and a type's are none."""
+    after = [*words[1:], ""]
+    before = ["", *words[:-1]]
+    return {it for it, behind, ahead in zip(words, after, before) if behind == "(" or ahead == "::" or behind == "::"}
 
 
 def past_angles(words):
