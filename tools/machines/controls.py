@@ -1,0 +1,65 @@
+"""Controls: amo_share makes a mistake, and a test has to show a line performed twice or lost."""
+
+import os
+import re
+
+from machines import directed, scene
+
+MARK = """f"{re.sub('[^A-Za-z0-9-]', '-', os.uname().nodename)[:40]}.{os.urandom(16).hex()}\""""
+TWICE, LOST = "performed twice", "lost unseen"
+# The mistake, what stands in amo_share and what in its place, by pairs, the test that has to show it, and what it has to say.
+MISTAKES = [
+    ("name_in_place_of_a_mark", [MARK, "os.path.basename(os.path.dirname(given.run))"], directed.try_lost_folder, TWICE),
+    ("mark_outside_the_folder", [
+        f"        self.put_mark(half, {MARK})",
+        "        kept = f'{given.run}/mark.{self.number}'\n        os.path.exists(kept) or place(kept, os.urandom(16).hex())\n"
+        "        self.put_mark(half, content(kept))",
+    ], directed.try_lost_folder, TWICE),
+    ("lost_answer_is_no", ["seconds = pause(given, seconds)\n            if found", "return False\n            if found"],
+     directed.try_answer_lost, LOST),
+    ("size_is_no_part_of_the_digest", ['b"%d\\n" % given.chunk + data', "data"], directed.try_other_size, TWICE),
+    ("copy_is_taken", ["        it.check()\n", "        pass\n"], directed.try_copy, TWICE),
+    ("new_mark_with_each_start", ["if not os.path.isdir(self.folder):", "if not self.note('owner'):\n            shutil.rmtree("
+                                  "self.folder, ignore_errors=True)"], directed.try_killed_everywhere, LOST),
+    ("folder_is_not_synced", ["        os.fsync(folder)\n", ""], directed.try_killed_everywhere, "not on the disk"),
+]
+CHEAPEST = 3
+
+
+def control_of(name, pairs, test, wanted):
+    def try_control(bench):
+        room = f"{bench.room}/{name}"
+        os.mkdir(room)
+        for it in ("amo_jobs", "claims"):
+            os.symlink(f"{os.path.dirname(bench.program)}/{it}", f"{room}/{it}")
+        with open(bench.program) as file:
+            text = file.read()
+        for old, new in zip(pairs[::2], pairs[1::2]):
+            scene.want(text.count(old) == 1, f"{name}: this stands {text.count(old)} times in amo_share: {old}")
+            text = text.replace(old, new)
+        with open(f"{room}/amo_share", "w") as file:
+            file.write(text)
+        return shown(bench, scene.Bench(f"{room}/amo_share", bench.worker, room, True, name), name, test, wanted)
+
+    try_control.__name__, try_control.__doc__ = f"try_{name}", f"the mistake {name} is shown by: {test.__doc__}"
+    return try_control
+
+
+def shown(above, bench, name, test, wanted):
+    """What the test says of the mistake. Where a race decides, it may take some tries."""
+    above.keep(bench)
+    wrong = None
+    for _ in range(3):
+        try:
+            test(bench)
+        except scene.Wrong as found:
+            wrong = str(found)
+            break
+        finally:
+            bench.close()
+    scene.want(wrong, f"{name} shows nothing in: {test.__doc__}")
+    scene.want(re.search(wanted, wrong), f"{name} shows something else: {wrong}")
+    return "shown: " + wrong.replace("\n", " ")[:110]
+
+
+PARTS = {"controls": [control_of(*it) for it in MISTAKES]}

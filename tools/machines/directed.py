@@ -1,0 +1,272 @@
+"""What amo_share has to do, each in a run that is made for it, over claims/folder."""
+
+import os
+import re
+import shutil
+import signal
+import subprocess
+
+from machines.scene import DONE, DOUBTFUL, FAILED, HERE, KILLED, LATER, LEFT, OVER, REFUSED, Scene, until, want
+from machines.stores import store_of
+from worker.folder import read
+
+
+def scene_of(bench, lines, size, machines, percent=0):
+    return Scene(bench, store_of(bench, "folder", percent), lines, size, machines)
+
+
+def try_shares(bench):
+    """each chunk is asked for once by each machine and worked by one of them, a crew that is begun by hand where it is another's
+    is refused, and a machine that comes again has nothing to do"""
+    scene = scene_of(bench, 7, 3, 3)
+    scene.see_out()
+    scene.audit()
+    want(len(scene.tales()) == 7, f"performed: {scene.tales()}")
+    want(scene.store.answers()["requests"] == 9, f"requests: {scene.store.answers()}")
+    rows = [it.status() for it in scene.machines]
+    for number in scene.chunks():
+        said = [lines[number - 1] for lines, _ in rows]
+        want(sum("here, " in it for it in said) == 1 and sum(", not here;" in it for it in said) == 2, f"the status is {said}")
+    want([status for _, status in rows] == [DONE] * 3, f"the statuses are {rows}")
+    machine = next(it for it in scene.machines if it.marks(1)[0] != it.marks(1)[1])
+    machine.person("crew", "--workers", "1", f"{machine.chunk(1)}/list", "--", "true", status=REFUSED)
+    scene.see_out(scene.machines[:1])
+    want(scene.store.answers()["requests"] == 9 and len(scene.tales()) == 7, "it was asked again")
+    return f"{scene.store.answers()['requests']} requests"
+
+
+def killed_at(bench, point):
+    """A machine that is killed before one of its calls, another that takes what is free, and the first again; and the calls."""
+    scene = scene_of(bench, 2, 1, 2)
+    first, second = scene.machines
+    report = f"{scene.room}/report"
+    first.start(before=[f"{HERE}/points.py", str(point), report])
+    status = first.ends(KILLED if point else DONE)
+    second.start().ends(*OVER)
+    first.rests()
+    scene.see_out()
+    scene.audit()
+    steps = read(report).decode().splitlines()
+    unsynced = [it for it in steps if it.startswith("unsynced")]
+    want(not unsynced, f"not on the disk before it is relied on: {unsynced}")
+    want(status == KILLED or sum(" claim " in it for it in steps) == 2, f"it didn't ask twice: {steps}")
+    bench.close()
+    return steps
+
+
+def try_killed_everywhere(bench):
+    """killed before each call that changes its folder or starts a program, it does nothing twice, loses nothing, and all that a
+    claim rests on is on the disk"""
+    count = len(killed_at(bench, 0))
+    points = range(1, count + 1)
+    for point in points if bench.is_long else [k * count // 3 + bench.draws.randrange(count // 3) + 1 for k in range(3)]:
+        if bench.has_time():
+            killed_at(bench, point)
+            bench.add("kills")
+    return f"of {count} calls, {bench.told()}"
+
+
+def waiting(bench, lines, size, machines, percent=0):
+    """A scene whose first machine's commands wait, and has begun one."""
+    scene = scene_of(bench, lines, size, machines, percent)
+    scene.say("waits")
+    scene.machines[0].start()
+    until(lambda: scene.tales("begun"), "a command has begun")
+    return scene, scene.machines[0]
+
+
+def try_second_amo_share(bench):
+    """over one folder only one amo_share works"""
+    scene, first = waiting(bench, 2, 2, 1)
+    process, first.process = first.process, None
+    first.start().ends(LATER)
+    first.process = process
+    scene.take_back("waits")
+    scene.see_out()
+    scene.audit()
+
+
+def try_crew_lives_on(bench):
+    """a crew whose amo_share was killed goes on, and the next amo_share waits for it"""
+    scene, first = waiting(bench, 4, 2, 1)
+    first.process.kill()
+    first.ends(KILLED)
+    first.start()
+    until(lambda: "another runner" in first.tale(), "the next one finds the crew")
+    scene.take_back("waits")
+    first.ends(DONE)
+    scene.audit()
+    want(len(scene.tales()) == 4, f"performed: {scene.tales()}")
+
+
+def try_other_size(bench):
+    """another size of a chunk is refused by name, before anything is performed"""
+    scene, first = waiting(bench, 6, 3, 2)
+    second = scene.machines[1]
+    second.size = 2
+    second.start()
+    until(lambda: second.process.poll() is not None or [it for it in scene.tales("begun") if it[1] == "m2"], "it is refused")
+    scene.take_back("waits")
+    first.ends(*OVER)
+    status = second.ends()
+    scene.audit()
+    want(status == REFUSED and "has chunks of another size" in second.tale(), f"status {status}: {second.tale()[-300:]}")
+
+
+def try_other_list(bench):
+    """another list is refused by name, and so is one that was changed after it was shared"""
+    scene = scene_of(bench, 4, 2, 2)
+    first, second = scene.machines
+    first.start().ends(DONE)
+    second.jobs = f"{scene.room}/others"
+    with open(second.jobs, "w") as file:
+        file.write("pay 1\npay 5\n")
+    second.start().ends(REFUSED)
+    want("is another list there" in second.tale(), f"it says {second.tale()}")
+    with open(scene.jobs, "a") as file:
+        file.write("pay 5\n")
+    first.start().ends(REFUSED)
+    want("what is shared is fixed" in first.tale(), f"it says {first.tale()}")
+    want(len(scene.tales()) == 4, f"performed: {scene.tales()}")
+
+
+def try_same_line_twice(bench):
+    """no two chunks have one line, and where they would nothing is asked for"""
+    scene = scene_of(bench, 4, 2, 1)
+    with open(scene.jobs, "a") as file:
+        file.write("pay 1\n")
+    scene.machines[0].start().ends(REFUSED)
+    want(not scene.store.answers()["requests"] and not scene.tales(), f"it was shared: {scene.tales()}")
+
+
+def try_copy(bench):
+    """a folder that is a copy, or that wakes up on another machine, is refused without a person's word"""
+    scene, first = waiting(bench, 3, 3, 2)
+    first.kill_all()
+    scene.take_back("waits")
+    second = scene.machines[1]
+    second.told_as = first.folder  # as all machines have one command
+    shutil.copytree(first.run, second.run)
+    statuses = []
+    for machine_id in ("m2", "m1"):
+        second.set_id(machine_id)
+        statuses.append(second.start().ends())
+    scene.see_out([first])
+    twice = [it for it in scene.tales() if len([text for text, _ in scene.tales() if text == it[0]]) > 1]
+    want(not twice, f"performed twice: {twice}")
+    want(statuses == [REFUSED] * 2 and "or is a copy or a backup" in second.tale(), f"{statuses}: {second.tale()[-300:]}")
+    first.set_id("another")
+    first.start().ends(REFUSED)
+    first.start("--moved").ends(*OVER)
+    first.start().ends(*OVER)
+    shutil.rmtree(second.run)
+    scene.audit()
+
+
+def try_lost_folder(bench):
+    """the chunk of a folder that was lost in the middle is worked by nobody, and that is told"""
+    scene = scene_of(bench, 6, 3, 2)
+    first, second = scene.machines
+    first.start()
+    until(lambda: scene.tales(), "a line is performed")
+    scene.lose(first, 1)
+    first.start().ends(*OVER)
+    second.start().ends(*OVER)
+    scene.audit()
+    for machine in scene.machines:
+        lines, _ = machine.status()
+        want(", not here; if that is gone for good, nobody works it" in lines[0], f"the status is {lines}")
+
+
+def try_answer_lost(bench):
+    """a chunk whose claim was answered, and the answer lost, is worked by whose it is"""
+    scene = scene_of(bench, 4, 2, 2, "first")
+    scene.see_out()
+    scene.audit()
+    want(len(scene.tales()) == 4, f"performed: {scene.tales()}")
+
+
+def try_stopped_in_order(bench):
+    """TERM is handed to the crew, whose commands end, and no further chunk is begun"""
+    scene, first = waiting(bench, 2, 1, 1)
+    first.process.send_signal(signal.SIGTERM)
+    until(lambda: "no further job is begun" in first.tale(), "the crew hears of it")
+    scene.take_back("waits")
+    want(first.ends() in (LEFT, DONE) and len(scene.tales()) == 1, f"{first.statuses}: {scene.tales()}")
+    lines, status = first.status()
+    want("free" in lines[1] and status == LATER, f"the status is {lines}, {status}")
+    scene.see_out()
+    scene.audit()
+    want(len(scene.tales()) == 2, f"performed: {scene.tales()}")
+
+
+def try_failures(bench):
+    """where commands fail in a row no further chunk is taken, and failed lines are told"""
+    scene = scene_of(bench, 6, 3, 1)
+    scene.say("fails")
+    first = scene.machines[0]
+    first.start("--crew=--halt 2 --linger 0.2").ends(LEFT)
+    want("free" in first.status()[0][1], f"the status is {first.status()}")
+    scene.take_back("fails")
+    first.start().ends(FAILED)
+    lines, status = first.status()
+    want("failed" in lines[0] and status == FAILED, f"the status is {lines}, {status}")
+
+
+def try_doubt(bench):
+    """a doubt is told, and where to look, and a line that a person opens again the next amo_share works"""
+    scene, first = waiting(bench, 2, 2, 1)
+    first.kill_all()
+    scene.take_back("waits")
+    first.start().ends(DOUBTFUL)
+    lines, status = first.status()
+    want("amo_jobs doubts --run" in lines[0] and status == DOUBTFUL, f"the status is {lines}, {status}")
+    found = re.findall(r"^(\d+\.\d+), line (\d+): (.*)$", first.person("doubts"), re.M)
+    want(found, "there is no doubt")
+    for name, line, text in found:
+        first.person("answer", "--", name, line, text, "not-done")
+    first.start().ends(DONE)
+    scene.audit()
+    want(len(scene.tales()) == 2, f"performed: {scene.tales()}")
+    return f"{len(found)} answered"
+
+
+def try_no_store(bench):
+    """a store that doesn't answer is waited for, also while a stop is asked for, and nothing is performed meanwhile"""
+    scene = scene_of(bench, 2, 2, 1)
+    first, claims = scene.machines[0], scene.store.environment["AMO_CLAIMS"]
+    os.rename(claims, f"{claims}.away")
+    first.start()
+    until(lambda: "is asked again" in first.tale(), "it waits")
+    first.process.send_signal(signal.SIGTERM)
+    first.ends(LEFT)
+    want(not scene.tales("begun") and first.status()[1] == LATER, f"begun: {scene.tales('begun')}")
+    first.start()
+    until(lambda: first.tale().count("is asked again") > 1, "it waits")
+    os.rename(f"{claims}.away", claims)
+    first.ends(DONE)
+    scene.audit()
+
+
+def try_claim_programs(bench, kind="folder"):
+    """of many that claim at once one has it, which all are told, and again later; a free chunk has no owner"""
+    store = store_of(bench, kind)
+    environment = {"PATH": os.environ["PATH"], **store.straight()}
+    for chunk in range(1, 4):
+        want(store.ask("look", "list", str(chunk)) == "", "a free chunk has an owner")
+        words = [f"{os.path.dirname(bench.program)}/claims/{kind}", "claim", "list", str(chunk)]
+        asking = [subprocess.Popen([*words, f"mark.{number}", str(number) * 64], stdout=subprocess.PIPE, env=environment)
+                  for number in range(8)]
+        said = {it.communicate()[0].decode() for it in asking}
+        want(len(said) == 1 and said.pop() == store.ask("look", "list", str(chunk)), f"they are told {said}")
+        late = store.ask("claim", "list", str(chunk), "late", "0" * 64)
+        want(late == store.ask("look", "list", str(chunk)), "it changes hands")
+    want(store.ask("look", "list") is None and store.ask("claim", "list", "1") is None, "too few words are taken")
+    return kind
+
+
+PARTS = {"folder": [
+    try_shares, try_killed_everywhere, try_claim_programs, try_second_amo_share, try_crew_lives_on, try_other_size,
+    try_other_list, try_same_line_twice, try_copy, try_lost_folder, try_answer_lost, try_stopped_in_order, try_failures,
+    try_no_store, try_doubt,
+]}
