@@ -1,6 +1,7 @@
 //! The partner, on standard input and output: who performs jobs.
 use crate::fault::Fault;
 use amo_course::Reply;
+use amo_lines::whole_line;
 use amo_talk::reply_in;
 use std::alloc::AllocError;
 use std::io;
@@ -25,34 +26,43 @@ impl Partner {
         }
     }
 
-    /// Says a line, and waits for what comes in answer. Where the partner takes no line or has no more to say, that is the end. A
-    /// line without its end is the end too.
-    pub(crate) fn ask(&mut self, line: &[u8]) -> Result<Reply, Fault> {
+    /// Says a line, and waits for the line that answers it; it is given without its end. Where the partner takes no line or has no more
+    /// to say, that is the end. A line without its end is the end too.
+    pub(crate) fn exchange(&mut self, line: &[u8]) -> Result<Option<Vec<u8>>, Fault> {
         let mut out = self.rt.stdout();
         if out.write_all(line).is_err() || out.flush().is_err() {
-            return Ok(Reply::Closed);
+            return Ok(None);
         }
-        self.said = Vec::new(self.rt.alloc());
-        match self.input.read_until(b'\n', &mut self.said) {
-            Ok(_) => Ok(self.heard()),
+        let mut said = Vec::new(self.rt.alloc());
+        match self.input.read_until(b'\n', &mut said) {
+            Ok(_) => Ok(whole_line(said)),
             Err(error) if error.kind() == io::ErrorKind::OutOfMemory => Err(Fault::Memory),
-            Err(_) => Ok(Reply::Closed),
+            Err(_) => Ok(None),
         }
     }
 
-    /// The last line as a reply.
-    fn heard(&mut self) -> Reply {
-        match self.said.pop() {
-            Some(b'\n') => reply_in(&self.said),
-            _ => Reply::Closed,
+    /// Says a line, and waits for what comes in answer.
+    pub(crate) fn ask(&mut self, line: &[u8]) -> Result<Reply, Fault> {
+        match self.exchange(line)? {
+            Some(said) => {
+                let reply = reply_in(&said);
+                self.said = said;
+                Ok(reply)
+            }
+            None => Ok(Reply::Closed),
         }
     }
 
     /// What it said last, as a text to show.
     pub(crate) fn shown(&self) -> Result<String, AllocError> {
-        match std::str::from_utf8(&self.said) {
-            Ok(text) => String::from_str(self.rt.alloc(), text),
-            Err(_) => String::from_str(self.rt.alloc(), "(no text)"),
-        }
+        shown(self.rt, &self.said)
+    }
+}
+
+/// A line as a text to show.
+pub(crate) fn shown(rt: HostRuntime, said: &[u8]) -> Result<String, AllocError> {
+    match std::str::from_utf8(said) {
+        Ok(text) => String::from_str(rt.alloc(), text),
+        Err(_) => String::from_str(rt.alloc(), "(no text)"),
     }
 }

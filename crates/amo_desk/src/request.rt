@@ -1,6 +1,7 @@
 //! What the words of a command line ask for.
 ghost use Rattle.std.specs.Prelude.{◌≤◌, IfOk};
 
+use crate::lines::ByLines;
 use crate::setting::{Jobs, Setting};
 use amo_ledger::number;
 use amo_standing::State;
@@ -23,6 +24,8 @@ pub(crate) enum Request<'a> {
     Door(Jobs<'a>),
     /// To live as this worker.
     Work(Jobs<'a>, u64),
+    /// To live as a worker whose partner has words and journal too.
+    Lines(ByLines),
     /// How all lines stand.
     Status(Form),
     /// The doubts that are final.
@@ -117,6 +120,15 @@ fn working<'a>(alloc: Global) -> Result<Command<'a>, AllocError> {
     over_jobs(alloc, command.arg(required(alloc, "P"))?)
 }
 
+fn speaking<'a>(alloc: Global) -> Result<Command<'a>, AllocError> {
+    let about = "Lives as worker P of a round of N jobs; its partner has the words and the journal too";
+    let command = Command::new(alloc, "lines").about(about);
+    let command = command.arg(required(alloc, "P"))?;
+    let command = command.arg(required(alloc, "WORKERS"))?;
+    let command = command.arg(required(alloc, "BETA"))?;
+    command.arg(required(alloc, "N"))
+}
+
 fn doubting<'a>(alloc: Global) -> Result<Command<'a>, AllocError> {
     let command = over_run(alloc, "doubts", "The doubts that are final")?;
     command.arg(flag(alloc, "json", "as JSON"))
@@ -168,7 +180,8 @@ fn program<'a>(alloc: Global) -> Result<Command<'a>, AllocError> {
 
 fn with_workers<'a>(alloc: Global, command: Command<'a>) -> Result<Command<'a>, AllocError> {
     let command = command.subcommand(door(alloc)?)?;
-    command.subcommand(working(alloc)?)
+    let command = command.subcommand(working(alloc)?)?;
+    command.subcommand(speaking(alloc)?)
 }
 
 fn with_looks<'a>(alloc: Global, command: Command<'a>) -> Result<Command<'a>, AllocError> {
@@ -239,6 +252,20 @@ fn answer_of<'a>(matches: &ArgMatches<'a>) -> Result<Request<'a>, Misuse> {
     }
 }
 
+/// The worker that the words after `lines` name.
+fn by_lines_of(matches: &ArgMatches<'_>) -> Result<ByLines, Misuse> {
+    let workers = number_at(matches, "WORKERS", 1, 16)?;
+    let worker = number_at(matches, "P", 1, workers)?;
+    let beta = number_at(matches, "BETA", workers, 65535)?;
+    let jobs = number_at(matches, "N", 0, 4096)?;
+    Ok(ByLines {
+        jobs,
+        workers,
+        beta,
+        worker,
+    })
+}
+
 fn request_of<'a>(name: &str, matches: &ArgMatches<'a>) -> Result<Request<'a>, Misuse> {
     match name {
         "door" => Ok(Request::Door(jobs_of(matches)?)),
@@ -247,6 +274,7 @@ fn request_of<'a>(name: &str, matches: &ArgMatches<'a>) -> Result<Request<'a>, M
             let worker = number_at(matches, "P", 1, jobs.workers)?;
             Ok(Request::Work(jobs, worker))
         }
+        "lines" => Ok(Request::Lines(by_lines_of(matches)?)),
         "status" => Ok(Request::Status(form_of(matches)?)),
         "doubts" => Ok(Request::Doubts(form_of(matches)?)),
         "answer" => answer_of(matches),

@@ -2,6 +2,7 @@
 use crate::answering::{answer, answer_from, once_more};
 use crate::door::{check_jobs, enter, look_at};
 use crate::fault::Fault;
+use crate::lines::work_by_lines;
 use crate::living::work;
 use crate::request::{Misuse, Request, asked};
 use crate::setting::Setting;
@@ -82,6 +83,7 @@ fn done(rt: HostRuntime, setting: &Setting<'_>, request: Request<'_>) -> Result<
             let counts = work(rt, setting, &jobs, worker)?;
             tell_all_done(rt, &counts)
         }
+        Request::Lines(asked) => work_by_lines(rt, asked),
         Request::Status(form) => {
             look_at(rt, setting)?;
             show_status(rt, setting, form)
