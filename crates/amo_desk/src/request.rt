@@ -121,7 +121,8 @@ fn working<'a>(alloc: Global) -> Result<Command<'a>, AllocError> {
 }
 
 fn speaking<'a>(alloc: Global) -> Result<Command<'a>, AllocError> {
-    let about = "Lives as worker P of a round of N jobs; its partner has the words and the journal too";
+    let about =
+        "Lives as worker P of a round of N jobs; its partner has the words and the journal too";
     let command = Command::new(alloc, "lines").about(about);
     let command = command.arg(required(alloc, "P"))?;
     let command = command.arg(required(alloc, "WORKERS"))?;
