@@ -1,6 +1,8 @@
 """Runner, worker and command killed, or stopped for longer than a restart takes, at each line of the protocol in turn, each alone
 and together."""
 
+import re
+
 from jobs.scene import FAILED, Wrong, want
 from worker import folder
 
@@ -20,7 +22,9 @@ def befall(bench, number, who, kinds, workers):
     scene.audit()
     told = folder.read(f"{scene.room}/befallen").decode()
     bench.add("befallen", told.count("\n"))
-    may_leave = who not in LEAVE_NO_DOUBT or "unsaid" in told
+    # (who is killed as it hears of an end may have put its next intent before it dies, of which its runner hears nothing)
+    later = {f"{worker}.{int(serial) + 1}" for worker, serial in re.findall(r"(\d+)\.(\d+) of line \d+ answered", told)}
+    may_leave = who not in LEAVE_NO_DOUBT or "unsaid" in told or later.issuperset(scene.listed)
     want(may_leave or not scene.listed, f"a doubt though no runner or command was killed: {told.strip()}, {scene.listed}")
 
 

@@ -67,7 +67,7 @@ class Scene:
         self.bench, self.workers, self.options, self.room = bench, workers, list(options), tempfile.mkdtemp(dir=bench.room)
         self.run, self.jobs, self.boot, self.effects = (f"{self.room}/{it}" for it in ("run", "jobs", "boot", "effects"))
         self.command, self.crews, self.statuses, self.said, self.boots = command or COMMAND + [self.room], [], [], "", 0
-        self.kinds, self.listed, self.file_system = [], [], None
+        self.kinds, self.listed, self.file_system, self.numbers, self.known = [], [], None, workers, 0
         os.mkdir(self.effects)
         self.grow(kinds)
         self.start_machine()
@@ -98,7 +98,8 @@ class Scene:
     def start(self, *more, plan=None, workers=None, command=None, **how):
         """Starts a crew. What it says goes to a file."""
         self.bench.add("crews")
-        words = ["--workers", str(workers or self.workers), *self.options, *more, self.jobs, "--", *(command or self.command)]
+        self.numbers, self.known = workers or self.workers, len(self.kinds)
+        words = ["--workers", str(self.numbers), *self.options, *more, self.jobs, "--", *(command or self.command)]
         with open(f"{self.room}/said", "ab") as said:
             crew = subprocess.Popen(self.words("crew", *words, plan=plan), stdin=subprocess.DEVNULL, stdout=said, stderr=said,
                                     env=self.environment(plan), start_new_session=True, **how)
@@ -175,8 +176,8 @@ class Scene:
             self.person()
             if status == FAILED and again and "untouched" in self.look().kinds().values():
                 self.call("again")
-            elif status in (DONE, FAILED):
-                return status
+            elif status in (DONE, FAILED) and len(self.kinds) == self.known:
+                return status  # (lines that came after its start may be the next one's)
             elif status == DOUBTFUL:
                 time.sleep(0.1)
             crew = self.start(workers=workers_of())
@@ -201,7 +202,9 @@ class Scene:
             want(is_kept, f"line {it.line} counts as {it.answer} by {it.name()}, which did it: {told}")
         counts = self.counts()
         want({it: counts[it] for it in found.counts()} == found.counts(found.final()), f"the status is {counts}")
-        want(not [it for it in os.listdir(self.run) if it.startswith("command.")], f"locks are left: {os.listdir(self.run)}")
+        # (who has a number removes the locks of its earlier commands, so those of numbers that nobody has any more stay)
+        locks = [it for it in os.listdir(self.run) if it.startswith("command.") and int(it.split(".")[1]) <= self.numbers]
+        want(not locks, f"locks are left: {locks}")
 
     def audit_line(self, line, told):
         did = [it for it in told if it[0] == "did"]

