@@ -71,14 +71,16 @@ pub(crate) fn work_by_lines(rt: HostRuntime, asked: ByLines) -> Result<(), Fault
 
 /// What a stop comes to.
 fn fault_of(rt: HostRuntime, stop: Stop, lines: Lines<Streams>) -> Fault {
+    let Lines { wire, said } = lines;
+    let Streams { fault, .. } = wire;
     match stop {
-        Stop::Failed => match lines.wire.fault {
+        Stop::Failed => match fault {
             Some(fault) => fault,
-            None => odd(rt, lines.said),
+            None => odd(rt, said),
         },
         Stop::NoMemory => Fault::Memory,
         Stop::NoSuchNumber(word, value) => Fault::NoSuchNumber(word, value),
-        Stop::NoAnswer(_) | Stop::OtherAnswer(..) => odd(rt, lines.said),
+        Stop::NoAnswer(_) | Stop::OtherAnswer(..) => odd(rt, said),
         Stop::NoSerial | Stop::TooLong => Fault::NoWay,
     }
 }
