@@ -23,6 +23,7 @@ class Storm:
         if draws.random() < 0.3:
             options += ["--timeout", "0.5", "--grace", "0.2"]
         self.scene = bench.scene(kinds, self.workers, options)
+        self.scene.orphaned = ("amp", "nohup", "setsid")
         self.calm, self.due = draws.uniform(2, 6), 0.0
         self.begun = time.monotonic()
 

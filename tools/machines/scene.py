@@ -143,13 +143,19 @@ class Scene:
         self.bench.add("performed", len(did))
 
     def audit_chunk(self, machine, number, did):
-        found = folder.Folder(machine.chunk(number))
-        kinds = found.kinds(found.final())
+        kinds, end = self.kinds_of(machine, number), time.monotonic() + 10
+        while "running" in kinds.values() and time.monotonic() < end:  # (a command that its runner has left to itself)
+            time.sleep(0.1)
+            kinds = self.kinds_of(machine, number)
         want(len(kinds) == len(self.lines(number)), f"lost unseen: {machine.name} knows {len(kinds)} lines of chunk {number}")
         for text, kind in zip(self.lines(number), kinds.values()):
             want(kind in ("done", "failed", "doubt"), f"lost unseen: {text} of chunk {number} is {kind} at the end")
             want(kind == "doubt" or text in did, f"lost unseen: {text} counts as {kind} and wasn't performed")
             self.bench.add("in doubt", kind == "doubt")
+
+    def kinds_of(self, machine, number):
+        found = folder.Folder(machine.chunk(number))
+        return found.kinds(found.final())
 
     def close(self):
         for it in self.machines:
