@@ -4,13 +4,14 @@
   partner.py WORKER DATABASE P M BETA JOBS COMMAND..
 
 It performs line J of JOBS, which stays as it is, as COMMAND.. LINE: each line at most once. The table `journal` says what became of
-each. The status is that of the worker, or 75 where another process has number P.
+each. The status is that of the worker, or 75 where another process has number P. What can't be kept ends it, and the worker with it.
 """
 
 import fcntl
 import sqlite3
 import subprocess
 import sys
+from contextlib import suppress
 
 
 def opened(path):
@@ -68,8 +69,9 @@ def main(program, path, p, workers, beta, list_of_jobs, *command):
         partner = Partner(opened(path), int(p), jobs, command, lock)
         words = [program, "lines", p, workers, beta, str(len(jobs))]
         with subprocess.Popen(words, stdin=subprocess.PIPE, stdout=subprocess.PIPE, encoding="ascii", bufsize=1) as worker:
-            for said in worker.stdout:
-                print(partner.answer(said), file=worker.stdin, flush=True)
+            with suppress(BrokenPipeError):  # the worker was killed
+                for said in worker.stdout:
+                    print(partner.answer(said), file=worker.stdin, flush=True)
         return worker.returncode
 
 

@@ -12,12 +12,12 @@ exec 7>"$pipes/to" 8<"$pipes/from"; rm -r "$pipes"
 while read -r word a b c <&8; do
   case $word in
     load) if [ -e "$room/word.$a" ]; then say "$(cat "$room/word.$a")"; else say 0; fi ;;
-    store) keep "$room/word.$a" "$b" && say ok ;;
-    found) note "found $a" && say ok ;;
-    intend) job=$b; note "intent $b" && say ok ;;
+    store) keep "$room/word.$a" "$b" || exit 74; say ok ;;
+    found) note "found $a" || exit 74; say ok ;;
+    intend) job=$b; note "intent $b" || exit 74; say ok ;;
     perform) "$@" "$(sed -n "${b}p" "$jobs")" </dev/null 7>&- 8<&-; code=$?
       if [ $code -gt 128 ]; then say "doubt $a go"; else say "done $a $code go"; fi ;;
-    note) note "$a $job $c" && say ok ;;
+    note) note "$a $job $c" || exit 74; say ok ;;
   esac
 done
 exec 7>&- 8<&-; wait $!

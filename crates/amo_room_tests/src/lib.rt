@@ -1,4 +1,5 @@
-//! Tests of the rooms of `amo_report`, in which a text is gathered, where memory is refused, and that they take none as they fill.
+//! Tests of `amo_report` over what is compiled for use: reading all and making a room where memory is refused, and that a room
+//! takes none as it fills.
 #![tactic(auto)]
 
 #[cfg(test)]
