@@ -20,12 +20,12 @@ use Rattle.amo_course.specs.declared.answer.Way.TheVariants.{Go, Leave}
 use Rattle.amo_course.specs.declared.model.Deed.{Deed}
 use Rattle.amo_course.specs.declared.model.Deed.TheVariants.{Loaded, Stored, Found, Intended, Performed, Noted, Asked, Fell}
 use Rattle.amo_course.specs.declared.model.Try.{Try}
-use Rattle.amo_course.specs.declared.model.Try.TheVariants.{Load, Store, Intend, Perform, Note}
+use Rattle.amo_course.specs.declared.model.Try.TheVariants.{Load, Store, Perform, Note}
 use Rattle.amo_course.specs.Stage.{Stage, Going, Intending, Performing, Noting, Leaving, Asking, Settling, Unanswered, Refused, Broken}
 use Rattle.amo_course.specs.Course.{try_of, access_tried, due, stage_by_jobs, stage_heard, stage_told, stage_replied, stage_after, stage_after_all, AreDue, first_stage}
 use Rattle.amo_course.proofs.Deeds.{stage_after_more}
 use Rattle.amo_history.specs.Course.{HasJustClaimed, HasJustIntended, HasJustAnswered}
-use Rattle.amo_history.proofs.Stages.{is_store, is_performance, word_in, value_in, job_in, performing_only, process_of, hears_more, standing_is, access_is, Shown, all_shown}
+use Rattle.amo_history.proofs.Stages.{is_store, is_performance, is_intent, word_in, value_in, job_in, serial_in, performing_at, process_of, hears_more, standing_is, access_is, Shown, all_shown}
 use Rattle.amo_history.proofs.Claims.{IsClaiming, claim_wanted, was_claiming}
 
 -- where nothing is due, nothing follows
@@ -41,18 +41,6 @@ fell_there s (x ∷ xs) after t h = fell_there (stage_after s x) xs after t h.1
 
 -- which try it is
 
-abbrev is_intent : Option Try → Bool
-is_intent None = false
-is_intent (Some (Intend n j)) = true
-is_intent (Some t) = false
-
-abbrev serial_in : Option Try → ℕ
-serial_in None = 0
-serial_in (Some (Intend n j)) = n
-serial_in (Some (Perform n j)) = n
-serial_in (Some (Note n c)) = n
-serial_in (Some t) = 0
-
 abbrev pub is_note : Option Try → Bool
 is_note None = false
 is_note (Some (Note n c)) = true
@@ -63,7 +51,7 @@ answer_in None = Doubt
 answer_in (Some (Note n c)) = c
 answer_in (Some t) = Doubt
 
-no_note : (x : Access) (n : ℕ) (c : Answer) → access_tried x ≡ Some (Note n c) → true ≡ false
+pub no_note : (x : Access) (n : ℕ) (c : Answer) → access_tried x ≡ Some (Note n c) → true ≡ false
 no_note (LoadAccess w) n c e = sym (ap is_note e)
 no_note (StoreAccess w v) n c e = sym (ap is_note e)
 no_note Nothing n c e = sym (ap is_note e)
@@ -73,13 +61,6 @@ pub due_among : (s : Stage) (before after : List Deed) (d : Deed) → AreDue s (
     → AreDue s before × (due (stage_after_all s before) ≡ Some (try_of d)) × AreDue (stage_after (stage_after_all s before) d) after
 due_among s [] after d h = (tt, h.0, h.1)
 due_among s (x ∷ xs) after d h = let r = due_among (stage_after s x) xs after d h.1 in ((h.0, r.0), r.1, r.2)
-
--- a performance is due by just its intent
-pub performing_at : (s : Stage) (n j : ℕ) → due s ≡ Some (Perform n j) → (a : ProcessView) × (s ≡ Performing n a j)
-performing_at s n j e =
-    let at = performing_only s n j e in
-    let same : at.0 ≡ n = ap serial_in (sym (ap due at.2) ∙ e) in
-    (at.1, at.2 ∙ ap (λ x. Performing x at.1 j) same)
 
 module _ (g : Givens) (p s : ℕ) where
   abbrev first : Stage

@@ -28,9 +28,9 @@ use Rattle.amo_course.specs.declared.model.Try.TheVariants.{Store, Note}
 use Rattle.amo_course.specs.Stage.{Stage, Going, Noting, Leaving, Unanswered, Refused, Broken}
 use Rattle.amo_course.specs.Course.{try_of, access_tried, due, stage_heard, stage_told, stage_replied, stage_after, stage_after_all, AreDue, first_stage}
 use Rattle.amo_history.specs.Course.{tells_to_leave, note_of, AreInTurn, TakesLeave}
-use Rattle.amo_history.proofs.Stages.{is_store, number_is, standing_is, access_is, Shown, all_shown}
+use Rattle.amo_history.proofs.Stages.{is_store, performing_at, number_is, standing_is, access_is, Shown, all_shown}
 use Rattle.amo_history.proofs.Claims.{told_holds}
-use Rattle.amo_history.proofs.Courses.{is_note, due_among, performing_at}
+use Rattle.amo_history.proofs.Courses.{is_note, due_among}
 
 -- by what is due first
 

@@ -10,7 +10,7 @@ use Rattle.amo_kk.specs.Words.{next_word}
 use Rattle.amo_kk.specs.declared.givens.Givens.{Givens}
 use Rattle.amo_process.specs.Heard.{standing_of}
 use Rattle.amo_process.specs.Stepped.{ProcessView, process_after, access_of, may_leave}
-use Rattle.amo_process.specs.Shared.{Shared, first_shared, with_new_process, shared_after_leave, shared_after_access, shared_after, shared_after_all, AreOfWorkers, HasNoStep}
+use Rattle.amo_process.specs.Shared.{Shared, first_shared, with_new_process, shared_after_leave, shared_after_access, shared_after, shared_after_all, shared_of, AreOfWorkers, HasNoStep}
 use Rattle.amo_process.specs.declared.model.Happening.{Happening}
 use Rattle.amo_process.specs.declared.model.Happening.TheVariants.{Steps, Begins as BeginsThere, Leaves}
 use Rattle.amo_process.specs.declared.standing.Standing.{Standing}
@@ -24,7 +24,7 @@ use Rattle.amo_course.specs.declared.model.Try.{Try}
 use Rattle.amo_course.specs.declared.model.Try.TheVariants.{Load, Store, Find, Intend, Perform, Note, Ask}
 use Rattle.amo_course.specs.Stage.{Stage, Going, Leaving, Gone, Broken}
 use Rattle.amo_course.specs.Course.{try_of, due, stage_after, first_stage}
-use Rattle.amo_history.specs.Scene.{Scene, first_scene, stage_at, scene_after, IsTrue, MayBe}
+use Rattle.amo_history.specs.Scene.{Scene, first_scene, stage_at, scene_after, scene_after_all, scene_of, IsTrue, MayBe, IsHistoryFrom, IsHistory}
 use Rattle.amo_history.specs.declared.model.Moment.{Moment}
 use Rattle.amo_history.specs.declared.model.Moment.TheVariants.{Does, Loses, Begins}
 use Rattle.amo_history.proofs.Stages.{Shown, tried_load, tried_store, load_only, store_only, hears_more, number_is, standing_is, access_is, told_shown, found_shown, intended_shown, performed_shown, noted_shown, asked_for_shown}
@@ -228,3 +228,26 @@ pub moment_shows : (g : Givens) (sc : Scene) (sh : Shared) (m : Moment) → Show
 moment_shows g sc sh (Does p d) shows h = does g sc sh shows p h.0 d h.1 h.2
 moment_shows g sc sh (Loses p t) shows h = loses g sc sh shows p h.0 t h.1
 moment_shows g sc sh (Begins p n) shows h = begins g sc sh shows p h n
+
+-- histories in parts
+
+pub history_parts : (g : Givens) (sc : Scene) (xs ys : List Moment) → IsHistoryFrom g sc (xs ++ ys) → IsHistoryFrom g sc xs × IsHistoryFrom g (scene_after_all g sc xs) ys
+history_parts g sc [] ys h = (tt, h)
+history_parts g sc (x ∷ xs) ys h = let parts = history_parts g (scene_after g sc x) xs ys h.1 in ((h.0, parts.0), parts.1)
+
+pub scene_parts : (g : Givens) (sc : Scene) (xs ys : List Moment) → scene_after_all g sc (xs ++ ys) ≡ scene_after_all g (scene_after_all g sc xs) ys
+scene_parts g sc [] ys = refl
+scene_parts g sc (x ∷ xs) ys = scene_parts g (scene_after g sc x) xs ys
+
+-- what processes have heard shows each scene of a history
+
+shown_from : (g : Givens) (sc : Scene) (hs : List Happening) (ms : List Moment) → AreOfWorkers g hs → ShowsScene g sc (shared_of g hs) → IsHistoryFrom g sc ms
+    → (all : List Happening) × AreOfWorkers g all × ShowsScene g (scene_after_all g sc ms) (shared_of g all)
+shown_from g sc hs [] w shows h = (hs, w, shows)
+shown_from g sc hs (m ∷ ms) w shows h = shown_from g (scene_after g sc m) (hs ++ happenings_at sc m) ms
+    (workers-append g hs (happenings_at sc m) w (moment_workers g sc m h.0))
+    (subst (λ y. ShowsScene g (scene_after g sc m) y) (sym (shared-append g (first_shared g) hs (happenings_at sc m))) (moment_shows g sc (shared_of g hs) m shows h.0))
+    h.1
+
+pub shown_all : (g : Givens) (ms : List Moment) → IsHistory g ms → (all : List Happening) × AreOfWorkers g all × ShowsScene g (scene_of g ms) (shared_of g all)
+shown_all g ms h = shown_from g (first_scene g) [] ms tt (first_scene_shows g) h

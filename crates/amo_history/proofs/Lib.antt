@@ -3,6 +3,7 @@ pub mod Stages
 pub mod Claims
 pub mod Spent
 pub mod Histories
+pub mod Intents
 pub mod Once
 pub mod Courses
 pub mod Logs

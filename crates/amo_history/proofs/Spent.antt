@@ -12,11 +12,11 @@ use Rattle.amo_course.specs.declared.answer.Way.{Way}
 use Rattle.amo_course.specs.declared.answer.Way.TheVariants.{Go, Leave}
 use Rattle.amo_course.specs.declared.model.Deed.{Deed}
 use Rattle.amo_course.specs.declared.model.Deed.TheVariants.{Loaded, Stored, Found, Intended, Performed, Noted, Asked, Fell}
-use Rattle.amo_course.specs.declared.model.Try.TheVariants.{Perform}
+use Rattle.amo_course.specs.declared.model.Try.TheVariants.{Intend, Perform}
 use Rattle.amo_course.specs.declared.past.Intent.{Intent}
 use Rattle.amo_course.specs.Stage.{Stage, Going, Finding, Intending, Performing, Noting, Asking, Settling, Unanswered}
 use Rattle.amo_course.specs.Course.{try_of, due, stage_replied, stage_asking, stage_asked, stage_after}
-use Rattle.amo_history.proofs.Stages.{Shown, is_performance, performing_only, standing_is}
+use Rattle.amo_history.proofs.Stages.{Shown, is_performance, performing_only, intending_at, standing_is}
 
 -- The job in its hand, if there is one, was handed to the partner already: no performance is to come before the next access.
 abbrev pub is_spent : Stage → Bool
@@ -24,7 +24,7 @@ is_spent (Intending s a j) = false
 is_spent (Performing s a j) = false
 is_spent s = true
 
-replied_spent : (s : ℕ) (a : ProcessView) (reply : Reply) → is_spent (stage_replied s a reply) ≡ true
+pub replied_spent : (s : ℕ) (a : ProcessView) (reply : Reply) → is_spent (stage_replied s a reply) ≡ true
 replied_spent s a (Answered n c way) = by (n == s)
   where
     by : (b : Bool) → is_spent (if b then Noting s a c way else Unanswered s (Answered n c way)) ≡ true
@@ -93,7 +93,7 @@ after_handing s (Noted m c) n j e is = absurd (true≢false (sym (ap (λ t. is_p
 after_handing s (Asked m line reply) n j e is = absurd (true≢false (sym (ap (λ t. is_performance (Some t)) is)))
 after_handing s (Fell t) n j e is = refl
 
--- Where a process hands job j to its partner, it is told to perform it, by what it has heard.
+-- Where a process tries the intent of job j, or hands it to its partner, it is told to perform it, by what it has heard.
 pub record IsTold (g : Givens) (p : ℕ) (hs : List ℕ) (s : Stage) (j : ℕ) : Type 0 where
   pub told : told_by (standing_of g p hs) ≡ j
   pub low : 1 ≤ j
@@ -107,4 +107,14 @@ here_told g p hs s n j f e =
       told = sym (ap told_by (standing_is g p hs at.1 shown.0)) ∙ shown.1;
       low = shown.2;
       unspent = ap is_spent at.2;
+    }
+
+pub here_intends : (g : Givens) (p : ℕ) (hs : List ℕ) (s : Stage) (n j : ℕ) → Shown g p hs s → due s ≡ Some (Intend n j) → IsTold g p hs s j
+here_intends g p hs s n j f e =
+    let at = intending_at s n j e in
+    let shown = subst (Shown g p hs) at.1 f in
+    record {
+      told = sym (ap told_by (standing_is g p hs at.0 shown.0)) ∙ shown.1;
+      low = shown.2;
+      unspent = ap is_spent at.1;
     }

@@ -17,7 +17,7 @@ use Rattle.amo_course.specs.declared.answer.Way.TheVariants.{Go, Leave}
 use Rattle.amo_course.specs.declared.model.Deed.{Deed}
 use Rattle.amo_course.specs.declared.model.Deed.TheVariants.{Loaded, Stored, Found, Intended, Performed, Noted, Asked, Fell}
 use Rattle.amo_course.specs.declared.model.Try.{Try}
-use Rattle.amo_course.specs.declared.model.Try.TheVariants.{Intend, Load, Store, Perform}
+use Rattle.amo_course.specs.declared.model.Try.TheVariants.{Intend, Load, Store, Perform, Note}
 use Rattle.amo_course.specs.declared.past.Intent.{Intent}
 use Rattle.amo_course.specs.Stage.{Stage, Going, Finding, Intending, Performing, Noting, Leaving, Asking, Settling, Dismissed, Gone, Unanswered, Refused, Broken}
 use Rattle.amo_course.specs.Course.{access_tried, due, stage_by_jobs, stage_heard, stage_told, stage_replied, stage_asking, stage_asked, stage_after, stage_after_all}
@@ -39,6 +39,11 @@ is_performance None = false
 is_performance (Some (Perform n j)) = true
 is_performance (Some t) = false
 
+abbrev pub is_intent : Option Try → Bool
+is_intent None = false
+is_intent (Some (Intend n j)) = true
+is_intent (Some t) = false
+
 abbrev pub word_in : Option Try → ℕ
 word_in None = 0
 word_in (Some (Load w)) = w
@@ -55,6 +60,13 @@ job_in None = 0
 job_in (Some (Intend n j)) = j
 job_in (Some (Perform n j)) = j
 job_in (Some t) = 0
+
+abbrev pub serial_in : Option Try → ℕ
+serial_in None = 0
+serial_in (Some (Intend n j)) = n
+serial_in (Some (Perform n j)) = n
+serial_in (Some (Note n c)) = n
+serial_in (Some t) = 0
 
 -- an access that is tried is that access
 
@@ -124,6 +136,35 @@ performing_only Gone m k e = absurd (true≢false (sym (ap is_performance e)))
 performing_only (Unanswered s reply) m k e = absurd (true≢false (sym (ap is_performance e)))
 performing_only (Refused x y) m k e = absurd (true≢false (sym (ap is_performance e)))
 performing_only Broken m k e = absurd (true≢false (sym (ap is_performance e)))
+
+-- and just that one
+pub performing_at : (s : Stage) (n j : ℕ) → due s ≡ Some (Perform n j) → (a : ProcessView) × (s ≡ Performing n a j)
+performing_at s n j e =
+    let at = performing_only s n j e in
+    let same : at.0 ≡ n = ap serial_in (sym (ap due at.2) ∙ e) in
+    (at.1, at.2 ∙ ap (λ x. Performing x at.1 j) same)
+
+no_intent : (x : Access) (n j : ℕ) → access_tried x ≡ Some (Intend n j) → true ≡ false
+no_intent (LoadAccess w) n j e = sym (ap is_intent e)
+no_intent (StoreAccess w v) n j e = sym (ap is_intent e)
+no_intent Nothing n j e = sym (ap is_intent e)
+
+-- an intent only where it is to be put
+pub intending_at : (s : Stage) (n j : ℕ) → due s ≡ Some (Intend n j) → (a : ProcessView) × (s ≡ Intending n a j)
+intending_at (Intending m a i) n j e = (a, (λ k. Intending (serial_in (e k)) a (job_in (e k))))
+intending_at (Going s a way) n j e = absurd (true≢false (no_intent (access_of a.givens a.number a.standing) n j e))
+intending_at (Finding s a i) n j e = absurd (true≢false (sym (ap is_intent e)))
+intending_at (Performing s a i) n j e = absurd (true≢false (sym (ap is_intent e)))
+intending_at (Noting s a c way) n j e = absurd (true≢false (sym (ap is_intent e)))
+intending_at (Leaving a) n j e = absurd (true≢false (sym (ap is_intent e)))
+intending_at (Asking []) n j e = absurd (true≢false (sym (ap is_intent e)))
+intending_at (Asking (i ∷ rest)) n j e = absurd (true≢false (sym (ap is_intent e)))
+intending_at (Settling s c way rest) n j e = absurd (true≢false (sym (ap is_intent e)))
+intending_at (Dismissed rest) n j e = absurd (true≢false (sym (ap is_intent e)))
+intending_at Gone n j e = absurd (true≢false (sym (ap is_intent e)))
+intending_at (Unanswered s reply) n j e = absurd (true≢false (sym (ap is_intent e)))
+intending_at (Refused x y) n j e = absurd (true≢false (sym (ap is_intent e)))
+intending_at Broken n j e = absurd (true≢false (sym (ap is_intent e)))
 
 -- the process that has heard these numbers since it began
 

@@ -1,3 +1,4 @@
 pub mod Scene
 pub mod Log
 pub mod Course
+pub mod Tries

@@ -10,10 +10,11 @@ ghost use Rattle.amo_course.specs.Stage.{Stage};
 ghost use Rattle.amo_course.specs.declared.model.Deed.{Deed};
 ghost use Rattle.amo_course.specs.declared.model.Deed.TheVariants.{Performed, Fell};
 ghost use Rattle.amo_course.specs.declared.model.Try.{Try};
-ghost use Rattle.amo_course.specs.declared.model.Try.TheVariants.{Find, Perform, Note};
+ghost use Rattle.amo_course.specs.declared.model.Try.TheVariants.{Find, Intend, Perform, Note};
 ghost use Rattle.amo_history.specs.Course.{handed_by_deeds, HasJustIntended, HasJustAnswered, tells_to_leave, TakesLeave};
 ghost use Rattle.amo_history.specs.Log.{Log, log_of, StandsBy};
 ghost use Rattle.amo_history.specs.Scene.{stage_at, scene_of, IsTrue, MayBe, IsHistory, handed_jobs};
+ghost use Rattle.amo_history.specs.Tries.{worker_of, tried_in, NoneBegins};
 ghost use Rattle.amo_history.specs.declared.model.Moment.{Moment};
 ghost use Rattle.amo_history.specs.declared.model.Moment.TheVariants.{Does, Loses};
 
@@ -22,6 +23,17 @@ ghost use Rattle.amo_history.specs.declared.model.Moment.TheVariants.{Does, Lose
 /// dies in it; and so it is performed at most once.
 pub fn jobs_are_performed_once()
     ensures { (g : Givens) (ms : List Moment) → IsHistory g ms → AreDistinct (handed_jobs ms) }
+{}
+
+/// Of each job one intent is tried at most, whether it comes about or not, and none once the job was handed over. Who hands it over
+/// is the process that has tried its intent, by that very intent: no later process of that worker does so, and no other worker.
+pub fn a_job_is_handed_over_by_its_intent()
+    ensures one { (g : Givens) (before mid : List Moment) (x y : Moment) (n m j : ℕ) → IsHistory g (before ++ x ∷ mid ++ y ∷ [])
+        → tried_in x ≡ Some (Intend n j) → tried_in y ≡ Some (Intend m j) → ⊥ }
+    ensures before { (g : Givens) (before mid : List Moment) (x y : Moment) (n m j : ℕ) → IsHistory g (before ++ x ∷ mid ++ y ∷ [])
+        → tried_in x ≡ Some (Perform n j) → tried_in y ≡ Some (Intend m j) → ⊥ }
+    ensures its { (g : Givens) (before mid : List Moment) (x y : Moment) (n m j : ℕ) → IsHistory g (before ++ x ∷ mid ++ y ∷ [])
+        → tried_in x ≡ Some (Intend n j) → tried_in y ≡ Some (Perform m j) → (worker_of x ≡ worker_of y) × (n ≡ m) × NoneBegins (worker_of x) mid }
 {}
 
 /// Where a process stands in a history is where what it has done since it began leads, each deed of which was due.

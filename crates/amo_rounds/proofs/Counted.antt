@@ -5,9 +5,7 @@ use Rattle.std.proofs.lemmas.Bool.{true≢false}
 use Rattle.std.proofs.lemmas.Option.{none-some, same_Some, cond_some, option_and_then_some}
 use Rattle.std.proofs.lemmas.List.{length_push}
 use Rattle.amo_process.specs.Heard.{told_by, doubted_by}
-use Rattle.amo_process.specs.Stepped.{ProcessView, process_after, may_leave, is_refused, access_of}
-use Rattle.amo_process.specs.declared.access.Access.{Access}
-use Rattle.amo_process.specs.declared.access.Access.TheVariants.{Load as LoadAccess, Store as StoreAccess, Nothing}
+use Rattle.amo_process.specs.Stepped.{ProcessView, process_after, may_leave, is_refused}
 use Rattle.amo_course.specs.declared.answer.Answer.{Answer}
 use Rattle.amo_course.specs.declared.answer.Reply.{Reply}
 use Rattle.amo_course.specs.declared.answer.Reply.TheVariants.{Answered, Running, Garbled, Closed}
@@ -15,11 +13,10 @@ use Rattle.amo_course.specs.declared.answer.Way.{Way}
 use Rattle.amo_course.specs.declared.answer.Way.TheVariants.{Go, Leave}
 use Rattle.amo_course.specs.declared.model.Deed.{Deed}
 use Rattle.amo_course.specs.declared.model.Deed.TheVariants.{Loaded, Stored, Found, Intended, Performed, Noted, Asked, Fell}
-use Rattle.amo_course.specs.declared.model.Try.{Try}
 use Rattle.amo_course.specs.declared.model.Try.TheVariants.{Intend}
-use Rattle.amo_course.specs.declared.past.Intent.{Intent as LeftIntent}
-use Rattle.amo_course.specs.Stage.{Stage, Going, Finding, Intending, Performing, Noting, Leaving, Asking, Settling, Dismissed, Gone, Unanswered, Refused, Broken}
-use Rattle.amo_course.specs.Course.{access_tried, try_of, due, stage_by_jobs, stage_heard, stage_told, stage_replied, stage_asking, stage_asked, stage_after}
+use Rattle.amo_course.specs.Stage.{Stage, Going, Finding, Intending, Performing, Noting, Leaving, Asking, Settling, Unanswered, Refused}
+use Rattle.amo_course.specs.Course.{try_of, due, stage_by_jobs, stage_heard, stage_told, stage_replied, stage_after}
+use Rattle.amo_history.proofs.Stages.{intending_at}
 use Rattle.amo_ledger.specs.declared.entry.Answer.{Answer as NotedAnswer}
 use Rattle.amo_ledger.specs.declared.entry.Entry.{Entry}
 use Rattle.amo_ledger.specs.declared.entry.Entry.TheVariants.{Intent as IntentOf, Answer as AnswerTo}
@@ -64,13 +61,16 @@ journal_size lines es (x ∷ xs) next h = option_and_then_some (λ mid. journal_
 pub size_is : (lines : ℕ) (xs : List Entry) (es : List Attempt) → journal_of lines xs ≡ Some es → length es ≡ intents xs
 size_is lines xs es h = let size = journal_size lines [] xs es h in omega (arith, size)
 
--- The next serial number is one more than there are intents, and that of the intent that is being dealt with is their number.
+-- In a round the next serial number is one more than there are intents, and that of the intent that is being dealt with is their
+-- number. There nobody asks for what former processes have left.
 abbrev pub IsCounted : ℕ → Stage → Type 0
 IsCounted k (Going n a way) = n ≡ k + 1
 IsCounted k (Finding n a j) = n ≡ k + 1
 IsCounted k (Intending n a j) = n ≡ k + 1
 IsCounted k (Performing n a j) = n ≡ k
 IsCounted k (Noting n a c way) = n ≡ k
+IsCounted k (Asking intents) = ⊥
+IsCounted k (Settling n c way rest) = ⊥
 IsCounted k s = ⊤
 
 module _ (k : ℕ) where
@@ -108,25 +108,6 @@ module _ (k : ℕ) where
   replied_counted n h a Garbled = tt
   replied_counted n h a Closed = tt
 
-  asking_counted : (way : Way) (rest : List LeftIntent) → IsCounted k (stage_asking way rest)
-  asking_counted Go rest = tt
-  asking_counted Leave rest = tt
-
-  asked_counted : (intents : List LeftIntent) (reply : Reply) → IsCounted k (stage_asked intents reply)
-  asked_counted [] reply = tt
-  asked_counted (i ∷ rest) (Answered n c way) = by (n == i.serial)
-    where
-      by : (b : Bool) → IsCounted k (if b then Settling i.serial c way rest else Unanswered i.serial (Answered n c way))
-      by true = tt
-      by false = tt
-  asked_counted (i ∷ rest) (Running n way) = by (n == i.serial)
-    where
-      by : (b : Bool) → IsCounted k (if b then stage_asking way rest else Unanswered i.serial (Running n way))
-      by true = asking_counted way rest
-      by false = tt
-  asked_counted (i ∷ rest) Garbled = tt
-  asked_counted (i ∷ rest) Closed = tt
-
   loaded_counted : (s : Stage) (w v : ℕ) → IsCounted k s → IsCounted k (stage_after s (Loaded w v))
   loaded_counted (Going n a way) w v h = told_counted w v n h way (process_after a v)
   loaded_counted s w v h = h
@@ -146,47 +127,19 @@ module _ (k : ℕ) where
 
   noted_counted : (s : Stage) (n : ℕ) (c : Answer) → IsCounted k s → IsCounted k (stage_after s (Noted n c))
   noted_counted (Noting m a x way) n c h = ap (λ x. x + 1) h
-  noted_counted (Settling m x way rest) n c h = asking_counted way rest
+  noted_counted (Settling m x way rest) n c h = absurd h
   noted_counted s n c h = h
 
   asked_for_counted : (s : Stage) (n line : ℕ) (reply : Reply) → IsCounted k s → IsCounted k (stage_after s (Asked n line reply))
-  asked_for_counted (Asking intents) n line reply h = asked_counted intents reply
+  asked_for_counted (Asking intents) n line reply h = absurd h
   asked_for_counted s n line reply h = h
-
--- an intent is due only where one is to be put
-
-abbrev is_intent : Option Try → Bool
-is_intent None = false
-is_intent (Some (Intend n j)) = true
-is_intent (Some t) = false
-
-no_intent : (x : Access) (n j : ℕ) → access_tried x ≡ Some (Intend n j) → true ≡ false
-no_intent (LoadAccess w) n j e = sym (ap is_intent e)
-no_intent (StoreAccess w v) n j e = sym (ap is_intent e)
-no_intent Nothing n j e = sym (ap is_intent e)
-
-intending_only : (s : Stage) (n j : ℕ) → due s ≡ Some (Intend n j) → (m : ℕ) × (a : ProcessView) × (i : ℕ) × (s ≡ Intending m a i)
-intending_only (Intending m a i) n j e = (m, a, i, refl)
-intending_only (Going s a way) n j e = absurd (true≢false (no_intent (access_of a.givens a.number a.standing) n j e))
-intending_only (Finding s a i) n j e = absurd (true≢false (sym (ap is_intent e)))
-intending_only (Performing s a i) n j e = absurd (true≢false (sym (ap is_intent e)))
-intending_only (Noting s a c way) n j e = absurd (true≢false (sym (ap is_intent e)))
-intending_only (Leaving a) n j e = absurd (true≢false (sym (ap is_intent e)))
-intending_only (Asking []) n j e = absurd (true≢false (sym (ap is_intent e)))
-intending_only (Asking (i ∷ rest)) n j e = absurd (true≢false (sym (ap is_intent e)))
-intending_only (Settling s c way rest) n j e = absurd (true≢false (sym (ap is_intent e)))
-intending_only (Dismissed rest) n j e = absurd (true≢false (sym (ap is_intent e)))
-intending_only Gone n j e = absurd (true≢false (sym (ap is_intent e)))
-intending_only (Unanswered s reply) n j e = absurd (true≢false (sym (ap is_intent e)))
-intending_only (Refused x y) n j e = absurd (true≢false (sym (ap is_intent e)))
-intending_only Broken n j e = absurd (true≢false (sym (ap is_intent e)))
 
 module _ (k : ℕ) where
   intended_counted : (s : Stage) (n j : ℕ) → due s ≡ Some (Intend n j) → IsCounted k s → IsCounted (k + 1) (stage_after s (Intended n j))
   intended_counted s n j e h =
-      let at = intending_only s n j e in
-      let was : IsCounted k (Intending at.0 at.1 at.2) = subst (IsCounted k) at.3 h in
-      subst (λ x. IsCounted (k + 1) (stage_after x (Intended n j))) (sym at.3) was
+      let at = intending_at s n j e in
+      let was : IsCounted k (Intending n at.0 j) = subst (IsCounted k) at.1 h in
+      subst (λ x. IsCounted (k + 1) (stage_after x (Intended n j))) (sym at.1) was
 
   quiet : (s : Stage) → IsCounted k s → IsCounted (k + 0) s
   quiet s h = let same : k ≡ k + 0 = omega arith in subst (λ x. IsCounted x s) same h
@@ -218,8 +171,8 @@ behind_unless m s h = tt
 pub behind_then : (m k : ℕ) → m ≤ k → (s : Stage) (d : Deed) → due s ≡ Some (try_of d) → IsCounted k s → IsBehind m s → IsBehind m (stage_after s d)
 behind_then m k few s d e counted h = any_then (IsBehind m) (IsBehind m) (behind_unless m) (λ x y. y) s d
     (λ n j is.
-    let at = intending_only s n j (e ∙ ap (λ x. Some (try_of x)) is) in
-    let was : at.0 ≡ k + 1 = subst (IsCounted k) at.3 counted in
-    let later : m < at.0 = omega (arith, was, few) in
-    subst (λ x. IsBehind m (stage_after s x)) (sym is) (subst (λ x. IsBehind m (stage_after x (Intended n j))) (sym at.3) later))
+    let at = intending_at s n j (e ∙ ap (λ x. Some (try_of x)) is) in
+    let was : n ≡ k + 1 = subst (IsCounted k) at.1 counted in
+    let later : m < n = omega (arith, was, few) in
+    subst (λ x. IsBehind m (stage_after s x)) (sym is) (subst (λ x. IsBehind m (stage_after x (Intended n j))) (sym at.1) later))
     h

@@ -1,5 +1,5 @@
 -- Intents among the entries of a journal.
-use Rattle.std.proofs.Common.{◌≡◌, ⊎_elim, ℕ, zero, suc, ◌+◌, ◌≤◌, Bool, true, false, List, [], ◌∷◌, ◌++◌, length, Some, refl, sym, ap, ◌∙◌, subst, append_assoc, arith}
+use Rattle.std.proofs.Common.{◌≡◌, ◌⊎◌, inl, inr, ⊎_elim, ℕ, zero, suc, ◌+◌, ◌≤◌, Bool, true, false, List, [], ◌∷◌, ◌++◌, length, Some, refl, sym, ap, ◌∙◌, subst, append_assoc, arith}
 use Rattle.std.specs.List.{AllByRecursion, filter}
 use Rattle.std.specs.Prelude.{cond, ◌||◌, ◌==◌}
 use Rattle.std.proofs.lemmas.Bool.{true≢false, cases_eq, eqb-true}
@@ -27,16 +27,24 @@ entry_stays n line old new grows has =
     let (front, time, back, split) = has in
     (front, time, back ++ more, is ∙ ap (λ l. l ++ more) split ∙ append_assoc front (IntentOf n line time ∷ back) more)
 
--- one of the entries behind which only answers stand is no answer
-
-abbrev head_or : Entry → List Entry → Entry
+abbrev pub head_or : Entry → List Entry → Entry
 head_or d [] = d
 head_or d (x ∷ xs) = x
 
-abbrev tail_of : List Entry → List Entry
+abbrev pub tail_of : List Entry → List Entry
 tail_of [] = []
 tail_of (x ∷ xs) = xs
 
+-- one of two lists has it
+pub entry_in_either : (n line : ℕ) (xs ys : List Entry) → HasEntry n line (xs ++ ys) → HasEntry n line xs ⊎ HasEntry n line ys
+entry_in_either n line [] ys has = inr has
+entry_in_either n line (x ∷ xs) ys ([], time, back, e) = inl ([], time, xs, ap (λ y. y ∷ xs) (ap (head_or x) e))
+entry_in_either n line (x ∷ xs) ys (y ∷ front, time, back, e) = ⊎_elim
+    (λ (here : HasEntry n line xs). let (before, at, after, is) = here in inl (x ∷ before, at, after, ap (λ l. x ∷ l) is))
+    (λ (there : HasEntry n line ys). inr there)
+    (entry_in_either n line xs ys (front, time, back, ap tail_of e))
+
+-- one of the entries behind which only answers stand is no answer
 pub entry_before : (n line : ℕ) (seen missed : List Entry) → AllByRecursion IsAnswer missed → (front : List Entry) (time : ℕ) (back : List Entry)
     → seen ++ missed ≡ front ++ IntentOf n line time ∷ back → HasEntry n line seen
 entry_before n line [] missed answers front time back e =

@@ -1,6 +1,6 @@
 -- There are runs: the machine stops while the only intent is put, and it is lost; a process dies while its partner performs the line;
 -- a person says that it wasn't done, and another process performs it in another round.
-use Rattle.std.proofs.Common.{◌≡◌, ℕ, zero, suc, ◌≤◌, Bool, true, false, List, [], ◌∷◌, Some, None, refl, arith, ⊎_elim, subst, sym}
+use Rattle.std.proofs.Common.{◌≡◌, ℕ, zero, suc, ◌≤◌, Bool, true, false, List, [], ◌∷◌, ◌++◌, Some, None, refl, arith, ⊎_elim, subst, sym}
 use Rattle.std.specs.Prelude.{⊤, ◌==◌, ◌&&◌, ◌||◌, if◌then◌else◌}
 use Rattle.std.proofs.lemmas.Bool.{cases_eq, and_parts, eqb-true}
 use Rattle.amo_kk.specs.Givens.{IsWorker}
@@ -41,7 +41,7 @@ one_job = record { jobs = 1; workers = 1; beta = 1; limits = within_limits 1 1 1
 only_worker : IsWorker one_job 1
 only_worker = record { low = omega arith; high = omega arith }
 
-number_1 : IsNumber 1
+pub number_1 : IsNumber 1
 number_1 = record { low = omega arith; high = omega arith }
 
 number_2 : IsNumber 2
@@ -51,17 +51,18 @@ number_2 = record { low = omega arith; high = omega arith }
 abbrev record_by : (round first : ℕ) → RecordView
 record_by round first = record { round = round; boot = []; givens = record { jobs = 1; workers = 1; beta = 1 }; workers = 2; first = first; lines = 1 ∷ [] }
 
-abbrev pending : Attempt
+abbrev pub pending : Attempt
 pending = record { line = 1; time = 20; answer = None }
 
-abbrev in_doubt : Attempt
+abbrev pub in_doubt : Attempt
 in_doubt = record { line = 1; time = 20; answer = Some NotedDoubt }
 
-abbrev undone : Finding
+abbrev pub undone : Finding
 undone = record { verdict = NotDone; worker = 1; serial = 1; time = 40 }
 
-abbrev pub events : List Event
-events =
+-- an intent is lost; then one is kept
+abbrev pub intended : List Event
+intended =
     Starts 1 [] ∷
     RoundBegins one_job (record_by 1 1) 1 ∷
     Joins 1 1 1 ∷
@@ -80,13 +81,23 @@ events =
     Acts 1 20 (Loaded 3 0) ∷
     Acts 1 20 (Stored 1 1) ∷
     Acts 1 20 (Stored 2 1) ∷
-    Acts 1 20 (Intended 1 1) ∷
-    Misses 1 20 (Perform 1 1) ∷
+    Acts 1 20 (Intended 1 1) ∷ []
+
+-- and its line is handed over, while the process dies
+abbrev pub handed : List Event
+handed = intended ++ Misses 1 20 (Perform 1 1) ∷ []
+
+-- another process asks for it, and notes that it is in doubt
+abbrev pub asked : List Event
+asked =
     Starts 1 (pending ∷ []) ∷
     Acts 1 30 (Asked 1 1 (Answered 1 Doubt Leave)) ∷
     Acts 1 30 (Noted 1 Doubt) ∷
-    Dies 1 ∷
-    Says undone ∷
+    Dies 1 ∷ []
+
+-- another worker has the line in another round, and performs it
+abbrev pub again : List Event
+again =
     Starts 2 [] ∷
     RoundBegins one_job (record_by 3 2) 1 ∷
     Joins 2 1 1 ∷
@@ -100,6 +111,9 @@ events =
     Acts 2 50 (Noted 1 (Done 0)) ∷
     Acts 2 50 (Stored 3 1) ∷ []
 
+abbrev pub events : List Event
+events = handed ++ asked ++ Says undone ∷ again
+
 -- by all but the intent of which the person spoke
 abbrev pub truly : ℕ → ℕ → Bool
 truly p n = p == 2
@@ -110,7 +124,6 @@ is_run = (
   (
     record {
       nobody = each _ ((((((((((((((((tt, refl), refl), refl), refl), refl), refl), refl), refl), refl), refl), refl), refl), refl), refl), refl), refl);
-      grown = omega arith;
       findings = [];
       findings_seen = ([], refl);
       entries = λ p. [];
@@ -121,10 +134,9 @@ is_run = (
       sound = refl;
       jobs = refl;
       workers = refl;
-      beta = refl;
     },
     (
-      record { number = number_1; asked = refl; joinable = refl; round = _; stands = refl; seat = refl; attempts = []; journal = refl; next = refl },
+      record { asked = refl; joinable = refl; round = _; stands = refl; seat = refl; attempts = []; journal = refl; next = refl },
       (
         (number_1, (only_worker, refl, refl)),
         (
@@ -144,7 +156,6 @@ is_run = (
                       (
                         record {
                           nobody = each _ ((((((((((((((((tt, refl), refl), refl), refl), refl), refl), refl), refl), refl), refl), refl), refl), refl), refl), refl), refl);
-                          grown = omega arith;
                           findings = [];
                           findings_seen = ([], refl);
                           entries = λ p. [];
@@ -155,10 +166,9 @@ is_run = (
                           sound = refl;
                           jobs = refl;
                           workers = refl;
-                          beta = refl;
                         },
                         (
-                          record { number = number_1; asked = refl; joinable = refl; round = _; stands = refl; seat = refl; attempts = []; journal = refl; next = refl },
+                          record { asked = refl; joinable = refl; round = _; stands = refl; seat = refl; attempts = []; journal = refl; next = refl },
                           (
                             (number_1, (only_worker, refl, refl)),
                             (
@@ -182,13 +192,12 @@ is_run = (
                                               (
                                                 tt,
                                                 (
-                                                  record { number = number_1; attempts = in_doubt ∷ []; journal = refl; low = omega arith; high = omega arith },
+                                                  record { attempts = in_doubt ∷ []; journal = refl; high = omega arith },
                                                   (
                                                     (number_2, refl),
                                                     (
                                                       record {
                                                         nobody = each _ ((((((((((((((((tt, refl), refl), refl), refl), refl), refl), refl), refl), refl), refl), refl), refl), refl), refl), refl), refl);
-                                                        grown = omega arith;
                                                         findings = undone ∷ [];
                                                         findings_seen = ([], refl);
                                                         entries = λ p. if p == 1 then IntentOf 1 1 20 ∷ AnswerTo 1 NotedDoubt ∷ [] else [];
@@ -199,10 +208,9 @@ is_run = (
                                                         sound = refl;
                                                         jobs = refl;
                                                         workers = refl;
-                                                        beta = refl;
                                                       },
                                                       (
-                                                        record { number = number_2; asked = refl; joinable = refl; round = _; stands = refl; seat = refl; attempts = []; journal = refl; next = refl },
+                                                        record { asked = refl; joinable = refl; round = _; stands = refl; seat = refl; attempts = []; journal = refl; next = refl },
                                                         (
                                                           (number_2, (only_worker, refl, refl)),
                                                           (

@@ -2,6 +2,7 @@
 use Rattle.std.proofs.Common.{◌≡◌, ◌⊎◌, inl, inr, ⊎_elim, ℕ, ◌+◌, ◌≤◌, true, false, List, [], ◌∷◌, ◌++◌, Option, Some, None, take, refl, sym, ap, ◌∙◌, subst, append-nil, append_assoc}
 use Rattle.std.specs.Prelude.{⊤, ◌==◌}
 use Rattle.std.proofs.lemmas.Bool.{true≢false, cases_Bool, eq-eqb, or_left, or_right}
+use Rattle.std.proofs.lemmas.Option.{none-some, same_Some}
 use Rattle.amo_sets.specs.Lists.{numbered, table}
 use Rattle.amo_sets.specs.Sets.{has}
 use Rattle.amo_sets.proofs.Numbers.{has-append}
@@ -14,9 +15,11 @@ use Rattle.amo_course.specs.declared.model.Try.TheVariants.{Load, Store, Find, I
 use Rattle.amo_course.specs.Stage.{Stage, Performing}
 use Rattle.amo_course.specs.Course.{try_of, due}
 use Rattle.amo_history.specs.Scene.{stage_at, scene_of, MayBe, handed_by, handed_by_try, handed_jobs}
+use Rattle.amo_history.specs.Tries.{worker_of, tried_in}
 use Rattle.amo_history.specs.declared.model.Moment.{Moment}
 use Rattle.amo_history.specs.declared.model.Moment.TheVariants.{Does, Loses, Begins}
-use Rattle.amo_history.proofs.Courses.{performing_at}
+use Rattle.amo_history.proofs.Stages.{performing_at}
+use Rattle.amo_history.proofs.Intents.{tried_due}
 use Rattle.amo_ledger.specs.declared.entry.Entry.{Entry}
 use Rattle.amo_ledger.specs.Findings.{is_undone}
 use Rattle.amo_ledger.specs.Grammar.{intents}
@@ -97,28 +100,27 @@ past_at Away moment rounds last said h past = past
 past_at (Before s) moment rounds last said h past = past
 past_at (Inside k q) moment rounds last said h past = past_in rounds k (moment q) last said h past
 
--- a line that is in a new round was opened
-opened_then : (w : World) (said : List (ℕ × ℕ)) (h : Handing) (g : Givens) (r : RecordView) (lines : ℕ) → IsSane w said → WasHanded w said h → MayBegin w g r lines
-    → (j : ℕ) → IsJob g j → numbered 0 r.lines j ≡ h.line → is_among said h.worker h.serial ≡ true
-opened_then w said h g r lines sane was may j is line = ⊎_elim
-    (λ (yes : is_among said h.worker h.serial ≡ true). yes)
-    (λ (no : is_among said h.worker h.serial ≡ false). absurd (
-    let at = among_table may.attempts 16 h.worker was.number.low was.number.high in
-    let (missed, split, answers) = may.entries_seen h.worker was.number in
+-- a line that is in a new round was opened, by each intent of it that can be read
+pub opened_then : (w : World) (said : List (ℕ × ℕ)) (p n line : ℕ) (g : Givens) (r : RecordView) (lines : ℕ) → IsSane w said → IsNumber p → HasEntry n line (read_of (w.journals p))
+    → MayBegin w g r lines → (j : ℕ) → IsJob g j → numbered 0 r.lines j ≡ line → is_among said p n ≡ true
+opened_then w said p n line g r lines sane number has_entry may j is same = ⊎_elim
+    (λ (yes : is_among said p n ≡ true). yes)
+    (λ (no : is_among said p n ≡ false). absurd (
+    let at = among_table may.attempts 16 p number.low number.high in
+    let (missed, split, answers) = may.entries_seen p number in
     let (more, findings_split) = may.findings_seen in
-    let (front, time, back, stands) = entry_stays h.serial h.line (w.journals h.worker).kept (read_of (w.journals h.worker)) ((w.journals h.worker).loose, refl) was.entry in
-    let entry = entry_before h.serial h.line (may.entries h.worker) missed answers front time back (sym split ∙ stands) in
-    let read = all_left (OpensNot h.serial) (read_of (w.journals h.worker)) (w.journals h.worker).hidden (sane.answers h.worker h.serial no) in
-    let none = all_left (OpensNot h.serial) (may.entries h.worker) missed (subst (λ l. NoneOpens h.serial l) split read) in
-    let found = undone_left h.worker h.serial (read_of w.findings) w.findings.hidden (sane.findings h.worker h.serial no) in
-    let fewer = undone_left h.worker h.serial may.findings more (subst (λ l. is_undone l h.worker h.serial ≡ false) findings_split found) in
-    let undone = subst (λ k. is_undone may.findings k h.serial ≡ false) (sym at.place) fewer in
-    let closed = stays_closed lines may.findings at.before at.after (may.attempts h.worker) (may.entries h.worker) h.serial h.line
-    entry none undone (may.journals h.worker was.number) in
-    let there = subst (λ l. has r.lines l ≡ true) line (line_there r may.sound j is.low (subst (λ k. j ≤ k) may.jobs is.high)) in
-    let opened = open_there may.findings (table 16 may.attempts) lines h.line (may.are_open h.line there) in
-    true≢false (sym opened ∙ ap (λ l. is_open may.findings l h.line) at.is ∙ closed)))
-    (cases_Bool (is_among said h.worker h.serial))
+    let (front, time, back, stands) = has_entry in
+    let entry = entry_before n line (may.entries p) missed answers front time back (sym split ∙ stands) in
+    let read = all_left (OpensNot n) (read_of (w.journals p)) (w.journals p).hidden (sane.answers p n no) in
+    let none = all_left (OpensNot n) (may.entries p) missed (subst (λ l. NoneOpens n l) split read) in
+    let found = undone_left p n (read_of w.findings) w.findings.hidden (sane.findings p n no) in
+    let fewer = undone_left p n may.findings more (subst (λ l. is_undone l p n ≡ false) findings_split found) in
+    let undone = subst (λ k. is_undone may.findings k n ≡ false) (sym at.place) fewer in
+    let closed = stays_closed lines may.findings at.before at.after (may.attempts p) (may.entries p) n line entry none undone (may.journals p number) in
+    let there = subst (λ l. has r.lines l ≡ true) same (line_there r may.sound j is.low (subst (λ k. j ≤ k) may.jobs is.high)) in
+    let opened = open_there may.findings (table 16 may.attempts) lines line (may.are_open line there) in
+    true≢false (sym opened ∙ ap (λ l. is_open may.findings l line) at.is ∙ closed)))
+    (cases_Bool (is_among said p n))
 
 module _ (w : World) (said : List (ℕ × ℕ)) (sane : IsSane w said) (h : Handing) (was : WasHanded w said h) where
   still : (more : List (ℕ × ℕ)) → IsPast (w.rounds w.last) (said ++ more) h
@@ -128,7 +130,8 @@ module _ (w : World) (said : List (ℕ × ℕ)) (sane : IsSane w said) (h : Hand
   past_after (Dies p) may = still []
   past_after (Starts p es) may = still []
   past_after (RoundBegins g r lines) may = at_number (λ o. IsPast o (said ++ []) h) w.rounds (w.last + 1) (Some (record { givens = g; written = r; moments = [] })) (w.last + 1)
-      (λ e j is line. inl (among_more said [] h.worker h.serial (opened_then w said h g r lines sane was may j is line)))
+      (λ e j is line. inl (among_more said [] h.worker h.serial (opened_then w said h.worker h.serial h.line g r lines sane was.number
+      (entry_stays h.serial h.line (w.journals h.worker).kept (read_of (w.journals h.worker)) ((w.journals h.worker).loose, refl) was.entry) may j is line)))
       (λ n. absurd (n refl))
   past_after (Joins p q n) may = past_in w.rounds w.last (Begins q n) w.last (said ++ []) h (still [])
   past_after (Acts p time d) may = past_at (w.places p) (λ q. Does q d) w.rounds w.last (said ++ openings_by w (Acts p time d)) h (still (openings_by w (Acts p time d)))
@@ -153,30 +156,41 @@ pub record IsHere (w : World) (p n j : ℕ) (m : Moment) : Type 0 where
   pub entry : HasEntry n (numbered 0 round.written.lines j) (w.journals p).kept
   pub job : IsJob round.givens j
   pub fresh : has (handed_jobs round.moments) j ≡ false
-  pub hands : handed_by m ≡ j ∷ []
+  pub may : MayBe round.givens (scene_of round.givens round.moments) m
+  pub tries : tried_in m ≡ Some (Perform n j)
   -- where its process stands, and the number of its journal's intents
   pub seat : ℕ
+  pub of : worker_of m ≡ seat
   pub inside : w.places p ≡ Inside w.last seat
   pub process : ProcessView
   pub stage : stage_at (scene_of round.givens round.moments) seat ≡ Performing n process j
   pub counted : n ≡ intents (w.journals p).kept
 
+-- what a moment hands over that tries so
+hands_it : (m : Moment) (n j : ℕ) → tried_in m ≡ Some (Perform n j) → handed_by m ≡ j ∷ []
+hands_it (Does q d) n j is = ap handed_by_try (same_Some (try_of d) (Perform n j) is)
+hands_it (Loses q t) n j is = ap handed_by_try (same_Some t (Perform n j) is)
+hands_it (Begins q k) n j is = absurd (none-some (Perform n j) is)
+
 here_at : (o : Option Round) (w : World) (p q n j : ℕ) (m : Moment) → w.rounds w.last ≡ o → w.places p ≡ Inside w.last q → IsGoodIf o → FitsIn o (w.journals p) p q → MayBeIn o m
-    → handed_by m ≡ j ∷ []
-    → ((r : Round) → MayBe r.givens (scene_of r.givens r.moments) m → IsWorker r.givens q × (due (stage_at (scene_of r.givens r.moments) q) ≡ Some (Perform n j))) → IsHere w p n j m
-here_at None w p q n j m is inside good fits may hands given = absurd may
-here_at (Some r) w p q n j m is inside good fits may hands given =
-    let it = given r may in
-    let at = performing_at (stage_at (scene_of r.givens r.moments) q) n j it.1 in
+    → worker_of m ≡ q → tried_in m ≡ Some (Perform n j) → IsHere w p n j m
+here_at None w p q n j m is inside good fits may of tries = absurd may
+here_at (Some r) w p q n j m is inside good fits may of tries =
+    let due_there = tried_due r.givens (scene_of r.givens r.moments) m (Perform n j) may tries in
+    let worker = subst (IsWorker r.givens) of due_there.0 in
+    let its_due = subst (λ k. due (stage_at (scene_of r.givens r.moments) k) ≡ Some (Perform n j)) of due_there.1 in
+    let at = performing_at (stage_at (scene_of r.givens r.moments) q) n j its_due in
     record {
       round = r;
       stands = is;
       good = good;
       entry = subst (λ s. IsPut r.written.lines (w.journals p).kept s) at.1 fits.1.1;
-      job = handed_job r.givens r.moments good.history q n j it.0 it.1;
-      fresh = handed_first r.givens r.moments good.history m j may hands;
-      hands = hands;
+      job = handed_job r.givens r.moments good.history q n j worker its_due;
+      fresh = handed_first r.givens r.moments good.history m j may (hands_it m n j tries);
+      may = may;
+      tries = tries;
       seat = q;
+      of = of;
       inside = inside;
       process = at.0;
       stage = at.1;
@@ -255,13 +269,12 @@ module _ (w : World) (said : List (ℕ × ℕ)) (sane : IsSane w said) (p : ℕ)
     pub lines : lines_at w.rounds place ≡ here.round.written.lines
     pub afterwards : with_moment_at place moment w.rounds w.last ≡ with_moment (moment seat) (w.rounds w.last)
 
-  found : (k q : ℕ) → w.places p ≡ Inside k q → (moment : ℕ → Moment) (n j : ℕ) → MayBeIn (w.rounds k) (moment q) → handed_by (moment q) ≡ j ∷ []
-      → ((r : Round) → MayBe r.givens (scene_of r.givens r.moments) (moment q) → IsWorker r.givens q × (due (stage_at (scene_of r.givens r.moments) q) ≡ Some (Perform n j)))
+  found : (k q : ℕ) → w.places p ≡ Inside k q → (moment : ℕ → Moment) (n j : ℕ) → MayBeIn (w.rounds k) (moment q) → worker_of (moment q) ≡ q → tried_in (moment q) ≡ Some (Perform n j)
       → Found (Inside k q) moment n j
-  found k q at moment n j may hands given =
+  found k q at moment n j may of tries =
       let fits : Fits w.rounds w.last (w.journals p) p (Inside k q) = subst (λ place. Fits w.rounds w.last (w.journals p) p place) at (sane.places p) in
       let here = here_at (w.rounds w.last) w p q n j (moment q) refl (at ∙ ap (λ x. Inside x q) fits.0) (sane.rounds w.last)
-      (subst (λ x. FitsIn (w.rounds x) (w.journals p) p q) fits.0 fits.1) (subst (λ x. MayBeIn (w.rounds x) (moment q)) fits.0 may) hands given in
+      (subst (λ x. FitsIn (w.rounds x) (w.journals p) p q) fits.0 fits.1) (subst (λ x. MayBeIn (w.rounds x) (moment q)) fits.0 may) of tries in
       record {
         seat = q;
         here = here;
@@ -277,12 +290,12 @@ module _ (w : World) (said : List (ℕ × ℕ)) (sane : IsSane w said) (p : ℕ)
   acts_here : (place : Place) → w.places p ≡ place → (d : Deed) (n j : ℕ) → try_of d ≡ Perform n j → MayAct w.rounds place d → Found place (λ q. Does q d) n j
   acts_here Away at d n j is may = absurd may
   acts_here (Before s) at d n j is may = absurd (asks_nothing s at n j (may ∙ ap (λ t. Some t) is))
-  acts_here (Inside k q) at d n j is may = found k q at (λ q. Does q d) n j may (ap handed_by_try is) (λ r it. (it.0, it.1 ∙ ap (λ t. Some t) is))
+  acts_here (Inside k q) at d n j is may = found k q at (λ q. Does q d) n j may refl (ap (λ t. Some t) is)
 
   misses_here : (place : Place) → w.places p ≡ place → (t : Try) (n j : ℕ) → t ≡ Perform n j → MayMiss w.rounds place t → Found place (λ q. Loses q t) n j
   misses_here Away at t n j is may = absurd may
   misses_here (Before s) at t n j is may = absurd (asks_nothing s at n j (may ∙ ap (λ t. Some t) is))
-  misses_here (Inside k q) at t n j is may = found k q at (λ q. Loses q t) n j may (ap handed_by_try is) (λ r it. (it.0, it.1 ∙ ap (λ t. Some t) is))
+  misses_here (Inside k q) at t n j is may = found k q at (λ q. Loses q t) n j may refl (ap (λ t. Some t) is)
 
   now_acted : (time : ℕ) (d : Deed) (h : Handing) → IsNumber p → (of : IsOfTry p (lines_at w.rounds (w.places p)) (try_of d) h) → Found (w.places p) (λ q. Does q d) of.serial of.job → IsNow w (Acts p time d) h
   now_acted time d h number of it = subst (λ x. IsNow w (Acts p time d) x) of.is (record {
@@ -335,7 +348,7 @@ now_handed w said e h now =
           ∙ ap (λ l. has l now.job) (handed_then here.round.moments now.moment)
           ∙ has-append (handed_jobs here.round.moments) (handed_by now.moment) now.job
           ∙ or_right (has (handed_jobs here.round.moments) now.job) (has (handed_by now.moment) now.job)
-          (ap (λ l. has l now.job) here.hands ∙ or_left (now.job == now.job) false (eq-eqb now.job now.job refl))));
+          (ap (λ l. has l now.job) (hands_it now.moment h.serial now.job here.tries) ∙ or_left (now.job == now.job) false (eq-eqb now.job now.job refl))));
     }
 
 -- a line that was handed over is handed over again only where it was opened

@@ -9,19 +9,20 @@ use Rattle.amo_kk.specs.Givens.{IsWorker, IsJob}
 use Rattle.amo_kk.specs.Lawful.{FitsPhase}
 use Rattle.amo_kk.specs.declared.givens.Givens.{Givens}
 use Rattle.amo_process.specs.Heard.{standing_of}
-use Rattle.amo_process.specs.Shared.{first_shared, shared_of}
+use Rattle.amo_process.specs.Shared.{shared_of, AreOfWorkers}
 use Rattle.amo_process.specs.declared.model.Happening.{Happening}
 use Rattle.amo_process.proofs.Hearing.{going_sound}
 use Rattle.amo_course.specs.declared.model.Deed.{Deed}
 use Rattle.amo_course.specs.declared.model.Try.{Try}
-use Rattle.amo_course.specs.declared.model.Try.TheVariants.{Perform}
+use Rattle.amo_course.specs.declared.model.Try.TheVariants.{Intend, Perform}
 use Rattle.amo_course.specs.Stage.{Gone, Broken}
 use Rattle.amo_course.specs.Course.{due, stage_after, first_stage}
 use Rattle.amo_history.specs.Scene.{Scene, first_scene, stage_at, scene_after, scene_after_all, scene_of, MayBe, IsHistoryFrom, IsHistory, handed_by, handed_jobs}
+use Rattle.amo_history.specs.Tries.{worker_of}
 use Rattle.amo_history.specs.declared.model.Moment.{Moment}
 use Rattle.amo_history.specs.declared.model.Moment.TheVariants.{Does, Loses, Begins}
-use Rattle.amo_history.proofs.Histories.{happenings_at, shared-append, ShowsScene, stage_is, first_scene_shows, moment_shows}
-use Rattle.amo_history.proofs.Spent.{here_told}
+use Rattle.amo_history.proofs.Histories.{ShowsScene, stage_is, shown_all}
+use Rattle.amo_history.proofs.Spent.{IsTold, here_told, here_intends}
 use Rattle.amo_history.proofs.Claims.{told_holds}
 use Rattle.amo_history.proofs.Once.{handed_once}
 
@@ -37,26 +38,12 @@ handed_more : (ms : List Moment) (m : Moment) → handed_jobs (ms ++ m ∷ []) �
 handed_more [] m = append-nil (handed_by m)
 handed_more (x ∷ ms) m = ap (λ l. handed_by x ++ l) (handed_more ms m) ∙ sym (append_assoc (handed_by x) (handed_jobs ms) (handed_by m))
 
--- what processes have heard shows each scene of a history
-shown_from : (g : Givens) (sc : Scene) (hs : List Happening) (ms : List Moment) → ShowsScene g sc (shared_of g hs) → IsHistoryFrom g sc ms
-    → (all : List Happening) × ShowsScene g (scene_after_all g sc ms) (shared_of g all)
-shown_from g sc hs [] shows h = (hs, shows)
-shown_from g sc hs (m ∷ ms) shows h = shown_from g (scene_after g sc m) (hs ++ happenings_at sc m) ms
-    (subst (λ y. ShowsScene g (scene_after g sc m) y) (sym (shared-append g (first_shared g) hs (happenings_at sc m))) (moment_shows g sc (shared_of g hs) m shows h.0))
-    h.1
-
 last_differs : (xs : List ℕ) (j : ℕ) → AreDistinct (xs ++ j ∷ []) → has xs j ≡ false
 last_differs [] j h = refl
 last_differs (x ∷ xs) j h = ⊎_elim
     (λ (e : x ≡ j). absurd (true≢false (sym (has_push xs j) ∙ ap (λ k. has (xs ++ j ∷ []) k) (sym e) ∙ h.0)))
     (λ n. or_from (x == j) (has xs j) (ne_eqb x j n) (last_differs xs j h.1))
     (cases_eq x j)
-
--- the worker of a moment
-abbrev pub worker_of : Moment → ℕ
-worker_of (Does q d) = q
-worker_of (Loses q t) = q
-worker_of (Begins q n) = q
 
 -- another worker stands where it stood
 other_stands : (g : Givens) (sc : Scene) (m : Moment) (q : ℕ) → q ≢ worker_of m → stage_at (scene_after g sc m) q ≡ stage_at sc q
@@ -71,8 +58,8 @@ module _ (g : Givens) (ms : List Moment) (h : IsHistory g ms) where
   scene_is : (m : Moment) → scene_of g (ms ++ m ∷ []) ≡ scene_after g (scene_of g ms) m
   scene_is m = scene_more g (first_scene g) ms m
 
-  shows : (all : List Happening) × ShowsScene g (scene_of g ms) (shared_of g all)
-  shows = shown_from g (first_scene g) [] ms (first_scene_shows g) h
+  shows : (all : List Happening) × AreOfWorkers g all × ShowsScene g (scene_of g ms) (shared_of g all)
+  shows = shown_all g ms h
 
   pub others_stand : (m : Moment) (q : ℕ) → q ≢ worker_of m → stage_at (scene_of g (ms ++ m ∷ [])) q ≡ stage_at (scene_of g ms) q
   others_stand m q n = ap (λ (sc : Scene). stage_at sc q) (scene_is m) ∙ other_stands g (scene_of g ms) m q n
@@ -80,23 +67,28 @@ module _ (g : Givens) (ms : List Moment) (h : IsHistory g ms) where
   -- where the worker of the last moment stands after it
 
   pub stands_after : (q : ℕ) (d : Deed) → IsWorker g q → stage_at (scene_of g (ms ++ Does q d ∷ [])) q ≡ stage_after (stage_at (scene_of g ms) q) d
-  stands_after q d o = ap (λ (sc : Scene). stage_at sc q) (scene_is (Does q d)) ∙ stage_is g (scene_of g ms) (shared_of g shows.0) shows.1 q o (stage_after (stage_at (scene_of g ms) q) d)
+  stands_after q d o = ap (λ (sc : Scene). stage_at sc q) (scene_is (Does q d)) ∙ stage_is g (scene_of g ms) (shared_of g shows.0) shows.2 q o (stage_after (stage_at (scene_of g ms) q) d)
 
   pub stands_broken : (q : ℕ) (t : Try) → IsWorker g q → stage_at (scene_of g (ms ++ Loses q t ∷ [])) q ≡ Broken
-  stands_broken q t o = ap (λ (sc : Scene). stage_at sc q) (scene_is (Loses q t)) ∙ stage_is g (scene_of g ms) (shared_of g shows.0) shows.1 q o Broken
+  stands_broken q t o = ap (λ (sc : Scene). stage_at sc q) (scene_is (Loses q t)) ∙ stage_is g (scene_of g ms) (shared_of g shows.0) shows.2 q o Broken
 
   pub stands_first : (q n : ℕ) → IsWorker g q → stage_at (scene_of g (ms ++ Begins q n ∷ [])) q ≡ first_stage g q n
-  stands_first q n o = ap (λ (sc : Scene). stage_at sc q) (scene_is (Begins q n)) ∙ stage_is g (scene_of g ms) (shared_of g shows.0) shows.1 q o (first_stage g q n)
+  stands_first q n o = ap (λ (sc : Scene). stage_at sc q) (scene_is (Begins q n)) ∙ stage_is g (scene_of g ms) (shared_of g shows.0) shows.2 q o (first_stage g q n)
 
   -- what is handed over is a job, and was not handed over before
 
-  pub handed_job : (q n j : ℕ) → IsWorker g q → due (stage_at (scene_of g ms) q) ≡ Some (Perform n j) → IsJob g j
-  handed_job q n j o e =
+  told_job : (q j : ℕ) → IsWorker g q → IsTold g q (numbered [] (shared_of g shows.0).lists q) (stage_at (scene_of g ms) q) j → IsJob g j
+  told_job q j o told =
       let heard = numbered [] (shared_of g shows.0).lists q in
-      let told = here_told g q heard (stage_at (scene_of g ms) q) n j (shows.1.shown q o) e in
       let holds = told_holds j told.low (standing_of g q heard) told.told in
       let sound = going_sound g q heard holds.machine false o holds.stands in
       (subst (λ x. FitsPhase g q holds.machine.state x) holds.phase sound.stands).0
+
+  pub handed_job : (q n j : ℕ) → IsWorker g q → due (stage_at (scene_of g ms) q) ≡ Some (Perform n j) → IsJob g j
+  handed_job q n j o e = told_job q j o (here_told g q (numbered [] (shared_of g shows.0).lists q) (stage_at (scene_of g ms) q) n j (shows.2.shown q o) e)
+
+  pub intended_job : (q n j : ℕ) → IsWorker g q → due (stage_at (scene_of g ms) q) ≡ Some (Intend n j) → IsJob g j
+  intended_job q n j o e = told_job q j o (here_intends g q (numbered [] (shared_of g shows.0).lists q) (stage_at (scene_of g ms) q) n j (shows.2.shown q o) e)
 
   pub handed_first : (m : Moment) (j : ℕ) → MayBe g (scene_of g ms) m → handed_by m ≡ j ∷ [] → has (handed_jobs ms) j ≡ false
   handed_first m j may is = last_differs (handed_jobs ms) j (

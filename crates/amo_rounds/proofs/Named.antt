@@ -8,6 +8,7 @@ use Rattle.amo_course.specs.declared.model.Try.TheVariants.{Perform}
 use Rattle.amo_course.specs.Stage.{Stage, Performing, Asking}
 use Rattle.amo_course.specs.Course.{try_of, stage_after}
 use Rattle.amo_history.specs.Scene.{stage_at, scene_of}
+use Rattle.amo_history.specs.Tries.{worker_of}
 use Rattle.amo_history.specs.declared.model.Moment.{Moment}
 use Rattle.amo_history.specs.declared.model.Moment.TheVariants.{Does, Loses, Begins}
 use Rattle.amo_history.proofs.Spent.{is_spent, after_handing}
@@ -16,7 +17,7 @@ use Rattle.amo_ledger.specs.Grammar.{intents}
 use Rattle.amo_rounds.specs.File.{File}
 use Rattle.amo_rounds.specs.World.{Place, Away, Before, Inside, Round, World, first_world, Event, Dies, Starts, RoundBegins, Joins, Acts, Misses, Says, SaysUnheard, SaysUnread, Stops, IsNumber, is_inside, with_at, lines_at}
 use Rattle.amo_rounds.specs.Run.{left_in, place_after, place_missing, with_moment, with_moment_at, world_after, MayJoin, MayBeIn, MayAct, MayMiss, MayHappen, IsRunFrom, IsRun, Handing, handings_by, handings_from, handings, openings_by, is_among, IsOneOf, names_of, AreDifferent}
-use Rattle.amo_rounds.proofs.Moments.{worker_of, stands_after, stands_broken, stands_first}
+use Rattle.amo_rounds.proofs.Moments.{stands_after, stands_broken, stands_first}
 use Rattle.amo_rounds.proofs.Stages.{is_performing}
 use Rattle.amo_rounds.proofs.Counted.{intents_grow, IsBehind, behind_unless, behind_then}
 use Rattle.amo_rounds.proofs.Sane.{at_number, IsGood, IsGoodIf, FitsIn, HasSeat, seat_in, number_in, Fits, stands_still, IsSane, first_sane}
@@ -25,18 +26,18 @@ use Rattle.amo_rounds.proofs.Steps.{sane_after}
 use Rattle.amo_rounds.proofs.Handed.{kept_grows, IsNow, handed_now, of_try, one_at_most, split_one}
 
 -- the next intent that this worker of the round hands over has a greater number
-abbrev BehindIn : Option Round → ℕ → ℕ → Type 0
+abbrev pub BehindIn : Option Round → ℕ → ℕ → Type 0
 BehindIn None q m = ⊤
 BehindIn (Some r) q m = IsBehind m (stage_at (scene_of r.givens r.moments) q)
 
 -- the same of who is here
-abbrev BehindAt : (ℕ → Option Round) → Place → ℕ → Type 0
+abbrev pub BehindAt : (ℕ → Option Round) → Place → ℕ → Type 0
 BehindAt rounds Away m = ⊤
 BehindAt rounds (Before s) m = ⊤
 BehindAt rounds (Inside k q) m = BehindIn (rounds k) q m
 
 -- It was handed over: what its worker is still to hand over has another number.
-record WasNamed (w : World) (h : Handing) : Type 0 where
+pub record WasNamed (w : World) (h : Handing) : Type 0 where
   pub few : h.serial ≤ intents (w.journals h.worker).kept
   pub behind : BehindAt w.rounds (w.places h.worker) h.serial
 
@@ -152,7 +153,7 @@ module _ (w : World) (said : List (ℕ × ℕ)) (sane : IsSane w said) where
     behind_after (SaysUnread f) may = was.behind
     behind_after (Stops left n) may = tt
 
-    named_after : (e : Event) → MayHappen w e → WasNamed (world_after w e) h
+    pub named_after : (e : Event) → MayHappen w e → WasNamed (world_after w e) h
     named_after e may =
         let more = intents_grow (w.journals h.worker).kept ((world_after w e).journals h.worker).kept (kept_grows w e h.worker) in
         let few = was.few in
@@ -187,13 +188,13 @@ module _ (w : World) (said : List (ℕ × ℕ)) (sane : IsSane w said) where
   now_behind (SaysUnread f) may k one = absurd one
   now_behind (Stops left n) may k one = absurd one
 
-  now_named : (e : Event) → MayHappen w e → (k : Handing) → IsOneOf (handings_by w e) k → WasNamed (world_after w e) k
+  pub now_named : (e : Event) → MayHappen w e → (k : Handing) → IsOneOf (handings_by w e) k → WasNamed (world_after w e) k
   now_named e may k one =
       let more = intents_grow (w.journals k.worker).kept ((world_after w e).journals k.worker).kept (kept_grows w e k.worker) in
       let counted = (handed_now w said sane e may k one).here.counted in
       record { few = omega (arith, counted, more); behind = now_behind e may k one }
 
-differs : (w : World) (e : Event) (h k : Handing) → WasNamed w h → IsNow w e k → h.worker ≡ k.worker → h.serial ≡ k.serial → ⊥
+pub differs : (w : World) (e : Event) (h k : Handing) → WasNamed w h → IsNow w e k → h.worker ≡ k.worker → h.serial ≡ k.serial → ⊥
 differs w e h k was now one same =
     let here = now.here in
     let at_k = subst (λ x. BehindAt w.rounds (w.places x) h.serial) one was.behind in
@@ -211,7 +212,7 @@ never_named w said (e ∷ es) sane run h was k one = ⊎_elim
     never_named (world_after w e) (said ++ openings_by w e) es (sane_after w said sane e run.0) run.1 h (named_after w said sane h was e run.0) k later)
     (split_one (handings_by w e) (handings_from (world_after w e) es) k one)
 
-unnamed : (hs : List Handing) (p n : ℕ) → ((k : Handing) → IsOneOf hs k → p ≡ k.worker → n ≡ k.serial → ⊥) → is_among (names_of hs) p n ≡ false
+pub unnamed : (hs : List Handing) (p n : ℕ) → ((k : Handing) → IsOneOf hs k → p ≡ k.worker → n ≡ k.serial → ⊥) → is_among (names_of hs) p n ≡ false
 unnamed [] p n none = refl
 unnamed (k ∷ hs) p n none =
     or_from ((k.worker == p) && (k.serial == n)) (is_among (names_of hs) p n)

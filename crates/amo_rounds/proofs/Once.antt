@@ -9,7 +9,7 @@ use Rattle.amo_ledger.specs.declared.entry.Entry.{Entry}
 use Rattle.amo_ledger.proofs.Seats.{one_each}
 use Rattle.amo_rounds.specs.File.{File}
 use Rattle.amo_rounds.specs.World.{Inside, Round, World, first_world, Event}
-use Rattle.amo_rounds.specs.Run.{world_after, MayHappen, IsRunFrom, IsRun, world_after_all, world_of, Handing, handings_by, handings_from, handings, openings_by, openings_from, openings, is_among, AreUnperformed, performed_lines, IsOneOf, IsKept}
+use Rattle.amo_rounds.specs.Run.{world_after, IsRunFrom, IsRun, world_after_all, world_of, Handing, handings_by, handings_from, handings, openings_by, openings_from, openings, is_among, AreUnperformed, performed_lines, IsOneOf, IsKept}
 use Rattle.amo_rounds.proofs.Openings.{among_more}
 use Rattle.amo_rounds.proofs.Records.{sound_parts}
 use Rattle.amo_rounds.proofs.Sane.{FitsIn, Fits, IsGoodIf, IsSane, first_sane}
@@ -17,7 +17,7 @@ use Rattle.amo_rounds.proofs.Steps.{sane_after, sane_after_all}
 use Rattle.amo_rounds.proofs.Handed.{one_at_most, split_one, WasHanded, handed_after, handed_now, now_handed, opened_before, handed_after_all}
 
 module _ (performed : ℕ → ℕ → Bool) where
-  lines-append : (xs ys : List Handing) → performed_lines performed (xs ++ ys) ≡ performed_lines performed xs ++ performed_lines performed ys
+  pub lines-append : (xs ys : List Handing) → performed_lines performed (xs ++ ys) ≡ performed_lines performed xs ++ performed_lines performed ys
   lines-append [] ys = refl
   lines-append (h ∷ xs) ys = by (performed h.worker h.serial) (lines-append xs ys)
     where
@@ -27,14 +27,15 @@ module _ (performed : ℕ → ℕ → Bool) where
       by true e = ap (λ l. h.line ∷ l) e
       by false e = e
 
-  -- none of these is of that line
-  none_of : (hs : List Handing) (line : ℕ) → ((k : Handing) → IsOneOf hs k → k.line ≡ line → ⊥) → has (performed_lines performed hs) line ≡ false
+  -- none of these that was performed is of that line
+  pub none_of : (hs : List Handing) (line : ℕ) → ((k : Handing) → IsOneOf hs k → performed k.worker k.serial ≡ true → k.line ≡ line → ⊥) → has (performed_lines performed hs) line ≡ false
   none_of [] line none = refl
-  none_of (h ∷ hs) line none = by (performed h.worker h.serial) (none_of hs line (λ k one. none k (inr one)))
+  none_of (h ∷ hs) line none = by (performed h.worker h.serial) refl (none_of hs line (λ k one. none k (inr one)))
     where
-      by : (b : Bool) → has (performed_lines performed hs) line ≡ false → has (if b then h.line ∷ performed_lines performed hs else performed_lines performed hs) line ≡ false
-      by true e = or_from (h.line == line) (has (performed_lines performed hs) line) (ne_eqb h.line line (none h (inl refl))) e
-      by false e = e
+      by : (b : Bool) → performed h.worker h.serial ≡ b → has (performed_lines performed hs) line ≡ false
+          → has (if b then h.line ∷ performed_lines performed hs else performed_lines performed hs) line ≡ false
+      by true is e = or_from (h.line == line) (has (performed_lines performed hs) line) (ne_eqb h.line line (none h (inl refl) is)) e
+      by false is e = e
 
   -- what was handed over and performed isn't again
   never : (w : World) (said : List (ℕ × ℕ)) (es : List Event) → IsSane w said → IsRunFrom w es → AreUnperformed performed (said ++ openings_from w es)
@@ -44,7 +45,7 @@ module _ (performed : ℕ → ℕ → Bool) where
       ap (λ l. has l h.line) (lines-append (handings_by w e) (handings_from (world_after w e) es))
       ∙ has-append (performed_lines performed (handings_by w e)) (performed_lines performed (handings_from (world_after w e) es)) h.line
       ∙ or_from _ _
-      (none_of (handings_by w e) h.line (λ k one same. true≢false (sym done ∙ honest h.worker h.serial
+      (none_of (handings_by w e) h.line (λ k one its same. true≢false (sym done ∙ honest h.worker h.serial
       (among_more said (openings_from w (e ∷ es)) h.worker h.serial (opened_before w said e h k was (handed_now w said sane e run.0 k one) (sym same))))))
       (never (world_after w e) (said ++ openings_by w e) es (sane_after w said sane e run.0) run.1
       (subst (AreUnperformed performed) (sym (append_assoc said (openings_by w e) (openings_from (world_after w e) es))) honest)
@@ -76,9 +77,9 @@ performed_once performed es run honest = all_distinct performed first_world [] e
 
 -- the world of a run
 
-run_parts : (w : World) (before : List Event) (e : Event) (after : List Event) → IsRunFrom w (before ++ e ∷ after) → IsRunFrom w before × MayHappen (world_after_all w before) e
-run_parts w [] e after run = (tt, run.0)
-run_parts w (x ∷ before) e after run = let parts = run_parts (world_after w x) before e after run.1 in ((run.0, parts.0), parts.1)
+pub run_parts : (w : World) (before after : List Event) → IsRunFrom w (before ++ after) → IsRunFrom w before × IsRunFrom (world_after_all w before) after
+run_parts w [] after run = (tt, run)
+run_parts w (x ∷ before) after run = let parts = run_parts (world_after w x) before after run.1 in ((run.0, parts.0), parts.1)
 
 each_handed : (w : World) (said : List (ℕ × ℕ)) (es : List Event) → IsSane w said → IsRunFrom w es → (h : Handing) → IsOneOf (handings_from w es) h
     → WasHanded (world_after_all w es) (said ++ openings_from w es) h
@@ -100,9 +101,9 @@ kept_for_ever es h run one = (each_handed first_world [] es first_sane run h one
 pub again_only_opened : (before after : List Event) (e : Event) (h k : Handing) → IsRun (before ++ e ∷ after) → IsOneOf (handings before) h → IsOneOf (handings_by (world_of before) e) k
     → h.line ≡ k.line → is_among (openings before) h.worker h.serial ≡ true
 again_only_opened before after e h k run one other same =
-    let parts = run_parts first_world before e after run in
+    let parts = run_parts first_world before (e ∷ after) run in
     opened_before (world_of before) (openings before) e h k (each_handed first_world [] before first_sane parts.0 h one)
-    (handed_now (world_of before) (openings before) (sane_of before parts.0) e parts.1 k other) same
+    (handed_now (world_of before) (openings before) (sane_of before parts.0) e parts.1.0 k other) same
 
 pub round_history : (es : List Event) (k : ℕ) (r : Round) → IsRun es → (world_of es).rounds k ≡ Some r → IsHistory r.givens r.moments
 round_history es k r run is = (subst IsGoodIf is ((sane_of es run).rounds k)).history

@@ -1,8 +1,8 @@
 -- Intents of which it was said that they weren't begun or done, and what journals and findings then say.
-use Rattle.std.proofs.Common.{◌≡◌, ℕ, Bool, true, false, ◌&&◌, ◌||◌, List, [], ◌∷◌, ◌++◌, take, zero, suc, refl, sym, ap, ◌∙◌}
+use Rattle.std.proofs.Common.{◌≡◌, ◌⊎◌, ℕ, Bool, true, false, ◌&&◌, ◌||◌, List, [], ◌∷◌, ◌++◌, take, zero, suc, refl, sym, ap, ◌∙◌}
 use Rattle.std.specs.Prelude.{◌==◌, if◌then◌else◌}
 use Rattle.std.specs.List.{AllByRecursion, list_any}
-use Rattle.std.proofs.lemmas.Bool.{true≢false, eq-eqb, and_from, or_parts, or_from, or_left, or_right}
+use Rattle.std.proofs.lemmas.Bool.{true≢false, eq-eqb, and_from, or_cases, or_parts, or_from, or_left, or_right}
 use Rattle.amo_ledger.specs.declared.entry.Entry.{Entry}
 use Rattle.amo_ledger.specs.declared.entry.Entry.TheVariants.{Intent as IntentOf, Answer as AnswerTo}
 use Rattle.amo_ledger.specs.declared.finding.Finding.{Finding}
@@ -23,6 +23,12 @@ among-append (i ∷ is) js p n =
 
 pub among_parts : (is js : List (ℕ × ℕ)) (p n : ℕ) → is_among (is ++ js) p n ≡ false → (is_among is p n ≡ false) × (is_among js p n ≡ false)
 among_parts is js p n h = or_parts (is_among is p n) (is_among js p n) (sym (among-append is js p n) ∙ h)
+
+pub among_neither : (is js : List (ℕ × ℕ)) (p n : ℕ) → is_among is p n ≡ false → is_among js p n ≡ false → is_among (is ++ js) p n ≡ false
+among_neither is js p n h k = among-append is js p n ∙ or_from (is_among is p n) (is_among js p n) h k
+
+pub among_either : (is js : List (ℕ × ℕ)) (p n : ℕ) → is_among (is ++ js) p n ≡ true → (is_among is p n ≡ true) ⊎ (is_among js p n ≡ true)
+among_either is js p n h = or_cases (is_among is p n) (is_among js p n) (sym (among-append is js p n) ∙ h)
 
 pub among_more : (is js : List (ℕ × ℕ)) (p n : ℕ) → is_among is p n ≡ true → is_among (is ++ js) p n ≡ true
 among_more is js p n h = among-append is js p n ∙ or_left (is_among is p n) (is_among js p n) h

@@ -4,6 +4,7 @@ use Rattle.std.specs.Prelude.{⊤, if◌then◌else◌}
 use Rattle.std.proofs.lemmas.Bool.{true≢false, cases_eq, eq-eqb, ne_eqb}
 use Rattle.amo_course.specs.Stage.{Stage}
 use Rattle.amo_history.specs.Scene.{stage_at, scene_of, IsHistory}
+use Rattle.amo_history.specs.Tries.{worker_of}
 use Rattle.amo_history.specs.declared.model.Moment.{Moment}
 use Rattle.amo_ledger.specs.declared.entry.Entry.{Entry}
 use Rattle.amo_ledger.specs.Findings.{is_undone}
@@ -16,7 +17,7 @@ use Rattle.amo_rounds.specs.File.{File}
 use Rattle.amo_rounds.specs.World.{Place, Away, Before, Inside, Round, World, first_world, IsNumber, is_inside, with_at}
 use Rattle.amo_rounds.specs.Run.{with_moment, is_among}
 use Rattle.amo_rounds.proofs.Files.{all_of}
-use Rattle.amo_rounds.proofs.Moments.{worker_of, others_stand}
+use Rattle.amo_rounds.proofs.Moments.{others_stand}
 use Rattle.amo_rounds.proofs.Records.{sound_parts, seated_number}
 use Rattle.amo_rounds.proofs.Stages.{is_broken, is_asking, IsPut}
 use Rattle.amo_rounds.proofs.Counted.{IsCounted}

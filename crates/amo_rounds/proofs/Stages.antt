@@ -1,5 +1,5 @@
 -- Where a process may hand a job over, its intent is in the journal; and who asks for intents hands nothing over.
-use Rattle.std.proofs.Common.{◌≡◌, ℕ, zero, suc, ◌+◌, Bool, true, false, List, [], ◌∷◌, ◌++◌, Option, Some, None, refl, sym, ap, ◌∙◌, subst}
+use Rattle.std.proofs.Common.{◌≡◌, ℕ, zero, suc, ◌+◌, Bool, true, false, List, [], ◌∷◌, ◌++◌, Some, refl, sym, ap, ◌∙◌, subst}
 use Rattle.std.specs.Prelude.{⊤, ◌==◌, if◌then◌else◌}
 use Rattle.std.proofs.lemmas.Bool.{true≢false}
 use Rattle.std.proofs.lemmas.Option.{none-some}
@@ -18,7 +18,7 @@ use Rattle.amo_course.specs.declared.model.Try.TheVariants.{Intend, Perform}
 use Rattle.amo_course.specs.declared.past.Intent.{Intent}
 use Rattle.amo_course.specs.Stage.{Stage, Going, Finding, Intending, Performing, Noting, Leaving, Asking, Settling, Dismissed, Gone, Unanswered, Refused, Broken}
 use Rattle.amo_course.specs.Course.{try_of, due, stage_by_jobs, stage_heard, stage_told, stage_replied, stage_asking, stage_asked, stage_after}
-use Rattle.amo_history.proofs.Stages.{performing_only}
+use Rattle.amo_history.proofs.Stages.{performing_only, serial_in, job_in}
 use Rattle.amo_ledger.specs.declared.entry.Entry.{Entry}
 use Rattle.amo_ledger.specs.declared.entry.Entry.TheVariants.{Intent as IntentOf}
 use Rattle.amo_rounds.specs.Run.{entries_of_try, has_fallen}
@@ -188,18 +188,6 @@ module _ (Q R : Stage → Type 0) (unless : (s : Stage) → is_performing s ≡ 
   any_then s (Noted n c) intended h = noted_then s n c h
   any_then s (Asked n line reply) intended h = asked_for_then s n line reply h
   any_then s (Fell t) intended h = unless Broken refl
-
--- where an intent is due, it is due by just this number and job
-
-abbrev pub serial_in : Option Try → ℕ
-serial_in None = 0
-serial_in (Some (Intend n j)) = n
-serial_in (Some t) = 0
-
-abbrev job_in : Option Try → ℕ
-job_in None = 0
-job_in (Some (Intend n j)) = j
-job_in (Some t) = 0
 
 -- what a deed puts: nothing, where it has failed
 abbrev pub entries_of_deed : List ℕ → (time : ℕ) → Deed → List Entry

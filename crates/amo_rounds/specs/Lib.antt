@@ -3,3 +3,5 @@ pub mod World
 pub mod Run
 pub mod Asked
 pub mod Shown
+pub mod Commands
+pub mod Fewer

@@ -125,10 +125,9 @@ MissesSome seen all = (missed : List Finding) × (all ≡ seen ++ missed)
 
 -- Nobody is in a round: who begins one holds its lock alone. It has read the findings and then each journal, and answers and findings
 -- may have come since; no intents, since those come of who is in a round. Each journal can be read, and by what all 16 say, and what
--- persons said, each line of the record is open. Which of the open lines it has, and who begins it, is free.
+-- persons said, each line of the record is open. Which of the open lines it has, who begins it, and its threshold are free.
 pub record MayBegin (w : World) (g : Givens) (r : RecordView) (lines : ℕ) : Type 0 where
   pub nobody : (p : ℕ) → IsNumber p → is_inside (w.places p) ≡ false
-  pub grown : w.lines ≤ lines
   pub findings : List Finding
   pub findings_seen : MissesSome findings (read_of w.findings)
   pub entries : ℕ → List Entry
@@ -139,11 +138,9 @@ pub record MayBegin (w : World) (g : Givens) (r : RecordView) (lines : ℕ) : Ty
   pub sound : is_sound r ≡ true
   pub jobs : g.jobs ≡ r.givens.jobs
   pub workers : g.workers ≡ r.givens.workers
-  pub beta : g.beta ≡ r.givens.beta
 
 -- The process has asked for all that was left, the last round is of this boot, and it has its seat by the record. Its next intent is the next of its journal.
 pub record MayJoin (w : World) (p q n : ℕ) : Type 0 where
-  pub number : IsNumber p
   pub asked : w.places p ≡ Before (Asking [])
   pub joinable : w.joinable ≡ true
   pub round : Round
@@ -172,10 +169,8 @@ MayMiss rounds (Inside k q) t = MayBeIn (rounds k) (Loses q t)
 
 -- A person speaks of an intent of which it is known that every stop leaves it: the journal was settled behind it.
 pub record IsOfIntent (w : World) (f : Finding) : Type 0 where
-  pub number : IsNumber f.worker
   pub attempts : List Attempt
   pub journal : journal_of w.lines (w.journals f.worker).kept ≡ Some attempts
-  pub low : 1 ≤ f.serial
   pub high : f.serial ≤ length attempts
 
 abbrev pub MayHappen : World → Event → Type 0

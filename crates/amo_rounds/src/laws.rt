@@ -1,5 +1,5 @@
 //! The theorems over the definitions. Nothing here runs: each function's contract is a law.
-ghost use Rattle.std.specs.Prelude.{◌≡◌, ◌≤◌, ◌+◌, ℕ, Bool, true, List, [], ◌∷◌, ◌++◌, Some, length};
+ghost use Rattle.std.specs.Prelude.{◌≡◌, ◌⊎◌, ◌≤◌, ◌+◌, ℕ, Bool, true, List, [], ◌∷◌, ◌++◌, Some, length};
 ghost use Rattle.amo_sets.specs.Sets.{AreDistinct};
 ghost use Rattle.amo_course.specs.Course.{AreDue, first_stage, Stands, MayTry};
 ghost use Rattle.amo_course.specs.declared.model.Deed.{Deed};
@@ -7,15 +7,19 @@ ghost use Rattle.amo_course.specs.declared.model.Try.{Try};
 ghost use Rattle.amo_course.specs.Stage.{Stage, Asking};
 ghost use Rattle.amo_history.specs.Log.{Log, log_of};
 ghost use Rattle.amo_history.specs.Scene.{scene_of, IsTrue, IsHistory};
-ghost use Rattle.amo_journal.specs.Journal.{IsAtRest};
+ghost use Rattle.amo_journal.specs.Device.{LeavesOnly};
+ghost use Rattle.amo_journal.specs.Journal.{IsAtRest, HasAllOrAllButLast};
+ghost use Rattle.amo_journal.specs.Texts.{texts_in};
 ghost use Rattle.amo_ledger.specs.declared.entry.Entry.{Entry};
 ghost use Rattle.amo_ledger.specs.declared.finding.Finding.{Finding};
 ghost use Rattle.amo_ledger.specs.Puts.{entries_of, findings_of, StandsForOneMoreOrNot, SaysOneMoreOrNot};
-ghost use Rattle.amo_rounds.specs.File.{read_of, with_unheard, after_stop};
+ghost use Rattle.amo_rounds.specs.File.{read_of, with_unheard, with_unread, after_stop};
 ghost use Rattle.amo_rounds.specs.Shown.{all_kept, IsShownBy};
 ghost use Rattle.amo_rounds.specs.Asked.{Asker, asker_of};
 ghost use Rattle.amo_rounds.specs.World.{Before, Inside, Round, Event};
 ghost use Rattle.amo_rounds.specs.Run.{left_in, MayAct, MayMiss, IsRun, world_of, Handing, handings_by, handings, openings, is_among, AreUnperformed, performed_lines, IsOneOf, names_of, AreDifferent, common, names_of_line, IsKept};
+ghost use Rattle.amo_rounds.specs.Commands.{Step, Lists, AreStepsBy, AreSteps, yard_of, said_in, IsTruthful, lines_in, events_of};
+ghost use Rattle.amo_rounds.specs.Fewer.{IsOverButForProcesses, IsOverButForRunners, IsOverButForCommands};
 
 use amo_journal::Device;
 
@@ -77,6 +81,44 @@ pub fn runs_there_are()
         × (names_of (handings es) ≡ (1, 1) ∷ (2, 1) ∷ []) × (performed_lines performed (handings es) ≡ 1 ∷ []) }
 {}
 
+/// However often rounds are begun, whichever processes, runners and commands die, and whenever the machine stops: commands perform
+/// each line of the jobs' file at most once. It is supposed that whoever says of an intent that it wasn't begun or done says so once
+/// it is over, and truly of what was performed until then. That nothing performs it afterwards isn't supposed: it follows. And no
+/// command begins twice, whatever is said.
+pub fn commands_perform_each_line_at_most_once()
+    ensures lines { (steps : List Step) → AreSteps steps → IsTruthful steps → AreDistinct (lines_in (yard_of steps).performed) }
+    ensures commands { (steps : List Step) → AreSteps steps → AreDifferent (names_of (yard_of steps).begun) }
+{}
+
+/// Once an intent was listed as in doubt, no command of its line may begin, and nothing of one is left: not until it is said of that
+/// intent, by a `not-done` or an `unbegun`, that it may. So who does the job by hand, and then says `done`, does it alone.
+pub fn a_listed_doubt_is_final()
+    ensures { (p n line : ℕ) (before after : List Step) (h : Handing) → AreSteps (before ++ Lists p n line ∷ after)
+        → IsOneOf ((yard_of (before ++ Lists p n line ∷ after)).waiting ++ (yard_of (before ++ Lists p n line ∷ after)).running) h → h.line ≡ line
+        → is_among (said_in (before ++ Lists p n line ∷ after)) p n ≡ true }
+{}
+
+/// Without the runners and their commands it is a run: so each law of runs is one of these.
+pub fn commands_stand_over_runs()
+    ensures { (steps : List Step) → AreSteps steps → IsRun (events_of steps) × ((yard_of steps).world ≡ world_of (events_of steps)) }
+{}
+
+/// There are such steps: in the run of `runs_there_are` the first command begins and does nothing, its intent is listed as in doubt,
+/// and a person says truly that it wasn't done; then another worker's command performs the line.
+pub fn commands_there_are()
+    ensures { (steps : List Step) × AreSteps steps × IsTruthful steps × (names_of (yard_of steps).begun ≡ (1, 1) ∷ (2, 1) ∷ [])
+        × (names_of (yard_of steps).performed ≡ (2, 1) ∷ []) }
+{}
+
+/// None of the three locks can be done without: by the other two a line is performed twice, though all that is said is true when it
+/// is said. Nor can the truth: by all three a line is performed twice where a person says of what was performed that it wasn't.
+pub fn each_lock_is_needed()
+    ensures journal { (steps : List Step) × AreStepsBy IsOverButForProcesses steps × IsTruthful steps × (lines_in (yard_of steps).performed ≡ 1 ∷ 1 ∷ []) }
+    ensures runner { (steps : List Step) × AreStepsBy IsOverButForRunners steps × IsTruthful steps × (lines_in (yard_of steps).performed ≡ 1 ∷ 1 ∷ []) }
+    ensures command { (steps : List Step) × AreStepsBy IsOverButForCommands steps × IsTruthful steps × (lines_in (yard_of steps).performed ≡ 1 ∷ 1 ∷ []) }
+    ensures truth { (steps : List Step) × AreSteps steps × (lines_in (yard_of steps).performed ≡ 1 ∷ 1 ∷ []) }
+{}
+
 /// What the contract of `work` says of a log is what a run asks of a process that is in a round: a call that it may make may come
 /// about, also where the process dies in it, and a deed that was due, and is true of the words, may be done.
 pub fn processes_do_right()
@@ -107,4 +149,24 @@ pub fn puts_are_there_or_not()
         → (n : ℕ) × (entries_of file ≡ Some (read_of (after_stop n (with_unheard (all_kept entries) (entry ∷ []))))) }
     ensures finding { (findings : List Finding) (finding : Finding) (file : List ℕ) → SaysOneMoreOrNot findings finding file
         → (n : ℕ) × (findings_of file ≡ Some (read_of (after_stop n (with_unheard (all_kept findings) (finding ∷ []))))) }
+{}
+
+/// Once `put_entry` has ended, whatever it answers, the journal shows what an event leaves: by its contract the entry is kept, as the
+/// law above says of a journal that is settled; or it isn't read, and a stop may leave it; or it is read, and a stop may take it.
+pub fn ended_puts_are_events<D: Device>()
+    ensures { (old new : _) (entries : List Entry) (entry : Entry) → StandsForOneMoreOrNot entries entry (D.seen new)
+        → LeavesOnly D.moment D.left_since old new (StandsForOneMoreOrNot entries entry)
+        → IsShownBy D.seen D.may_leave new (with_unread (all_kept entries) (entry ∷ []))
+        ⊎ IsShownBy D.seen D.may_leave new (with_unheard (all_kept entries) (entry ∷ [])) }
+{}
+
+/// What a crash at any moment of settling a journal leaves, by the contract of `Journal::settle`, is what a stop leaves of it as it was
+/// read: all, where each crash before would have left all; else all, or all but the last entry.
+pub fn settling_takes_what_a_stop_takes<D: Device>()
+    ensures kept { (old new : _) (entries : List Entry) (left : List ℕ) → entries_of (D.seen old) ≡ Some entries
+        → LeavesOnly D.moment D.left_since old new (λ c. texts_in c ≡ texts_in (D.seen old)) → D.left_since new (D.moment old) left
+        → (n : ℕ) × (entries_of left ≡ Some (read_of (after_stop n (all_kept entries)))) }
+    ensures loose { (old new : _) (entries : List Entry) (entry : Entry) (left : List ℕ) → entries_of (D.seen old) ≡ Some (entries ++ entry ∷ [])
+        → LeavesOnly D.moment D.left_since old new (HasAllOrAllButLast (texts_in (D.seen old))) → D.left_since new (D.moment old) left
+        → (n : ℕ) × (entries_of left ≡ Some (read_of (after_stop n (with_unheard (all_kept entries) (entry ∷ []))))) }
 {}
