@@ -78,6 +78,7 @@ def try_two_persons(bench):
     until(lambda: [it for it in scene.tales(1) if it[0] == "did"], "it is performed once more")
     crew.kill()
     crew.wait()
+    until(lambda: "1.2, line 1" in scene.call("doubts"), "it is listed once more")
     scene.call("answer", "1.1", "1", "1 late", "not-done", status=None)
     scene.see_out()
     scene.audit()
