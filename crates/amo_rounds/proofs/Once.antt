@@ -17,7 +17,7 @@ use Rattle.amo_rounds.proofs.Steps.{sane_after, sane_after_all}
 use Rattle.amo_rounds.proofs.Handed.{one_at_most, split_one, WasHanded, handed_after, handed_now, now_handed, opened_before, handed_after_all}
 
 module _ (performed : ℕ → ℕ → Bool) where
-  pub lines-append : (xs ys : List Handing) → performed_lines performed (xs ++ ys) ≡ performed_lines performed xs ++ performed_lines performed ys
+  lines-append : (xs ys : List Handing) → performed_lines performed (xs ++ ys) ≡ performed_lines performed xs ++ performed_lines performed ys
   lines-append [] ys = refl
   lines-append (h ∷ xs) ys = by (performed h.worker h.serial) (lines-append xs ys)
     where
@@ -27,15 +27,14 @@ module _ (performed : ℕ → ℕ → Bool) where
       by true e = ap (λ l. h.line ∷ l) e
       by false e = e
 
-  -- none of these that was performed is of that line
-  pub none_of : (hs : List Handing) (line : ℕ) → ((k : Handing) → IsOneOf hs k → performed k.worker k.serial ≡ true → k.line ≡ line → ⊥) → has (performed_lines performed hs) line ≡ false
+  -- none of these is of that line
+  none_of : (hs : List Handing) (line : ℕ) → ((k : Handing) → IsOneOf hs k → k.line ≡ line → ⊥) → has (performed_lines performed hs) line ≡ false
   none_of [] line none = refl
-  none_of (h ∷ hs) line none = by (performed h.worker h.serial) refl (none_of hs line (λ k one. none k (inr one)))
+  none_of (h ∷ hs) line none = by (performed h.worker h.serial) (none_of hs line (λ k one. none k (inr one)))
     where
-      by : (b : Bool) → performed h.worker h.serial ≡ b → has (performed_lines performed hs) line ≡ false
-          → has (if b then h.line ∷ performed_lines performed hs else performed_lines performed hs) line ≡ false
-      by true is e = or_from (h.line == line) (has (performed_lines performed hs) line) (ne_eqb h.line line (none h (inl refl) is)) e
-      by false is e = e
+      by : (b : Bool) → has (performed_lines performed hs) line ≡ false → has (if b then h.line ∷ performed_lines performed hs else performed_lines performed hs) line ≡ false
+      by true e = or_from (h.line == line) (has (performed_lines performed hs) line) (ne_eqb h.line line (none h (inl refl))) e
+      by false e = e
 
   -- what was handed over and performed isn't again
   never : (w : World) (said : List (ℕ × ℕ)) (es : List Event) → IsSane w said → IsRunFrom w es → AreUnperformed performed (said ++ openings_from w es)
@@ -45,7 +44,7 @@ module _ (performed : ℕ → ℕ → Bool) where
       ap (λ l. has l h.line) (lines-append (handings_by w e) (handings_from (world_after w e) es))
       ∙ has-append (performed_lines performed (handings_by w e)) (performed_lines performed (handings_from (world_after w e) es)) h.line
       ∙ or_from _ _
-      (none_of (handings_by w e) h.line (λ k one its same. true≢false (sym done ∙ honest h.worker h.serial
+      (none_of (handings_by w e) h.line (λ k one same. true≢false (sym done ∙ honest h.worker h.serial
       (among_more said (openings_from w (e ∷ es)) h.worker h.serial (opened_before w said e h k was (handed_now w said sane e run.0 k one) (sym same))))))
       (never (world_after w e) (said ++ openings_by w e) es (sane_after w said sane e run.0) run.1
       (subst (AreUnperformed performed) (sym (append_assoc said (openings_by w e) (openings_from (world_after w e) es))) honest)
