@@ -25,13 +25,13 @@ use Rattle.amo_words.specs.Rule.{AllStand, Stands}
 use Rattle.amo_words.specs.declared.floor.settling.Settlement.{Settlement}
 use Rattle.amo_words.specs.Settling.{free_of, IsWhole}
 use Rattle.amo_claims.specs.Calls.{worker_in}
-use Rattle.amo_crew.specs.declared.hand.Output.{Output}
+use Rattle.amo_mailbox.specs.declared.hand.Output.{Output}
 use Rattle.amo_crew.specs.declared.outcome.End.{End}
 use Rattle.amo_crew.specs.declared.outcome.End.TheVariants.{NotStarted}
 use Rattle.amo_words.specs.Faces.{Seated, machine, spots}
 use Rattle.amo_words.specs.Hiring.{HasCollected}
 use Rattle.amo_words.proofs.Worlds.{lawful, unclaimed_by}
-use Rattle.amo_crew.specs.declared.queue.Queue.{Queue}
+use Rattle.amo_mailbox.specs.declared.queue.Queue.{Queue}
 use Rattle.amo_crew.specs.declared.member.Member.{Member}
 use Rattle.amo_crew.specs.Running.{IsMember}
 use Rattle.amo_crew.specs.Crew.{IsCrew}

@@ -12,8 +12,8 @@ use Rattle.amo_kk.specs.declared.givens.Givens.{Givens}
 use Rattle.amo_words.specs.Rule.{AllStand}
 use Rattle.amo_words.specs.Faces.{Seated, machine, spots}
 use Rattle.amo_claims.specs.Calls.{worker_in}
-use Rattle.amo_crew.specs.declared.queue.Queue.{Queue}
-use Rattle.amo_crew.specs.declared.queue.outlet.Outlet.{Outlet}
+use Rattle.amo_mailbox.specs.declared.queue.Queue.{Queue}
+use Rattle.amo_mailbox.specs.declared.outlet.Outlet.{Outlet}
 use Rattle.amo_crew.specs.declared.outcome.End.{End}
 use Rattle.amo_crew.specs.declared.outcome.End.TheVariants.{Ended, Halted, NotStarted}
 use Rattle.amo_crew.specs.declared.member.Member.{Member}

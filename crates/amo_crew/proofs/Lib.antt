@@ -1,7 +1,3 @@
-pub mod Lists
-pub mod Passes
-pub mod Gathers
-pub mod Ended
 pub mod Runs
 pub mod Collects
 pub mod Crews

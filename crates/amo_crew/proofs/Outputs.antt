@@ -8,13 +8,13 @@ use Rattle.atomic_table.specs.Seated.{TableId}
 use Rattle.amo_kk.specs.declared.givens.Givens.{Givens}
 use Rattle.amo_words.specs.declared.rule.Spot.{Spot}
 use Rattle.amo_words.specs.Faces.{Seated, spots}
-use Rattle.amo_crew.specs.declared.queue.Queue.{Queue}
+use Rattle.amo_mailbox.specs.declared.queue.Queue.{Queue}
 use Rattle.amo_crew.specs.declared.outcome.End.{End}
 use Rattle.amo_crew.proofs.Few.{dones_within}
-use Rattle.amo_crew.specs.declared.hand.Output.{Output}
-use Rattle.amo_crew.specs.declared.queue.outlet.Outlet.{Outlet}
-use Rattle.amo_crew.specs.Mailbox.{of}
-use Rattle.amo_crew.specs.Ends.{given, has_worker}
+use Rattle.amo_mailbox.specs.declared.hand.Output.{Output}
+use Rattle.amo_mailbox.specs.declared.outlet.Outlet.{Outlet}
+use Rattle.amo_mailbox.specs.Mailbox.{of}
+use Rattle.amo_mailbox.specs.Ends.{given, has_worker}
 use Rattle.amo_crew.specs.Running.{IsAnswer}
 use Rattle.amo_crew.specs.Outcomes.{spot_of, dones_in, AreOutputs}
 use Rattle.amo_crew.specs.Collecting.{HasOutlet, OutletFits, dones_upto, AreCollected}

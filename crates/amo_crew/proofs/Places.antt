@@ -22,11 +22,11 @@ use Rattle.amo_words.proofs.Worlds.{lawful}
 use Rattle.amo_words.proofs.Turns.{some_at}
 use Rattle.amo_words.proofs.Whole.{settles}
 use Rattle.amo_words.proofs.Meetings.{stands_back, worker_back}
-use Rattle.amo_crew.specs.declared.hand.Output.{Output}
+use Rattle.amo_mailbox.specs.declared.hand.Output.{Output}
 use Rattle.amo_crew.specs.declared.outcome.End.{End}
 use Rattle.amo_crew.specs.declared.outcome.End.TheVariants.{Ended, Halted, NotStarted}
 use Rattle.amo_crew.specs.declared.outcome.Outcome.{Outcome}
-use Rattle.amo_crew.specs.Mailbox.{of}
+use Rattle.amo_mailbox.specs.Mailbox.{of}
 use Rattle.amo_crew.specs.Outcomes.{spot_of, dones_in, hand_in, hands_upto, jobs_of, EndsAs, IsOutcome, AllStarted, HasAPlace, HasStarted, IsOfNoThread, answered, in_hand, free_jobs}
 use Rattle.std.proofs.lemmas.List.Elements.{All-get_or}
 use Rattle.amo_words.proofs.Settles.{get_or_at}

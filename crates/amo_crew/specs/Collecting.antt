@@ -10,8 +10,8 @@ use Rattle.amo_words.specs.declared.rule.Spot.TheVariants.{Back}
 use Rattle.amo_words.specs.Rule.{AllStand}
 use Rattle.amo_words.specs.Faces.{Seated, machine, spots}
 use Rattle.amo_words.specs.Hiring.{HasCollected}
-use Rattle.amo_crew.specs.declared.queue.Queue.{Queue}
-use Rattle.amo_crew.specs.declared.queue.outlet.Outlet.{Outlet}
+use Rattle.amo_mailbox.specs.declared.queue.Queue.{Queue}
+use Rattle.amo_mailbox.specs.declared.outlet.Outlet.{Outlet}
 use Rattle.amo_crew.specs.declared.outcome.End.{End}
 use Rattle.amo_crew.specs.declared.outcome.End.TheVariants.{NotStarted}
 use Rattle.amo_crew.specs.declared.collecting.Yield.{Yield}
@@ -20,7 +20,7 @@ use Rattle.amo_crew.specs.declared.member.Finish.{Finish}
 use Rattle.amo_crew.specs.declared.member.Finish.TheVariants.{Ran as HasRan, NotStarted as WasNotStarted}
 use Rattle.amo_crew.specs.Crew.{EachAt, IsFinishOf}
 use Rattle.amo_crew.specs.Unsettling.{UnsettledView}
-use Rattle.amo_crew.specs.Ends.{IsOutletOf, given, has_worker}
+use Rattle.amo_mailbox.specs.Ends.{IsOutletOf, given, has_worker}
 use Rattle.amo_crew.specs.Running.{IsAnswer}
 use Rattle.amo_crew.specs.Outcomes.{spot_of, dones_in, IsBare, AreEnds, AreInHand}
 

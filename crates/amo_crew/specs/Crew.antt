@@ -8,13 +8,13 @@ use Rattle.amo_sets.specs.Lists.{numbered}
 use Rattle.amo_kk.specs.declared.givens.Givens.{Givens}
 use Rattle.amo_words.specs.Faces.{machine}
 use Rattle.amo_claims.specs.Calls.{worker_in}
-use Rattle.amo_crew.specs.declared.queue.Queue.{Queue}
-use Rattle.amo_crew.specs.declared.queue.inlet.Inlet.{Inlet}
+use Rattle.amo_mailbox.specs.declared.queue.Queue.{Queue}
+use Rattle.amo_mailbox.specs.declared.inlet.Inlet.{Inlet}
 use Rattle.amo_crew.specs.declared.member.Member.{Member}
 use Rattle.amo_crew.specs.declared.member.Ran.{Ran}
 use Rattle.amo_crew.specs.declared.member.Finish.{Finish}
 use Rattle.amo_crew.specs.declared.member.Finish.TheVariants.{Ran as HasRan, NotStarted}
-use Rattle.amo_crew.specs.Ends.{IsInletOf}
+use Rattle.amo_mailbox.specs.Ends.{IsInletOf}
 use Rattle.amo_crew.specs.Running.{HasRun, IsMember}
 
 -- R holds of each item with its place

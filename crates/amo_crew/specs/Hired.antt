@@ -8,10 +8,10 @@ use Rattle.amo_words.specs.declared.rule.Spot.TheVariants.{Home, Out as Away, Ba
 use Rattle.amo_words.specs.Rule.{AllStand}
 use Rattle.amo_words.specs.Faces.{Seated, spots}
 use Rattle.amo_claims.specs.Calls.{worker_in}
-use Rattle.amo_crew.specs.declared.queue.Queue.{Queue}
-use Rattle.amo_crew.specs.declared.queue.outlet.Outlet.{Outlet}
+use Rattle.amo_mailbox.specs.declared.queue.Queue.{Queue}
+use Rattle.amo_mailbox.specs.declared.outlet.Outlet.{Outlet}
 use Rattle.amo_crew.specs.declared.member.Member.{Member}
-use Rattle.amo_crew.specs.Ends.{IsNewOutletOf}
+use Rattle.amo_mailbox.specs.Ends.{IsNewOutletOf}
 use Rattle.amo_crew.specs.Crew.{EachAt, IsCrew}
 use Rattle.amo_crew.specs.Outcomes.{spot_of}
 

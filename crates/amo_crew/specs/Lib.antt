@@ -1,6 +1,3 @@
-pub mod Ports
-pub mod Ends
-pub mod Mailbox
 pub mod Running
 pub mod Crew
 pub mod Outcomes

@@ -13,10 +13,10 @@ use crate::fault::ExecFault;
 use crate::member::Member;
 use crate::outcome::End;
 use crate::plan::StopPlan;
-use crate::queue::Queue;
 use crate::unsettled::Unsettled;
 use amo_claims::{After, Work};
 use amo_kk::Givens;
+use amo_mailbox::Queue;
 use amo_words::{Book, Floor, Settlement};
 use std::alloc::Global;
 

@@ -7,8 +7,8 @@ ghost use Rattle.amo_crew.specs.Collecting.{AreBack, AreCollected, Collects, Ran
 
 use crate::member::{Finish, Ran};
 use crate::outcome::End;
-use crate::queue::{Outlet, Queue};
 use amo_claims::Work;
+use amo_mailbox::{Outlet, Queue};
 use amo_words::{Book, Floor};
 
 /// What is collected beside the book.

@@ -1,12 +1,12 @@
 //! How a crew is hired.
 ghost use Rattle.std.specs.Prelude.{◌≡◌, ◌+◌, ◌<◌, ◌≤◌, [], length, vec_len, vec_capacity, IfOk};
-ghost use Rattle.amo_crew.specs.Ends.{IsNewOutletOf};
+ghost use Rattle.amo_mailbox.specs.Ends.{IsNewOutletOf};
 ghost use Rattle.amo_crew.specs.Hired.{AreOutlets, AreHired};
 
 use crate::member::Member;
 use crate::plan::StopPlan;
-use crate::queue::{Outlet, Queue};
 use amo_claims::begin;
+use amo_mailbox::{Outlet, Queue};
 use amo_words::{Book, Floor, HireFault};
 use std::alloc::Global;
 

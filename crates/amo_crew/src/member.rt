@@ -1,7 +1,7 @@
 //! A worker before its thread, and after it.
 use crate::outcome::End;
-use crate::queue::Outlet;
 use amo_claims::{After, Gone};
+use amo_mailbox::Outlet;
 
 mod finishing;
 

@@ -8,11 +8,10 @@ ghost use Rattle.amo_crew.specs.declared.outcome.End.{End};
 ghost use Rattle.amo_crew.specs.Running.{IsFresh, HasFiled, IsMember};
 ghost use Rattle.amo_crew.specs.Crew.{IsRunOf};
 
-use crate::hand::Output;
 use crate::member::{Member, Ran};
 use crate::outcome::End;
-use crate::queue::{Outlet, Queue};
 use amo_claims::{After, Go, Gone, Held, Ready, Work};
+use amo_mailbox::{Outlet, Output, Queue};
 use amo_words::Floor;
 use std::sync::Wait;
 

@@ -3,14 +3,14 @@ ghost use Rattle.std.specs.Prelude.{List, ◌≡◌, ◌+◌, ◌<◌, ◌≤◌
 ghost use Rattle.std.specs.List.{AllZip};
 ghost use Rattle.amo_words.specs.Faces.{machine};
 ghost use Rattle.amo_claims.specs.Calls.{worker_in};
-ghost use Rattle.amo_crew.specs.Ends.{IsInletOf};
+ghost use Rattle.amo_mailbox.specs.Ends.{IsInletOf};
 ghost use Rattle.amo_crew.specs.Running.{HasRun, IsMember};
 ghost use Rattle.amo_crew.specs.Crew.{MayRun, IsFinishOf, IsRunOf, MayStart, HasEnded};
 
 use crate::member::{Finish, Member, Ran, finish_of};
-use crate::queue::{Inlet, Queue};
 use crate::running::run_member;
 use amo_claims::Work;
+use amo_mailbox::{Inlet, Queue};
 use amo_words::Floor;
 use std::snapshot::Snapshot;
 use std::sync::Wait;

@@ -1,8 +1,8 @@
 //! A run whose settling wanted memory.
 ghost use Rattle.amo_crew.specs.Unsettling.{UnsettledView};
 
-use crate::hand::Output;
 use crate::outcome::End;
+use amo_mailbox::Output;
 use amo_words::ClosedFloor;
 use std::marker::Model;
 

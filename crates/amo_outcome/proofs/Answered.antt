@@ -8,7 +8,7 @@ use Rattle.amo_plan.specs.Keeps.{Keeps}
 use Rattle.amo_plan.specs.Plan.{PlanSeen}
 use Rattle.amo_crew.specs.declared.outcome.Outcome.{Outcome}
 use Rattle.amo_crew.specs.Fitting.{FitsGivens}
-use Rattle.amo_report.specs.OutcomeTexts.{FitsHeads, outcome_of}
+use Rattle.amo_outcome.specs.OutcomeTexts.{FitsHeads, outcome_of}
 use Rattle.amo_outcome.specs.declared.started.Started.{Started}
 use Rattle.amo_outcome.specs.Runs.{HasComeOf, IsRunText, heads_of}
 

@@ -2,8 +2,13 @@
 #![tactic(auto)]
 
 mod block_work;
+mod claimers;
+mod filed;
+mod outcome;
+mod outcome_lines;
 mod running;
 mod started;
 
+pub use outcome::outcome_text;
 pub use running::run_plan;
 pub use started::Started;

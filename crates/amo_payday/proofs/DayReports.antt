@@ -7,7 +7,7 @@ use Rattle.amo_payday.specs.declared.day.Day.{Day}
 use Rattle.amo_payday.specs.declared.day.payment.Payment.{Payment}
 use Rattle.amo_payday.specs.declared.restarting.Restart.{Restart}
 use Rattle.amo_payday.specs.Restarts.{IsParted, was_made, is_in_doubt, is_untried}
-use Rattle.amo_payday.specs.Lines.{AppendsFront}
+use Rattle.amo_streams.specs.Streams.{AppendsFront}
 use Rattle.amo_payday.specs.Reports.{ArePaid, AreTried, TellsNext, TellsPart, IsReport, Reports, ReportsFront, lines_of}
 use Rattle.amo_payday.proofs.Floors.{none}
 use Rattle.amo_payday.proofs.Fronts.{nothing, first, next}

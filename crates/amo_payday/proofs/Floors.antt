@@ -6,7 +6,7 @@ use Rattle.std.proofs.KnownBytes.{Appends-nil, Appends-trans}
 use Rattle.std.proofs.lemmas.Grind.{flat_map-append}
 use Rattle.std.proofs.lemmas.List.Elements.{All-nil, All-cons, All-append}
 use Rattle.amo_payday.specs.declared.day.payment.Payment.{Payment}
-use Rattle.amo_payday.specs.Lines.{AppendsFront}
+use Rattle.amo_streams.specs.Streams.{AppendsFront}
 use Rattle.amo_payday.specs.Reports.{AreFloors, TellsNext, TellsPart, payments_of}
 use Rattle.amo_payday.proofs.Fronts.{nothing, next as front_next}
 

@@ -7,7 +7,7 @@ use Rattle.amo_payday.specs.declared.fault.Fault.{Fault}
 use Rattle.amo_payday.specs.declared.fault.Fault.TheVariants.{Line, Input, Crew, Journal, Entry, Output, Memory, Unsettled}
 use Rattle.std.proofs.Math.Seq.{take-append-add}
 use Rattle.std.proofs.lemmas.List.{take-append-le, take_all}
-use Rattle.amo_payday.specs.Lines.{AppendsFront}
+use Rattle.amo_streams.specs.Streams.{AppendsFront}
 
 pub nothing : (a : Option (List ℕ)) (text : List ℕ) → AppendsFront a a text
 nothing a text = (0, omega arith, Appends-nil a)

@@ -2,7 +2,7 @@
 use Rattle.std.specs.Prelude.{◌≡◌, ◌⊎◌, ℕ, true, List, [], ◌++◌, map, filter, All, Option, Some, IfSome, length, codes}
 use Rattle.std.specs.List.{flat_map}
 use Rattle.std.specs.Io.KnownBytes.{Appends, Keeps}
-use Rattle.amo_crew.specs.declared.hand.Output.{Output}
+use Rattle.amo_mailbox.specs.declared.hand.Output.{Output}
 use Rattle.amo_ledger.specs.declared.journal.Attempt.{Attempt}
 use Rattle.amo_payday.specs.declared.day.Day.{Day}
 use Rattle.amo_payday.specs.declared.day.payment.Payment.{Payment}
@@ -12,7 +12,8 @@ use Rattle.amo_payday.specs.declared.rounds.Crew.{Crew}
 use Rattle.amo_payday.specs.declared.second.Rest.{Rest}
 use Rattle.amo_payday.specs.declared.sorting.Sorted.{Sorted}
 use Rattle.amo_payday.specs.Days.{IsDayOf, is_ended}
-use Rattle.amo_payday.specs.Lines.{AppendsFront, line}
+use Rattle.amo_streams.specs.Streams.{AppendsFront}
+use Rattle.amo_payday.specs.Lines.{line}
 use Rattle.amo_payday.specs.Payments.{Answers}
 use Rattle.amo_payday.specs.Restarts.{journal_in, was_made, is_in_doubt, is_untried}
 use Rattle.amo_payday.specs.Rounds.{IsRound}

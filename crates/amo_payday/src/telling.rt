@@ -2,7 +2,7 @@
 ghost use Rattle.std.specs.Prelude.{◌≡◌, ◌++◌, true, Err, IfErr, OnOk, OnErr, string_bytes};
 ghost use Rattle.std.specs.Io.KnownBytes.{Appends, Keeps};
 ghost use Rattle.amo_payday.specs.Faults.{IsOfTelling};
-ghost use Rattle.amo_payday.specs.Lines.{AppendsFront};
+ghost use Rattle.amo_streams.specs.Streams.{AppendsFront};
 ghost use Rattle.amo_payday.specs.Reports.{lines_of, answer_lines, done_lines, doubt_lines, round_text};
 ghost use Rattle.amo_payday.specs.declared.fault.Fault.TheVariants.{Output as NoOutput, Memory as NoMemory};
 

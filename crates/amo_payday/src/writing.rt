@@ -1,7 +1,8 @@
 //! Writes text, of which a beginning is known where a writer fails.
 ghost use Rattle.std.specs.Prelude.{◌≡◌, ◌++◌, true, false, OnOk, string_bytes};
 ghost use Rattle.std.specs.Io.KnownBytes.{Appends};
-ghost use Rattle.amo_payday.specs.Lines.{AppendsFront, line};
+ghost use Rattle.amo_streams.specs.Streams.{AppendsFront};
+ghost use Rattle.amo_payday.specs.Lines.{line};
 
 use std::alloc::AllocError;
 use std::io::Write;

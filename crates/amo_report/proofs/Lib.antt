@@ -1,14 +1,5 @@
-pub mod Counted
-pub mod Marks
-pub mod Blocks
-pub mod Whole
 pub mod Rounds
-pub mod Least
 pub mod Explored
 pub mod ReachedWorlds
 pub mod Stopped
 pub mod RunOut
-pub mod Claims
-pub mod Noting
-pub mod DoneSets
-pub mod Fates

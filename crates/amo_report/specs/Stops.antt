@@ -14,7 +14,8 @@ use Rattle.amo_plan.specs.declared.fault.PlanFault.{PlanFault}
 use Rattle.amo_plan.specs.declared.fault.PlanFault.TheVariants.{NoSuchWorker, TooLong}
 use Rattle.amo_plan.specs.Steps.{unless}
 use Rattle.amo_plan.specs.Plan.{PlanSeen}
-use Rattle.amo_report.specs.Summary.{counts_part, verdict_part, numbers_from, least_of, least_line}
+use Rattle.amo_texts.specs.Least.{numbers_from, least_of}
+use Rattle.amo_report.specs.Summary.{counts_part, verdict_part, least_line}
 
 -- how many turns p takes, alone, to claim a job or end, of so many at most
 abbrev pub lone_turns : Givens → ℕ → ℕ → World → ℕ

@@ -1,5 +1,5 @@
--- What a line says of a whole run, and what is the least over many runs.
-use Rattle.std.specs.Prelude.{ℕ, zero, suc, ◌+◌, min, List, [], ◌∷◌, ◌++◌, Option, Some, None, length, codes}
+-- What a line says of a whole run, and of the least over many runs.
+use Rattle.std.specs.Prelude.{ℕ, List, [], ◌++◌, Option, Some, None, length, codes}
 use Rattle.std.specs.Fmt.{decimal}
 use Rattle.amo_kk.specs.Run.{claimed_jobs, done_jobs}
 use Rattle.amo_kk.specs.declared.event.Event.{Event}
@@ -14,21 +14,6 @@ counts_part history = codes " claimed " ++ decimal (length (claimed_jobs history
 unfoldable pub verdict_part : Verdict → List ℕ
 verdict_part Lawful = codes " lawful"
 verdict_part (FirstBad i) = codes " bad " ++ decimal i
-
--- so many numbers from the first on
-abbrev pub numbers_from : ℕ → ℕ → List ℕ
-numbers_from first zero = []
-numbers_from first (suc count) = numbers_from first count ++ (first + count) ∷ []
-
--- the lesser of a number and another, where there is one
-abbrev pub lesser : ℕ → Option ℕ → ℕ
-lesser n None = n
-lesser n (Some other) = min n other
-
--- the least number of a list
-abbrev pub least_of : List ℕ → Option ℕ
-least_of [] = None
-least_of (n ∷ ns) = Some (lesser n (least_of ns))
 
 -- `least D`; of no runs nothing
 unfoldable pub least_line : Option ℕ → List ℕ

@@ -3,8 +3,8 @@ ghost use Rattle.std.specs.Prelude.{◌≡◌, ◌++◌, OnOk, IfOk, string_byte
 ghost use Rattle.amo_report.specs.Check.{check_line};
 ghost use Rattle.amo_report.specs.CheckHeads.{check_of_heads};
 
-use super::numbers::push_numbers;
 use amo_plan::Heads;
+use amo_texts::push_numbers;
 use std::alloc::{AllocError, Global};
 
 /// Appends how many moves and rounds there are, and ends the line.

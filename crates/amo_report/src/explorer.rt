@@ -7,11 +7,10 @@ ghost use Rattle.amo_report.specs.Explorer.{schedule, explored_world, explored_v
 
 use super::laws::histories_are_lawful;
 use super::running::run_rounds;
-use super::summary::{
-    count_ends, count_performances, lesser, push_counts, push_least, push_verdict,
-};
+use super::summary::{lesser, push_counts, push_least, push_verdict};
 use amo_kk::Event;
 use amo_plan::Plan;
+use amo_texts::{count_ends, count_performances};
 use amo_world::{Verdict, World, judge};
 use std::alloc::{AllocError, Global};
 
@@ -84,7 +83,7 @@ fn push_explored(
 /// s / workers ^ i % workers + 1. The last line has the least number of performances. The plan's own schedule isn't
 /// used. `from` is at most 1,000,000,000,000, `count` 1 to 1000, `length` at most 10,000. The only error is want of
 /// memory.
-#[tactic(auto, using(crate::proofs::Least::pieces_more, crate::proofs::Least::least_more))]
+#[tactic(auto, using(amo_texts::proofs::Least::pieces_more, amo_texts::proofs::Least::least_more))]
 pub fn explore(
     alloc: Global,
     plan: &Plan,

@@ -4,15 +4,13 @@ ghost use Rattle.amo_plan.specs.PlanSeen.{plan_seen};
 ghost use Rattle.amo_report.specs.Report.{happened_lines, outcome_lines, report_lines};
 ghost use Rattle.amo_report.specs.Texts.{report_in};
 
-use super::events::{push_events, push_workers};
-use super::numbers::push_first_line;
-use super::results::push_results;
 use super::running::all_turns;
-use super::tallies::push_performed;
-use super::unclaimed::push_unclaimed;
 use amo_kk::Event;
 use amo_kk::laws::runs_are_short;
 use amo_plan::Plan;
+use amo_texts::{
+    push_events, push_first_line, push_performed, push_results, push_unclaimed, push_workers,
+};
 use amo_world::World;
 use std::alloc::{AllocError, Global};
 

@@ -9,9 +9,10 @@ ghost use Rattle.amo_report.specs.Reached.{IsReached};
 ghost use Rattle.amo_report.specs.Stops.{lone_turns, run_out, all_run_out, stopped_world, stopped, stopped_verdict, stopped_dones, stop_line, stopped_line, stops_of};
 
 use super::laws::stops_run_out;
-use super::summary::{count_performances, lesser, push_counts, push_least, push_verdict};
+use super::summary::{lesser, push_counts, push_least, push_verdict};
 use amo_kk::Event;
 use amo_plan::Plan;
+use amo_texts::count_performances;
 use amo_world::{Verdict, World, judge};
 use std::alloc::{AllocError, Global};
 
@@ -119,7 +120,7 @@ fn push_stopped(
 /// is at most 6 * workers + jobs, and what the judge says, which is always `lawful`. The last line has the least
 /// number of performances. The plan's rounds aren't used. p is in 1..=workers, and there are at most 1000 moves. The
 /// only error is out of memory.
-#[tactic(auto, using(crate::proofs::Least::pieces_more, crate::proofs::Least::least_more))]
+#[tactic(auto, using(amo_texts::proofs::Least::pieces_more, amo_texts::proofs::Least::least_more))]
 pub fn stops_text(alloc: Global, plan: &Plan, p: u32) -> Result<String, AllocError>
     requires low { 1 ≤ p }
     requires high { p ≤ plan.now.heads.givens.workers }

@@ -1,44 +1,12 @@
 //! What a line says of a whole run, and what is the least over many runs.
-ghost use Rattle.std.specs.Prelude.{◌≡◌, ◌++◌, Some, OnOk, string_bytes, length, count_by};
-ghost use Rattle.amo_kk.specs.Run.{claimed_jobs, done_jobs};
-ghost use Rattle.amo_report.specs.Happened.{is_end};
-ghost use Rattle.amo_report.specs.Summary.{counts_part, verdict_part, lesser, least_line};
+ghost use Rattle.std.specs.Prelude.{◌≡◌, ◌++◌, OnOk, string_bytes};
+ghost use Rattle.amo_texts.specs.Least.{lesser};
+ghost use Rattle.amo_report.specs.Summary.{counts_part, verdict_part, least_line};
 
 use amo_kk::Event;
+use amo_texts::{count_claims, count_performances};
 use amo_world::Verdict;
 use std::alloc::AllocError;
-
-/// How many claims the history has.
-#[tactic(auto, using(crate::proofs::Counted::claims_counted))]
-fn count_claims(history: &[Event]) -> usize
-    ensures { result ≡ length (claimed_jobs history.now) }
-{
-    history
-        .iter()
-        .filter(|event| matches!(event, Event::Claimed(_, _)))
-        .count()
-}
-
-/// How many performances the history has.
-#[tactic(auto, using(crate::proofs::Counted::dones_counted))]
-pub fn count_performances(history: &[Event]) -> usize
-    ensures { result ≡ length (done_jobs history.now) }
-{
-    history
-        .iter()
-        .filter(|event| matches!(event, Event::Done(_, _)))
-        .count()
-}
-
-/// How many ends the history has.
-pub fn count_ends(history: &[Event]) -> usize
-    ensures { result ≡ count_by is_end history.now }
-{
-    history
-        .iter()
-        .filter(|event| matches!(event, Event::Ended(_)))
-        .count()
-}
 
 /// Appends how much was claimed and performed.
 #[tactic(auto, unfolding(crate::specs::Summary::counts_part))]

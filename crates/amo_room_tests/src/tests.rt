@@ -1,5 +1,5 @@
 //! A room for a text, out of memory, and its calls that take none.
-use amo_report::{Bytes, Failed, ReadFault, Room, Sink, Source, read_all};
+use amo_streams::{Bytes, Failed, ReadFault, Room, Sink, Source, read_all};
 use std::alloc::Global;
 use std::process::Abort;
 

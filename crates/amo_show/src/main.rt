@@ -2,8 +2,9 @@
 //! `amo_show picture` a picture of it.
 #![tactic(auto)]
 
-use amo_report::Streamed;
-use amo_show_work::serve_words;
+use amo_program::serve_words;
+use amo_show_work::Show;
+use amo_streams::Streamed;
 use std::process::ExitCode;
 
 fn main(rt: HostRuntime) -> ExitCode {
@@ -11,5 +12,5 @@ fn main(rt: HostRuntime) -> ExitCode {
     let mut reader = Streamed::new(rt.stdin());
     let mut out = Streamed::new(rt.stdout());
     let mut err = Streamed::new(rt.stderr());
-    serve_words(rt.alloc(), words, &mut reader, &mut out, &mut err)
+    serve_words::<_, Show, _, _, _>(&rt, rt.alloc(), words, &mut reader, &mut out, &mut err)
 }

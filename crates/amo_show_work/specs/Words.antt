@@ -1,30 +1,22 @@
--- Which words are a command, and the text that it asks for.
-use Rattle.std.specs.Prelude.{ℕ, List, [], ◌∷◌, Option, Some, None, codes, drop, Result, Ok, if◌then◌else◌}
+-- Which words are a command.
+use Rattle.std.specs.Prelude.{ℕ, List, [], ◌∷◌, Option, Some, None, option_and_then, codes, drop, if◌then◌else◌}
 use Rattle.std.specs.Str.{bytes_eq}
-use Rattle.amo_plan.specs.Plan.{PlanSeen}
-use Rattle.amo_plan.specs.declared.fault.PlanFault.{PlanFault}
-use Rattle.amo_trace.specs.Picture.{picture_of}
-use Rattle.amo_trace.specs.Trace.{trace_of}
-use Rattle.amo_show_work.specs.declared.request.Request.{Request}
-use Rattle.amo_show_work.specs.declared.request.Request.TheVariants.{Trace, Picture}
+use Rattle.amo_trace.specs.declared.shown.Shown.{Shown}
+use Rattle.amo_trace.specs.declared.shown.Shown.TheVariants.{Trace, Picture}
+use Rattle.amo_show_work.specs.declared.show.Show.{Show}
 
 -- what one word asks for
-abbrev pub request_of : List ℕ → Option Request
-request_of word =
+abbrev pub text_asked : List ℕ → Option Shown
+text_asked word =
     if bytes_eq word (codes "trace") then Some Trace else
     if bytes_eq word (codes "picture") then Some Picture else None
 
 -- what the words after the program's name ask for, or None where they are no command: it is just one word
-abbrev pub asked : List (List ℕ) → Option Request
+abbrev pub asked : List (List ℕ) → Option Show
 asked [] = None
-asked (word ∷ []) = request_of word
+asked (word ∷ []) = option_and_then (λ shown. Some (record { shown = shown })) (text_asked word)
 asked (word ∷ next ∷ more) = None
 
 -- what all words that the program is given ask for, its own name first
-abbrev pub asked_after_name : List (List ℕ) → Option Request
+abbrev pub asked_after_name : List (List ℕ) → Option Show
 asked_after_name words = asked (drop 1 words)
-
--- the text that a request wants of a plan; each plan has it
-abbrev pub text_of : Request → PlanSeen → Result (List ℕ) PlanFault
-text_of Trace plan = Ok (trace_of plan)
-text_of Picture plan = Ok (picture_of plan)

@@ -1,9 +1,7 @@
-//! All that the program `amo_show` does, over any source and any two sinks: which words are a command, what each command writes
-//! of the plan that is read, and the status with which it ends.
+//! All that the program `amo_show` does, over any source and any two sinks: which words are a command, and what each command
+//! writes of the plan that is read.
 #![tactic(auto)]
 
-mod program;
-mod request;
-mod working;
+mod show;
 
-pub use program::serve_words;
+pub use show::Show;

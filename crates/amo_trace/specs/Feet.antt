@@ -4,7 +4,7 @@ use Rattle.std.specs.Fmt.{decimal}
 use Rattle.amo_kk.specs.World.{process}
 use Rattle.amo_kk.specs.declared.event.Event.{Event}
 use Rattle.amo_kk.specs.declared.model.World.{World}
-use Rattle.amo_report.specs.Happened.{is_claim_of, is_done_of, state_of}
+use Rattle.amo_texts.specs.Happened.{is_claim_of, is_done_of, state_of}
 use Rattle.amo_trace.specs.Elements.{text, text_start}
 use Rattle.amo_trace.specs.Marks.{lane}
 

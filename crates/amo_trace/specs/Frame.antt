@@ -5,9 +5,9 @@ use Rattle.amo_kk.specs.Run.{done_jobs}
 use Rattle.amo_kk.specs.Lawful.{object_of}
 use Rattle.amo_kk.specs.declared.model.World.{World}
 use Rattle.amo_plan.specs.Plan.{PlanSeen}
-use Rattle.amo_report.specs.EventLines.{worker_lines}
-use Rattle.amo_report.specs.Numbers.{first_words, first_line}
-use Rattle.amo_report.specs.Tallies.{performed_words, performed_line}
+use Rattle.amo_texts.specs.EventLines.{worker_lines}
+use Rattle.amo_texts.specs.Numbers.{first_words, first_line}
+use Rattle.amo_texts.specs.Tallies.{performed_words, performed_line}
 use Rattle.amo_report.specs.Texts.{turns_of}
 use Rattle.amo_trace.specs.Elements.{text, area_start}
 

@@ -8,7 +8,7 @@ use Rattle.amo_kk.specs.declared.model.World.{World}
 use Rattle.amo_kk.specs.declared.phase.Phase.{Phase}
 use Rattle.amo_kk.specs.declared.phase.Phase.TheVariants.{Announcing, Trying, Reading, Claiming, Holding, Over, Left}
 use Rattle.amo_plan.specs.Plan.{PlanSeen}
-use Rattle.amo_report.specs.Happened.{is_done_of}
+use Rattle.amo_texts.specs.Happened.{is_done_of}
 use Rattle.amo_trace.specs.declared.step.Step.{Step}
 use Rattle.amo_trace.specs.declared.pieces.Kind.{Kind}
 use Rattle.amo_trace.specs.declared.pieces.Kind.TheVariants.{Columns, Stays, Failures, Ticks, Crosses}

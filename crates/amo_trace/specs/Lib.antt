@@ -9,3 +9,4 @@ pub mod Feet
 pub mod Scale
 pub mod Jobs
 pub mod Picture
+pub mod Shown

@@ -6,7 +6,7 @@ ghost use Rattle.amo_trace.specs.Feet.{state_text, counts_words, counts_text, la
 use crate::elements::{push_text, push_text_start};
 use crate::marks::lane;
 use amo_kk::Event;
-use amo_report::{claims_of, dones_of, state_of};
+use amo_texts::{claims_of, dones_of, state_of};
 use amo_world::World;
 use std::alloc::AllocError;
 

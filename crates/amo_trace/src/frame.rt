@@ -6,9 +6,9 @@ ghost use Rattle.amo_trace.specs.Frame.{size_part, svg_open, svg_start, title, m
 use crate::elements::{push_area_start, push_text_start};
 use amo_kk::laws::runs_are_short;
 use amo_plan::Plan;
-use amo_report::{
-    all_turns, push_first_line, push_first_words, push_performed, push_performed_words,
-    push_workers,
+use amo_report::all_turns;
+use amo_texts::{
+    push_first_line, push_first_words, push_performed, push_performed_words, push_workers,
 };
 use amo_world::World;
 use std::alloc::{AllocError, Global};

@@ -13,7 +13,7 @@ use crate::scale::{at, grid_step, last_number, narrow_lane, wide};
 use crate::step::{Step, step_at};
 use amo_kk::{Event, Phase};
 use amo_plan::Plan;
-use amo_report::dones_of;
+use amo_texts::dones_of;
 use std::alloc::AllocError;
 
 /// The colour of a worker.

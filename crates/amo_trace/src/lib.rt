@@ -13,11 +13,13 @@ mod picturing;
 mod pieces;
 mod rows;
 mod scale;
+mod shown;
 mod step;
 mod steps;
 mod tracing;
 
-pub use picturing::{picture, picture_text};
+pub use picturing::picture_text;
+pub use shown::Shown;
 pub use step::{Act, Fact, Step};
 pub use steps::steps_of;
-pub use tracing::{trace, trace_text};
+pub use tracing::trace_text;

@@ -1,9 +1,7 @@
-//! The picture of a plan, as a text and from bytes to bytes.
-ghost use Rattle.std.specs.Prelude.{◌≡◌, ◌++◌, ◌≤◌, false, Ok, OnOk, IfOk, IfErr, string_bytes, length};
-ghost use Rattle.std.specs.Io.KnownBytes.{IsAtEnd};
+//! The picture of a plan, as a text.
+ghost use Rattle.std.specs.Prelude.{◌≡◌, ◌++◌, ◌≤◌, OnOk, IfOk, string_bytes, length};
 ghost use Rattle.std.specs.List.{filter};
 ghost use Rattle.amo_plan.specs.PlanSeen.{plan_seen};
-ghost use Rattle.amo_report.specs.Replays.{Refuses, Writes, is_failed_read, is_failed_write};
 ghost use Rattle.amo_trace.specs.Jobs.{jobs_picture};
 ghost use Rattle.amo_trace.specs.Picture.{rows_picture, picture_in, picture_of};
 ghost use Rattle.amo_trace.specs.Rows.{acts};
@@ -15,7 +13,6 @@ use crate::rows::{changes, push_lane_heads, push_rows};
 use crate::step::Step;
 use crate::steps::run_of;
 use amo_plan::Plan;
-use amo_report::{ReplayFault, Sink, Source, read_source, write_text};
 use amo_world::World;
 use std::alloc::{AllocError, Global};
 
@@ -106,25 +103,4 @@ pub fn picture_text(alloc: Global, plan: &Plan) -> Result<String, AllocError>
     let mut out = String::new(alloc);
     push_picture(alloc, &mut out, plan, &run.world, &rows)?;
     Ok(out)
-}
-
-/// Reads a plan to the end of the reader, and writes its picture and nothing else. Neither stream may have failed. What each
-/// fault leaves is said at `ReplayFault`.
-pub fn picture<R: Source, W: Sink>(
-    alloc: Global,
-    reader: &mut R,
-    writer: &mut W,
-) -> Result<(), ReplayFault>
-    requires reader { R.failed reader.old ≡ false }
-    requires writer { W.failed writer.old ≡ false }
-    ensures end { OnOk result (IsAtEnd (R.remaining reader.new)) }
-    ensures text { OnOk result (Writes (λ p. Ok (picture_of p)) (R.remaining reader.old) (W.contents writer.old) (W.contents writer.new)) }
-    ensures passed { OnOk result (W.waiting writer.new ≡ false) }
-    ensures source { R.failed reader.new ≡ is_failed_read result }
-    ensures sink { W.failed writer.new ≡ is_failed_write result }
-    ensures refused { IfErr result (λ e. Refuses (λ p. Ok (picture_of p)) e (R.remaining reader.old) (W.contents writer.old) (W.contents writer.new)) }
-{
-    let plan = read_source(alloc, reader)?;
-    let text = picture_text(alloc, &plan)?;
-    write_text(writer, &text)
 }

@@ -1,4 +1,2 @@
 pub mod Commands
-pub mod Faults
-pub mod Wanted
-pub mod Statuses
+pub mod Requests

@@ -2,11 +2,13 @@
 ghost use Rattle.std.specs.Prelude.{◌≡◌, ◌≤◌, ◌↔◌, ℕ, Some, false, IfOk, IfSome, map, option_copied};
 ghost use Rattle.std.specs.Fmt.{decimal};
 ghost use Rattle.clap.specs.Words.{app_of, new_app, with_subcommand, rule_of, rows_of, found_of, first_of};
-ghost use Rattle.amo_work.specs.Commands.{Answers, IsWithinRanges, amo_app, explore_app, stops_app, required, number_at, explore_of_rows, stops_of_rows, request_of_row, request_of_line, asked};
+ghost use Rattle.amo_program.specs.Statuses.{IsAnswer};
+ghost use Rattle.amo_work.specs.Commands.{IsWithinRanges, amo_app, explore_app, stops_app, required, number_at, explore_of_rows, stops_of_rows, request_of_row, request_of_line, asked};
 
-use super::request::{Request, RequestFault};
+use super::request::Request;
 use amo_plan::number_within;
-use amo_report::MOST_FIRST;
+use amo_program::Fault;
+use amo_report::{MOST_FIRST, Wanted};
 use clap::error::ErrorKind;
 use clap::{Arg, ArgMatches, Command};
 use std::alloc::{AllocError, Global};
@@ -88,7 +90,7 @@ fn explore_of_matches(matches: &ArgMatches<'_>) -> Option<Request>
     let from = number_at(0, MOST_FIRST, "FROM", matches)?;
     let count = number_at(1, 1000, "COUNT", matches)? as u32;
     let turns = number_at(0, 10_000, "LENGTH", matches)? as u32;
-    Some(Request::Explore { from, count, turns })
+    Some(Request::Text(Wanted::Explored { from, count, turns }))
 }
 
 /// What the text of `stops` asks for.
@@ -97,7 +99,7 @@ fn stops_of_matches(matches: &ArgMatches<'_>) -> Option<Request>
     ensures ranges { IfSome result IsWithinRanges }
 {
     let worker = number_at(1, 16, "WORKER", matches)? as u32;
-    Some(Request::Stops { worker })
+    Some(Request::Text(Wanted::Stops { worker }))
 }
 
 /// What the subcommand of this name asks for.
@@ -107,8 +109,8 @@ fn request_of_row(name: &str, matches: &ArgMatches<'_>) -> Option<Request>
     ensures ranges { IfSome result IsWithinRanges }
 {
     match name {
-        "replay" => Some(Request::Replay),
-        "check" => Some(Request::Check),
+        "replay" => Some(Request::Text(Wanted::Report)),
+        "check" => Some(Request::Text(Wanted::Check)),
         "run" => Some(Request::Run),
         "explore" => explore_of_matches(matches),
         "stops" => stops_of_matches(matches),
@@ -117,8 +119,8 @@ fn request_of_row(name: &str, matches: &ArgMatches<'_>) -> Option<Request>
 }
 
 /// What a whole line asks for, the program's name among its words.
-fn request_of_line(alloc: Global, line: &[&str]) -> Result<Request, RequestFault>
-    ensures request { Answers (request_of_line (map (λ w. w.now) line.now)) result }
+fn request_of_line(alloc: Global, line: &[&str]) -> Result<Request, Fault>
+    ensures request { IsAnswer (request_of_line (map (λ w. w.now) line.now)) result }
     ensures ranges { IfOk result IsWithinRanges }
 {
     let command = amo_command(alloc)?;
@@ -126,19 +128,19 @@ fn request_of_line(alloc: Global, line: &[&str]) -> Result<Request, RequestFault
         Ok(matches) => match matches.subcommand() {
             Some((name, inner)) => match request_of_row(name, inner) {
                 Some(request) => Ok(request),
-                None => Err(RequestFault::NoCommand),
+                None => Err(Fault::NoCommand),
             },
-            None => Err(RequestFault::NoCommand),
+            None => Err(Fault::NoCommand),
         },
-        Err(error) if error.kind() == ErrorKind::OutOfMemory => Err(RequestFault::NoMemory),
-        Err(_) => Err(RequestFault::NoCommand),
+        Err(error) if error.kind() == ErrorKind::OutOfMemory => Err(Fault::NoMemory),
+        Err(_) => Err(Fault::NoCommand),
     }
 }
 
 /// What the words after the program's name ask for. `NoCommand` comes only where they are no command, and
 /// `NoMemory` only where memory was refused.
-pub fn asked(alloc: Global, words: &[&str]) -> Result<Request, RequestFault>
-    ensures request { Answers (asked (map (λ w. w.now) words.now)) result }
+pub fn asked(alloc: Global, words: &[&str]) -> Result<Request, Fault>
+    ensures request { IsAnswer (asked (map (λ w. w.now) words.now)) result }
     ensures ranges { IfOk result IsWithinRanges }
 {
     let mut line = Vec::with_capacity(alloc, words.len() + 1)?;

@@ -3,9 +3,8 @@
 #![tactic(auto)]
 
 mod commands;
-mod program;
 mod request;
 mod working;
 
-pub use program::serve_words;
+pub use request::Request;
 pub use working::work;

@@ -1,52 +1,92 @@
-//! The whole program, over any source and any two sinks.
-ghost use Rattle.std.specs.Prelude.{◌≡◌, ◌≤◌, false, None, map, OnOk, IfErr};
-ghost use Rattle.amo_work.specs.Commands.{asked};
-ghost use Rattle.amo_work.specs.Statuses.{IsDone, IsFault, IsPassedOn, Ends};
-ghost use Rattle.amo_ends.specs.Endings.{change};
+//! What the program does, over any source and any two sinks.
+ghost use Rattle.std.specs.Prelude.{◌≡◌, ◌≤◌, Some, None, false, map, string_bytes, OnOk, IfOk, IfErr};
+ghost use Rattle.amo_program.specs.Endings.{change};
+ghost use Rattle.amo_program.specs.Statuses.{IsDone, IsFault, IsPassedOn};
+ghost use Rattle.amo_work.specs.Commands.{asked, IsWithinRanges};
+ghost use Rattle.amo_work.specs.Requests.{writes, refuses, others, Ends};
 
 use super::commands::asked;
 use super::request::Request;
-use amo_ends::{Fault, refuse};
 use amo_outcome::{Started, run_plan};
-use amo_report::{Sink, Source, check, explore_plan, replay, stops_plan};
-use std::alloc::Global;
+use amo_program::{Command, Fault, refuse};
+use amo_streams::{Sink, Source};
+use amo_texts::write_of;
+use std::alloc::{AllocError, Global};
 use std::sync::Wait;
 use std::thread::Threads;
 
-/// Does what the words ask for. Nothing is read or written where they are no command. The texts of
-/// all commands but `run` are written by calls that are proved to return.
-#[tactic(auto, using(crate::proofs::Endings::of_text, crate::proofs::Endings::words_pass, crate::proofs::Endings::texts_pass))]
-fn serve<R: Threads + Wait + Sync, S: Source, W: Sink>(
+/// Does what is asked for. The texts of all requests but `Run` are written by calls that are proved to return.
+#[tactic(auto, using(crate::proofs::Endings::of_text, amo_program::proofs::Endings::texts_pass))]
+fn carry_out<R: Threads + Wait + Sync, S: Source, W: Sink>(
     rt: &R,
     alloc: Global,
-    words: &[&str],
+    request: Request,
     reader: &mut S,
     out: &mut W,
 ) -> Result<(), Fault>
+    requires ranges { IsWithinRanges request }
     requires reader { S.failed reader.old ≡ false }
     requires out { W.failed out.old ≡ false }
-    ensures done { OnOk result (IsDone (asked (map (λ w. w.now) words.now))
+    ensures done { OnOk result (IsDone writes (Some request)
         (change (S.remaining reader.old) (S.remaining reader.new) (S.failed reader.new))
         (change (W.contents out.old) (W.contents out.new) (W.failed out.new))) }
     ensures passed { OnOk result (W.waiting out.new ≡ false) }
-    ensures fault { IfErr result (λ fault. IsFault fault (asked (map (λ w. w.now) words.now))
+    ensures fault { IfErr result (λ fault. IsFault refuses others fault (Some request)
         (change (S.remaining reader.old) (S.remaining reader.new) (S.failed reader.new))
         (change (W.contents out.old) (W.contents out.new) (W.failed out.new))) }
     ensures passed_on { IfErr result (λ fault. IsPassedOn fault (W.waiting out.new)) }
-    ensures untouched { asked (map (λ w. w.now) words.now) ≡ None → (reader.new ≡ reader.old) × (out.new ≡ out.old) }
 {
-    match asked(alloc, words)? {
-        Request::Replay => Ok(replay(alloc, reader, out)?),
-        Request::Check => Ok(check(alloc, reader, out)?),
+    match request {
+        Request::Text(wanted) => Ok(write_of(alloc, &wanted, reader, out)?),
         Request::Run => match run_plan(rt, alloc, reader, out)? {
             Started::All => Ok(()),
             Started::NotAll => Err(Fault::Thread),
         },
-        Request::Explore { from, count, turns } => {
-            Ok(explore_plan(alloc, reader, out, from, count, turns)?)
-        }
-        Request::Stops { worker } => Ok(stops_plan(alloc, reader, out, worker)?),
     }
+}
+
+/// The texts of the words.
+fn texts_of<'a>(alloc: Global, words: &'a [String]) -> Result<Vec<&'a str>, AllocError>
+    ensures { IfOk result (λ texts. map (λ t. t.now) texts.items ≡ map string_bytes words.now) }
+{
+    let mut texts = Vec::with_capacity(alloc, words.len())?;
+    for word in words {
+        texts.push(word.as_str())?;
+    }
+    Ok(texts)
+}
+
+impl<R: Threads + Wait + Sync> Command<R> for Request {
+    ghost use Rattle.amo_work.specs.Commands.{asked_after_name, IsWithinRanges};
+    ghost use Rattle.amo_work.specs.Requests.{writes, refuses, others, plan_keeps};
+
+    ghost asked = { asked_after_name };
+
+    ghost fits = { IsWithinRanges };
+
+    ghost writes = { writes };
+
+    ghost refuses = { refuses };
+
+    ghost others = { others };
+
+    fn of_words(alloc: Global, words: &[String]) -> Result<Request, Fault> {
+        let texts = texts_of(alloc, words)?;
+        let rest = texts.get(1..).unwrap_or(&[]);
+        asked(alloc, rest)
+    }
+
+    fn carry_out<S: Source, W: Sink>(
+        &self,
+        rt: &R,
+        alloc: Global,
+        reader: &mut S,
+        out: &mut W,
+    ) -> Result<(), Fault> {
+        carry_out(rt, alloc, *self, reader, out)
+    }
+
+    ghost plan_keeps = { plan_keeps };
 }
 
 /// Does what the words ask for, those after the program's name, and answers the exit status of the program: 0 where it was
@@ -54,8 +94,8 @@ fn serve<R: Threads + Wait + Sync, S: Source, W: Sink>(
 /// or a write failed. With each but 0 one line is written to `err` and passed on; that this fails changes nothing. Where the
 /// words are no command nothing is read or written to `out`. Neither `reader` nor `out` may have failed. May wait.
 ///
-/// `serve_words` does this with the words of the process. It is public beside that for callers with words of their own that
-/// want the status as a number, which an `ExitCode` doesn't tell; the tests are such.
+/// `serve_words` of `amo_program` does this with the words of the process. It is public beside that for callers with words of
+/// their own that want the status as a number, which an `ExitCode` doesn't tell; the tests are such.
 pub fn work<R: Threads + Wait + Sync, S: Source, W: Sink, E: Sink>(
     rt: &R,
     alloc: Global,
@@ -74,8 +114,11 @@ pub fn work<R: Threads + Wait + Sync, S: Source, W: Sink, E: Sink>(
     ensures heard { 1 ≤ result → E.failed err.new ≡ false → E.waiting err.new ≡ false }
     ensures untouched { asked (map (λ w. w.now) words.now) ≡ None → (reader.new ≡ reader.old) × (out.new ≡ out.old) }
 {
-    match serve(rt, alloc, words, reader, out) {
-        Ok(()) => 0,
+    match asked(alloc, words) {
+        Ok(request) => match carry_out(rt, alloc, request, reader, out) {
+            Ok(()) => 0,
+            Err(fault) => refuse(alloc, err, fault),
+        },
         Err(fault) => refuse(alloc, err, fault),
     }
 }

@@ -6,9 +6,9 @@ ghost use Rattle.amo_crew.specs.declared.member.Ran.{Ran};
 ghost use Rattle.amo_crew.specs.Crew.{IsFinishOf, IsRunOf, TellsStart};
 
 use super::{Finish, Member, Ran, Uncalled};
-use crate::queue::Queue;
 use crate::threads::Runs;
 use amo_claims::Work;
+use amo_mailbox::Queue;
 use amo_words::Floor;
 use std::snapshot::Snapshot;
 use std::thread::{PromisedHandle, SpawnError, Threads};

@@ -2,8 +2,8 @@
 ghost use Rattle.std.specs.Prelude.{◌≡◌};
 
 use super::Unsettled;
-use crate::hand::Output;
 use crate::outcome::End;
+use amo_mailbox::Output;
 
 impl<P: Drop, Out> Unsettled<P, Out> {
     /// What became of each worker's thread, in the order of their numbers.

@@ -1,7 +1,7 @@
 //! What a payment passes through: its intent stands in the journal, it is given to the bank, and it has its receipt.
 ghost use Rattle.std.specs.Prelude.{◌≡◌, IfOk, IfErr, OnOk, OnErr};
 ghost use Rattle.std.specs.Io.KnownBytes.{Appends};
-ghost use Rattle.amo_payday.specs.Lines.{AppendsFront};
+ghost use Rattle.amo_streams.specs.Streams.{AppendsFront};
 ghost use Rattle.amo_payday.specs.Payments.{IsReceiptOf, order_line};
 
 use crate::day::Payment;

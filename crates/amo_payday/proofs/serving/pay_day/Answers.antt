@@ -1,6 +1,6 @@
 use Rattle.std.proofs.Common.{codes, refl, subst}
 use Rattle.std.specs.Io.KnownBytes.{Appends}
-use Rattle.amo_payday.specs.Lines.{AppendsFront}
+use Rattle.amo_streams.specs.Streams.{AppendsFront}
 use Rattle.amo_payday.specs.Reports.{lines_of}
 use Rattle.amo_payday.proofs.DayReports.{made_of, doubtful_of, untried_of, at_first, at_before, at_doubt, at_rounds, at_floors, at_last, at_end}
 use Rattle.amo_payday.proofs.Fronts.{on_err}

@@ -1,6 +1,6 @@
 use Rattle.std.proofs.Common.{subst}
 use Rattle.std.specs.Io.KnownBytes.{Appends}
-use Rattle.amo_payday.specs.Lines.{AppendsFront}
+use Rattle.amo_streams.specs.Streams.{AppendsFront}
 use Rattle.amo_payday.specs.Reports.{answer_lines}
 use Rattle.amo_payday.proofs.Floors.{part_none, part_one, next_one}
 use Rattle.amo_payday.proofs.Fronts.{on_err, whole}

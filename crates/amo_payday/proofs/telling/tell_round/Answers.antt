@@ -1,5 +1,5 @@
 use Rattle.std.proofs.Common.{◌≡◌, rules, OnErr, subst, append_assoc}
-use Rattle.amo_payday.specs.Lines.{AppendsFront}
+use Rattle.amo_streams.specs.Streams.{AppendsFront}
 use Rattle.amo_payday.specs.Reports.{round_text}
 use Rattle.amo_payday.proofs.Fronts.{wrote}
 use Rattle.amo_payday.proofs.telling.tell_round.Goals as goal

@@ -1,8 +1,0 @@
-use Rattle.std.proofs.Common.{rules}
-use Rattle.std.proofs.lemmas.Fn.{filter_same}
-use Rattle.amo_crew.specs.declared.hand.Output.{Output}
-use Rattle.amo_crew.specs.Ends.{has_worker}
-use Rattle.amo_crew.proofs.queue.gather.keep_only.Goals as goal
-
-pub returns-clause-items : goal.returns-clause-items
-returns-clause-items g c = filter_same _ (λ (x : Output g.row.Out.Denot). has_worker c.args.outlets.now x.worker) _ (λ x b q h. (search rules, search rules)) _ _ c.retain.ensures.filtered

@@ -1,0 +1,4 @@
+pub mod Lists
+pub mod Passes
+pub mod Gathers
+pub mod Ended

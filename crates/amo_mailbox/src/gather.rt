@@ -1,0 +1,148 @@
+//! What is left is taken once all outlets came back.
+ghost use Rattle.std.specs.Prelude.{true, ◌≡◌, ◌+◌, ◌<◌, ◌≤◌, ◌==◌, [], ◌∷◌, ◌++◌, length, map, filter, flat_map, sum_by, All, vec_len, vec_capacity};
+ghost use Rattle.std.specs.List.{list_any};
+ghost use Rattle.crossbeam_queue.specs.Passes.{view, IsPassOf};
+ghost use Rattle.amo_mailbox.specs.declared.hand.Hand.TheVariants.{Gets};
+ghost use Rattle.amo_mailbox.specs.Mailbox.{of, taken_of, made_of, back_of, AreWhole, AreApart};
+ghost use Rattle.amo_mailbox.specs.Ends.{IsOutletOf, IsInletOf, IsGets, given, told, has_worker, left_of, EndsWith, EndsByRisingWorker};
+
+use crate::hand::Output;
+use crate::inlet::Inlet;
+use crate::outlet::Outlet;
+use crate::queue::{Moves, Port, Queue, Takes};
+use std::sync::Wait;
+
+/// Takes in what an outlet's pass knows.
+fn bring<Out: Drop>(queue: &Queue<Out>, pass: &mut Port<Out>, outlet: &mut Outlet<Out>)
+    requires pass { IsPassOf queue.now.ring pass.old }
+    requires view { IsGets (view pass.old) }
+    requires belong { IsOutletOf queue.now outlet.old }
+    ensures pass { IsPassOf queue.now.ring pass.new }
+    ensures view { view pass.new ≡ Gets (taken_of (view pass.old)) (made_of (view pass.old)) (back_of (view pass.old) ++ told outlet.old ∷ []) }
+    ensures left { left_of outlet.new ≡ left_of outlet.old }
+{
+    let whole = queue.ring.another::<Moves>(&mut outlet.pass);
+    queue.ring.absorb::<Moves>(pass, whole);
+}
+
+/// Takes in what the outlets' passes know.
+fn bring_back<Out: Drop>(queue: &Queue<Out>, pass: &mut Port<Out>, outlets: &mut [Outlet<Out>])
+    requires pass { IsPassOf queue.now.ring pass.old }
+    requires view { view pass.old ≡ Gets (taken_of (view pass.old)) (made_of (view pass.old)) [] }
+    requires belong { All (λ o. IsOutletOf queue.now o) outlets.old }
+    ensures pass { IsPassOf queue.now.ring pass.new }
+    ensures view { view pass.new ≡ Gets (taken_of (view pass.old)) (made_of (view pass.old)) (map told outlets.old) }
+    ensures left { map left_of outlets.new ≡ map left_of outlets.old }
+{
+    for outlet in outlets.iter_mut() {
+        bring(queue, pass, outlet);
+    }
+}
+
+/// One of the outlets is of this worker.
+fn is_among<Out>(outlets: &[Outlet<Out>], worker: u32) -> bool
+    ensures { result ≡ has_worker outlets.now worker }
+{
+    outlets.iter().any(|o| worker == o.worker)
+}
+
+/// Keeps the outputs of the outlets' workers.
+fn keep_only<Out: Drop>(taken: &mut Vec<Output<Out>>, outlets: &[Outlet<Out>])
+    ensures items { taken.new.items ≡ filter (λ x. has_worker outlets.now x.worker) taken.old.items }
+    ensures capacity { vec_capacity taken.new ≡ vec_capacity taken.old }
+{
+    taken.retain(
+        |x| -> bool
+            ensures { result ≡ has_worker outlets.entry.now x.now.worker }
+        { is_among(outlets, x.worker) },
+    );
+}
+
+/// Adds what the outlets kept.
+fn append_kept<Out: Drop>(into: &mut Vec<Output<Out>>, outlets: &mut [Outlet<Out>])
+    requires { vec_len into.old + sum_by (λ o. length o.kept) outlets.old ≤ vec_capacity into.old }
+    ensures { into.new.items ≡ into.old.items ++ flat_map (λ o. o.kept) outlets.old }
+{
+    for outlet in outlets.iter_mut() {
+        let _ = into.append(&mut outlet.kept);
+    }
+}
+
+/// Takes what stands in the queue, and keeps the outputs of the outlets' workers.
+fn take_rest<Out: Drop, R: Wait>(
+    rt: &R,
+    queue: &Queue<Out>,
+    pass: &mut Port<Out>,
+    outlets: &[Outlet<Out>],
+    into: &mut Vec<Output<Out>>,
+)
+    requires pass { IsPassOf queue.now.ring pass.old }
+    requires view { IsGets (view pass.old) }
+    requires workers { map (λ e. e.0) (back_of (view pass.old)) ≡ map (λ o. o.worker) outlets.now }
+    requires into { into.old.items ≡ filter (λ x. has_worker outlets.now x.worker) (taken_of (view pass.old)) }
+    requires room { sum_by (λ e. length e.1) (back_of (view pass.old)) ≤ vec_capacity into.old }
+    ensures whole { AreWhole into.new.items (back_of (view pass.old)) }
+    ensures apart { AreApart (back_of (view pass.old)) }
+    ensures only { All (λ x. has_worker outlets.now x.worker ≡ true) into.new.items }
+    ensures len { vec_len into.new ≤ sum_by (λ e. length e.1) (back_of (view pass.old)) }
+    ensures capacity { vec_capacity into.new ≡ vec_capacity into.old }
+{
+    for _ in rt.forever() {
+        let Some(output) = queue.ring.pop_as::<Takes, R>(rt, pass) else {
+            return;
+        };
+        if is_among(outlets, output.worker) {
+            into.push_reserved(output);
+        }
+    }
+    unreachable!()
+}
+
+/// `Inlet::gather`, with the kept lists in the order of the outlets.
+fn gather_in<Out: Drop, R: Wait>(
+    rt: &R,
+    inlet: Inlet<Out>,
+    queue: Queue<Out>,
+    mut outlets: Vec<Outlet<Out>>,
+) -> Vec<Output<Out>>
+    requires inlet { IsInletOf queue inlet }
+    requires outlets { All (λ o. IsOutletOf queue o) outlets.items }
+    requires room { sum_by (λ o. o.put_count) outlets.items ≤ inlet.room }
+    ensures each { All (λ o. of o.worker result.items ≡ given o) outlets.items }
+    ensures only { All (λ x. has_worker outlets.items x.worker ≡ true) result.items }
+    ensures kept { EndsWith result.items (flat_map (λ o. o.kept) outlets.items) }
+{
+    let Inlet {
+        mut pass,
+        mut taken,
+        room: _,
+    } = inlet;
+    let row = outlets.as_mut_slice();
+    bring_back(&queue, &mut pass, row);
+    keep_only(&mut taken, row);
+    take_rest(rt, &queue, &mut pass, row, &mut taken);
+    append_kept(&mut taken, row);
+    taken
+}
+
+impl<Out: Drop> Inlet<Out> {
+    /// Takes the rest, drops what is of no outlet handed in, and adds what the outlets kept, by rising worker: of each of
+    /// these outlets just what it was given, in order, and nothing else. The queue and the outlets have to be the inlet's own,
+    /// and to have been given together no more outputs than there are jobs. Takes no memory; may wait.
+    pub fn gather<R: Wait>(
+        self,
+        rt: &R,
+        queue: Queue<Out>,
+        mut outlets: Vec<Outlet<Out>>,
+    ) -> Vec<Output<Out>>
+        requires inlet { IsInletOf queue self }
+        requires outlets { All (λ o. IsOutletOf queue o) outlets.items }
+        requires room { sum_by (λ o. o.put_count) outlets.items ≤ self.room }
+        ensures each { All (λ o. of o.worker result.items ≡ given o) outlets.items }
+        ensures only { All (λ x. has_worker outlets.items x.worker ≡ true) result.items }
+        ensures kept { EndsByRisingWorker result.items outlets.items }
+    {
+        outlets.sort_unstable_by_key(|o| o.worker);
+        gather_in(rt, self, queue, outlets)
+    }
+}

@@ -1,0 +1,85 @@
+//! Which text of a plan is wanted, and the text.
+ghost use Rattle.std.specs.Prelude.{◌≡◌, ◌≤◌, Ok, IfOk, IfErr, string_bytes};
+ghost use Rattle.amo_plan.specs.PlanSeen.{plan_seen};
+ghost use Rattle.amo_texts.specs.Written.{IsNotMade};
+ghost use Rattle.amo_report.specs.Stops.{stops_in};
+ghost use Rattle.amo_report.specs.Texts.{report_of};
+
+use super::checking::check_text;
+use super::explorer::explore;
+use super::report::report_text;
+use super::running::run_plan;
+use super::stops::stops_text;
+use amo_plan::{Plan, PlanFault};
+use amo_texts::{PlanText, ReplayFault};
+use std::alloc::{AllocError, Global};
+
+/// Which text of a plan is wanted.
+#[derive(Clone, Copy, Debug, PartialEq, Eq)]
+pub enum Wanted {
+    /// The report of its replay.
+    Report,
+    /// That it is a plan, with its numbers.
+    Check,
+    /// What numbered schedules of it lead to.
+    Explored {
+        /// The number of the first schedule, 0 to 1,000,000,000,000.
+        from: u64,
+        /// How many schedules, 1 to 1000.
+        count: u32,
+        /// How many turns each of them has, 0 to 10,000.
+        turns: u32,
+    },
+    /// What stops of a worker lead to, one after each of its first moves.
+    Stops {
+        /// The worker, from 1. The plan may have fewer.
+        worker: u32,
+    },
+}
+
+/// The report of a plan, in the world after its schedule and its rounds. The only error is out of memory.
+fn plan_report(alloc: Global, plan: &Plan) -> Result<String, AllocError>
+    ensures { IfOk result (λ s. string_bytes s ≡ report_of (plan_seen plan.now)) }
+{
+    let world = run_plan(alloc, plan)?;
+    report_text(alloc, plan, &world)
+}
+
+/// What `stops_text` makes of a plan. Where the plan has no worker p this is `Plan(NoSuchWorker(0))`, else where it has
+/// more than 1000 moves `Plan(TooLong)`.
+#[tactic(auto, unfolding(crate::specs::Stops::stops_in))]
+fn plan_stops(alloc: Global, plan: &Plan, p: u32) -> Result<String, ReplayFault>
+    requires { 1 ≤ p }
+    ensures text { IfOk result (λ s. stops_in (plan_seen plan.now) p ≡ Ok (string_bytes s)) }
+    ensures refused { IfErr result (λ e. IsNotMade e (stops_in (plan_seen plan.now) p)) }
+{
+    if p > plan.heads.givens.workers {
+        return Err(ReplayFault::Plan(PlanFault::NoSuchWorker(0)));
+    }
+    if plan.heads.moves.as_slice().len() > 1000 {
+        return Err(ReplayFault::Plan(PlanFault::TooLong));
+    }
+    Ok(stops_text(alloc, plan, p)?)
+}
+
+impl PlanText for Wanted {
+    ghost use Rattle.amo_report.specs.Wanted.{text_of, IsWithinRanges};
+
+    ghost fits = { IsWithinRanges };
+
+    ghost made = { text_of };
+
+    /// The text. Where the stops of a worker are wanted that the plan doesn't have, this is `Plan(NoSuchWorker(0))`, else where it
+    /// has more than 1000 moves `Plan(TooLong)`; of each other text the only error is out of memory.
+    fn make(&self, alloc: Global, plan: &Plan) -> Result<String, ReplayFault> {
+        match *self {
+            Wanted::Report => Ok(plan_report(alloc, plan)?),
+            Wanted::Check => Ok(check_text(alloc, &plan.heads)?),
+            Wanted::Explored { from, count, turns } => {
+                let text = explore(alloc, plan, from, count, turns)?;
+                Ok(text)
+            }
+            Wanted::Stops { worker } => plan_stops(alloc, plan, worker),
+        }
+    }
+}

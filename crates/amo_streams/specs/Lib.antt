@@ -1,0 +1,4 @@
+pub mod Streams
+pub mod RoomSeen
+pub mod StreamedSeen
+pub mod ReadFaults

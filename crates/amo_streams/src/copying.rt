@@ -1,0 +1,65 @@
+//! All of a source, and all of a text.
+ghost use Rattle.std.specs.Prelude.{◌≡◌, ◌<◌, ◌≤◌, ◌||◌, IfOk, IfErr, OnOk, OnErr, is_err, false, vec_len, length};
+ghost use Rattle.std.specs.Io.KnownBytes.{Appends, Consumes, IsAtEnd};
+ghost use Rattle.amo_streams.specs.Streams.{AppendsFront};
+ghost use Rattle.amo_streams.specs.ReadFaults.{is_failure};
+
+use super::streams::{Failed, Sink, Source};
+use std::alloc::{AllocError, Global};
+
+/// Why a source was not read.
+#[derive(Clone, Copy, Debug, PartialEq, Eq)]
+pub enum ReadFault {
+    /// The source failed.
+    Failed,
+    /// Memory for what it gave was refused.
+    NoMemory,
+}
+
+/// The most bytes that are read: one more than a plan may have.
+pub const MOST_READ: usize = 1_048_577;
+
+/// Reads to the end of the source, or `MOST_READ` bytes where it has so many. After a fault some bytes may be
+/// taken from what remains.
+pub fn read_all<R: Source>(alloc: Global, reader: &mut R) -> Result<Vec<u8>, ReadFault>
+    ensures ok { IfOk result (λ v. Consumes (R.remaining reader.old) (R.remaining reader.new) v.items) }
+    ensures most { IfOk result (λ v. vec_len v ≤ 1048577) }
+    ensures end { IfOk result (λ v. vec_len v < 1048577 → IsAtEnd (R.remaining reader.new)) }
+    ensures calm { OnOk result (R.failed reader.new ≡ R.failed reader.old) }
+    ensures fails { IfErr result (λ e. R.failed reader.new ≡ (R.failed reader.old || is_failure e)) }
+{
+    let mut bytes = Vec::new(alloc);
+    let mut buf = [0u8; 4096];
+    'reading: while bytes.len() < MOST_READ {
+        let room = buf.len().min(MOST_READ - bytes.len());
+        let front = &mut buf[..room];
+        let count = match reader.read(front) {
+            Ok(count) => count,
+            Err(Failed) => return Err(ReadFault::Failed),
+        };
+        if count == 0 {
+            break;
+        }
+        match bytes.extend_from_slice(&buf[..count]) {
+            Ok(()) => {}
+            Err(AllocError) => return Err(ReadFault::NoMemory),
+        }
+    }
+    Ok(bytes)
+}
+
+/// Writes all of the bytes and flushes the sink. `Failed` where a write or the flush fails: then a beginning of
+/// the bytes was taken.
+pub fn write_all<W: Sink>(writer: &mut W, bytes: &[u8]) -> Result<(), Failed>
+    ensures ok { OnOk result (Appends (W.contents writer.old) (W.contents writer.new) bytes.now) }
+    ensures passed { OnOk result (W.waiting writer.new ≡ false) }
+    ensures front { OnErr result (AppendsFront (W.contents writer.old) (W.contents writer.new) bytes.now) }
+    ensures fails { W.failed writer.new ≡ (W.failed writer.old || is_err result) }
+{
+    let mut at = 0;
+    'writing: while at < bytes.len() {
+        let (_, rest) = bytes.split_at(at);
+        at += writer.write(rest)?;
+    }
+    writer.flush()
+}

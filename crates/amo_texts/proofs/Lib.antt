@@ -1,0 +1,5 @@
+pub mod Counted
+pub mod Marks
+pub mod Blocks
+pub mod Whole
+pub mod Least

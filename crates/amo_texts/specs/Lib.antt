@@ -1,0 +1,9 @@
+pub mod Escaped
+pub mod Numbers
+pub mod Happened
+pub mod EventLines
+pub mod Results
+pub mod Tallies
+pub mod Least
+pub mod FaultTexts
+pub mod Written

@@ -1,0 +1,25 @@
+//! What the texts of plans have in common: their lines, the line of each fault, and how a text is made of the plan that a source
+//! holds and written to a sink.
+#![tactic(auto)]
+
+mod counting;
+mod escaped;
+mod events;
+mod faults;
+mod numbers;
+mod results;
+mod tallies;
+mod text;
+mod unclaimed;
+mod writing;
+
+pub use counting::{count_claims, count_ends, count_performances};
+pub use escaped::push_escaped;
+pub use events::{claims_of, dones_of, push_events, push_workers, state_of};
+pub use faults::fault_text;
+pub use numbers::{push_first_line, push_first_words, push_numbers};
+pub use results::push_results;
+pub use tallies::{jobs_in_block, push_performed, push_performed_words, push_tally};
+pub use text::PlanText;
+pub use unclaimed::push_unclaimed;
+pub use writing::{ReplayFault, read_source, write_of, write_text};
