@@ -1,5 +1,8 @@
 //! What is left to do where earlier runs have left a journal.
-ghost use Rattle.std.specs.Prelude.{◌≡◌, List, [], ◌∷◌, ◌++◌, IfOk, OnOk};
+ghost use Rattle.std.specs.Prelude.{◌≡◌, ◌||◌, ℕ, List, [], ◌∷◌, ◌++◌, IfOk, OnOk};
+ghost use Rattle.std.specs.BTreeSet.{contains};
+ghost use Rattle.std.specs.Ordering.{nat_cmp};
+ghost use Rattle.amo_ledger.specs.declared.journal.Attempt.{Attempt as AttemptView};
 ghost use Rattle.amo_ledger.specs.Open.{reopens};
 ghost use Rattle.amo_payday.specs.declared.day.payment.Payment.{Payment as PaymentView};
 ghost use Rattle.amo_payday.specs.Restarts.{has_intent, has_receipt, is_made, is_receipt, stands, IsParted};
@@ -7,6 +10,7 @@ ghost use Rattle.amo_payday.specs.Restarts.{has_intent, has_receipt, is_made, is
 use crate::day::Payment;
 use amo_ledger::{Answer, Attempt, opens};
 use std::alloc::{AllocError, Global};
+use std::collections::BTreeSet;
 
 /// The payments of a day after earlier runs of it. Each is in one of the three.
 #[derive(Drop)]
@@ -30,17 +34,6 @@ pub fn has_intent(journal: &[Attempt], id: u64) -> bool
     )
 }
 
-/// Whether there is a receipt of the payment of this number.
-fn has_receipt(journal: &[Attempt], id: u64) -> bool
-    ensures { result ≡ has_receipt journal.now id }
-{
-    journal.iter().any(
-        |attempt| -> bool
-            ensures { result ≡ is_receipt id attempt.now }
-        { attempt.line == id && is_made(attempt.answer) },
-    )
-}
-
 /// Whether it is known that a payment was not begun.
 fn reopens(answer: Option<Answer>) -> bool
     ensures { result ≡ reopens answer }
@@ -58,15 +51,58 @@ fn is_made(answer: Option<Answer>) -> bool
     matches!(answer, Some(Answer::Done { code: 0, .. }))
 }
 
+/// What a journal says of payments, by their numbers.
+#[derive(Drop)]
+struct Earlier {
+    /// Those with an intent that stands.
+    intents: BTreeSet<u64>,
+    /// Those with a receipt.
+    receipts: BTreeSet<u64>,
+}
+
+impl Earlier {
+    /// Adds what one intent says, with its answer.
+    fn add(&mut self, attempt: &Attempt) -> Result<(), AllocError>
+        ensures intents { OnOk result ((id : ℕ) → contains nat_cmp self.new.intents id ≡ (contains nat_cmp self.old.intents id || stands id attempt.now)) }
+        ensures receipts { OnOk result ((id : ℕ) → contains nat_cmp self.new.receipts id ≡ (contains nat_cmp self.old.receipts id || is_receipt id attempt.now)) }
+    {
+        if !reopens(attempt.answer) {
+            self.intents.insert(attempt.line)?;
+        }
+        if is_made(attempt.answer) {
+            self.receipts.insert(attempt.line)?;
+        }
+        Ok(())
+    }
+
+    /// What this journal says.
+    fn of(alloc: Global, journal: &[Attempt]) -> Result<Earlier, AllocError>
+        ensures intents { IfOk result (λ e. (id : ℕ) → contains nat_cmp e.intents id ≡ has_intent journal.now id) }
+        ensures receipts { IfOk result (λ e. (id : ℕ) → contains nat_cmp e.receipts id ≡ has_receipt journal.now id) }
+    {
+        let mut earlier = Earlier {
+            intents: BTreeSet::new(alloc),
+            receipts: BTreeSet::new(alloc),
+        };
+        for attempt in journal {
+            earlier.add(attempt)?;
+        }
+        Ok(earlier)
+    }
+}
+
 impl Restart {
     /// Puts one payment more where it belongs.
     #[tactic(auto, using(crate::proofs::Filters::passed, crate::proofs::Filters::skipped))]
-    fn add(&mut self, journal: &[Attempt], payment: Payment) -> Result<(), AllocError>
-        ensures parted { OnOk result ((payments : List PaymentView) → IsParted journal.now payments self.old → IsParted journal.now (payments ++ payment ∷ []) self.new) }
+    fn add(&mut self, earlier: &Earlier, payment: Payment) -> Result<(), AllocError>
+        ensures parted { OnOk result ((payments : List PaymentView) (journal : List AttemptView)
+            → ((id : ℕ) → contains nat_cmp earlier.now.intents id ≡ has_intent journal id)
+            → ((id : ℕ) → contains nat_cmp earlier.now.receipts id ≡ has_receipt journal id)
+            → IsParted journal payments self.old → IsParted journal (payments ++ payment ∷ []) self.new) }
     {
-        if has_receipt(journal, payment.id()) {
+        if earlier.receipts.contains(&payment.id()) {
             self.made.push(payment)?;
-        } else if has_intent(journal, payment.id()) {
+        } else if earlier.intents.contains(&payment.id()) {
             self.in_doubt.push(payment)?;
         } else {
             self.untried.push(payment)?;
@@ -76,8 +112,7 @@ impl Restart {
 }
 
 /// Parts the payments by what the journal says of them. Nothing else is known of earlier runs. Where memory is refused the
-/// payments are dropped: nothing was paid, and the day has to end. For each payment it goes through the journal until it is
-/// found.
+/// payments are dropped: nothing was paid, and the day has to end. It goes through the journal once.
 pub fn part(
     alloc: Global,
     payments: Vec<Payment>,
@@ -85,13 +120,14 @@ pub fn part(
 ) -> Result<Restart, AllocError>
     ensures { IfOk result (IsParted journal.now payments.items) }
 {
+    let earlier = Earlier::of(alloc, journal)?;
     let mut parts = Restart {
         made: Vec::new(alloc),
         in_doubt: Vec::new(alloc),
         untried: Vec::new(alloc),
     };
     for payment in payments {
-        parts.add(journal, payment)?;
+        parts.add(&earlier, payment)?;
     }
     Ok(parts)
 }

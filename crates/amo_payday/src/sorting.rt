@@ -1,16 +1,19 @@
 //! What is certain of each payment after a run.
-ghost use Rattle.std.specs.Prelude.{◌≡◌, ◌<◌, ◌≤◌, ◌+◌, ℕ, List, [], ◌∷◌, ◌++◌, length, filter, vec_len, vec_capacity, IfOk, IfErr};
+ghost use Rattle.std.specs.Prelude.{◌≡◌, ◌==◌, ◌<◌, ◌≤◌, ◌+◌, ◌||◌, not, ℕ, List, [], ◌∷◌, ◌++◌, length, filter, vec_len, vec_capacity, IfOk, IfErr, OnOk};
+ghost use Rattle.std.specs.BTreeSet.{contains};
 ghost use Rattle.std.specs.List.{enumerate_from};
+ghost use Rattle.std.specs.Ordering.{nat_cmp};
 ghost use Rattle.amo_kk.specs.declared.givens.Givens.{Givens as GivensView};
 ghost use Rattle.amo_crew.specs.Outcomes.{IsOutcome};
 ghost use Rattle.amo_payday.specs.Payments.{Answers};
-ghost use Rattle.amo_payday.specs.Sorting.{is_paid, has_receipt_of, has_job, is_unsure, ids_of, IsSorted, IsSortingOf};
+ghost use Rattle.amo_payday.specs.Sorting.{is_paid, has_receipt_of, has_job, is_certain, ids_of, IsSorted, IsSortingOf};
 ghost use Rattle.amo_payday.specs.declared.day.payment.Payment.{Payment as PaymentView};
 
 use crate::bank::Answer;
 use crate::day::Payment;
 use amo_crew::{Outcome, Output};
-use std::alloc::Global;
+use std::alloc::{AllocError, Global};
+use std::collections::BTreeSet;
 
 /// The jobs of a run, sorted by what is certain of their payments. Each job has a receipt among the answers, or is free, or
 /// is in doubt, and just one of these.
@@ -33,61 +36,97 @@ fn is_paid(answer: &Answer) -> bool
     matches!(answer, Answer::Paid(_))
 }
 
-/// Whether one of the answers is a receipt of the job.
-fn has_receipt_of(answers: &[Output<Answer>], job: u32) -> bool
-    ensures { result ≡ has_receipt_of answers.now job }
+/// The jobs of which there is a receipt among the answers.
+fn paid_in(alloc: Global, answers: &[Output<Answer>]) -> Result<BTreeSet<u32>, AllocError>
+    ensures { IfOk result (λ s. (j : ℕ) → contains nat_cmp s j ≡ has_receipt_of answers.now j) }
 {
-    answers
-        .iter()
-        .any(|output| output.job == job && is_paid(&output.out))
+    let mut paid = BTreeSet::new(alloc);
+    for output in answers {
+        if is_paid(&output.out) {
+            paid.insert(output.job)?;
+        }
+    }
+    Ok(paid)
 }
 
-/// Whether the job is free.
-fn has_free(free: &[(u32, Payment)], job: u32) -> bool
-    ensures { result ≡ has_job free.now job }
+/// Adds a free job.
+fn add_free(jobs: &mut BTreeSet<u32>, entry: &(u32, Payment)) -> Result<(), AllocError>
+    ensures { OnOk result ((j : ℕ) → contains nat_cmp jobs.new j ≡ (contains nat_cmp jobs.old j || entry.now.0 == j)) }
 {
-    free.iter().any(|entry| entry.0 == job)
+    jobs.insert(entry.0)?;
+    Ok(())
 }
 
-/// Lists the job with its payment's number where there is no receipt of it, and it is not free.
+/// The free jobs.
+fn free_in(alloc: Global, free: &[(u32, Payment)]) -> Result<BTreeSet<u32>, AllocError>
+    ensures { IfOk result (λ s. (j : ℕ) → contains nat_cmp s j ≡ has_job free.now j) }
+{
+    let mut jobs = BTreeSet::new(alloc);
+    for entry in free {
+        add_free(&mut jobs, entry)?;
+    }
+    Ok(jobs)
+}
+
+/// The jobs of which it is certain what became of them.
+#[derive(Drop)]
+struct Certain {
+    /// Those of which there is a receipt.
+    paid: BTreeSet<u32>,
+    /// Those that are free.
+    free: BTreeSet<u32>,
+}
+
+impl Certain {
+    /// Those of these answers and of these free jobs.
+    fn of(
+        alloc: Global,
+        answers: &[Output<Answer>],
+        free: &[(u32, Payment)],
+    ) -> Result<Certain, AllocError>
+        ensures { IfOk result (λ c. (j : ℕ) → is_certain c j ≡ (has_receipt_of answers.now j || has_job free.now j)) }
+    {
+        let paid = paid_in(alloc, answers)?;
+        let free = free_in(alloc, free)?;
+        Ok(Certain { paid, free })
+    }
+
+    /// Whether it has the job.
+    fn has(&self, job: u32) -> bool
+        ensures { result ≡ is_certain self.now job }
+    {
+        self.paid.contains(&job) || self.free.contains(&job)
+    }
+}
+
+/// Lists the job with its payment's number where it isn't among the certain ones.
 #[tactic(auto, using(crate::proofs::Filters::passed, crate::proofs::Filters::skipped))]
-fn add_unsure(
-    job: (u32, u64),
-    answers: &[Output<Answer>],
-    free: &[(u32, Payment)],
-    unsure: &mut Vec<(u32, u64)>,
-)
+fn add_unsure(job: (u32, u64), certain: &Certain, unsure: &mut Vec<(u32, u64)>)
     requires room { vec_len unsure.old < vec_capacity unsure.old }
-    ensures listed { (jobs : List (ℕ × ℕ)) → unsure.old.items ≡ filter (λ t. is_unsure answers.now free.now t.0) jobs
-        → unsure.new.items ≡ filter (λ t. is_unsure answers.now free.now t.0) (jobs ++ job ∷ []) }
+    ensures listed { (jobs : List (ℕ × ℕ)) → unsure.old.items ≡ filter (λ t. not (is_certain certain.now t.0)) jobs
+        → unsure.new.items ≡ filter (λ t. not (is_certain certain.now t.0)) (jobs ++ job ∷ []) }
     ensures len { vec_len unsure.new ≤ vec_len unsure.old + 1 }
     ensures capacity { vec_capacity unsure.new ≡ vec_capacity unsure.old }
 {
-    if !has_receipt_of(answers, job.0) && !has_free(free, job.0) {
+    if !certain.has(job.0) {
         unsure.push_reserved(job);
     }
 }
 
-/// Lists the jobs, from 1, of payments with these numbers of which there is no receipt, and which are not free.
-fn list_unsure(
-    ids: &[u64],
-    answers: &[Output<Answer>],
-    free: &[(u32, Payment)],
-    unsure: &mut Vec<(u32, u64)>,
-)
+/// Lists the jobs, from 1, of payments with these numbers, that aren't among the certain ones.
+fn list_unsure(ids: &[u64], certain: &Certain, unsure: &mut Vec<(u32, u64)>)
     requires empty { unsure.old.items ≡ [] }
     requires room { (vec_len unsure.old ≡ 0) × (length ids.now ≤ vec_capacity unsure.old) }
     requires small { length ids.now ≤ 4096 }
-    ensures { unsure.new.items ≡ filter (λ t. is_unsure answers.now free.now t.0) (enumerate_from 1 ids.now) }
+    ensures { unsure.new.items ≡ filter (λ t. not (is_certain certain.now t.0)) (enumerate_from 1 ids.now) }
 {
     for before in 0..ids.len() {
-        add_unsure((before as u32 + 1, ids[before]), answers, free, unsure);
+        add_unsure((before as u32 + 1, ids[before]), certain, unsure);
     }
 }
 
 /// Sorts the jobs of a run of payments with these numbers, at most 4096, by what is certain of each. Where memory is refused
-/// the outcome comes back as it was. For each job it goes through the answers and then through the free jobs until it is
-/// found: in a round of 4096 jobs up to 16 million comparisons.
+/// the outcome comes back as it was. It goes through the answers and the free jobs once.
 pub fn sort_out(
     alloc: Global,
     ids: &[u64],
@@ -102,6 +141,9 @@ pub fn sort_out(
     let Ok(mut in_doubt) = Vec::with_capacity(alloc, ids.len()) else {
         return Err(outcome);
     };
+    let Ok(certain) = Certain::of(alloc, &outcome.outputs, &outcome.settlement.free) else {
+        return Err(outcome);
+    };
     let Outcome {
         settlement,
         ends: _,
@@ -109,7 +151,7 @@ pub fn sort_out(
         in_hand,
     } = outcome;
     let free = settlement.free;
-    list_unsure(ids, &answers, &free, &mut in_doubt);
+    list_unsure(ids, &certain, &mut in_doubt);
     Ok(Sorted {
         answers,
         free,
