@@ -224,7 +224,9 @@ def try_harness_killed(bench):
             os._exit(1)
     os.close(told)
     want(os.read(ready, 5) == b"ready", "the workers don't begin")
-    begun = descendants(tool)
+    soon = time.monotonic() + 10
+    while len(begun := descendants(tool)) < 5 and time.monotonic() < soon:
+        time.sleep(0.01)
     os.kill(tool, signal.SIGKILL)
     os.waitpid(tool, 0)
     end = time.monotonic() + 10
