@@ -7,3 +7,4 @@ pub mod Tallies
 pub mod Least
 pub mod FaultTexts
 pub mod Written
+pub mod OfBytes
