@@ -40,7 +40,7 @@ module _ (g : Givens) (ok : AreGivens g) (p : ℕ) where
   GoesOn w i = (k : ℕ) → k < i → claims_or_ends g (world_after_turns g w p k) p ≡ false
 
   first_turn : (w : World) (i : ℕ) → IsLawful g w → (process w p).gone ≡ false → GoesOn w (suc i) → IsTurned g w p (world_after_turn g w p)
-  first_turn w i law here goes_on = own_turn g w p ok law here (or_parts (is_claiming (process w p).local.phase) _ (goes_on 0 (omega arith))).1
+  first_turn w i law here goes_on = own_turn g w p law here (or_parts (is_claiming (process w p).local.phase) _ (goes_on 0 (omega arith))).1
 
   paid : (test : Want → ℕ → Bool) (each : ℕ) (left : Record → ℕ) → IsPaid g p test each left
       → (a i n : ℕ) (w : World) → IsLawful g w → (process w p).gone ≡ false → GoesOn w i

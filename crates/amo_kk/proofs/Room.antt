@@ -14,7 +14,7 @@ use Rattle.amo_kk.specs.declared.event.Event.{Event}
 use Rattle.amo_kk.specs.declared.event.Event.TheVariants.{Claimed, Done, Ended, Halted, Left}
 use Rattle.amo_sets.proofs.Numbers.{numbered-put_same, numbered-put_other, length-put, length-table, count_le_all}
 use Rattle.amo_sets.proofs.Tally.{count_gain}
-use Rattle.amo_kk.proofs.Worlds.{numbered-table_same}
+use Rattle.amo_sets.proofs.Tables.{numbered-table_same}
 use Rattle.amo_sets.proofs.Removed.{has-without_other, has-without_same}
 use Rattle.amo_kk.proofs.Claims.{here_parts, claim_parts, done_parts}
 

@@ -12,7 +12,7 @@ use Rattle.amo_kk.specs.Run.{object_after_all, IsRun}
 use Rattle.amo_kk.specs.Record.{empty_record, is_open, is_over, wants_nothing, can_leave, job_in_hand}
 use Rattle.amo_kk.specs.Choice.{record_after_choice, record_after_check, first_record}
 use Rattle.amo_kk.specs.Step.{want, with_announced, record_at_row, record_at_announcement, record_after_phase, record_after, record_after_leave, shown, events_of, ended_if_over}
-use Rattle.amo_kk.specs.World.{nobody, process, loaded_value, process_after, world_with, world_after_step, world_after_turn, world_after_halt, world_after_leave, world_after_move, world_after_moves, first_process, opening_world}
+use Rattle.amo_kk.specs.World.{nobody, process, loaded_value, process_after, world_with, world_after_step, world_after_turn, world_after_halt, world_after_leave, world_after_move, world_after_moves, first_process, opening_world, world_of}
 use Rattle.amo_kk.specs.Lawful.{IsSoundProcess, AreLawful, IsLawful, jobs_of, Agrees, object_of, HasRun, GoesOn}
 use Rattle.amo_kk.specs.declared.givens.Givens.{Givens}
 use Rattle.amo_kk.specs.declared.phase.Phase.{Phase}
@@ -31,8 +31,8 @@ use Rattle.amo_kk.specs.declared.event.Shown.TheVariants.{Quiet, Done as DoneSho
 use Rattle.amo_kk.proofs.Choice.{after_rests, choice_cases, check_cases, to_row_cases, to_announcement_cases}
 use Rattle.amo_kk.proofs.Kept.{IsKept}
 use Rattle.amo_sets.proofs.Numbers.{has_push, has-get_or, get_or-has, count_true, count_le_all, numbered-put_other, length-table}
-use Rattle.amo_sets.proofs.Tables.{get_or-table, numbered-table}
-use Rattle.amo_kk.proofs.Worlds.{here_is_worker, put_here, turn_lawful, move_lawful, leaves_empty, opening_lawful, numbered-table_same, turned_kept}
+use Rattle.amo_sets.proofs.Tables.{get_or-table, numbered-table, numbered-table_same}
+use Rattle.amo_kk.proofs.Worlds.{here_is_worker, put_here, turn_lawful, move_lawful, leaves_empty, opening_lawful, turned_kept}
 use Rattle.amo_kk.proofs.Ends.{over_few}
 use Rattle.amo_kk.proofs.Steps.{enough, is_here_now, agrees_claim, agrees_done, agrees_gone, agrees_same}
 
@@ -504,5 +504,5 @@ pub worlds_run : (g : Givens) (w : World) (ms : List Move) → AreGivens g → I
 worlds_run g w [] ok law run = run
 worlds_run g w (m ∷ ms) ok law run = worlds_run g (world_after_move g w m) ms ok (move_lawful g w m ok law) (move_runs g w m ok law run)
 
-pub always_runs : (g : Givens) (ms : List Move) → AreGivens g → HasRun g (world_after_moves g (opening_world g) ms)
+pub always_runs : (g : Givens) (ms : List Move) → AreGivens g → HasRun g (world_of g ms)
 always_runs g ms ok = worlds_run g (opening_world g) ms ok (opening_lawful g ok) (opening_runs g ok)

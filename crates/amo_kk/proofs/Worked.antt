@@ -8,7 +8,7 @@ use Rattle.amo_kk.specs.Givens.{bound}
 use Rattle.amo_kk.specs.Object.{first_object}
 use Rattle.amo_kk.specs.Run.{object_after_all, first_bad}
 use Rattle.amo_kk.specs.Choice.{first_record}
-use Rattle.amo_kk.specs.World.{process, world_after_halt, world_after_leave, world_after_moves, opening_world}
+use Rattle.amo_kk.specs.World.{process, world_after_halt, world_after_leave, opening_world, world_of}
 use Rattle.amo_kk.specs.Words.{words_of, done_word}
 use Rattle.amo_kk.specs.Answer.{turn_shown, leave_answer}
 use Rattle.amo_kk.specs.Alone.{claims_or_ends, world_after_turns, want_at, value_at, reads_announcement, reads_zero, reads_entry, turns_that, attempt_at, turns_of_attempt}
@@ -39,9 +39,6 @@ five_jobs = givens 5 2 2 refl
 
 abbrev turns : ℕ → ℕ → List Move
 turns p k = replicate k (Turn p)
-
-abbrev world_of : Givens → List Move → World
-world_of g ms = world_after_moves g (opening_world g) ms
 
 abbrev history_of : Givens → List Move → List Event
 history_of g ms = (world_of g ms).history

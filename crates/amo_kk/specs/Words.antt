@@ -10,6 +10,10 @@ use Rattle.amo_kk.specs.declared.phase.Want.TheVariants.{StoreNext, LoadNext, Lo
 abbrev pub words_of : List Process → List ℕ
 words_of all = 0 ∷ map (λ (a : Process). a.next) all ++ (map (λ (a : Process). a.claim) all ++ flat_map (λ (a : Process). a.row) all)
 
+-- how many words there are: the book word, and for each worker its announcement, its count of claims and its row
+abbrev pub word_count : Givens → ℕ
+word_count g = g.workers * (g.jobs + 3) + 1
+
 -- the place of the announcement of p
 abbrev pub next_word : ℕ → ℕ
 next_word p = p

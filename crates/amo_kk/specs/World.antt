@@ -1,5 +1,5 @@
 -- All workers with their words, and the history, one move at a time.
-use Rattle.std.specs.Prelude.{ℕ, ◌+◌, Bool, true, false, ◌&&◌, ◌||◌, List, [], ◌∷◌, ◌++◌, length, replicate, nat_lt, if◌then◌else◌}
+use Rattle.std.specs.Prelude.{ℕ, zero, suc, ◌+◌, Bool, true, false, ◌&&◌, ◌||◌, List, [], ◌∷◌, ◌++◌, length, replicate, nat_lt, if◌then◌else◌}
 use Rattle.std.specs.List.{sum_by}
 use Rattle.amo_sets.specs.Lists.{numbered, put, table}
 use Rattle.amo_kk.specs.Object.{is_within}
@@ -128,3 +128,16 @@ opening_world g =
       processes = table g.workers (first_process g);
       history = if nat_lt g.jobs g.beta then table g.workers (λ p. Ended p) else [];
     }
+
+-- the world after these moves, from the opening world
+abbrev pub world_of : Givens → List Move → World
+world_of g ms = world_after_moves g (opening_world g) ms
+
+-- a round is a turn of each worker, in the order of their numbers
+abbrev pub round : ℕ → List Move
+round workers = table workers (λ p. Turn p)
+
+-- so many rounds
+abbrev pub rounds : ℕ → ℕ → List Move
+rounds workers zero = []
+rounds workers (suc n) = rounds workers n ++ round workers

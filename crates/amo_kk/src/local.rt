@@ -263,30 +263,14 @@ impl Local {
     pub fn ended(&self) -> bool
         ensures { result ≡ is_over self.now.state.phase }
     {
-        match self.phase {
-            Phase::Over => true,
-            Phase::Announcing(_)
-            | Phase::Trying(_, _)
-            | Phase::Reading(_, _)
-            | Phase::Claiming(_)
-            | Phase::Holding(_)
-            | Phase::Left => false,
-        }
+        self.phase.is_over()
     }
 
     /// Whether the worker has left.
     pub fn has_left(&self) -> bool
         ensures { result ≡ true ↔ self.now.state.phase ≡ Phase.Left }
     {
-        match self.phase {
-            Phase::Left => true,
-            Phase::Announcing(_)
-            | Phase::Trying(_, _)
-            | Phase::Reading(_, _)
-            | Phase::Claiming(_)
-            | Phase::Holding(_)
-            | Phase::Over => false,
-        }
+        matches!(self.phase, Phase::Left)
     }
 
     /// Whether the worker knows that j is done.
@@ -370,7 +354,7 @@ fn add_within(list: &mut Vec<u32>, job: u32)
 fn shown(before: Phase, after: Phase) -> Shown
     ensures { result ≡ shown before after }
 {
-    let ended = matches!(after, Phase::Over);
+    let ended = after.is_over();
     match before {
         Phase::Announcing(_) | Phase::Trying(_, _) | Phase::Reading(_, _) if ended => Shown::Ended,
         Phase::Announcing(_) | Phase::Trying(_, _) | Phase::Reading(_, _) => Shown::Quiet,

@@ -17,8 +17,9 @@ use Rattle.amo_kk.specs.declared.model.Record.{Record}
 use Rattle.amo_kk.specs.declared.model.Process.{Process}
 use Rattle.amo_kk.proofs.Again.{has-set_of}
 use Rattle.amo_kk.proofs.Choice.{chosen_is_job, choice_cases}
+use Rattle.amo_kk.proofs.Fit.{again_fit}
 use Rattle.amo_kk.proofs.Kept.{IsKept, not_both}
-use Rattle.amo_kk.proofs.Worlds.{numbered-table_same}
+use Rattle.amo_sets.proofs.Tables.{numbered-table_same}
 use Rattle.amo_kk.specs.Again.{entries_of, set_of, record_of_dones}
 use Rattle.amo_return.specs.Return.{process_again, process_after_return}
 
@@ -66,17 +67,8 @@ module _ (g : Givens) (ok : AreGivens g) (at : ℕ → Process) (before : AreLaw
   begins phase claimed same hand past announces stands =
       record {
         sound = record {
-          local = record {
-            claims = same ∙ s.local.claims ∙ ap (λ l. dones ++ l) (sym hand);
-            distinct = subst (λ l. AreDistinct l) (sym same) s.local.distinct;
-            jobs = λ j h. s.local.jobs j (ap (λ l. has l j) (sym same) ∙ h);
-            own = λ j h. has-set_of dones j ∙ h;
-            tried_few = ok.some;
-            tried_jobs = λ j h. absurd (true≢false (sym h));
-            fronts = length-table (λ _. 0) g.workers;
-            front = λ q. let z = zero_front q in omega arith;
-            stands = stands;
-          };
+          local = again_fit g ok p w dones claimed phase (same ∙ s.local.claims ∙ ap (λ l. dones ++ l) (sym hand))
+              (subst (λ l. AreDistinct l) (sym same) s.local.distinct) (λ j h. s.local.jobs j (ap (λ l. has l j) (sym same) ∙ h)) stands;
           announces = announces;
           next = s.next;
           claim = s.claim ∙ ap length (sym same);
