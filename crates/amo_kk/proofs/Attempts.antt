@@ -97,12 +97,7 @@ module _ (g : Givens) (ok : AreGivens g) (p : ℕ) where
 -- the attempt of a phase goes on, or is still to begin
 goes_on_or_begins : (phase : Phase) → attempts_going_on phase + to_begin phase ≤ 1
 goes_on_or_begins (Announcing j) = omega arith
-goes_on_or_begins (Trying j q) = omega arith
-goes_on_or_begins (Reading j q) = omega arith
-goes_on_or_begins (Claiming j) = omega arith
-goes_on_or_begins (Holding j) = omega arith
-goes_on_or_begins Over = omega arith
-goes_on_or_begins Left = omega arith
+goes_on_or_begins phase = omega arith
 
 -- only one turn is the first
 one_first : (g : Givens) (w : World) (p i k : ℕ) → IsFirstToClaimOrEnd g w p i → IsFirstToClaimOrEnd g w p k → i ≡ k
@@ -139,21 +134,11 @@ fits_three g w p i ok law here first =
 
     few_to_hear : (phase : Phase) → to_hear g p phase ≤ g.workers - 1
     few_to_hear (Announcing j) = omega arith
-    few_to_hear (Trying j q) = omega arith
-    few_to_hear (Reading j q) = omega arith
-    few_to_hear (Claiming j) = omega arith
-    few_to_hear (Holding j) = omega arith
-    few_to_hear Over = omega arith
-    few_to_hear Left = omega arith
+    few_to_hear phase = omega arith
 
     few_to_read : (phase : Phase) → to_read g p phase ≤ g.workers - 1
     few_to_read (Announcing j) = omega arith
-    few_to_read (Trying j q) = omega arith
-    few_to_read (Reading j q) = omega arith
-    few_to_read (Claiming j) = omega arith
-    few_to_read (Holding j) = omega arith
-    few_to_read Over = omega arith
-    few_to_read Left = omega arith
+    few_to_read phase = omega arith
 
     one_at_most : (b : Bool) (n : ℕ) → n ≤ (if b then 0 else 1) → n ≤ 1
     one_at_most true n h = omega arith

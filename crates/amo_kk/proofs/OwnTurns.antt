@@ -10,7 +10,7 @@ use Rattle.amo_kk.specs.Lawful.{IsLawful}
 use Rattle.amo_kk.specs.Alone.{want_at, stores_announcement, turns_that}
 use Rattle.amo_kk.specs.declared.givens.Givens.{Givens}
 use Rattle.amo_kk.specs.declared.phase.Phase.{Phase}
-use Rattle.amo_kk.specs.declared.phase.Phase.TheVariants.{Announcing, Trying, Reading, Claiming, Holding, Over, Left}
+use Rattle.amo_kk.specs.declared.phase.Phase.TheVariants.{Announcing, Trying, Reading, Holding}
 use Rattle.amo_kk.specs.declared.model.Record.{Record}
 use Rattle.amo_kk.specs.declared.model.Process.{Process}
 use Rattle.amo_kk.specs.declared.model.World.{World}
@@ -75,21 +75,11 @@ stored w p = if stores_announcement (want (process w p).local) then 1 else 0
 -- how many announcements a turn in this phase stores
 abbrev pub stored_in : Phase → ℕ
 stored_in (Announcing j) = 1
-stored_in (Trying j q) = 0
-stored_in (Reading j q) = 0
-stored_in (Claiming j) = 0
-stored_in (Holding j) = 0
-stored_in Over = 0
-stored_in Left = 0
+stored_in phase = 0
 
 pub stored_in_want : (r : Record) (phase : Phase) → (if stores_announcement (want_in r phase) then 1 else 0) ≡ stored_in phase
 stored_in_want r (Announcing j) = refl
-stored_in_want r (Trying j q) = refl
-stored_in_want r (Reading j q) = refl
-stored_in_want r (Claiming j) = refl
-stored_in_want r (Holding j) = refl
-stored_in_want r Over = refl
-stored_in_want r Left = refl
+stored_in_want r phase = refl
 
 -- how many announcements the turns 0..i of p store
 abbrev pub stored_within : Givens → World → ℕ → ℕ → ℕ
@@ -98,12 +88,8 @@ stored_within g w p i = turns_that (λ k. stores_announcement (want_at g w p k))
 -- how many attempts are still to begin from this phase, where the attempt passes
 abbrev pub to_begin : Phase → ℕ
 to_begin (Announcing j) = 1
-to_begin (Trying j q) = 0
-to_begin (Reading j q) = 0
-to_begin (Claiming j) = 0
 to_begin (Holding j) = 1
-to_begin Over = 0
-to_begin Left = 0
+to_begin phase = 0
 
 -- how many of the others are not before q
 abbrev pub left_from : Givens → ℕ → ℕ → ℕ

@@ -16,10 +16,10 @@ use Rattle.amo_kk.specs.World.{nobody, process, loaded_value, process_after, wor
 use Rattle.amo_kk.specs.Lawful.{IsSoundProcess, AreLawful, IsLawful, jobs_of, Agrees, object_of, HasRun, GoesOn}
 use Rattle.amo_kk.specs.declared.givens.Givens.{Givens}
 use Rattle.amo_kk.specs.declared.phase.Phase.{Phase}
-use Rattle.amo_kk.specs.declared.phase.Phase.TheVariants.{Announcing, Trying, Reading, Claiming, Holding, Over, Left}
+use Rattle.amo_kk.specs.declared.phase.Phase.TheVariants.{Announcing, Trying, Reading, Claiming, Holding}
 use Rattle.amo_kk.specs.declared.model.Record.{Record}
 use Rattle.amo_kk.specs.declared.phase.Want.{Want}
-use Rattle.amo_kk.specs.declared.phase.Want.TheVariants.{StoreNext, LoadNext, LoadDone, StoreClaim, StoreDone, Nothing}
+use Rattle.amo_kk.specs.declared.phase.Want.TheVariants.{StoreNext}
 use Rattle.amo_kk.specs.declared.model.Process.{Process}
 use Rattle.amo_kk.specs.declared.model.World.{World}
 use Rattle.amo_kk.specs.declared.event.Move.{Move}
@@ -44,13 +44,9 @@ pub record Did (r x : Record) (claims dones : List ℕ) (held : ℕ) : Type 0 wh
 
 -- and so the step of each phase
 abbrev pub HasDone : Record → Record → Phase → Type 0
-HasDone r x (Announcing j) = Did r x [] [] 0
-HasDone r x (Trying j q) = Did r x [] [] 0
-HasDone r x (Reading j q) = Did r x [] [] 0
 HasDone r x (Claiming j) = Did r x (j ∷ []) [] j
 HasDone r x (Holding j) = Did r x [] (j ∷ []) 0
-HasDone r x Over = Did r x [] [] 0
-HasDone r x Left = Did r x [] [] 0
+HasDone r x phase = Did r x [] [] 0
 
 pub has_done : (g : Givens) (p v : ℕ) (r : Record) (phase : Phase) → r.phase ≡ phase → HasDone r (record_after_phase g p v r phase) phase
 has_done g p v r phase is = go phase is
@@ -85,35 +81,22 @@ has_done g p v r phase is = go phase is
     go (Holding j) is = choice_cases g p (record r { dones = r.dones ++ j ∷ []; known = with_number j r.known }) (λ y. Did r y [] (j ∷ []) 0)
         (λ _. record { claimed = sym (append-nil r.claimed); done = refl; held_now = refl })
         (λ _. record { claimed = sym (append-nil r.claimed); done = refl; held_now = refl })
-    go Over is = same r refl refl (ap job_in_hand is)
-    go Left is = same r refl refl (ap job_in_hand is)
+    go phase is = same r refl refl (ap job_in_hand is)
 
 pub stored_local : (x : Want) (a : Process) (r : Record) → (process_after x a r).local ≡ r
 stored_local (StoreNext j) a r = refl
-stored_local (LoadNext q) a r = refl
-stored_local (LoadDone q k) a r = refl
-stored_local (StoreClaim c j) a r = refl
-stored_local (StoreDone k j) a r = refl
-stored_local Nothing a r = refl
+stored_local want a r = refl
 
 pub stored_gone : (x : Want) (a : Process) (r : Record) → (process_after x a r).gone ≡ wants_nothing r.phase
 stored_gone (StoreNext j) a r = refl
-stored_gone (LoadNext q) a r = refl
-stored_gone (LoadDone q k) a r = refl
-stored_gone (StoreClaim c j) a r = refl
-stored_gone (StoreDone k j) a r = refl
-stored_gone Nothing a r = refl
+stored_gone want a r = refl
 
 -- what a step shows, in two parts: its claim or performance, and the end of the worker
 
 abbrev claimed_or_done : ℕ → Phase → List Event
-claimed_or_done p (Announcing j) = []
-claimed_or_done p (Trying j q) = []
-claimed_or_done p (Reading j q) = []
 claimed_or_done p (Claiming j) = Claimed p j ∷ []
 claimed_or_done p (Holding j) = Done p j ∷ []
-claimed_or_done p Over = []
-claimed_or_done p Left = []
+claimed_or_done p phase = []
 
 shows : (g : Givens) (p v : ℕ) (r : Record) → wants_nothing r.phase ≡ false → events_of p (shown r.phase (record_after g p v r).phase) ≡ claimed_or_done p r.phase ++ ended_if_over p (record_after g p v r).phase
 shows g p v r wants = go r.phase refl
@@ -132,8 +115,7 @@ shows g p v r wants = go r.phase refl
     go (Reading j q) is = subst (λ x. events_of p (shown x (record_after_phase g p v r x).phase) ≡ claimed_or_done p x ++ ended_if_over p (record_after_phase g p v r x).phase) (sym is) (quiet (is_over (record_after_phase g p v r (Reading j q)).phase))
     go (Claiming j) is = subst (λ x. events_of p (shown x (record_after_phase g p v r x).phase) ≡ claimed_or_done p x ++ ended_if_over p (record_after_phase g p v r x).phase) (sym is) refl
     go (Holding j) is = subst (λ x. events_of p (shown x (record_after_phase g p v r x).phase) ≡ claimed_or_done p x ++ ended_if_over p (record_after_phase g p v r x).phase) (sym is) (done j (is_over (record_after_phase g p v r (Holding j)).phase))
-    go Over is = absurd (true≢false (sym (ap wants_nothing is) ∙ wants))
-    go Left is = absurd (true≢false (sym (ap wants_nothing is) ∙ wants))
+    go phase is = absurd (true≢false (sym (ap wants_nothing is) ∙ wants))
 
 -- runs one after the other
 object_after_all-append : (s : Object) (es fs : List Event) → object_after_all s (es ++ fs) ≡ object_after_all (object_after_all s es) fs
@@ -168,9 +150,6 @@ module _ (g : Givens) (ok : AreGivens g) (at : ℕ → Process) (law : AreLawful
           (ap (λ (y : Record). y.claimed) is ∙ d.claimed ∙ append-nil _) (ap (λ (y : Record). y.dones) is ∙ d.done ∙ append-nil _) (ap (λ (y : Record). job_in_hand y.phase) is ∙ d.held_now ∙ sym e) (stays ∙ sym here)
 
       go : (phase : Phase) → (at p).local.phase ≡ phase → HasDone (at p).local x phase → Goes g now s (claimed_or_done p phase)
-      go (Announcing j) e d = record { run = tt; agrees = quiet d (ap job_in_hand e) }
-      go (Trying j q) e d = record { run = tt; agrees = quiet d (ap job_in_hand e) }
-      go (Reading j q) e d = record { run = tt; agrees = quiet d (ap job_in_hand e) }
       go (Claiming j) e d =
           let stands : IsJob g j × (has (at p).local.known j ≡ false) × (has (at p).local.tried j ≡ false) = rw e at (law.sound p o).local.stands in
           let claimed : b.local.claimed ≡ (at p).local.claimed ++ j ∷ [] = ap (λ (y : Record). y.claimed) same ∙ d.claimed in
@@ -186,8 +165,7 @@ module _ (g : Givens) (ok : AreGivens g) (at : ℕ → Process) (law : AreLawful
           let step = agrees_done g at s agrees p o here a now is_now others j stands.0 (ap job_in_hand e)
           (ap (λ (y : Record). y.claimed) is ∙ d.claimed ∙ append-nil _) (ap (λ (y : Record). y.dones) is ∙ d.done) (ap (λ (y : Record). job_in_hand y.phase) is ∙ d.held_now) stays in
           record { run = (step.0, tt); agrees = step.1 }
-      go Over e d = record { run = tt; agrees = quiet d (ap job_in_hand e) }
-      go Left e d = record { run = tt; agrees = quiet d (ap job_in_hand e) }
+      go phase e d = record { run = tt; agrees = quiet d (ap job_in_hand e) }
 
 -- the end of a worker, where it is over
 pub ending_goes : (g : Givens) (at : ℕ → Process) (s : Object) (p : ℕ) (a : Process) (now : ℕ → Process) → AreGivens g → AreLawful g now → IsWorker g p
@@ -209,13 +187,8 @@ ending_goes g at s p a now ok law o agrees here was gone is_now others = go (is_
     }
       where
         empty : (phase : Phase) → is_over phase ≡ true → job_in_hand phase ≡ 0
-        empty (Announcing j) h = refl
-        empty (Trying j q) h = refl
-        empty (Reading j q) h = refl
-        empty (Claiming j) h = refl
         empty (Holding j) h = absurd (true≢false (sym h))
-        empty Over h = refl
-        empty Left h = refl
+        empty phase h = refl
 
         sound : IsSoundProcess g p a
         sound = subst (λ x. IsSoundProcess g p x) is_now (law.sound p o)
@@ -232,12 +205,7 @@ ending_goes g at s p a now ok law o agrees here was gone is_now others = go (is_
 
 counted : (r x : Record) (n : ℕ) (phase : Phase) → HasDone r x phase → HasDone r (record x { steps = n }) phase
 counted r x n (Announcing j) d = record { claimed = d.claimed; done = d.done; held_now = d.held_now }
-counted r x n (Trying j q) d = record { claimed = d.claimed; done = d.done; held_now = d.held_now }
-counted r x n (Reading j q) d = record { claimed = d.claimed; done = d.done; held_now = d.held_now }
-counted r x n (Claiming j) d = record { claimed = d.claimed; done = d.done; held_now = d.held_now }
-counted r x n (Holding j) d = record { claimed = d.claimed; done = d.done; held_now = d.held_now }
-counted r x n Over d = record { claimed = d.claimed; done = d.done; held_now = d.held_now }
-counted r x n Left d = record { claimed = d.claimed; done = d.done; held_now = d.held_now }
+counted r x n phase d = record { claimed = d.claimed; done = d.done; held_now = d.held_now }
 
 -- each move goes on from any state that agrees with the world
 

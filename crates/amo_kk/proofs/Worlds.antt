@@ -13,10 +13,10 @@ use Rattle.amo_kk.specs.World.{nobody, process, loaded_value, process_after, wor
 use Rattle.amo_kk.specs.Lawful.{Announces, IsSoundRecord, IsSoundProcess, IsSoundTowards, IsLawful}
 use Rattle.amo_kk.specs.declared.givens.Givens.{Givens}
 use Rattle.amo_kk.specs.declared.phase.Phase.{Phase}
-use Rattle.amo_kk.specs.declared.phase.Phase.TheVariants.{Announcing, Trying, Reading, Claiming, Holding, Over, Left}
+use Rattle.amo_kk.specs.declared.phase.Phase.TheVariants.{Announcing, Holding, Over}
 use Rattle.amo_kk.specs.declared.model.Record.{Record}
 use Rattle.amo_kk.specs.declared.phase.Want.{Want}
-use Rattle.amo_kk.specs.declared.phase.Want.TheVariants.{StoreNext, LoadNext, LoadDone, StoreClaim, StoreDone, Nothing}
+use Rattle.amo_kk.specs.declared.phase.Want.TheVariants.{StoreNext, LoadNext, LoadDone}
 use Rattle.amo_kk.specs.declared.model.Process.{Process}
 use Rattle.amo_kk.specs.declared.model.World.{World}
 use Rattle.amo_kk.specs.declared.event.Event.TheVariants.{Halted, Left as LeftEvent}
@@ -40,12 +40,9 @@ here_is_worker g w (suc k) size h = ⊎_elim
     (cases_lt k (length w.processes))
 
 pub hears : (w : World) (x : Want) → Hears (process w) x (loaded_value w x)
-hears w (StoreNext j) = tt
 hears w (LoadNext q) = refl
 hears w (LoadDone q k) = refl
-hears w (StoreClaim c j) = tt
-hears w (StoreDone k j) = tt
-hears w Nothing = tt
+hears w want = tt
 
 -- a process that takes the place of another
 pub put_here : (g : Givens) (w : World) (p : ℕ) (a : Process) → length w.processes ≡ g.workers → IsWorker g p → numbered nobody (put w.processes p a) p ≡ a
@@ -85,13 +82,8 @@ halt_lawful g w p law = go (process w p).gone refl
 
 -- who may leave has nothing in its hand
 pub leaves_empty : (phase : Phase) → can_leave phase ≡ true → jobs_in_hand phase ≡ []
-leaves_empty (Announcing j) h = refl
-leaves_empty (Trying j q) h = refl
-leaves_empty (Reading j q) h = refl
-leaves_empty (Claiming j) h = refl
 leaves_empty (Holding j) h = absurd (true≢false (sym h))
-leaves_empty Over h = refl
-leaves_empty Left h = refl
+leaves_empty phase h = refl
 
 pub leave_lawful : (g : Givens) (w : World) (p : ℕ) → IsLawful g w → IsLawful g (world_after_leave w p)
 leave_lawful g w p law = go (process w p).gone (can_leave (process w p).local.phase) refl refl

@@ -40,34 +40,17 @@ pub struct Local {
 
 impl Model for Local {
     ghost use Rattle.std.specs.Vec.{vec_capacity};
-    ghost use Rattle.amo_kk.specs.Machine.{LocalView, IsHeld};
+    ghost use Rattle.amo_kk.specs.Machine.{LocalView, record_of, IsHeld};
 
     ghost Value = { LocalView };
 
     ghost view = { λ l. record {
       givens = l.givens;
       number = l.number;
-      state = record {
-        phase = l.phase;
-        known = l.knowledge.known;
-        tried = l.knowledge.tried;
-        fronts = l.fronts.items;
-        claimed = l.claims.items;
-        dones = l.dones.items;
-        steps = l.steps;
-      };
+      state = record_of l.phase l.knowledge l.fronts.items l.claims.items l.dones.items l.steps;
     } };
 
-    ghost invariant = { λ l. IsHeld l.givens l.number
-        record {
-          phase = l.phase;
-          known = l.knowledge.known;
-          tried = l.knowledge.tried;
-          fronts = l.fronts.items;
-          claimed = l.claims.items;
-          dones = l.dones.items;
-          steps = l.steps;
-        }
+    ghost invariant = { λ l. IsHeld l.givens l.number (record_of l.phase l.knowledge l.fronts.items l.claims.items l.dones.items l.steps)
         l.knowledge.range (vec_capacity l.fronts) (vec_capacity l.claims) (vec_capacity l.dones) };
 }
 
@@ -77,21 +60,11 @@ impl Local {
         requires worker { IsWorker givens p }
         ensures { IfOk result (λ l. l ≡ record { givens = givens; number = p; state = first_record givens p }) }
     {
-        let mut knowledge = Knowledge::new(alloc, givens.jobs)?;
+        let knowledge = Knowledge::new(alloc, givens.jobs)?;
         let fronts = filled(alloc, givens.workers as usize, 0u32)?;
         let claims = Vec::with_capacity(alloc, givens.jobs as usize)?;
         let dones = Vec::with_capacity(alloc, givens.jobs as usize)?;
-        let phase = knowledge.choose(givens, p);
-        Ok(Local {
-            givens,
-            number: p,
-            phase,
-            knowledge,
-            fronts,
-            claims,
-            dones,
-            steps: 0,
-        })
+        Ok(Local::rested(givens, p, knowledge, fronts, claims, dones))
     }
 
     /// The givens that it was made with.

@@ -41,11 +41,7 @@ with_next w p a es = (λ i. record { processes = put w.processes p a; entries = 
 
 loads : (w : World) (x : Want) → loaded_value (bare w) x ≡ loaded_value w x
 loads w (StoreNext j) = refl
-loads w (LoadNext q) = refl
-loads w (LoadDone q k) = refl
-loads w (StoreClaim c j) = refl
-loads w (StoreDone k j) = refl
-loads w Nothing = refl
+loads w want = refl
 
 -- the event of a worker that has loaded v
 abbrev event_with : Givens → World → ℕ → Process → ℕ → World

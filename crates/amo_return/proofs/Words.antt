@@ -73,12 +73,9 @@ module _ (g : Givens) (w : World) (p q : ℕ) (low : 1 ≤ p) (high : p ≤ leng
       (cases_eq i p)
 
   loads : (x : Want) → loaded_value after x ≡ loaded_value w x
-  loads (StoreNext j) = refl
   loads (LoadNext i) = same_at (λ (a : Process). a.next) refl i
   loads (LoadDone i k) = same_at (λ (a : Process). numbered 0 a.row k) refl i
-  loads (StoreClaim c j) = refl
-  loads (StoreDone k j) = refl
-  loads Nothing = refl
+  loads want = refl
 
   -- the two orders, where q becomes c
   both : (c d : Process) → c ≡ d → put after.processes q c ≡ put (put w.processes q d) p (process_after_return g p (numbered nobody (put w.processes q d) p))
