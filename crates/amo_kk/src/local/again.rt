@@ -6,7 +6,7 @@ ghost use Rattle.amo_kk.specs.Givens.{IsJob, IsWorker};
 ghost use Rattle.amo_kk.specs.Object.{is_within};
 ghost use Rattle.amo_kk.specs.Choice.{first_record, record_after_choice};
 ghost use Rattle.amo_kk.specs.Again.{set_of, are_new, are_own_words, record_of_dones, record_again};
-ghost use Rattle.amo_kk.specs.Machine.{IsTakenUp};
+ghost use Rattle.amo_kk.specs.Machine.{record_of, IsHeld, IsTakenUp};
 ghost use Rattle.amo_kk.specs.declared.phase.Phase.{Phase};
 ghost use Rattle.amo_kk.specs.declared.phase.Phase.TheVariants.{Holding};
 
@@ -115,16 +115,7 @@ impl Local {
         ensures { result ≡ record { givens = givens; number = p; state = record_after_choice givens p (record_of_dones givens dones.items) } }
     {
         let phase = knowledge.choose(givens, p);
-        Local {
-            givens,
-            number: p,
-            phase,
-            knowledge,
-            fronts,
-            claims,
-            dones,
-            steps: 0,
-        }
+        Local::of_parts(givens, p, phase, knowledge, fronts, claims, dones)
     }
 
     /// The machine that has done these jobs, with one more in its hand.
@@ -143,10 +134,27 @@ impl Local {
         ensures { result ≡ record { givens = givens; number = p; state = record (record_of_dones givens dones.items) { phase = Holding job; claimed = dones.items ++ job ∷ [] } } }
     {
         claims.push_reserved(job);
+        let phase = Phase::Holding(job);
+        Local::of_parts(givens, p, phase, knowledge, fronts, claims, dones)
+    }
+
+    /// The machine of these parts, before its first step.
+    fn of_parts(
+        givens: Givens,
+        number: u32,
+        phase: Phase,
+        knowledge: Knowledge,
+        fronts: Vec<u32>,
+        claims: Vec<u32>,
+        dones: Vec<u32>,
+    ) -> Local
+        requires held { IsHeld givens number (record_of phase knowledge fronts.items claims.items dones.items 0) knowledge.range (vec_capacity fronts) (vec_capacity claims) (vec_capacity dones) }
+        ensures { result ≡ record { givens = givens; number = number; state = record_of phase knowledge fronts.items claims.items dones.items 0 } }
+    {
         Local {
             givens,
-            number: p,
-            phase: Phase::Holding(job),
+            number,
+            phase,
             knowledge,
             fronts,
             claims,
