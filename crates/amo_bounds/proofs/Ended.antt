@@ -13,7 +13,7 @@ use Rattle.amo_kk.specs.declared.phase.Phase.{Phase}
 use Rattle.amo_kk.specs.declared.phase.Phase.TheVariants.{Announcing, Trying, Reading, Claiming, Holding, Over, Left}
 use Rattle.amo_kk.specs.declared.phase.Want.TheVariants.{StoreNext}
 use Rattle.amo_kk.specs.declared.event.Event.TheVariants.{Left as EventLeft}
-use Rattle.amo_kk.specs.World.{nobody, process, world_after_turn, world_after_move, world_after_moves, world_after_leave, world_with, process_after, worker_of, first_process, opening_world}
+use Rattle.amo_kk.specs.World.{nobody, process, world_after_turn, world_after_move, world_after_moves, world_after_leave, world_with, process_after, worker_of, first_process, opening_world, world_of}
 use Rattle.amo_kk.specs.Lawful.{IsLawful}
 use Rattle.amo_kk.specs.declared.givens.Givens.{Givens}
 use Rattle.amo_kk.specs.declared.model.Record.{Record}
@@ -25,7 +25,7 @@ use Rattle.amo_kk.proofs.Choice.{choice_cases}
 use Rattle.amo_kk.proofs.Moves.{move_other}
 use Rattle.amo_kk.proofs.Shows.{idle}
 use Rattle.amo_kk.proofs.Worlds.{move_lawful, opening_lawful}
-use Rattle.amo_bounds.specs.Fewest.{world_of, stopped, leavers, ComesToEnd}
+use Rattle.amo_bounds.specs.Fewest.{stopped, leavers, ComesToEnd}
 use Rattle.amo_bounds.proofs.Turns.{after_turn}
 
 -- some moves after others

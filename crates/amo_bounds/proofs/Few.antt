@@ -10,7 +10,7 @@ use Rattle.amo_kk.specs.Givens.{IsWorker}
 use Rattle.amo_kk.specs.Record.{is_over, can_leave, empty_record}
 use Rattle.amo_kk.specs.Choice.{first_record}
 use Rattle.amo_kk.specs.Step.{record_after_leave}
-use Rattle.amo_kk.specs.World.{nobody, process, process_after, first_process, world_after_step, world_after_move, world_after_turn, opening_world}
+use Rattle.amo_kk.specs.World.{nobody, process, process_after, first_process, world_after_step, world_after_move, world_after_turn, opening_world, world_of, rounds}
 use Rattle.amo_kk.specs.Lawful.{IsLawful}
 use Rattle.amo_kk.specs.declared.givens.Givens.{Givens}
 use Rattle.amo_kk.specs.declared.phase.Phase.TheVariants.{Left}
@@ -22,8 +22,7 @@ use Rattle.amo_kk.specs.declared.event.Move.{Move}
 use Rattle.amo_kk.specs.declared.event.Move.TheVariants.{Turn, Halt, Leave}
 use Rattle.amo_kk.proofs.Choice.{choice_cases}
 use Rattle.amo_kk.proofs.Worlds.{here_is_worker, move_lawful, opening_lawful}
-use Rattle.amo_bounds.specs.Rest.{without_steps, is_taken, turns_taken, turns_of, rounds}
-use Rattle.amo_bounds.specs.Fewest.{world_of}
+use Rattle.amo_bounds.specs.Rest.{without_steps, is_taken, turns_taken, turns_of}
 use Rattle.amo_bounds.specs.Turns.{width, most_turns}
 use Rattle.amo_bounds.proofs.Still.{still, view, moved, view_moved, still_lawful, turn_of}
 use Rattle.amo_bounds.proofs.Rest.{takes_all}
@@ -223,7 +222,7 @@ gone_after g ms p high many = true_from_ne_false (process (world_of g ms) p).gon
     let few = always_few g ms high in
     absurd (omega arith))
 
-pub over_soon : (g : Givens) (p : ℕ) → width g ≤ g.beta → IsWorker g p → is_over (process (world_of g (rounds g (most_turns g + 1))) p).local.phase ≡ true
+pub over_soon : (g : Givens) (p : ℕ) → width g ≤ g.beta → IsWorker g p → is_over (process (world_of g (rounds g.workers (most_turns g + 1))) p).local.phase ≡ true
 over_soon g p high o =
     let next : suc (most_turns g) ≡ most_turns g + 1 = omega arith in
-    subst (λ k. is_over (process (world_of g (rounds g k)) p).local.phase ≡ true) next (over_after g (most_turns g) p o (λ ms. gone_after g ms p high))
+    subst (λ k. is_over (process (world_of g (rounds g.workers k)) p).local.phase ≡ true) next (over_after g (most_turns g) p o (λ ms. gone_after g ms p high))

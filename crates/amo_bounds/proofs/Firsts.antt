@@ -12,7 +12,7 @@ use Rattle.amo_kk.specs.Record.{is_over, can_leave, jobs_in_hand, empty_record}
 use Rattle.amo_kk.specs.Choice.{record_after_check}
 use Rattle.amo_kk.specs.Step.{with_announced, record_after_leave}
 use Rattle.amo_kk.specs.Run.{done_jobs}
-use Rattle.amo_kk.specs.World.{nobody, process, process_after, world_with, world_after_turn, world_after_halt, world_after_leave, world_after_moves, first_process, opening_world, world_after_move}
+use Rattle.amo_kk.specs.World.{nobody, process, process_after, world_with, world_after_turn, world_after_halt, world_after_leave, world_after_moves, first_process, opening_world, world_after_move, world_of}
 use Rattle.amo_kk.specs.Lawful.{IsLawful}
 use Rattle.amo_kk.specs.declared.givens.Givens.{Givens}
 use Rattle.amo_kk.specs.declared.phase.Phase.{Phase}
@@ -29,7 +29,7 @@ use Rattle.amo_kk.proofs.FirstChoice.{ranks_rise}
 use Rattle.amo_kk.proofs.Kept.{noted_cases}
 use Rattle.amo_kk.proofs.Worlds.{here_is_worker, put_here, move_lawful, opening_lawful}
 use Rattle.amo_kk.proofs.Shows.{idle}
-use Rattle.amo_bounds.specs.Fewest.{world_of, jobs_done}
+use Rattle.amo_bounds.specs.Fewest.{jobs_done}
 use Rattle.amo_bounds.proofs.Turns.{next_after, IsAfterTurn, after_turn, check_passes}
 use Rattle.amo_bounds.proofs.Histories.{dones_grow}
 use Rattle.amo_bounds.proofs.Still.{still, view, still_lawful, turn_of}

@@ -4,7 +4,7 @@ use Rattle.std.specs.Prelude.{if◌then◌else◌, ◌==◌}
 use Rattle.std.proofs.lemmas.Bool.{true≢false, false_from_ne_true, or_cases, eqb-true}
 use Rattle.amo_sets.specs.Sets.{has, AreDistinct}
 use Rattle.amo_sets.proofs.Numbers.{length_distinct, count_le_all}
-use Rattle.amo_kk.specs.World.{process, world_after_move, world_after_moves, opening_world}
+use Rattle.amo_kk.specs.World.{process, world_after_move, world_after_moves, opening_world, world_of}
 use Rattle.amo_kk.specs.Lawful.{IsLawful}
 use Rattle.amo_kk.specs.declared.givens.Givens.{Givens}
 use Rattle.amo_kk.specs.declared.model.World.{World}
@@ -127,13 +127,13 @@ takes_all g w (Turn q ∷ ms) p law here = go (q == p) refl (takes_all g (world_
 takes_all g w (Halt q ∷ ms) p law here = let l = takes_all g (world_after_move g w (Halt q)) ms p (move_lawful g w (Halt q) g.limits law) here in omega arith
 takes_all g w (Leave q ∷ ms) p law here = let l = takes_all g (world_after_move g w (Leave q)) ms p (move_lawful g w (Leave q) g.limits law) here in omega arith
 
-pub always_gone : (g : Givens) → (k : ℕ) × ((ms : List Move) (p : ℕ) → k < turns_of p ms → (process (world_after_moves g (opening_world g) ms) p).gone ≡ true)
+pub always_gone : (g : Givens) → (k : ℕ) × ((ms : List Move) (p : ℕ) → k < turns_of p ms → (process (world_of g ms) p).gone ≡ true)
 always_gone g = (world_room g, gone)
   where
-    gone : (ms : List Move) (p : ℕ) → world_room g < turns_of p ms → (process (world_after_moves g (opening_world g) ms) p).gone ≡ true
-    gone ms p many = go (process (world_after_moves g (opening_world g) ms) p).gone refl
+    gone : (ms : List Move) (p : ℕ) → world_room g < turns_of p ms → (process (world_of g ms) p).gone ≡ true
+    gone ms p many = go (process (world_of g ms) p).gone refl
       where
-        go : (b : Bool) → (process (world_after_moves g (opening_world g) ms) p).gone ≡ b → (process (world_after_moves g (opening_world g) ms) p).gone ≡ true
+        go : (b : Bool) → (process (world_of g ms) p).gone ≡ b → (process (world_of g ms) p).gone ≡ true
         go true e = e
         go false e =
             let all = takes_all g (opening_world g) ms p (opening_lawful g g.limits) e in

@@ -11,7 +11,7 @@ use Rattle.amo_kk.specs.Record.{wants_nothing, jobs_in_hand, empty_record}
 use Rattle.amo_kk.specs.Choice.{chosen_rank, first_record}
 use Rattle.amo_kk.specs.Step.{want, record_after_phase}
 use Rattle.amo_kk.specs.Run.{done_jobs}
-use Rattle.amo_kk.specs.World.{nobody, process, loaded_value, world_with, world_after_turn, world_after_halt, world_after_moves, first_process, opening_world}
+use Rattle.amo_kk.specs.World.{nobody, process, loaded_value, world_with, world_after_turn, world_after_halt, first_process, opening_world, world_of}
 use Rattle.amo_kk.specs.Lawful.{IsLawful}
 use Rattle.amo_kk.specs.declared.givens.Givens.{Givens}
 use Rattle.amo_kk.specs.declared.phase.Phase.TheVariants.{Announcing}
@@ -140,11 +140,11 @@ module _ (g : Givens) (enough : g.beta ≤ g.jobs) where
       at : (p : ℕ) → IsWorker g p → process (opening_world g) p ≡ first_process g p
       at p o = numbered-table nobody (first_process g) g.workers p o.low o.high
 
-  pub all_stick : (k : ℕ) → k + 1 ≤ g.workers → AreStuck g k (world_after_moves g (opening_world g) (stuck_moves k))
+  pub all_stick : (k : ℕ) → k + 1 ≤ g.workers → AreStuck g k (world_of g (stuck_moves k))
   all_stick zero h = opening_stuck
   all_stick (suc k) h =
       subst (λ w. AreStuck g (suc k) w) (sym (world_after_moves-append g (opening_world g) (stuck_moves k) (Turn (k + 2) ∷ Halt (k + 2) ∷ [])))
-      (sticks k (world_after_moves g (opening_world g) (stuck_moves k)) (omega arith) (all_stick k (omega arith)))
+      (sticks k (world_of g (stuck_moves k)) (omega arith) (all_stick k (omega arith)))
 
 -- what these moves are
 

@@ -4,7 +4,7 @@ use Rattle.amo_sets.specs.Sets.{has}
 use Rattle.amo_kk.specs.Givens.{bound, IsWorker}
 use Rattle.amo_kk.specs.Record.{is_over}
 use Rattle.amo_kk.specs.Run.{done_jobs}
-use Rattle.amo_kk.specs.World.{process, world_after_moves, opening_world}
+use Rattle.amo_kk.specs.World.{process, world_of}
 use Rattle.amo_kk.specs.declared.givens.Givens.{Givens}
 use Rattle.amo_kk.specs.declared.event.Move.{Move}
 use Rattle.amo_kk.specs.declared.event.Move.TheVariants.{Turn, Halt, Leave}
@@ -13,10 +13,6 @@ use Rattle.amo_kk.specs.declared.model.World.{World}
 -- none where there are fewer jobs than the threshold, so that all are over from birth; else the bound, but at least one
 abbrev pub fewest : Givens → ℕ
 fewest g = if nat_lt g.jobs g.beta then 0 else (if bound g == 0 then 1 else bound g)
-
--- the world after these moves from the opening
-abbrev pub world_of : Givens → List Move → World
-world_of g ms = world_after_moves g (opening_world g) ms
 
 -- how many jobs are done then, as the history shows
 abbrev pub jobs_done : Givens → List Move → ℕ

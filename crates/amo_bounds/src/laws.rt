@@ -5,15 +5,15 @@ ghost use Rattle.std.specs.Prelude.{◌≡◌, ◌≢◌, ◌<◌, ◌≤◌, �
 ghost use Rattle.amo_sets.specs.Sets.{has};
 ghost use Rattle.amo_kk.specs.Givens.{IsWorker};
 ghost use Rattle.amo_kk.specs.Record.{is_over};
-ghost use Rattle.amo_kk.specs.World.{process, world_after_moves, opening_world};
+ghost use Rattle.amo_kk.specs.World.{process, world_after_moves, opening_world, world_of, rounds};
 ghost use Rattle.amo_kk.specs.Lawful.{IsLawful};
 ghost use Rattle.amo_kk.specs.declared.phase.Phase.{Phase};
 ghost use Rattle.amo_kk.specs.declared.givens.Givens.{Givens};
 ghost use Rattle.amo_kk.specs.declared.event.Move.{Move};
 ghost use Rattle.amo_kk.specs.declared.event.Move.TheVariants.{Turn};
 ghost use Rattle.amo_kk.specs.declared.model.World.{World};
-ghost use Rattle.amo_bounds.specs.Fewest.{fewest, world_of, jobs_done, stopped, leavers, IsWorst, IsEffectiveness};
-ghost use Rattle.amo_bounds.specs.Rest.{turns_taken, turns_of, rounds, AreAlike};
+ghost use Rattle.amo_bounds.specs.Fewest.{fewest, jobs_done, stopped, leavers, IsWorst, IsEffectiveness};
+ghost use Rattle.amo_bounds.specs.Rest.{turns_taken, turns_of, AreAlike};
 ghost use Rattle.amo_bounds.specs.Turns.{width, most_turns};
 
 /// Wherever a worker has ended by its own choice, after any turns, stops and leavings, at least `fewest` jobs are done:
@@ -50,7 +50,7 @@ pub fn everyone_rests()
 
 /// For all givens there is a number of rounds after which each worker has ended by its own choice.
 pub fn rounds_come_to_an_end()
-    ensures { (g : Givens) → (k : ℕ) × ((p : ℕ) → IsWorker g p → is_over (process (world_of g (rounds g k)) p).local.phase ≡ true) }
+    ensures { (g : Givens) → (k : ℕ) × ((p : ℕ) → IsWorker g p → is_over (process (world_of g (rounds g.workers k)) p).local.phase ≡ true) }
 {}
 
 /// No turn is undone: from every lawful world, moves that begin with a turn of a worker that isn't gone lead to
@@ -69,5 +69,5 @@ pub fn turns_are_few()
     ensures each { (g : Givens) (ms : List Move) (p : ℕ) → width g ≤ g.beta → most_turns g < turns_of p ms
         → (process (world_of g ms) p).gone ≡ true }
     ensures rounds { (g : Givens) (p : ℕ) → width g ≤ g.beta → IsWorker g p
-        → is_over (process (world_of g (rounds g (most_turns g + 1))) p).local.phase ≡ true }
+        → is_over (process (world_of g (rounds g.workers (most_turns g + 1))) p).local.phase ≡ true }
 {}

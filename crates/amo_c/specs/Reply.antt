@@ -3,10 +3,10 @@ use Rattle.std.specs.Prelude.{ℕ, ◌+◌, Bool, List, Option, Some, None, Resu
 use Rattle.std.specs.Result.{is_ok}
 use Rattle.amo_kk.specs.Givens.{givens_of, bound}
 use Rattle.amo_kk.specs.Object.{is_within}
-use Rattle.amo_kk.specs.Words.{next_word, claim_word, done_word}
+use Rattle.amo_kk.specs.Words.{next_word, claim_word, done_word, word_count}
 use Rattle.amo_kk.specs.declared.givens.Givens.{Givens}
 use Rattle.amo_kk.specs.declared.givens.GivensFault.{GivensFault}
-use Rattle.amo_process.specs.Heard.{word_count, standing_of}
+use Rattle.amo_process.specs.Heard.{standing_of}
 use Rattle.amo_process.specs.declared.standing.Standing.{Standing}
 use Rattle.amo_c.specs.Codes.{fault_code, fault_of}
 use Rattle.amo_c.specs.Told.{next_of, leave_by}

@@ -12,7 +12,8 @@ use Rattle.amo_kk.specs.declared.event.Move.{Move}
 use Rattle.amo_kk.specs.declared.model.Process.{Process}
 use Rattle.amo_words.specs.declared.rule.Spot.{Spot}
 use Rattle.amo_words.specs.declared.rule.Spot.TheVariants.{Home, Out as Away, Back}
-use Rattle.amo_words.specs.Logs.{world_after, machine_after, is_claimed}
+use Rattle.amo_kk.specs.World.{world_of}
+use Rattle.amo_words.specs.Logs.{machine_after, is_claimed}
 use Rattle.amo_words.specs.Rule.{AllStand}
 use Rattle.amo_words.specs.Looking.{IsBack}
 use Rattle.amo_words.specs.Settling.{free_of}
@@ -151,8 +152,8 @@ module _ (g : Givens) (log : List Move) (spots : List Spot) (stand : AllStand g 
   pub claimed_if_in_hand : (p j : ℕ) (l : LocalView) → IsBack spots p l → has (jobs_in_hand l.state.phase) j ≡ true → has l.state.claimed j ≡ true
   claimed_if_in_hand p j l back h = ap (λ c. has c j) (sound p l back).claims ∙ has_back l.state.dones (jobs_in_hand l.state.phase) j h
 
-  is_claimed_by : (p j : ℕ) (l : LocalView) → IsBack spots p l → has l.state.claimed j ≡ true → is_claimed (world_after g log).processes j ≡ true
-  is_claimed_by p j l back h = claimed_by j (world_after g log).processes p (ap (λ (m : LocalView). has m.state.claimed j) (sym (stands_back g log spots stand p l back)) ∙ h)
+  is_claimed_by : (p j : ℕ) (l : LocalView) → IsBack spots p l → has l.state.claimed j ≡ true → is_claimed (world_of g log).processes j ≡ true
+  is_claimed_by p j l back h = claimed_by j (world_of g log).processes p (ap (λ (m : LocalView). has m.state.claimed j) (sym (stands_back g log spots stand p l back)) ∙ h)
 
   own_dones : (p : ℕ) (s : Spot) → spot_of spots p ≡ s → AreDistinct (dones_in s)
   own_dones p Home e = tt
@@ -285,12 +286,12 @@ module _ {P Out : Type 0} (related : ℕ → ℕ → P → Out → Type 0) (g : 
       go false k = refl
 
   -- what is claimed is not free
-  claimed_not_free : (j : ℕ) → is_claimed (world_after g is.whole.log).processes j ≡ true → has (free_jobs o) j ≡ false
+  claimed_not_free : (j : ℕ) → is_claimed (world_of g is.whole.log).processes j ≡ true → has (free_jobs o) j ≡ false
   claimed_not_free j h = go (has (free_jobs o) j) refl
     where
       go : (b : Bool) → has (free_jobs o) j ≡ b → b ≡ false
-      go true k = absurd (not_both (is_claimed (world_after g is.whole.log).processes j) h
-          (free_is_unclaimed (world_after g is.whole.log).processes 1 payloads j (ap (λ l. has (map (λ (t : ℕ × P). t.0) l) j) (sym is.whole.free) ∙ k)))
+      go true k = absurd (not_both (is_claimed (world_of g is.whole.log).processes j) h
+          (free_is_unclaimed (world_of g is.whole.log).processes 1 payloads j (ap (λ l. has (map (λ (t : ℕ × P). t.0) l) j) (sym is.whole.free) ∙ k)))
       go false k = refl
 
   pub answered_not_free : (j : ℕ) → has (answered o) j ≡ true → has (free_jobs o) j ≡ false
@@ -309,4 +310,4 @@ module _ {P Out : Type 0} (related : ℕ → ℕ → P → Out → Type 0) (g : 
   in_hand_once = subst AreDistinct (sym in_hand_is) (hands_once g is.whole.log is.spots is.whole.stand g.workers)
 
   pub free_once : AreDistinct (free_jobs o)
-  free_once = subst (λ (l : List (ℕ × P)). AreDistinct (map (λ (t : ℕ × P). t.0) l)) (sym is.whole.free) (free_distinct (world_after g is.whole.log).processes 1 payloads)
+  free_once = subst (λ (l : List (ℕ × P)). AreDistinct (map (λ (t : ℕ × P). t.0) l)) (sym is.whole.free) (free_distinct (world_of g is.whole.log).processes 1 payloads)

@@ -72,23 +72,14 @@ module _ (g : Givens) (p : ℕ) where
 
   -- how many announcements an attempt in this phase has still to read
   abbrev pub to_hear : Phase → ℕ
-  to_hear (Announcing j) = 0
   to_hear (Trying j q) = left_from g p q
-  to_hear (Reading j q) = 0
-  to_hear (Claiming j) = 0
-  to_hear (Holding j) = 0
-  to_hear Over = 0
-  to_hear Left = 0
+  to_hear phase = 0
 
   -- how many rows an attempt in this phase has still to read to a zero
   abbrev pub to_read : Phase → ℕ
-  to_read (Announcing j) = 0
   to_read (Trying j q) = g.workers - 1
   to_read (Reading j q) = left_from g p q
-  to_read (Claiming j) = 0
-  to_read (Holding j) = 0
-  to_read Over = 0
-  to_read Left = 0
+  to_read phase = 0
 
   pub announcements_paid : IsPaid (λ x v. reads_announcement x) (g.workers - 1) (λ r. to_hear r.phase)
   announcements_paid w law here = go r.phase refl
@@ -114,8 +105,7 @@ module _ (g : Givens) (p : ℕ) where
           read false = let z = ap to_hear is in omega arith
       go (Claiming i) is = omega arith
       go (Holding i) is = choice_cases g p (record r { dones = r.dones ++ i ∷ []; known = with_number i r.known }) (λ y. 0 + to_hear y.phase ≤ 0) (λ _. omega arith) (λ _. omega arith)
-      go Over is = let z = ap to_hear is in omega arith
-      go Left is = let z = ap to_hear is in omega arith
+      go phase is = let z = ap to_hear is in omega arith
 
   pub zeros_paid : IsPaid reads_zero (g.workers - 1) (λ r. to_read r.phase)
   zeros_paid w law here = go r.phase refl
@@ -141,8 +131,7 @@ module _ (g : Givens) (p : ℕ) where
           read false = let z = ap to_read is in omega arith
       go (Claiming i) is = omega arith
       go (Holding i) is = choice_cases g p (record r { dones = r.dones ++ i ∷ []; known = with_number i r.known }) (λ y. 0 + to_read y.phase ≤ 0) (λ _. omega arith) (λ _. omega arith)
-      go Over is = let z = ap to_read is in omega arith
-      go Left is = let z = ap to_read is in omega arith
+      go phase is = let z = ap to_read is in omega arith
 
   pub entries_spent : (q e : ℕ) → IsSpent (reads_entry q e) (λ r. unread_in q e r.fronts)
   entries_spent q e w law here = go r.phase refl
@@ -209,5 +198,4 @@ module _ (g : Givens) (p : ℕ) where
           read false = let z = ap attempts_going_on is in omega arith
       go (Claiming i) is = omega arith
       go (Holding i) is = choice_cases g p (record r { dones = r.dones ++ i ∷ []; known = with_number i r.known }) (λ y. attempts_going_on y.phase ≤ 0 + 0) (λ _. omega arith) (λ _. omega arith)
-      go Over is = let z = ap attempts_going_on is in omega arith
-      go Left is = let z = ap attempts_going_on is in omega arith
+      go phase is = let z = ap attempts_going_on is in omega arith

@@ -11,7 +11,7 @@ use Rattle.amo_sets.proofs.Tables.{numbered-table}
 use Rattle.amo_kk.specs.World.{process}
 use Rattle.amo_kk.specs.declared.givens.Givens.{Givens}
 use Rattle.amo_return.specs.declared.model.Tale.{Tale}
-use Rattle.amo_return.specs.Return.{world_of, tale_after_all, opening_tale}
+use Rattle.amo_return.specs.Return.{world_of_tale, tale_after_all, opening_tale}
 use Rattle.amo_return.proofs.Tales.{IsTold, acts_told, opening_told}
 use Rattle.amo_process.specs.declared.model.Happening.{Happening}
 use Rattle.amo_process.specs.declared.model.Happening.TheVariants.{Steps, Begins, Leaves}
@@ -35,8 +35,8 @@ pub record Stands (g : Givens) (s : Shared) (p : ℕ) : Type 0 where
 
 stands : (g : Givens) (s : Shared) (t : Tale) (p : ℕ) → IsTold g t → (shows : Shows g s t) → (o : IsWorker g p) → Stands g s p
 stands g s t p told shows o = ⊎_elim
-    (λ (b : IsBeginning g p (numbered [] s.lists p) (process (world_of t) p)). record { at = _; is = beginning_stands g s t told shows p o b })
-    (λ (h : IsGoing g p (numbered [] s.lists p) (process (world_of t) p)). record { at = _; is = h.1 })
+    (λ (b : IsBeginning g p (numbered [] s.lists p) (process (world_of_tale t) p)). record { at = _; is = beginning_stands g s t told shows p o b })
+    (λ (h : IsGoing g p (numbered [] s.lists p) (process (world_of_tale t) p)). record { at = _; is = h.1 })
     (shows.workers p o).stands
 
 -- what is left is what the worker wants

@@ -4,7 +4,7 @@ use Rattle.std.specs.List.{filter, range_with_len}
 use Rattle.amo_sets.specs.Lists.{numbered}
 use Rattle.amo_kk.specs.Record.{wants_nothing}
 use Rattle.amo_kk.specs.Step.{want, is_load, record_after}
-use Rattle.amo_kk.specs.Words.{next_word, claim_word, done_word}
+use Rattle.amo_kk.specs.Words.{next_word, claim_word, done_word, word_count}
 use Rattle.amo_kk.specs.declared.givens.Givens.{Givens}
 use Rattle.amo_kk.specs.declared.model.Record.{Record}
 use Rattle.amo_kk.specs.declared.phase.Want.{Want}
@@ -13,7 +13,7 @@ use Rattle.amo_process.specs.declared.standing.Standing.{Standing}
 use Rattle.amo_process.specs.declared.standing.Standing.TheVariants.{Beginning, Going}
 use Rattle.amo_process.specs.declared.batch.Item.{Item}
 use Rattle.amo_process.specs.declared.batch.Item.TheVariants.{Store, Load, LoadUntilZero}
-use Rattle.amo_process.specs.Heard.{word_count, to_perform, in_doubt}
+use Rattle.amo_process.specs.Heard.{to_perform, in_doubt}
 use Rattle.amo_process.specs.Shared.{Shared, with_heard}
 
 -- the workers above q, without p

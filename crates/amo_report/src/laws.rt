@@ -3,7 +3,7 @@
 ghost use Rattle.std.specs.Prelude.{◌≡◌, ◌≤◌, ◌+◌, ◌*◌, ℕ, suc, true, false, List, length};
 ghost use Rattle.amo_kk.specs.Alone.{IsFirstToClaimOrEnd, lone_bound};
 ghost use Rattle.amo_kk.specs.Lawful.{IsLawful};
-ghost use Rattle.amo_kk.specs.World.{process, opening_world, world_after_moves};
+ghost use Rattle.amo_kk.specs.World.{process, world_of};
 ghost use Rattle.amo_kk.specs.declared.event.Move.{Move};
 ghost use Rattle.amo_kk.specs.declared.givens.Givens.{Givens};
 ghost use Rattle.amo_kk.specs.declared.model.World.{World};
@@ -16,7 +16,7 @@ use amo_kk::laws::{first_bad_is_the_first, history_is_a_run};
 
 /// Whatever moves are made in the opening world, the judge finds the history lawful.
 pub fn histories_are_lawful()
-    ensures { (g : Givens) (moves : List Move) → verdict g (world_after_moves g (opening_world g) moves).history ≡ Lawful }
+    ensures { (g : Givens) (moves : List Move) → verdict g (world_of g moves).history ≡ Lawful }
 {
     history_is_a_run();
     first_bad_is_the_first();

@@ -3,7 +3,7 @@ use Rattle.std.specs.Prelude.{ℕ, ◌+◌, ◌*◌, max, List, ◌++◌, length
 use Rattle.std.specs.List.{filter}
 use Rattle.amo_kk.specs.declared.model.World.{World}
 use Rattle.amo_plan.specs.Plan.{PlanSeen}
-use Rattle.amo_report.specs.Texts.{world_of}
+use Rattle.amo_report.specs.Texts.{plan_world}
 use Rattle.amo_trace.specs.declared.step.Step.{Step}
 use Rattle.amo_trace.specs.Feet.{lane_feet, rows_key}
 use Rattle.amo_trace.specs.Frame.{head, foot}
@@ -32,4 +32,4 @@ picture_in p w rows = if nat_le (length rows) 400 then rows_picture p w rows els
 
 -- the picture of a plan: of the steps that change something, and of the world to which its moves lead
 abbrev pub picture_of : PlanSeen → List ℕ
-picture_of p = picture_in p (world_of p) (filter (λ s. acts s.act) (steps_of p))
+picture_of p = picture_in p (plan_world p) (filter (λ s. acts s.act) (steps_of p))

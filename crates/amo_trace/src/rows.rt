@@ -1,7 +1,6 @@
 //! Writes the rows of a picture.
 ghost use Rattle.std.specs.Prelude.{◌≡◌, ◌++◌, ◌≤◌, ◌&&◌, ◌==◌, OnOk, IfOk, string_bytes, length};
 ghost use Rattle.std.specs.List.{position_or_len};
-ghost use Rattle.amo_kk.specs.Record.{is_over};
 ghost use Rattle.amo_trace.specs.Rows.{acts, end_mark, row_title, label_in, row_drawn, row_text, row_texts, lane_head, lane_heads};
 
 use crate::elements::{
@@ -10,7 +9,6 @@ use crate::elements::{
 use crate::lines::push_step;
 use crate::marks::{class_of, lane, mark_of, push_label, push_mark};
 use crate::step::{Act, Step};
-use amo_kk::Phase;
 use std::alloc::{AllocError, Global};
 
 /// Whether the step changes something.
@@ -18,13 +16,6 @@ pub fn changes(step: &Step) -> bool
     ensures { result ≡ acts step.now.act }
 {
     !matches!(step.act, Act::Stays | Act::Idles)
-}
-
-/// Whether a worker in this phase has ended.
-fn is_over(phase: Phase) -> bool
-    ensures { result ≡ is_over phase }
-{
-    matches!(phase, Phase::Over)
 }
 
 /// Appends what is below the mark of the last step of a worker that has ended.
@@ -53,7 +44,7 @@ fn label_in(alloc: Global, step: &Step) -> Result<String, AllocError>
     ensures { IfOk result (λ s. string_bytes s ≡ label_in step.now) }
 {
     let mut label = String::new(alloc);
-    push_label(&mut label, mark_of(step), is_over(step.after))?;
+    push_label(&mut label, mark_of(step), step.after.is_over())?;
     Ok(label)
 }
 
@@ -73,7 +64,7 @@ fn push_row_drawn(
     let mark = mark_of(step);
     let worker = step.worker;
     push_mark(out, worker, y, label, rest, mark)?;
-    push_end_mark(out, worker, y, is_over(step.after))?;
+    push_end_mark(out, worker, y, step.after.is_over())?;
     push_text(out, class_of(mark), lane(worker) + 14, y + 4, label)
 }
 

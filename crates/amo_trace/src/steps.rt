@@ -1,9 +1,9 @@
 //! The steps of a plan.
 ghost use Rattle.std.specs.Prelude.{◌≡◌, ◌++◌, true, OnOk, IfOk};
 ghost use Rattle.amo_kk.specs.Givens.{IsWorker};
-ghost use Rattle.amo_kk.specs.World.{worker_of, world_after_move, world_after_moves, are_in_range};
+ghost use Rattle.amo_kk.specs.World.{worker_of, world_after_move, world_after_moves, are_in_range, round};
 ghost use Rattle.amo_plan.specs.PlanSeen.{plan_seen};
-ghost use Rattle.amo_report.specs.Texts.{round, moves_of, world_of};
+ghost use Rattle.amo_report.specs.Texts.{moves_of, plan_world};
 ghost use Rattle.amo_trace.specs.Steps.{act_here, act_of, all_gone, step_of, steps, steps_of};
 
 use crate::step::{Act, Step};
@@ -11,15 +11,6 @@ use amo_kk::Move;
 use amo_plan::Plan;
 use amo_world::World;
 use std::alloc::{AllocError, Global};
-
-/// The worker of a move.
-fn worker_of(one: Move) -> u32
-    ensures { result ≡ worker_of one }
-{
-    match one {
-        Move::Turn(p) | Move::Halt(p) | Move::Leave(p) => p,
-    }
-}
 
 /// Whether all workers are gone.
 fn all_gone(world: &World) -> bool
@@ -51,7 +42,7 @@ fn act_of(world: &World, one: Move) -> Act
     requires { IsWorker world.now.givens (worker_of one) }
     ensures { result ≡ act_of world.now.world one }
 {
-    if world.is_gone(worker_of(one)) {
+    if world.is_gone(one.worker()) {
         return Act::Idles;
     }
     act_here(world, one)
@@ -63,7 +54,7 @@ fn take_step(world: &mut World, number: usize, one: Move) -> Step
     ensures step { result ≡ step_of world.old.givens world.old.world number one }
     ensures world { world.new ≡ record { givens = world.old.givens; world = world_after_move world.old.givens world.old.world one } }
 {
-    let worker = worker_of(one);
+    let worker = one.worker();
     let act = act_of(world, one);
     let before = world.local(worker).phase();
     world.run(&[one]);
@@ -131,7 +122,7 @@ pub struct Run {
 /// Makes the moves of a plan, until all workers are gone. The only error is out of memory.
 pub fn run_of(alloc: Global, plan: &Plan) -> Result<Run, AllocError>
     ensures steps { IfOk result (λ r. r.steps.items ≡ steps_of (plan_seen plan.now)) }
-    ensures world { IfOk result (λ r. r.world ≡ record { givens = (plan_seen plan.now).givens; world = world_of (plan_seen plan.now) }) }
+    ensures world { IfOk result (λ r. r.world ≡ record { givens = (plan_seen plan.now).givens; world = plan_world (plan_seen plan.now) }) }
 {
     let moves = moves_of(alloc, plan)?;
     let mut world = World::new(alloc, plan.heads.givens)?;

@@ -10,7 +10,8 @@ use Rattle.amo_words.specs.declared.rule.Spot.{Spot}
 use Rattle.amo_words.specs.declared.rule.Spot.TheVariants.{Home, Out}
 use Rattle.amo_words.specs.declared.rule.View.{View}
 use Rattle.amo_words.specs.declared.rule.Key.{Key}
-use Rattle.amo_words.specs.Logs.{word_count, AreOwn}
+use Rattle.amo_kk.specs.Words.{word_count}
+use Rattle.amo_words.specs.Logs.{AreOwn}
 use Rattle.amo_words.specs.Rule.{Stands, AllStand, placing_view, open_view, open_role, first_view}
 use Rattle.amo_words.specs.Plays.{role_of_hired, without_hired, book_left, worker_right}
 use Rattle.amo_words.specs.Faces.{machine_of, spots_of, IsBook}

@@ -16,8 +16,8 @@ use Rattle.amo_sets.proofs.Tables.{numbered-table}
 use Rattle.amo_kk.specs.Givens.{IsWorker}
 use Rattle.amo_kk.specs.Record.{empty_record}
 use Rattle.amo_kk.specs.Choice.{first_record}
-use Rattle.amo_kk.specs.Words.{words_of}
-use Rattle.amo_kk.specs.World.{nobody, process, first_process, opening_world}
+use Rattle.amo_kk.specs.Words.{words_of, word_count}
+use Rattle.amo_kk.specs.World.{nobody, process, first_process, opening_world, world_of}
 use Rattle.amo_kk.specs.Machine.{LocalView}
 use Rattle.amo_kk.specs.declared.givens.Givens.{Givens}
 use Rattle.amo_kk.specs.declared.model.Process.{Process}
@@ -28,7 +28,7 @@ use Rattle.amo_words.specs.declared.rule.Spot.{Spot}
 use Rattle.amo_words.specs.declared.rule.Spot.TheVariants.{Home}
 use Rattle.amo_words.specs.declared.rule.View.{View}
 use Rattle.amo_words.specs.declared.rule.Key.{Key}
-use Rattle.amo_words.specs.Logs.{word_count, world_after, machine_after, first_machine, is_claimed}
+use Rattle.amo_words.specs.Logs.{machine_after, first_machine, is_claimed}
 use Rattle.amo_words.specs.Rule.{Stands, AllStand, IsSeated, Fits, IsOf, IsOpen, IsPlacing, IsKept, open_view, placing_view, placed_home, first_view, home_of}
 use Rattle.amo_words.specs.Plays.{next_role, PickedBy, PlacedBy, told_by_picking, told_by_placing}
 use Rattle.amo_words.proofs.Worlds.{unclaimed_by, own_none}
@@ -61,7 +61,7 @@ flat_table : {X : Type 0} (f : X → List ℕ) (h : ℕ → X) (size : ℕ) → 
 flat_table f h size rows zero = let e : 0 ≡ 0 * size = omega arith in ap (λ k. replicate k 0) e
 flat_table f h size rows (suc n) = flat_more f (table n h) (h (suc n) ∷ []) ∙ (λ i. flat_table f h size rows n i ++ (rows (suc n) i ++ [])) ∙ ap (λ l. replicate (n * size) 0 ++ l) (append-nil (replicate size 0)) ∙ replicate-append-replicate (n * size) size 0 ∙ (let e : n * size + size ≡ suc n * size = sym (suc-mul n size) in ap (λ k. replicate k 0) e)
 
-pub opening_words : (g : Givens) → words_of (world_after g []).processes ≡ replicate (word_count g) 0
+pub opening_words : (g : Givens) → words_of (world_of g []).processes ≡ replicate (word_count g) 0
 opening_words g =
     (λ i. 0 ∷ map_table (λ (a : Process). a.next) (first_process g) (λ k. refl) g.workers i ++ (map_table (λ (a : Process). a.claim) (first_process g) (λ k. refl) g.workers i ++ flat_table (λ (a : Process). a.row) (first_process g) (g.jobs + 1) (λ k. refl) g.workers i))
     ∙ ap (λ l. 0 ∷ replicate g.workers 0 ++ l) (replicate-append-replicate g.workers (g.workers * (g.jobs + 1)) 0)
@@ -71,7 +71,7 @@ opening_words g =
     all : (m n : ℕ) → suc (m + (m + m * (n + 1))) ≡ m * (n + 3) + 1
     all m n = grind arith
 
-opening_process : (g : Givens) (p : ℕ) → IsWorker g p → process (world_after g []) p ≡ first_process g p
+opening_process : (g : Givens) (p : ℕ) → IsWorker g p → process (world_of g []) p ≡ first_process g p
 opening_process g p o = numbered-table nobody (first_process g) g.workers p o.low o.high
 
 pub opening_machine : (g : Givens) (p : ℕ) → IsWorker g p → first_machine g p ≡ machine_after g [] p
@@ -80,7 +80,7 @@ opening_machine g p o = ap (λ (a : Process). let x : LocalView = record { given
 first_claims : (g : Givens) (p : ℕ) → (first_record g p).claimed ≡ []
 first_claims g p = choice_cases g p (empty_record g) (λ r. r.claimed ≡ []) (λ few. refl) (λ many. refl)
 
-pub opening_claims : (g : Givens) (j : ℕ) → is_claimed (world_after g []).processes j ≡ false
+pub opening_claims : (g : Givens) (j : ℕ) → is_claimed (world_of g []).processes j ≡ false
 opening_claims g j =
     unclaimed_by j (opening_world g).processes (λ p low high. let size = length-table (first_process g) g.workers in
     ap (λ (a : Process). has a.local.claimed j) (numbered-table nobody (first_process g) g.workers p low (omega (arith, high, size))) ∙ ap (λ l. has l j) (first_claims g p))

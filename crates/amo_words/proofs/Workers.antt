@@ -7,7 +7,7 @@ use Rattle.atomic_table.specs.Table.{rest}
 use Rattle.amo_kk.specs.Givens.{IsWorker}
 use Rattle.amo_kk.specs.Record.{can_leave}
 use Rattle.amo_kk.specs.Step.{want, MayLoad}
-use Rattle.amo_kk.specs.Words.{claim_word, done_word}
+use Rattle.amo_kk.specs.Words.{claim_word, done_word, word_count}
 use Rattle.amo_kk.specs.Machine.{LocalView}
 use Rattle.amo_kk.specs.declared.givens.Givens.{Givens}
 use Rattle.amo_kk.specs.Fits.{WantFits}
@@ -15,7 +15,6 @@ use Rattle.amo_kk.proofs.Wants.{want_fits}
 use Rattle.amo_kk.proofs.Fit.{after_fit, left_fit}
 use Rattle.amo_kk.proofs.Worlds.{leaves_empty}
 use Rattle.amo_words.specs.declared.rule.View.{View}
-use Rattle.amo_words.specs.Logs.{word_count}
 use Rattle.amo_words.specs.Plays.{machine_turned, machine_left, HasTurned, TurnedBy, HasLeft, LeftBy}
 use Rattle.amo_words.specs.Faces.{Seated, machine_of, machine, spots_of, spots, IsBook, IsWorking}
 use Rattle.amo_words.specs.declared.rule.Spot.{Spot}

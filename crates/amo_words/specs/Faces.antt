@@ -4,7 +4,7 @@ use Rattle.amo_sets.specs.Lists.{numbered}
 use Rattle.atomic_table.specs.Seated.{TableId}
 use Rattle.amo_kk.specs.Givens.{IsWorker}
 use Rattle.amo_kk.specs.World.{nobody}
-use Rattle.amo_kk.specs.Words.{words_of}
+use Rattle.amo_kk.specs.Words.{words_of, word_count}
 use Rattle.amo_kk.specs.Lawful.{IsSoundRecord, IsSoundProcess}
 use Rattle.amo_kk.specs.declared.model.Process.{Process}
 use Rattle.amo_kk.specs.Machine.{LocalView}
@@ -13,7 +13,7 @@ use Rattle.amo_words.specs.declared.rule.Role.{Role}
 use Rattle.amo_words.specs.declared.rule.Role.TheVariants.{Opening, Keeping, Working, Spent}
 use Rattle.amo_words.specs.declared.rule.Spot.{Spot}
 use Rattle.amo_words.specs.declared.rule.View.{View}
-use Rattle.amo_words.specs.Logs.{word_count, AreOwn}
+use Rattle.amo_words.specs.Logs.{AreOwn}
 use Rattle.amo_words.specs.Rule.{AllStand}
 
 -- A worker or a book: its table, the number of its seat there, and what it knows.

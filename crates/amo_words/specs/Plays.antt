@@ -5,7 +5,7 @@ use mathlib.Core.Option.{some}
 use lib.ListN.{get_elem?}
 use Rattle.atomic_table.specs.Table.{Step, Me, rest}
 use Rattle.amo_kk.specs.Step.{want, record_after, record_after_leave, MayLoad}
-use Rattle.amo_kk.specs.World.{loaded_value}
+use Rattle.amo_kk.specs.World.{loaded_value, world_of}
 use Rattle.amo_kk.specs.Machine.{LocalView}
 use Rattle.amo_kk.specs.declared.givens.Givens.{Givens}
 use Rattle.amo_kk.specs.declared.event.Move.{Move}
@@ -17,7 +17,7 @@ use Rattle.amo_words.specs.declared.rule.Role.TheVariants.{Opening, Keeping, Wor
 use Rattle.amo_words.specs.declared.rule.Spot.{Spot}
 use Rattle.amo_words.specs.declared.rule.Spot.TheVariants.{Home, Out, Back}
 use Rattle.amo_words.specs.declared.rule.View.{View}
-use Rattle.amo_words.specs.Logs.{world_after, moves_of, first_machine, AreOwn, StartsWith}
+use Rattle.amo_words.specs.Logs.{moves_of, first_machine, AreOwn, StartsWith}
 use Rattle.amo_words.specs.Rule.{AllStand, spent_view}
 
 -- a worker's steps
@@ -40,7 +40,7 @@ pub record HasTurned {P : Type 0} (v : View P) (l : LocalView) (n : ℕ) (w : Vi
   pub between : List Move
   pub others : moves_of l.number between ≡ 0
   pub own : AreOwn v.givens (v.seen ++ between)
-  pub loads : n ≡ loaded_value (world_after v.givens (v.seen ++ between)) (want l.state)
+  pub loads : n ≡ loaded_value (world_of v.givens (v.seen ++ between)) (want l.state)
   pub leads : w ≡ view_after v between (Turn l.number) (machine_turned l n)
 
 -- the same by the role of v

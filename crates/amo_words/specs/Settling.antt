@@ -18,7 +18,8 @@ use Rattle.amo_words.specs.declared.rule.Spot.TheVariants.{Home, Out, Back}
 use Rattle.amo_words.specs.declared.floor.settling.WorkerEnd.{WorkerEnd}
 use Rattle.amo_words.specs.declared.floor.settling.WorkerEnd.TheVariants.{NeverHired, Ended, Stopped, Lost}
 use Rattle.amo_words.specs.declared.floor.settling.Settlement.{Settlement}
-use Rattle.amo_words.specs.Logs.{world_after, AreOwn, StartsWith, is_claimed}
+use Rattle.amo_kk.specs.World.{world_of}
+use Rattle.amo_words.specs.Logs.{AreOwn, StartsWith, is_claimed}
 use Rattle.amo_words.specs.declared.rule.Role.TheVariants.{Keeping}
 use Rattle.amo_words.specs.declared.rule.View.{View}
 use Rattle.amo_words.specs.declared.rule.Key.{Key}
@@ -97,8 +98,8 @@ pub record IsClosed {P : Type 0} (g : Givens) (payloads : List P) (seen : List M
   pub turns : AreOwn g log
   pub begins : StartsWith log seen
   pub stand : AllStand g log spots
-  pub shown : AreShown g (world_after g log).processes words
-  pub free : HasFree g (world_after g log).processes payloads slots
+  pub shown : AreShown g (world_of g log).processes words
+  pub free : HasFree g (world_of g log).processes payloads slots
 
 -- how many jobs are in these lists
 abbrev pub job_count : List (List ℕ) → ℕ
@@ -120,15 +121,15 @@ pub record IsWhole {P : Type 0} (g : Givens) (payloads : List P) (seen : List Mo
   pub log : List Move
   pub turns : AreOwn g log
   pub begins : StartsWith log seen
-  pub shown : words ≡ words_of (world_after g log).processes
+  pub shown : words ≡ words_of (world_of g log).processes
   pub stand : AllStand g log spots
   -- the lists are what these words say of each worker
   pub told_claims : map (λ (v : Vec ℕ Global). v.items) s.claims.items ≡ claims_in_words g words
   pub told_dones : map (λ (v : Vec ℕ Global). v.items) s.dones.items ≡ dones_in_words g words
-  pub claims : map (λ (v : Vec ℕ Global). v.items) s.claims.items ≡ claims_of (world_after g log).processes
-  pub dones : map (λ (v : Vec ℕ Global). v.items) s.dones.items ≡ dones_of (world_after g log).processes
+  pub claims : map (λ (v : Vec ℕ Global). v.items) s.claims.items ≡ claims_of (world_of g log).processes
+  pub dones : map (λ (v : Vec ℕ Global). v.items) s.dones.items ≡ dones_of (world_of g log).processes
   pub ends : s.ends.items ≡ map end_of spots
-  pub free : s.free.items ≡ free_of (world_after g log).processes 1 payloads
+  pub free : s.free.items ≡ free_of (world_of g log).processes 1 payloads
   -- where a worker has come back that ended, so many jobs are done
   pub enough : (p : ℕ) (l : LocalView) → IsBack spots p l → is_over l.state.phase ≡ true
       → bound g ≤ job_count (map (λ (v : Vec ℕ Global). v.items) s.dones.items)

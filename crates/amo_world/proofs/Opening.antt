@@ -13,7 +13,7 @@ use Rattle.amo_kk.specs.declared.model.World.{World}
 use Rattle.amo_kk.proofs.Worlds.{opening_lawful}
 use Rattle.amo_kk.proofs.Runs.{always_runs}
 use Rattle.amo_world.specs.declared.seat.Seat.{Seat}
-use Rattle.amo_world.specs.Seats.{process_of, world_of, AreSeats, IsKept}
+use Rattle.amo_world.specs.Seats.{process_of, world_of_seats, AreSeats, IsKept}
 
 pub seats_next : (g : Givens) (n : ℕ) (seats : List Seat) (s : Seat) → map process_of seats ≡ table n (first_process g) → process_of s ≡ first_process g (n + 1)
     → map process_of (seats ++ s ∷ []) ≡ table (n + 1) (first_process g)
@@ -43,7 +43,7 @@ seated_next g n seats s seated givens number room =
     old : (k : ℕ) (d : Seat) → k < length seats → get_or (seats ++ s ∷ []) k d ≡ get_or seats k d
     old k d h = get_or_append_left seats (s ∷ []) d k h
 
-pub opening_kept : (g : Givens) (seats : List Seat) (history : List Event) (places room : ℕ) → AreSeats g g.workers seats → world_of seats history ≡ opening_world g
+pub opening_kept : (g : Givens) (seats : List Seat) (history : List Event) (places room : ℕ) → AreSeats g g.workers seats → world_of_seats seats history ≡ opening_world g
     → places ≡ g.workers → room ≡ 2 * g.jobs + g.workers → IsKept g seats history places room
 opening_kept g seats history places room seated is seats_fit history_fits =
     record {

@@ -116,7 +116,7 @@ module _ (g : Givens) (w : World) (p : ℕ) (law : IsLawful g w) (here : (proces
 
   -- and after a turn that does neither, the worker isn't gone
   pub here_next : claims_or_ends g w p ≡ false → (process (world_after_turn g w p) p).gone ≡ false
-  here_next h = (own_turn g w p g.limits law here (or_parts (is_claiming (process w p).local.phase) (is_over (record_after g p (loaded_value w (want (process w p).local)) (process w p).local).phase) h).1).here
+  here_next h = (own_turn g w p law here (or_parts (is_claiming (process w p).local.phase) (is_over (record_after g p (loaded_value w (want (process w p).local)) (process w p).local).phase) h).1).here
 
 turn_goes_on : (g : Givens) (before : World) (p k : ℕ) (w : World) → IsUnderWay g before p k w → rests (turn_answer g w p) ≡ false → IsUnderWay g before p (k + 1) (world_after_turn g w p)
 turn_goes_on g before p k w way quiet =

@@ -25,8 +25,8 @@ pub record StaysSeated (before after : Seat) : Type 0 where
   pub room : vec_capacity after.row ≡ vec_capacity before.row
 
 -- the world of these seats and this history
-abbrev pub world_of : List Seat → List Event → World
-world_of seats history = record { processes = map process_of seats; history = history }
+abbrev pub world_of_seats : List Seat → List Event → World
+world_of_seats seats history = record { processes = map process_of seats; history = history }
 
 -- The seats are those of the workers 1..n in their order, each with a machine of these givens and with room for the
 -- row that such a worker can have, and no more.
@@ -40,7 +40,7 @@ pub record AreSeats (g : Givens) (n : ℕ) (seats : List Seat) : Type 0 where
 -- and no more.
 pub record IsKept (g : Givens) (seats : List Seat) (history : List Event) (seats_room history_room : ℕ) : Type 0 where
   pub seated : AreSeats g g.workers seats
-  pub lawful : IsLawful g (world_of seats history)
-  pub run : HasRun g (world_of seats history)
+  pub lawful : IsLawful g (world_of_seats seats history)
+  pub run : HasRun g (world_of_seats seats history)
   pub seats_fit : seats_room ≡ g.workers
   pub history_fits : history_room ≡ 2 * g.jobs + g.workers

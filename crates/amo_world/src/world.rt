@@ -15,7 +15,7 @@ ghost use Rattle.amo_kk.specs.declared.event.Event.{Event};
 ghost use Rattle.amo_world.specs.Answer.{turned, turn_answer};
 ghost use Rattle.amo_world.specs.Resting.{RunsAlone};
 ghost use Rattle.amo_world.specs.Views.{WorldView};
-ghost use Rattle.amo_world.specs.Seats.{process_of, world_of, AreSeats};
+ghost use Rattle.amo_world.specs.Seats.{process_of, world_of_seats, AreSeats};
 
 use crate::answer::{Alone, Turned};
 use crate::seat::Seat;
@@ -36,11 +36,11 @@ pub struct World {
 impl Model for World {
     ghost use Rattle.std.specs.Vec.{vec_capacity};
     ghost use Rattle.amo_world.specs.Views.{WorldView};
-    ghost use Rattle.amo_world.specs.Seats.{world_of, IsKept};
+    ghost use Rattle.amo_world.specs.Seats.{world_of_seats, IsKept};
 
     ghost Value = { WorldView };
 
-    ghost view = { λ w. record { givens = w.givens; world = world_of w.seats.items w.history.items } };
+    ghost view = { λ w. record { givens = w.givens; world = world_of_seats w.seats.items w.history.items } };
 
     ghost invariant = { λ w. IsKept w.givens w.seats.items w.history.items (vec_capacity w.seats) (vec_capacity w.history) };
 }
@@ -174,7 +174,7 @@ impl World {
         ensures { result ≡ are_in_range self.now.givens moves.now }
     {
         for one in moves {
-            let p = worker_of(*one);
+            let p = one.worker();
             if p < 1 || p > self.givens.workers {
                 return false;
             }
@@ -286,15 +286,6 @@ impl World {
         ensures { result ≡ length (object_of self.now.givens self.now.world).performed }
     {
         count(&self.history).performed
-    }
-}
-
-/// The worker of a move.
-fn worker_of(one: Move) -> u32
-    ensures { result ≡ worker_of one }
-{
-    match one {
-        Move::Turn(p) | Move::Halt(p) | Move::Leave(p) => p,
     }
 }
 

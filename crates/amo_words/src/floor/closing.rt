@@ -6,8 +6,8 @@ ghost use Rattle.amo_words.specs.Faces.{spots};
 ghost use Rattle.amo_words.specs.Settling.{HasClosed};
 
 use super::{Book, ClosedFloor, Floor};
-use crate::layout::{claim_word, done_word, next_word};
 use amo_kk::Givens;
+use amo_kk::layout::{claim_word, done_word, next_word};
 use std::alloc::Global;
 
 impl<P: Drop> Floor<P> {

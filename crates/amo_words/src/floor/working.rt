@@ -11,10 +11,10 @@ ghost use Rattle.amo_words.specs.Faces.{machine};
 ghost use Rattle.amo_words.specs.Answers.{quiet_step, Stepped, filed, LeftIf};
 
 use super::{Floor, Worker};
-use crate::layout::{claim_word, done_word, next_word};
 use crate::plays::{Claim, Load, Store, TakeBack};
 use crate::rule::{TableSeat, Words};
 use crate::slots::exchange;
+use amo_kk::layout::{claim_word, done_word, next_word};
 use amo_kk::{Leaving, Shown, Want};
 
 /// What a step of a worker came to.

@@ -2,7 +2,7 @@
 ghost use Rattle.std.specs.Prelude.{◌≡◌};
 
 use super::*;
-use amo_words::layout::{claim_word, done_word, next_word, word_count};
+use amo_kk::layout::{claim_word, done_word, next_word, word_count};
 
 /// A worker that has ended from birth stays idle and is collected; the jobs stay free.
 fn all_idle(

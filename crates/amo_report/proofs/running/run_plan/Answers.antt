@@ -1,7 +1,6 @@
 use Rattle.std.proofs.Common.{refl, sym, ap, []}
-use Rattle.amo_kk.specs.World.{opening_world}
+use Rattle.amo_kk.specs.World.{opening_world, rounds}
 use Rattle.amo_world.specs.Views.{WorldView}
-use Rattle.amo_report.specs.Texts.{rounds}
 use Rattle.amo_report.proofs.Rounds.{range_of, moves_more}
 use Rattle.amo_report.proofs.running.run_plan.Goals as goal
 

@@ -1,5 +1,5 @@
 use Rattle.std.proofs.Common.{◌≡◌, ◌++◌}
-use Rattle.amo_report.specs.Texts.{rounds}
+use Rattle.amo_kk.specs.World.{rounds}
 use Rattle.amo_trace.proofs.steps.moves_of.Given as goal
 
 -- the schedule and the rounds so far

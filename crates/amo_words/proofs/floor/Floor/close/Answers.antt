@@ -2,7 +2,7 @@ use Rattle.std.proofs.Common.{◌≡◌, List, ap, refl, sym, subst, ◌∙◌}
 use Rattle.std.specs.Mem.Slots.{slots_items}
 use Rattle.amo_kk.specs.declared.givens.Givens.{Givens}
 use Rattle.amo_words.specs.declared.rule.Spot.{Spot}
-use Rattle.amo_words.specs.Logs.{world_after}
+use Rattle.amo_kk.specs.World.{world_of}
 use Rattle.amo_words.specs.Faces.{AreShown, ClosedView, Seated, spots, spots_of}
 use Rattle.amo_words.specs.Settling.{HasClosed}
 use Rattle.amo_words.proofs.Whole.{settles}
@@ -17,7 +17,7 @@ invariant_of-result g c = let b = c.book.inside in let f = c.self.inside in let 
       c.close_with-closed.ensures.counts.0 ∙ c.self.invariant.0,
       c.close_with-closed.ensures.counts.1 ∙ c.self.invariant.1,
       c.book.invariant.stand.0 ∙ ap (λ (x : Givens). x.workers) (sym (same ∙ c.book.invariant.givens)),
-      ((world_after v.givens t.1.log).processes, subst (λ (x : Givens). AreShown x (world_after v.givens t.1.log).processes words) (sym same) t.1.shown),
+      ((world_of v.givens t.1.log).processes, subst (λ (x : Givens). AreShown x (world_of v.givens t.1.log).processes words) (sym same) t.1.shown),
     )
 
 pub returns-clause-closed : goal.returns-clause-closed

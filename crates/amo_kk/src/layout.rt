@@ -1,11 +1,9 @@
-//! Where each shared word stands. The book word is word 0, since a split and a join of seats load that word.
-//! Public for who reads the words of a floor by another way than its workers do.
+//! Where each shared word stands, wherever the words are kept. Word 0 is the book word, which no worker writes.
 ghost use Rattle.std.specs.Prelude.{◌≡◌, ◌≤◌, ◌+◌};
 ghost use Rattle.amo_kk.specs.Givens.{IsWorker};
-ghost use Rattle.amo_kk.specs.Words.{next_word, claim_word, done_word};
-ghost use Rattle.amo_words.specs.Logs.{word_count};
+ghost use Rattle.amo_kk.specs.Words.{word_count, next_word, claim_word, done_word};
 
-use amo_kk::Givens;
+use super::givens::Givens;
 
 /// How many words there are: the book word, and for each worker its announcement, its count of claims and its row.
 pub fn word_count(givens: Givens) -> usize

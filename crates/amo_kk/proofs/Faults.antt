@@ -5,14 +5,15 @@ use Rattle.std.proofs.Math.Bridge.{le_prop}
 use Rattle.std.proofs.lemmas.Bool.Decides.{nat_tests}
 use Rattle.amo_kk.specs.Limits.{AreWithinLimits, first_fault, within_limits}
 use Rattle.amo_kk.specs.Givens.{givens_of, numbers_or_fault}
+use Rattle.amo_kk.specs.declared.limits.TheConstants.{MAX_JOBS, MAX_WORKERS, MAX_BETA}
 use Rattle.amo_kk.specs.declared.givens.GivensFault.{GivensFault}
 use Rattle.amo_kk.specs.declared.givens.GivensFault.TheVariants.{TooManyJobs, NoWorkers, TooManyWorkers, BetaLow, BetaHigh}
 
 -- numbers within the limits break none
 pub limits_break_none : (jobs workers beta : ℕ) → AreWithinLimits jobs workers beta → first_fault jobs workers beta ≡ None
 limits_break_none jobs workers beta l =
-    go (nat_lt 4096 jobs) (workers == 0) (nat_lt 16 workers) (nat_lt beta workers) (nat_lt 65535 beta)
-    (not_below 4096 jobs l.few_jobs) (not_zero workers l.some) (not_below 16 workers l.few_workers) (not_below beta workers l.beta_low) (not_below 65535 beta l.beta_high)
+    go (nat_lt MAX_JOBS jobs) (workers == 0) (nat_lt MAX_WORKERS workers) (nat_lt beta workers) (nat_lt MAX_BETA beta)
+    (not_below MAX_JOBS jobs l.few_jobs) (not_zero workers l.some) (not_below MAX_WORKERS workers l.few_workers) (not_below beta workers l.beta_low) (not_below MAX_BETA beta l.beta_high)
   where
     not_below : (a b : ℕ) → b ≤ a → nat_lt a b ≡ false
     not_below a b l = grind (arith, nat_tests)
