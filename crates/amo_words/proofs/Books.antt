@@ -43,7 +43,7 @@ module _ {P : Type 0} (v : View P) (id : TableId) (seat : ℕ) (g : Givens) (spo
     givens = ap (λ (u : View P). u.givens) now ∙ is.givens;
     words = ap (λ t. t.words) same ∙ is.words;
     slots = ap (λ t. t.slots) same ∙ is.slots;
-    told = ap (λ (u : View P). u.told) now ∙ is.told;
+    moves = ap (λ (u : View P). u.moves) now ∙ is.moves;
     turns = subst (AreOwn g) (sym (ap (λ (u : View P). u.seen) now)) is.turns;
     stand = subst (λ log. AllStand g log (set spots (p - 1) Out)) (sym (ap (λ (u : View P). u.seen) now)) (stands_out g v.seen spots p low is.stand);
     exact = is.exact;
@@ -77,7 +77,7 @@ module _ {P : Type 0} (k : Key P) (v : View P) (id : TableId) (seat : ℕ) (spot
     givens = ap (λ (u : View P). u.givens) now;
     words = words;
     slots = slots;
-    told = ap (λ (u : View P). u.told) now;
+    moves = ap (λ (u : View P). u.moves) now;
     turns = subst (AreOwn k.givens) (sym (ap (λ (u : View P). u.seen) now)) (own_none k.givens);
     stand = subst (λ (z : List Move × List Spot). AllStand k.givens z.0 z.1) (λ c. (sym (ap (λ (u : View P). u.seen) now) c, sym home c)) (home_stand k.givens);
     exact = exact;

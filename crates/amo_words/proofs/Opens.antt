@@ -194,8 +194,8 @@ module _ {P : Type 0} (k : Key P) where
       let given : me.0.givens ≡ g = ap (λ (v : View P). v.givens) t.2 in
       let old : (j : ℕ) (y : P) → get_elem? xs j ≡ some y → get_elem? s.homes j ≡ some (placed_home n true j y) = λ j y a. h.slots j y a ∙ (λ c. some (placed_home (t.3 c) (t.4 c) j y)) in
       let w : View P = record me.0 { role = next_role me.0.givens n } in
-      let plain : (role : Role) → next_role g n ≡ role → w ≡ record { givens = g; payloads = xs; seen = []; told = []; role = role } = λ role e.
-      (let next : View P → View P = λ v. record v { role = next_role v.givens n } in ap next t.2) ∙ (let with_role : Role → View P = λ ro. record { givens = g; payloads = xs; seen = []; told = []; role = ro } in ap with_role e) in
+      let plain : (role : Role) → next_role g n ≡ role → w ≡ record { givens = g; payloads = xs; seen = []; moves = []; role = role } = λ role e.
+      (let next : View P → View P = λ v. record v { role = next_role v.givens n } in ap next t.2) ∙ (let with_role : Role → View P = λ ro. record { givens = g; payloads = xs; seen = []; moves = []; role = ro } in ap with_role e) in
       let words' : set s.words 0 (get_or s.words 0 0) ≡ replicate (word_count g) 0 = set-get_or s.words 0 0 ∙ h.words in
       let views' : (v : View P) → w ≡ v → set s.views id w ≡ v ∷ [] = λ v e. (λ c. set (h.views c) (t.1 c) w) ∙ ap (λ z. z ∷ []) e in
       let long' : length homes' ≡ length xs = length-set s.homes n (some (Some x)) ∙ h.size in

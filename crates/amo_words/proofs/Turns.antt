@@ -45,7 +45,7 @@ module _ {P : Type 0} (g : Givens) (payloads : List P) where
   of_more log more v Spent h = h
   of_more log more v (Opening n b) h = absurd h
   of_more log more v (Working l) h = (h.0, h.1, starts_more log v.seen more h.2, h.3)
-  of_more log more v (Keeping spots) h = (h.0, h.1, starts_more log v.seen more h.2, starts_more log v.told more h.3)
+  of_more log more v (Keeping spots) h = (h.0, h.1, starts_more log v.seen more h.2, starts_more log v.moves more h.3)
 
   -- a move leaves the record of another
   stands_on : (log : List Move) (m : Move) (q : ℕ) (x : Spot) → q ≢ worker_of m → machine_after g (log ++ m ∷ []) q ≡ machine_after g log q → Stands g log q x → Stands g (log ++ m ∷ []) q x

@@ -69,7 +69,7 @@ pub record IsBook {P : Type 0} (v : View P) (id : TableId) (g : Givens) (spots :
   pub givens : v.givens ≡ g
   pub words : id.words ≡ word_count g
   pub slots : id.slots ≡ g.jobs
-  pub told : v.told ≡ []
+  pub moves : v.moves ≡ []
   pub turns : AreOwn g v.seen
   pub stand : AllStand g v.seen spots
   pub exact : room ≡ g.workers

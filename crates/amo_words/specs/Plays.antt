@@ -32,7 +32,7 @@ machine_left l = record l { state = record_after_leave l.state }
 
 -- the view after this move of its worker, whose machine is now l; others have moved in between
 abbrev pub view_after : {P : Type 0} → View P → List Move → Move → LocalView → View P
-view_after v between m l = record v { seen = (v.seen ++ between) ++ m ∷ []; told = []; role = Working l }
+view_after v between m l = record v { seen = (v.seen ++ between) ++ m ∷ []; moves = []; role = Working l }
 
 -- From the view v the worker with the machine l took a turn to the view w, n being what was loaded, or 0: since its
 -- last step only others have moved, all moves are turns and leavings, and a load gave what its word held in the world just before.
@@ -129,7 +129,7 @@ abbrev pub book_left : {P : Type 0} → ℕ → View P → View P
 book_left p v = record v { role = without_hired p v.role }
 
 abbrev pub worker_right : {P : Type 0} → ℕ → View P → View P
-worker_right p v = record v { told = []; role = role_of_hired v.givens p v.role }
+worker_right p v = record v { moves = []; role = role_of_hired v.givens p v.role }
 
 -- a seat that has taken slots can't be joined, so its view goes to a new one
 abbrev pub shed_left : {P : Type 0} → View P → View P
@@ -153,14 +153,14 @@ joined (Opening n b) role = Opening n b
 
 -- collecting: the record of a worker enters the book
 abbrev pub both_views : {P : Type 0} → View P → View P → View P
-both_views v w = record v { told = w.seen; role = joined v.role w.role }
+both_views v w = record v { moves = w.seen; role = joined v.role w.role }
 
 -- The book's load after a join: it learns a list of moves that begins with what it had seen and with what the worker
 -- had seen, and after which all its records stand.
 pub record HasMet {P : Type 0} (v : View P) (spots : List Spot) (w : View P) : Type 0 where
-  pub leads : w ≡ record v { seen = w.seen; told = [] }
+  pub leads : w ≡ record v { seen = w.seen; moves = [] }
   pub seen : StartsWith w.seen v.seen
-  pub told : StartsWith w.seen v.told
+  pub moves : StartsWith w.seen v.moves
   pub own : AreOwn v.givens w.seen
   pub stand : AllStand v.givens w.seen spots
 

@@ -106,7 +106,7 @@ job_count lists = sum_by (λ xs. length xs) lists
 
 -- what a book's seat knows between two calls
 abbrev pub book_view : {P : Type 0} → Givens → List P → List Move → List Spot → View P
-book_view g payloads seen spots = record { givens = g; payloads = payloads; seen = seen; told = []; role = Keeping spots }
+book_view g payloads seen spots = record { givens = g; payloads = payloads; seen = seen; moves = []; role = Keeping spots }
 
 -- The settlement is whole. The table was closed with some words and slots, where the book's seat knew what the book knew.
 -- A list of turns and leavings that begins with what the book had seen leads to a world that has these words, and in which

@@ -42,7 +42,7 @@ pub fn floors_show_worlds<P>()
     ensures book { (k : Key P) (s : State (Option P) (View P)) (h : IsOpen k s) (id : ℕ) (v : View P) (spots : List Spot) → get_elem? s.views id ≡ some v
         → v.role ≡ Role.Keeping spots → AllStand k.givens h.log spots }
     ensures known { (k : Key P) (s : State (Option P) (View P)) (h : IsOpen k s) (id : ℕ) (v : View P) → get_elem? s.views id ≡ some v
-        → v ≢ spent_view → (v.givens ≡ k.givens) × (v.payloads ≡ k.payloads.value.items) × StartsWith h.log v.told }
+        → v ≢ spent_view → (v.givens ≡ k.givens) × (v.payloads ≡ k.payloads.value.items) × StartsWith h.log v.moves }
     ensures slots { (k : Key P) (s : State (Option P) (View P)) (h : IsOpen k s) → SlotsFit (world_after k.givens h.log) k.payloads.value.items s.homes }
 {}
 

@@ -21,5 +21,5 @@ store-requires g c =
 pub invariant_of-self : goal.invariant_of-self
 invariant_of-self g c =
     let w = c.self.inside in
-    working_after w.place.me.0 c.store.new.seat.me.0 w.place.table_id _ w.local c.stored.new.self c.self.invariant c.store.ensures.0
+    working_after w.seat.me.0 c.store.new.seat.me.0 w.seat.table_id _ w.local c.stored.new.self c.self.invariant c.store.ensures.0
     0 c.store.ensures.2.0 (hears_zero w.local.givens (want w.local.state)) c.stored.ensures.record

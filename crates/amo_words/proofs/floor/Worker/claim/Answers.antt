@@ -29,22 +29,22 @@ take_out-requires-clause-full g c =
     let w = c.self.inside in
     let is = c.self.invariant in
     let wants = fits _ _ _ _ _ is c.self.view_is (StoreClaim c.args.count c.args.j) c.requires.wants in
-    let got : Takes w.place.me.0.payloads w.place.me.1 c.args.j c.store.new.seat.me.1 = subst (λ ph. TakesIn w.place.me.0.payloads w.place.me.1 ph c.store.new.seat.me.1)
-    (claiming_job w.local.state w.local.state.phase c.args.count c.args.j wants.0) (subst (λ ro. TakenBy w.place.me.0.payloads w.place.me.1 ro c.store.new.seat.me.1) is.role c.store.ensures.2.1) in
-    (got.0, with_rest c.store.new.seat.me.1 (c.args.j - 1, Some got.0) w.place.me.1 got.2)
+    let got : Takes w.seat.me.0.payloads w.seat.me.1 c.args.j c.store.new.seat.me.1 = subst (λ ph. TakesIn w.seat.me.0.payloads w.seat.me.1 ph c.store.new.seat.me.1)
+    (claiming_job w.local.state w.local.state.phase c.args.count c.args.j wants.0) (subst (λ ro. TakenBy w.seat.me.0.payloads w.seat.me.1 ro c.store.new.seat.me.1) is.role c.store.ensures.2.1) in
+    (got.0, with_rest c.store.new.seat.me.1 (c.args.j - 1, Some got.0) w.seat.me.1 got.2)
 
 pub invariant_of-self : goal.invariant_of-self
 invariant_of-self g c =
     let w = c.self.inside in
-    working_after w.place.me.0 c.take_out.new.place.me.0 w.place.table_id _ w.local c.stored.new.self c.self.invariant (c.take_out.ensures.place.0 ∙ c.store.ensures.0)
-    0 (subst (λ v. TurnedBy w.place.me.0 w.place.me.0.role 0 v) (sym c.take_out.ensures.place.2) c.store.ensures.2.0) (hears_zero w.local.givens (want w.local.state)) c.stored.ensures.record
+    working_after w.seat.me.0 c.take_out.new.seat.me.0 w.seat.table_id _ w.local c.stored.new.self c.self.invariant (c.take_out.ensures.seat.0 ∙ c.store.ensures.0)
+    0 (subst (λ v. TurnedBy w.seat.me.0 w.seat.me.0.role 0 v) (sym c.take_out.ensures.seat.2) c.store.ensures.2.0) (hears_zero w.local.givens (want w.local.state)) c.stored.ensures.record
 
 pub returns-clause-payload : goal.returns-clause-payload
 returns-clause-payload g c =
     let w = c.self.inside in
     let is = c.self.invariant in
     let wants = fits _ _ _ _ _ is c.self.view_is (StoreClaim c.args.count c.args.j) c.requires.wants in
-    let got : Takes w.place.me.0.payloads w.place.me.1 c.args.j c.store.new.seat.me.1 = subst (λ ph. TakesIn w.place.me.0.payloads w.place.me.1 ph c.store.new.seat.me.1)
-    (claiming_job w.local.state w.local.state.phase c.args.count c.args.j wants.0) (subst (λ ro. TakenBy w.place.me.0.payloads w.place.me.1 ro c.store.new.seat.me.1) is.role c.store.ensures.2.1) in
+    let got : Takes w.seat.me.0.payloads w.seat.me.1 c.args.j c.store.new.seat.me.1 = subst (λ ph. TakesIn w.seat.me.0.payloads w.seat.me.1 ph c.store.new.seat.me.1)
+    (claiming_job w.local.state w.local.state.phase c.args.count c.args.j wants.0) (subst (λ ro. TakenBy w.seat.me.0.payloads w.seat.me.1 ro c.store.new.seat.me.1) is.role c.store.ensures.2.1) in
     ap (λ f. slice_get f.view.payloads (c.args.j - 1)) (sym c.self.view_is)
-    ∙ get_from_at w.place.me.0.payloads (c.args.j - 1) got.0 got.1 ∙ ap Some (c.take_out.ensures.payload w.place.me.1 got.0 got.2)
+    ∙ get_from_at w.seat.me.0.payloads (c.args.j - 1) got.0 got.1 ∙ ap Some (c.take_out.ensures.payload w.seat.me.1 got.0 got.2)

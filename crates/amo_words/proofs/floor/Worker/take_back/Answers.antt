@@ -21,4 +21,4 @@ pub invariant_of-self : goal.invariant_of-self
 invariant_of-self g c =
     let w = c.self.inside in
     let may : can_leave w.local.state.phase ≡ true = ap (λ (l : LocalView). can_leave l.state.phase) (sym (machine_is _ _ _ _ _ c.self.invariant c.self.view_is)) ∙ c.requires.may in
-    working_left w.place.me.0 c.store.new.seat.me.0 w.place.table_id _ w.local c.leave.new.self c.self.invariant c.store.ensures.0 c.store.ensures.2.0 may c.leave.ensures.record
+    working_left w.seat.me.0 c.store.new.seat.me.0 w.seat.table_id _ w.local c.leave.new.self c.self.invariant c.store.ensures.0 c.store.ensures.2.0 may c.leave.ensures.record

@@ -5,7 +5,7 @@ use Rattle.amo_kk.specs.declared.phase.Want.TheVariants.{StoreDone}
 use Rattle.amo_kk.proofs.Holding.{hears_zero}
 use Rattle.amo_words.proofs.Workers.{done_within, fits, working_after}
 use Rattle.amo_words.proofs.Moves.{stores}
-use Rattle.amo_words.proofs.floor.Worker.perform.Goals as goal
+use Rattle.amo_words.proofs.floor.Worker.store_done.Goals as goal
 
 pub done_word-word-requires-clause-place : goal.done_word-word-requires-clause-place
 done_word-word-requires-clause-place g c =
@@ -29,5 +29,5 @@ store-requires g c =
 pub invariant_of-self : goal.invariant_of-self
 invariant_of-self g c =
     let w = c.self.inside in
-    working_after w.place.me.0 c.store.new.seat.me.0 w.place.table_id _ w.local c.stored.new.self c.self.invariant c.store.ensures.0
+    working_after w.seat.me.0 c.store.new.seat.me.0 w.seat.table_id _ w.local c.stored.new.self c.self.invariant c.store.ensures.0
     0 c.store.ensures.2.0 (hears_zero w.local.givens (want w.local.state)) c.stored.ensures.record
