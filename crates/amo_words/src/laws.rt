@@ -24,10 +24,10 @@ ghost use Rattle.amo_words.specs.Rule.{AllStand, Has, HasWhole, IsOpen, SlotsFit
 ghost use Rattle.amo_words.specs.Looking.{IsBack, back_count};
 
 /// What the rule says of an open table: its words are those of a lawful world, reached by a list of turns and leavings.
-/// Some seat has seen, or was told, that whole list, and what any other has seen is a beginning of it. Each worker's
-/// record is in the view of one seat alone, as it is in that world; a worker that is out has seen all its own moves. All views
-/// but spent ones have the floor's givens and payloads, and what they were told are beginnings of the list too. The slot of a
-/// job is at home, with its payload, just until the job is claimed.
+/// Some seat has seen, or had from a worker, that whole list, and what any other has seen is a beginning of it. Each worker's
+/// machine is in the view of one seat alone, as it is in that world; a worker that is out has seen all its own moves. All views
+/// but spent ones have the floor's givens and payloads, and what they had from a worker is a beginning of the list too. The
+/// slot of a job is at home, with its payload, just until the job is claimed.
 pub fn floors_show_worlds<P>()
     ensures world { (k : Key P) (s : State (Option P) (View P)) (h : IsOpen k s)
         → (s.words ≡ words_of (world_after k.givens h.log).processes) × IsLawful k.givens (world_after k.givens h.log) × AreOwn k.givens h.log }

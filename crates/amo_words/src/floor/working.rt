@@ -140,7 +140,7 @@ impl<P> Worker<P> {
 }
 
 impl<P: Drop> Worker<P> {
-    /// One turn of the worker, which has nothing in its hand: the one load or store that its record wants. Threads may share
+    /// One turn of the worker, which has nothing in its hand: the one load or store that its machine wants. Threads may share
     /// the floor, which has to be the worker's own. Waits for nobody, and takes no memory.
     pub fn step(&mut self, floor: &Floor<P>) -> Step<P>
         requires table { self.old.table_id ≡ floor.now.table_id }
