@@ -144,12 +144,7 @@ module _ (g : Givens) (many : g.beta ≤ g.jobs) where
     -- what it announces then
     announces_first : (phase : Phase) → r.phase ≡ phase → IsFirstWord p (next_after phase (process w p).next)
     announces_first (Announcing j) is = inr (on_first (Announcing j) is)
-    announces_first (Trying j q) is = all.word p o
-    announces_first (Reading j q) is = all.word p o
-    announces_first (Claiming j) is = all.word p o
-    announces_first (Holding j) is = all.word p o
-    announces_first Over is = all.word p o
-    announces_first Left is = all.word p o
+    announces_first phase is = all.word p o
 
     turn_goes : SomeOrFirst (world_after_turn g w p)
     turn_goes = ⊎_elim
@@ -239,10 +234,5 @@ module _ (g : Givens) (many : g.beta ≤ g.jobs) where
   some_done ms p o over = ⊎_elim (λ s. s) (λ (all : AllFirst (world_of g ms)). absurd (go (process (world_of g ms) p).local.phase over (all.local p o).phase)) (moves_some (opening_world g) ms (opening_lawful g g.limits) opening_some)
     where
       go : (phase : Phase) → is_over phase ≡ true → OnFirst p phase → ⊥
-      go (Announcing j) e h = true≢false (sym e)
-      go (Trying j q) e h = true≢false (sym e)
-      go (Reading j q) e h = true≢false (sym e)
-      go (Claiming j) e h = true≢false (sym e)
-      go (Holding j) e h = true≢false (sym e)
       go Over e h = h
-      go Left e h = true≢false (sym e)
+      go phase e h = true≢false (sym e)

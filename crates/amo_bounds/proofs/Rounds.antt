@@ -15,7 +15,7 @@ use Rattle.amo_bounds.specs.Rest.{turns_of}
 use Rattle.amo_bounds.proofs.Rest.{turns-append, always_gone}
 use Rattle.amo_bounds.proofs.Ended.{stopped-append, leavers-append, gone_ended, stayed_ended}
 
--- nobody is stopped in rounds, and nobody leaves
+-- nobody is halted in rounds, and nobody leaves
 
 round_leaves : (k : ℕ) → leavers (round k) ≡ []
 round_leaves zero = refl
@@ -61,7 +61,7 @@ over_after g k p o most =
 pub rounds_end : (g : Givens) → (k : ℕ) × ((p : ℕ) → IsWorker g p → is_over (process (world_of g (rounds g.workers k)) p).local.phase ≡ true)
 rounds_end g = let most = always_gone g in (suc most.0, λ p o. over_after g most.0 p o (λ ms. most.1 ms p))
 
--- whoever keeps getting turns ends, if it isn't stopped and doesn't leave
+-- whoever keeps getting turns ends, if it isn't halted and doesn't leave
 pub always_ends : (g : Givens) → (k : ℕ) × ((ms : List Move) (p : ℕ) → IsWorker g p → k < turns_of p ms → has (stopped ms) p ≡ false → has (leavers ms) p ≡ false
     → is_over (process (world_of g ms) p).local.phase ≡ true)
 always_ends g = let most = always_gone g in (most.0, λ ms p o many goes_on stays. gone_ended g ms p o goes_on stays (most.1 ms p many))

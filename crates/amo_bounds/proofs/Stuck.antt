@@ -1,4 +1,4 @@
--- All others of worker 1 announce their first choices and stop.
+-- All others of worker 1 announce their first choices and are halted.
 use Rattle.std.proofs.Common.{◌≡◌, ◌≢◌, length, ⊎_elim, ℕ, zero, suc, ◌+◌, ◌<◌, ◌≤◌, Bool, true, false, List, [], ◌∷◌, ◌++◌, refl, sym, ap, ◌∙◌, subst, arith, append-nil}
 use Rattle.std.specs.Prelude.{if◌then◌else◌}
 use Rattle.std.proofs.lemmas.Bool.{cases_eq, le-ltb}
@@ -31,7 +31,7 @@ use Rattle.amo_bounds.specs.Fewest.{stopped, leavers}
 use Rattle.amo_bounds.proofs.Turns.{next_after, IsAfterTurn, after_turn}
 use Rattle.amo_bounds.proofs.Ended.{stopped-append, leavers-append}
 
--- each of the first k others of worker 1 announces its first choice, and stops
+-- each of the first k others of worker 1 announces its first choice, and is halted
 abbrev pub stuck_moves : ℕ → List Move
 stuck_moves zero = []
 stuck_moves (suc k) = stuck_moves k ++ Turn (k + 2) ∷ Halt (k + 2) ∷ []
@@ -64,7 +64,7 @@ module _ (g : Givens) (enough : g.beta ≤ g.jobs) where
   pub first_here : (p : ℕ) → IsWorker g p → (first_process g p).gone ≡ false
   first_here p o = ap wants_nothing (first_phase p o)
 
-  -- a turn and a stop of a worker that is as at first
+  -- a turn and a halt of a worker that is as at first
   sticks : (k : ℕ) (w : World) → k + 2 ≤ g.workers → AreStuck g k w → AreStuck g (suc k) (world_after_halt (world_after_turn g w (k + 2)) (k + 2))
   sticks k w room s = go (process v p).gone refl
     where

@@ -12,7 +12,7 @@ use Rattle.amo_kk.specs.Answer.{turn_shown}
 use Rattle.amo_kk.specs.Lawful.{IsLawful}
 use Rattle.amo_kk.specs.declared.givens.Givens.{Givens}
 use Rattle.amo_kk.specs.declared.phase.Phase.{Phase}
-use Rattle.amo_kk.specs.declared.phase.Phase.TheVariants.{Announcing, Trying, Reading, Claiming, Holding, Over, Left}
+use Rattle.amo_kk.specs.declared.phase.Phase.TheVariants.{Announcing, Claiming, Holding, Over, Left}
 use Rattle.amo_kk.specs.declared.model.Record.{Record}
 use Rattle.amo_kk.specs.declared.model.Process.{Process}
 use Rattle.amo_kk.specs.declared.model.World.{World}
@@ -24,21 +24,11 @@ use Rattle.amo_kk.proofs.Shows.{turn_history}
 -- the announcement after a turn in this phase
 abbrev pub next_after : Phase → ℕ → ℕ
 next_after (Announcing j) next = j
-next_after (Trying j q) next = next
-next_after (Reading j q) next = next
-next_after (Claiming j) next = next
-next_after (Holding j) next = next
-next_after Over next = next
-next_after Left next = next
+next_after phase next = next
 
 stored_next : (a : Process) (phase : Phase) (r : Record) → (process_after (want_in a.local phase) a r).next ≡ next_after phase a.next
 stored_next a (Announcing j) r = refl
-stored_next a (Trying j q) r = refl
-stored_next a (Reading j q) r = refl
-stored_next a (Claiming j) r = refl
-stored_next a (Holding j) r = refl
-stored_next a Over r = refl
-stored_next a Left r = refl
+stored_next a phase r = refl
 
 -- a turn shows done what was in the hand before it
 shown_done : (p : ℕ) (before after : Phase) → done_jobs (events_of p (shown before after)) ≡ jobs_in_hand before
@@ -53,13 +43,11 @@ shown_done p before after = go before
     done j false = refl
 
     go : (before : Phase) → done_jobs (events_of p (shown before after)) ≡ jobs_in_hand before
-    go (Announcing j) = quiet (is_over after)
-    go (Trying j q) = quiet (is_over after)
-    go (Reading j q) = quiet (is_over after)
     go (Claiming j) = refl
     go (Holding j) = done j (is_over after)
     go Over = refl
     go Left = refl
+    go attempting = quiet (is_over after)
 
 -- v is w after a turn of p
 pub record IsAfterTurn (g : Givens) (w : World) (p : ℕ) (v : World) : Type 0 where

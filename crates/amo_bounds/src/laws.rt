@@ -1,6 +1,6 @@
 //! The theorems over the definitions of `amo_kk`. Nothing here runs: each function's contract is a law.
 //!
-//! The moves are any turns, stops and leavings, in any order, unless a law says which.
+//! The moves are any turns, halts and leavings, in any order, unless a law says which.
 ghost use Rattle.std.specs.Prelude.{◌≡◌, ◌≢◌, ◌<◌, ◌≤◌, ◌+◌, ℕ, true, false, List, ◌∷◌};
 ghost use Rattle.amo_sets.specs.Sets.{has};
 ghost use Rattle.amo_kk.specs.Givens.{IsWorker};
@@ -16,28 +16,28 @@ ghost use Rattle.amo_bounds.specs.Fewest.{fewest, jobs_done, stopped, leavers, I
 ghost use Rattle.amo_bounds.specs.Rest.{turns_taken, turns_of, AreAlike};
 ghost use Rattle.amo_bounds.specs.Turns.{width, most_turns};
 
-/// Wherever a worker has ended by its own choice, after any turns, stops and leavings, at least `fewest` jobs are done:
+/// Wherever a worker has ended by its own choice, after any turns, halts and leavings, at least `fewest` jobs are done:
 /// none where there are fewer jobs than the threshold, else the bound, but at least one.
 pub fn fewest_are_done()
     ensures { (g : Givens) (ms : List Move) (p : ℕ) → IsWorker g p → is_over (process (world_of g ms) p).local.phase ≡ true
         → fewest g ≤ jobs_done g ms }
 {}
 
-/// No more can be promised. For all givens there are turns and fewer stops than workers, after which all are gone, each
-/// that wasn't stopped has ended, and no more jobs are done than `fewest`.
+/// No more can be promised. For all givens there are turns and fewer halts than workers, after which all are gone, each
+/// that wasn't halted has ended, and no more jobs are done than `fewest`.
 pub fn fewest_are_met()
     ensures { (g : Givens) → (ms : List Move) × IsWorst g ms }
 {}
 
-/// The effectiveness is exactly `fewest`: over all turns, and fewer stops than workers, after which all are gone, it is the
+/// The effectiveness is exactly `fewest`: over all turns, and fewer halts than workers, after which all are gone, it is the
 /// least number of jobs done.
 pub fn effectiveness_is_fewest()
     ensures { (g : Givens) → IsEffectiveness g (fewest g) }
 {}
 
 /// Everyone comes to rest. For all givens there is a number such that in no list of moves more turns are taken by workers
-/// that aren't gone, and one such that whoever is given more turns is gone, whatever the others do and whoever is stopped.
-/// So whoever keeps getting turns ends by its own choice, if it isn't stopped and doesn't leave: also one that was asked to
+/// that aren't gone, and one such that whoever is given more turns is gone, whatever the others do and whoever is halted.
+/// So whoever keeps getting turns ends by its own choice, if it isn't halted and doesn't leave: also one that was asked to
 /// leave, and stayed.
 pub fn everyone_rests()
     ensures all { (g : Givens) → (k : ℕ) × ((ms : List Move) → turns_taken g (opening_world g) ms ≤ k) }

@@ -15,9 +15,9 @@ use Rattle.amo_kk.specs.Lawful.{IsLawful}
 use Rattle.amo_kk.specs.World.{nobody, process, loaded_value, process_after, world_with, world_after_step, world_after_leave}
 use Rattle.amo_kk.specs.declared.givens.Givens.{Givens}
 use Rattle.amo_kk.specs.declared.phase.Phase.{Phase}
-use Rattle.amo_kk.specs.declared.phase.Phase.TheVariants.{Announcing, Trying, Reading, Claiming, Holding, Over, Left}
+use Rattle.amo_kk.specs.declared.phase.Phase.TheVariants.{Over, Left}
 use Rattle.amo_kk.specs.declared.phase.Want.{Want}
-use Rattle.amo_kk.specs.declared.phase.Want.TheVariants.{StoreNext, LoadNext, LoadDone, StoreClaim, StoreDone, Nothing}
+use Rattle.amo_kk.specs.declared.phase.Want.TheVariants.{StoreNext, LoadNext, LoadDone}
 use Rattle.amo_kk.specs.declared.model.Record.{Record}
 use Rattle.amo_kk.specs.declared.model.Process.{Process}
 use Rattle.amo_kk.specs.declared.model.World.{World}
@@ -166,12 +166,9 @@ module _ (g : Givens) (s : Shared) (t : Tale) (told : IsTold g t) (shows : Shows
 
   -- a turn
   heard_is : (x : Want) → loaded_value w x ≡ get_or s.words (loaded_word g x) 0 → heard_of g s.words x ≡ loaded_value w x
-  heard_is (StoreNext j) h = refl
   heard_is (LoadNext q) h = sym h
   heard_is (LoadDone q k) h = sym h
-  heard_is (StoreClaim c j) h = refl
-  heard_is (StoreDone k j) h = refl
-  heard_is Nothing h = refl
+  heard_is x h = refl
 
   turns : (fresh : Bool) → standing_of g p heard ≡ Some (Going (with_record g p a.local) fresh) → wants_nothing a.local.phase ≡ false
       → Shows g (with_heard s p (heard_of g s.words (want a.local)) (words_after g p (want a.local) s.words)) (tale_after_move g t (Turn p))
@@ -243,13 +240,9 @@ module _ (g : Givens) (s : Shared) (t : Tale) (told : IsTold g t) (shows : Shows
       (λ q x n. same_worker g (numbered [] s.lists q) (numbered [] s.lists q) t (tale_after_move g t (Leave p)) q refl (now_q q n) (may_q q n) (shows.workers q x))
     where
       goes_on : (phase : Phase) → can_leave phase ≡ true → wants_nothing phase ≡ false
-      goes_on (Announcing j) h = refl
-      goes_on (Trying j q) h = refl
-      goes_on (Reading j q) h = refl
-      goes_on (Claiming j) h = refl
-      goes_on (Holding j) h = refl
       goes_on Over h = absurd (true≢false (sym h))
       goes_on Left h = absurd (true≢false (sym h))
+      goes_on phase h = refl
 
       here : a.gone ≡ false
       here = mine.gone ∙ goes_on a.local.phase may

@@ -13,7 +13,7 @@ use Rattle.amo_kk.specs.Machine.{LocalView}
 use Rattle.amo_kk.specs.World.{process, done_count}
 use Rattle.amo_kk.specs.declared.givens.Givens.{Givens}
 use Rattle.amo_kk.specs.declared.phase.Phase.{Phase}
-use Rattle.amo_kk.specs.declared.phase.Phase.TheVariants.{Announcing, Trying, Reading, Claiming, Holding, Over, Left}
+use Rattle.amo_kk.specs.declared.phase.Phase.TheVariants.{Claiming, Over, Left}
 use Rattle.amo_kk.specs.declared.model.Record.{Record}
 use Rattle.amo_kk.specs.declared.event.Event.TheVariants.{Claimed, Done, Ended, Halted, Left as LeftEvent}
 use Rattle.amo_kk.specs.declared.event.Move.TheVariants.{Turn}
@@ -118,13 +118,8 @@ hand_empties : (g : Givens) (p v : ℕ) (r : Record) → 1 ≤ job_in_hand r.pha
 hand_empties g p v r some = go r.phase refl (has_done g p v r r.phase refl) some
   where
     go : (phase : Phase) → r.phase ≡ phase → HasDone r (record_after_phase g p v r r.phase) phase → 1 ≤ job_in_hand phase → job_in_hand (record_after_phase g p v r r.phase).phase ≡ 0
-    go (Announcing j) is d h = d.held_now
-    go (Trying j q) is d h = d.held_now
-    go (Reading j q) is d h = d.held_now
     go (Claiming j) is d h = absurd (omega arith)
-    go (Holding j) is d h = d.held_now
-    go Over is d h = d.held_now
-    go Left is d h = d.held_now
+    go phase is d h = d.held_now
 
 -- a worker that is told to perform a job is told so no more after its step
 step_ends : (g : Givens) (s : Shared) (t : Tale) (p j : ℕ) → IsTold g t → (shows : Shows g s t) → (o : IsWorker g p) → 1 ≤ j → told_to_perform g s p ≡ j
@@ -138,13 +133,9 @@ step_ends g s t p j told shows o some e = ⊎_elim
     (told_hand g s t p told shows o)
   where
     goes : (phase : Phase) → 1 ≤ job_in_hand phase → wants_nothing phase ≡ false
-    goes (Announcing i) h = refl
-    goes (Trying i q) h = refl
-    goes (Reading i q) h = refl
-    goes (Claiming i) h = refl
-    goes (Holding i) h = refl
     goes Over h = absurd (omega arith)
     goes Left h = absurd (omega arith)
+    goes phase h = refl
 
     now : Tale
     now = tale_after_move g t (Turn p)

@@ -44,9 +44,6 @@ left_machine : (g : Givens) (w : World) (p : ℕ) → IsLawful g w → (process 
 left_machine g w p law here may = λ i. record { givens = g; number = p; state = (left_process g w p law here may i).local }
 
 module _ {P : Type 0} (k : Key P) (slots id : ℕ) (me : Me (Option P) (View P)) (l : LocalView) (is : me.0.role ≡ Working l) where
-  abbrev St : Type 0
-  St = State (Option P) (View P)
-
   abbrev g : Givens
   g = k.givens
 
@@ -57,7 +54,7 @@ module _ {P : Type 0} (k : Key P) (slots id : ℕ) (me : Me (Option P) (View P))
   p = l.number
 
   -- where the worker goes on
-  module _ (s : St) (h : IsOpen k s) (at : get_elem? s.views id ≡ some me.0) where
+  module _ (s : State (Option P) (View P)) (h : IsOpen k s) (at : get_elem? s.views id ≡ some me.0) where
     abbrev w0 : World
     w0 = world_of g h.log
 

@@ -1,8 +1,8 @@
 -- What the closed words say of each worker is what it has done and claimed.
-use Rattle.std.proofs.Common.{◌≡◌, ℕ, zero, suc, ◌+◌, ◌<◌, ◌≤◌, Bool, ⊎_elim, List, [], ◌∷◌, ◌++◌, length, get_or, take, map, refl, sym, ap, ◌∙◌, subst, arith, eq-eqb, ne_eqb, Vec, Global}
+use Rattle.std.proofs.Common.{◌≡◌, ℕ, zero, suc, ◌+◌, ◌<◌, ◌≤◌, Bool, ⊎_elim, List, [], ◌∷◌, ◌++◌, length, get_or, map, refl, sym, ap, ◌∙◌, subst, arith, eq-eqb, ne_eqb, Vec, Global}
 use Rattle.std.specs.Prelude.{if◌then◌else◌}
 use Rattle.std.proofs.lemmas.Bool.{cases_lt}
-use Rattle.std.proofs.lemmas.List.{take_more, take_all, length-map, get_or-map, append-nil, length_push}
+use Rattle.std.proofs.lemmas.List.{length-map, get_or-map, append-nil, length_push}
 use Rattle.amo_sets.specs.Lists.{numbered, table}
 use Rattle.amo_sets.proofs.Tables.{numbered-table, table_is}
 use Rattle.amo_kk.specs.Givens.{IsWorker}

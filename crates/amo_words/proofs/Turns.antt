@@ -45,15 +45,15 @@ module _ {P : Type 0} (g : Givens) (payloads : List P) where
   of_more log more v Spent h = h
   of_more log more v (Opening n b) h = absurd h
   of_more log more v (Working l) h = (h.0, h.1, starts_more log v.seen more h.2, h.3)
-  of_more log more v (Keeping spots) h = (h.0, h.1, starts_more log v.seen more h.2, starts_more log v.told more h.3)
+  of_more log more v (Keeping spots) h = (h.0, h.1, starts_more log v.seen more h.2, starts_more log v.moves more h.3)
 
-  -- a move leaves the record of another
+  -- a move leaves the machine of another
   stands_on : (log : List Move) (m : Move) (q : ℕ) (x : Spot) → q ≢ worker_of m → machine_after g (log ++ m ∷ []) q ≡ machine_after g log q → Stands g log q x → Stands g (log ++ m ∷ []) q x
   stands_on log m q Home other same h = (h.0 ∙ sym same, moves_other q m log (λ e. other (sym e)) ∙ h.1)
   stands_on log m q Out other same h = h
   stands_on log m q (Back l) other same h = h ∙ sym same
 
-  -- what another seat has is untouched by a move of a worker whose record the seat `id` has
+  -- what another seat has is untouched by a move of a worker whose machine the seat `id` has
   others_hold : (log seen : List Move) (seat : ℕ → ℕ) (m : Move) (id j : ℕ) (role : Role) → seat (worker_of m) ≡ id → j ≢ id
       → ((q : ℕ) → q ≢ worker_of m → machine_after g (log ++ m ∷ []) q ≡ machine_after g log q)
       → HoldsAll g log seen seat j role → HoldsAll g (log ++ m ∷ []) seen seat j role

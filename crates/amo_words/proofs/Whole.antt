@@ -75,7 +75,7 @@ all_shown g log words is = let law : IsLawful g (world_of g log) = lawful g log 
 
 module _ {P : Type 0} (k : Key P) where
   -- the closed table, where the book's view was v
-  pub settles : (id : ℕ) (v : View P) (spots : List Spot) (words : List ℕ) (slots : List (Option P)) → v.role ≡ Keeping spots → v.told ≡ [] → Final (Seen (IsKept k) id v) words slots
+  pub settles : (id : ℕ) (v : View P) (spots : List Spot) (words : List ℕ) (slots : List (Option P)) → v.role ≡ Keeping spots → v.moves ≡ [] → Final (Seen (IsKept k) id v) words slots
       → (v.givens ≡ k.givens) × IsClosed v.givens v.payloads v.seen spots words slots × Final (Seen (IsKept k) id (book_view v.givens v.payloads v.seen spots)) words slots
   settles id v spots words slots is none f' = let f = lift_final k id v words slots (ap is_placing is) f' in let s = f.0 in let h = f.1.0 in let g = k.givens in let xs = k.payloads.value.items in
       let b = subst (λ ro. IsOf g xs h.log v ro × HoldsAll g h.log v.seen h.seat id ro) is (h.views id v f.1.1) in (
@@ -89,7 +89,7 @@ module _ {P : Type 0} (k : Key P) where
               shown = all_shown g h.log words (sym f.2 ∙ h.words);
               free = (h.count, λ j x at free. f.4 j (Some x) (h.slots.1 j x at ∙ ap (λ q. some (home_of q x)) free));
             }),
-        subst (λ (u : View P). Final (Seen (IsKept k) id u) words slots) (λ c. record v { told = none c; role = is c }) f',
+        subst (λ (u : View P). Final (Seen (IsKept k) id u) words slots) (λ c. record v { moves = none c; role = is c }) f',
       )
 
 -- enough jobs are done where a worker has ended

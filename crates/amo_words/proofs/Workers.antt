@@ -76,6 +76,10 @@ module _ {P : Type 0} (id : TableId) (seat : ℕ) (v : View P) (l : LocalView) (
       let same : want l.state ≡ y = ap (λ (m : LocalView). want m.state) (sym machine_is) ∙ wants in
       (same, subst (WantFits l.givens l.number) same (want_fits l.givens l.number l.state l.givens.limits is.worker is.sound))
 
+  -- a word that is one of those of its givens is at its table
+  pub at_table : (t : TableId) → x.table_id ≡ t → (i k : ℕ) → i ≡ k → k < word_count l.givens → (id ≡ t) × (i < t.words)
+  at_table t here i k e low = let tied = ap (λ (y : Seated P). y.table_id) seen ∙ here in (tied, let n = is.words in let z = ap (λ u. u.words) tied in omega (arith, e, low, n, z))
+
 pub claim_within : (g : Givens) (p : ℕ) → IsWorker g p → claim_word g p < word_count g
 claim_within g p o = let high = o.high in let wide = word_room g in omega arith
   where

@@ -1,15 +1,18 @@
--- What the closed words and slots show, and what a settlement says.
+-- What the closed words and slots show, and what a settlement says. Within this crate: `IsReadable`, `HaveRoom`, `any_has`,
+-- `AreMarked` and `IsBlank`, by which it is filled.
 use Rattle.std.specs.Prelude.{◌≡◌, ◌==◌, replicate, ℕ, zero, suc, ◌+◌, ◌<◌, ◌≤◌, Bool, true, false, ◌||◌, if◌then◌else◌, List, [], ◌∷◌, ◌++◌, length, map, get_or, Option, Some, vec_capacity}
 use Rattle.std.proofs.Common.{Vec, Global}
 use mathlib.Core.Option.{some}
 use lib.ListN.{get_elem?}
 use Rattle.std.specs.List.{sum_by}
+use Rattle.std.specs.Mem.Slots.{slots_items, slots_len, IsFull}
+use Rattle.atomic_table.specs.declared.owned.Closed.{Closed}
 use Rattle.atomic_table.specs.Table.{Final, Seen}
 use Rattle.amo_sets.specs.Lists.{numbered, table}
 use Rattle.amo_sets.specs.Sets.{has}
 use Rattle.amo_kk.specs.Givens.{bound}
 use Rattle.amo_kk.specs.Record.{is_over}
-use Rattle.amo_kk.specs.Words.{words_of, next_word, claim_word, done_word}
+use Rattle.amo_kk.specs.Words.{words_of, next_word, claim_word, done_word, word_count}
 use Rattle.amo_kk.specs.declared.givens.Givens.{Givens}
 use Rattle.amo_kk.specs.declared.event.Move.{Move}
 use Rattle.amo_kk.specs.declared.model.Process.{Process}
@@ -54,6 +57,12 @@ dones_in_words g words = table g.workers (λ p. row_in g words p)
 
 abbrev pub claims_in_words : Givens → List ℕ → List (List ℕ)
 claims_in_words g words = table g.workers (λ p. row_in g words p ++ hand_in_words g words p)
+
+-- The closed words of these givens can be read: all stand there, and they are those of some sound processes.
+pub record IsReadable {S : Type 0} (g : Givens) (c : Closed S Global) : Type 0 where
+  pub full : IsFull c.words
+  pub size : slots_len c.words ≡ word_count g
+  pub shown : (all : List Process) × AreShown g all (slots_items c.words)
 
 -- from the place i on, the lists are empty and have this room
 abbrev pub HaveRoom : ℕ → ℕ → List (Vec ℕ Global) → Type 0
@@ -107,11 +116,11 @@ job_count lists = sum_by (λ xs. length xs) lists
 
 -- what a book's seat knows between two calls
 abbrev pub book_view : {P : Type 0} → Givens → List P → List Move → List Spot → View P
-book_view g payloads seen spots = record { givens = g; payloads = payloads; seen = seen; told = []; role = Keeping spots }
+book_view g payloads seen spots = record { givens = g; payloads = payloads; seen = seen; moves = []; role = Keeping spots }
 
 -- The settlement is whole. The table was closed with some words and slots, where the book's seat knew what the book knew.
 -- A list of turns and leavings that begins with what the book had seen leads to a world that has these words, and in which
--- the book's records stand. The lists, the ends and the free jobs are those of that world.
+-- the book's machines stand. The lists, the ends and the free jobs are those of that world.
 pub record IsWhole {P : Type 0} (g : Givens) (payloads : List P) (seen : List Move) (spots : List Spot) (s : Settlement P) : Type 0 where
   pub key : Key P
   pub seat : ℕ

@@ -24,10 +24,10 @@ ghost use Rattle.amo_words.specs.Rule.{AllStand, Has, HasWhole, IsOpen, SlotsFit
 ghost use Rattle.amo_words.specs.Looking.{IsBack, back_count};
 
 /// What the rule says of an open table: its words are those of a lawful world, reached by a list of turns and leavings.
-/// Some seat has seen, or was told, that whole list, and what any other has seen is a beginning of it. Each worker's
-/// record is in the view of one seat alone, as it is in that world; a worker that is out has seen all its own moves. All views
-/// but spent ones have the floor's givens and payloads, and what they were told are beginnings of the list too. The slot of a
-/// job is at home, with its payload, just until the job is claimed.
+/// Some seat has seen, or had from a worker, that whole list, and what any other has seen is a beginning of it. Each worker's
+/// machine is in the view of one seat alone, as it is in that world; a worker that is out has seen all its own moves. All views
+/// but spent ones have the floor's givens and payloads, and what they had from a worker is a beginning of the list too. The
+/// slot of a job is at home, with its payload, just until the job is claimed.
 pub fn floors_show_worlds<P>()
     ensures world { (k : Key P) (s : State (Option P) (View P)) (h : IsOpen k s)
         → (s.words ≡ words_of (world_of k.givens h.log).processes) × IsLawful k.givens (world_of k.givens h.log) × AreOwn k.givens h.log }
@@ -42,7 +42,7 @@ pub fn floors_show_worlds<P>()
     ensures book { (k : Key P) (s : State (Option P) (View P)) (h : IsOpen k s) (id : ℕ) (v : View P) (spots : List Spot) → get_elem? s.views id ≡ some v
         → v.role ≡ Role.Keeping spots → AllStand k.givens h.log spots }
     ensures known { (k : Key P) (s : State (Option P) (View P)) (h : IsOpen k s) (id : ℕ) (v : View P) → get_elem? s.views id ≡ some v
-        → v ≢ spent_view → (v.givens ≡ k.givens) × (v.payloads ≡ k.payloads.value.items) × StartsWith h.log v.told }
+        → v ≢ spent_view → (v.givens ≡ k.givens) × (v.payloads ≡ k.payloads.value.items) × StartsWith h.log v.moves }
     ensures slots { (k : Key P) (s : State (Option P) (View P)) (h : IsOpen k s) → SlotsFit (world_of k.givens h.log) k.payloads.value.items s.homes }
 {}
 

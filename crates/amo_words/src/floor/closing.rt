@@ -20,11 +20,11 @@ impl<P: Drop> Floor<P> {
     {
         let Floor { board, givens } = self;
         let Book {
-            place,
+            seat,
             givens: _,
             spots,
         } = book;
-        let closed = board.close_with(place);
+        let closed = board.close_with(seat);
         ClosedFloor {
             closed,
             givens,

@@ -9,8 +9,8 @@ use Rattle.amo_words.proofs.Whole.{settles}
 use Rattle.amo_words.proofs.floor.Floor.close.Goals as goal
 
 pub invariant_of-result : goal.invariant_of-result
-invariant_of-result g c = let b = c.book.inside in let f = c.self.inside in let v = b.place.me.0 in let words = slots_items c.close_with-closed.result.words in let slots = slots_items c.close_with-closed.result.slots in
-    let t = settles f.board.shared.key b.place.id v b.spots.items words slots c.book.invariant.role c.book.invariant.told c.close_with-closed.ensures.values.2 in
+invariant_of-result g c = let b = c.book.inside in let f = c.self.inside in let v = b.seat.me.0 in let words = slots_items c.close_with-closed.result.words in let slots = slots_items c.close_with-closed.result.slots in
+    let t = settles f.board.shared.key b.seat.id v b.spots.items words slots c.book.invariant.role c.book.invariant.moves c.close_with-closed.ensures.values.2 in
     let same : f.givens ≡ v.givens = sym c.self.invariant.2 ∙ sym t.0 in (
       c.close_with-closed.ensures.values.0,
       c.close_with-closed.ensures.values.1,
@@ -21,10 +21,10 @@ invariant_of-result g c = let b = c.book.inside in let f = c.self.inside in let 
     )
 
 pub returns-clause-closed : goal.returns-clause-closed
-returns-clause-closed g c = let b = c.book.inside in let f = c.self.inside in let v = b.place.me.0 in let words = slots_items c.close_with-closed.result.words in let slots = slots_items c.close_with-closed.result.slots in
-    let t = settles f.board.shared.key b.place.id v b.spots.items words slots c.book.invariant.role c.book.invariant.told c.close_with-closed.ensures.values.2 in
+returns-clause-closed g c = let b = c.book.inside in let f = c.self.inside in let v = b.seat.me.0 in let words = slots_items c.close_with-closed.result.words in let slots = slots_items c.close_with-closed.result.slots in
+    let t = settles f.board.shared.key b.seat.id v b.spots.items words slots c.book.invariant.role c.book.invariant.moves c.close_with-closed.ensures.values.2 in
     let same : f.givens ≡ v.givens = sym c.self.invariant.2 ∙ sym t.0 in
     let stood : ClosedView g.row.P.Denot = record { givens = f.givens; spots = b.spots.items; words = words; slots = slots } in
-    let closed : HasClosed v.givens v.payloads v.seen b.spots.items stood = record { givens = same; spots_are = refl; key = f.board.shared.key; seat = b.place.id; closed = t.2; world = t.1 } in
+    let closed : HasClosed v.givens v.payloads v.seen b.spots.items stood = record { givens = same; spots_are = refl; key = f.board.shared.key; seat = b.seat.id; closed = t.2; world = t.1 } in
     let by_role = subst (λ (l : List Spot). HasClosed v.givens v.payloads v.seen l stood) (sym (ap spots_of c.book.invariant.role)) closed in
     subst (λ (x : Seated g.row.P.Denot). HasClosed x.view.givens x.view.payloads x.view.seen (spots x) stood) c.book.view_is by_role

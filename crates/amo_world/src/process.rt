@@ -6,7 +6,7 @@ ghost use Rattle.amo_kk.specs.Givens.{IsWorker};
 ghost use Rattle.amo_kk.specs.Record.{wants_nothing, can_leave};
 ghost use Rattle.amo_kk.specs.Step.{want, is_load, record_after_leave, shown, MayLoad};
 ghost use Rattle.amo_kk.specs.World.{process_after, first_process};
-ghost use Rattle.amo_world.specs.Seats.{process_of, process_after_step, StaysSeated};
+ghost use Rattle.amo_world.specs.Processes.{process_of, process_after_step, IsSameWorker};
 
 use amo_kk::{Givens, Local, Shown, Want};
 use amo_sets::filled;
@@ -14,17 +14,17 @@ use std::alloc::{AllocError, Global};
 
 /// A worker's machine, its announcement, its count of claims and its row, and whether it is gone.
 #[derive(Drop)]
-pub struct Seat {
-    pub local: Local,
-    pub next: u32,
-    pub claim: u32,
-    pub row: Vec<u32>,
-    pub gone: bool,
+pub(crate) struct Process {
+    pub(crate) local: Local,
+    pub(crate) next: u32,
+    pub(crate) claim: u32,
+    pub(crate) row: Vec<u32>,
+    pub(crate) gone: bool,
 }
 
-impl Seat {
+impl Process {
     /// Worker p before its first step. Its room is made here.
-    pub fn new(alloc: Global, givens: Givens, p: u32) -> Result<Seat, AllocError>
+    pub(crate) fn new(alloc: Global, givens: Givens, p: u32) -> Result<Process, AllocError>
         requires { IsWorker givens p }
         ensures process { IfOk result (λ s. process_of s ≡ first_process givens p) }
         ensures givens { IfOk result (λ s. s.local.givens ≡ givens) }
@@ -34,7 +34,7 @@ impl Seat {
         let local = Local::new(alloc, givens, p)?;
         let row = filled(alloc, givens.jobs as usize + 1, 0u32)?;
         let gone = local.phase().wants_nothing();
-        Ok(Seat {
+        Ok(Process {
             local,
             next: 0,
             claim: 0,
@@ -48,7 +48,7 @@ impl Seat {
         requires load { is_load (want self.old.local.state) ≡ true }
         requires hears { MayLoad self.old.local.givens value (want self.old.local.state) }
         ensures process { process_of self.new ≡ process_after_step self.old value }
-        ensures seated { StaysSeated self.old self.new }
+        ensures same { IsSameWorker self.old self.new }
         ensures shown { result ≡ shown self.old.local.state.phase self.new.local.state.phase }
     {
         let shown = self.local.told(value as u64);
@@ -60,7 +60,7 @@ impl Seat {
     fn store_next(&mut self, j: u32) -> Shown
         requires { want self.old.local.state ≡ Want.StoreNext j }
         ensures process { process_of self.new ≡ process_after_step self.old 0 }
-        ensures seated { StaysSeated self.old self.new }
+        ensures same { IsSameWorker self.old self.new }
         ensures shown { result ≡ shown self.old.local.state.phase self.new.local.state.phase }
     {
         let shown = self.local.stored();
@@ -73,7 +73,7 @@ impl Seat {
     fn store_claim(&mut self, c: u32, j: u32) -> Shown
         requires { want self.old.local.state ≡ Want.StoreClaim c j }
         ensures process { process_of self.new ≡ process_after_step self.old 0 }
-        ensures seated { StaysSeated self.old self.new }
+        ensures same { IsSameWorker self.old self.new }
         ensures shown { result ≡ shown self.old.local.state.phase self.new.local.state.phase }
     {
         let shown = self.local.stored();
@@ -88,7 +88,7 @@ impl Seat {
         requires low { 1 ≤ k }
         requires high { k ≤ length self.old.row.items }
         ensures process { process_of self.new ≡ process_after_step self.old 0 }
-        ensures seated { StaysSeated self.old self.new }
+        ensures same { IsSameWorker self.old self.new }
         ensures shown { result ≡ shown self.old.local.state.phase self.new.local.state.phase }
     {
         let shown = self.local.stored();
@@ -98,13 +98,13 @@ impl Seat {
     }
 
     /// The next step of the worker, where its load gave this value; 0 stands where it stores.
-    pub fn act(&mut self, value: u32) -> Shown
+    pub(crate) fn act(&mut self, value: u32) -> Shown
         requires going { wants_nothing self.old.local.state.phase ≡ false }
         requires hears { MayLoad self.old.local.givens value (want self.old.local.state) }
         requires stores { is_load (want self.old.local.state) ≡ false → value ≡ 0 }
         requires row { length self.old.local.state.dones < length self.old.row.items }
         ensures process { process_of self.new ≡ process_after_step self.old value }
-        ensures seated { StaysSeated self.old self.new }
+        ensures same { IsSameWorker self.old self.new }
         ensures shown { result ≡ shown self.old.local.state.phase self.new.local.state.phase }
     {
         match self.local.want() {
@@ -117,10 +117,10 @@ impl Seat {
     }
 
     /// The worker takes its announcement back and is gone.
-    pub fn leave(&mut self)
+    pub(crate) fn leave(&mut self)
         requires { can_leave self.old.local.state.phase ≡ true }
         ensures process { process_of self.new ≡ process_after (Want.StoreNext 0) (process_of self.old) (record_after_leave self.old.local.state) }
-        ensures seated { StaysSeated self.old self.new }
+        ensures same { IsSameWorker self.old self.new }
     {
         let _shown = self.local.leave();
         self.next = 0;
