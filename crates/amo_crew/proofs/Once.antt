@@ -18,7 +18,7 @@ use Rattle.amo_words.specs.Looking.{IsBack}
 use Rattle.amo_words.specs.Settling.{free_of}
 use Rattle.amo_words.proofs.Worlds.{lawful, claimed_by}
 use Rattle.amo_words.proofs.Meetings.{stands_back, worker_back, claims_apart}
-use Rattle.amo_mailbox.specs.declared.hand.Output.{Output}
+use Rattle.amo_mailbox.specs.declared.output.Output.{Output}
 use Rattle.amo_crew.specs.declared.outcome.Outcome.{Outcome}
 use Rattle.amo_mailbox.specs.Mailbox.{of}
 use Rattle.amo_crew.specs.Outcomes.{spot_of, dones_in, hand_in, hands_upto, jobs_of, IsOutcome, answered, in_hand, free_jobs}

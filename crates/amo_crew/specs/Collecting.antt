@@ -20,7 +20,7 @@ use Rattle.amo_crew.specs.declared.member.Finish.{Finish}
 use Rattle.amo_crew.specs.declared.member.Finish.TheVariants.{Ran as HasRan, NotStarted as WasNotStarted}
 use Rattle.amo_crew.specs.Crew.{EachAt, IsFinishOf}
 use Rattle.amo_crew.specs.Unsettling.{UnsettledView}
-use Rattle.amo_mailbox.specs.Ends.{IsOutletOf, given, has_worker}
+use Rattle.amo_mailbox.specs.Endpoints.{IsOutletOf, given, has_worker}
 use Rattle.amo_crew.specs.Running.{IsAnswer}
 use Rattle.amo_crew.specs.Outcomes.{spot_of, dones_in, IsBare, AreEnds, AreInHand}
 

@@ -5,7 +5,7 @@ use Rattle.amo_kk.specs.declared.givens.Givens.{Givens}
 use Rattle.amo_words.specs.Rule.{AllStand}
 use Rattle.amo_words.specs.Faces.{Seated, spots}
 use Rattle.amo_crew.specs.declared.crew.Gear.{Gear}
-use Rattle.amo_mailbox.specs.Ends.{IsInletOf}
+use Rattle.amo_mailbox.specs.Endpoints.{IsInletOf}
 use Rattle.amo_crew.specs.Plans.{AreSmall}
 use Rattle.amo_crew.specs.Crew.{IsCrew}
 use Rattle.amo_crew.specs.Outcomes.{spot_of, IsBare}

@@ -3,7 +3,7 @@ ghost use Rattle.std.specs.Prelude.{List, ◌≡◌, ◌+◌, ◌<◌, ◌≤◌
 ghost use Rattle.std.specs.List.{AllZip};
 ghost use Rattle.amo_words.specs.Faces.{machine};
 ghost use Rattle.amo_claims.specs.Calls.{worker_in};
-ghost use Rattle.amo_mailbox.specs.Ends.{IsInletOf};
+ghost use Rattle.amo_mailbox.specs.Endpoints.{IsInletOf};
 ghost use Rattle.amo_crew.specs.Running.{HasRun, IsMember};
 ghost use Rattle.amo_crew.specs.Crew.{MayRun, IsFinishOf, IsRunOf, MayStart, HasEnded};
 

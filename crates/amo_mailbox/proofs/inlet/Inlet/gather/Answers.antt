@@ -1,9 +1,9 @@
 use Rattle.std.proofs.Common.{rules, arith, ◌≡◌, get_or, ◌∙◌, eqb}
 use Rattle.std.proofs.lemmas.List.Sorted.{All-permutation, IsPermutation-sym, sum_by-IsPermutation, list_any-IsPermutation, IsNonDecreasingBy-from_sort_by_key}
-use Rattle.amo_mailbox.specs.declared.hand.Output.{Output}
+use Rattle.amo_mailbox.specs.declared.output.Output.{Output}
 use Rattle.amo_mailbox.specs.declared.outlet.Outlet.{Outlet}
 use Rattle.amo_mailbox.specs.Mailbox.{of}
-use Rattle.amo_mailbox.specs.Ends.{IsOutletOf, given}
+use Rattle.amo_mailbox.specs.Endpoints.{IsOutletOf, given}
 use Rattle.amo_mailbox.proofs.inlet.Inlet.gather.Goals as goal
 
 pub gather_in-requires-clause-outlets : goal.gather_in-requires-clause-outlets
