@@ -1,4 +1,4 @@
--- While the workers are collected, in the order of their numbers.
+-- Within this crate: while the workers are collected, in the order of their numbers.
 use Rattle.std.specs.Prelude.{◌≡◌, ◌⊎◌, ℕ, zero, suc, ◌+◌, ◌-◌, ◌<◌, false, ◌≤◌, List, [], ◌∷◌, ◌++◌, length, map, sum_by, All, Option, Some, None, vec_len, vec_capacity, ⊤}
 use Rattle.std.specs.List.{AllZip}
 use mathlib.Core.Option.{some}

@@ -1,4 +1,4 @@
--- What a crew's run begins with.
+-- Within this crate: what a crew's run begins with.
 use Rattle.std.specs.Prelude.{◌≡◌, ℕ, ◌≤◌, List, [], length, vec_capacity}
 use Rattle.atomic_table.specs.Seated.{TableId}
 use Rattle.amo_kk.specs.declared.givens.Givens.{Givens}

@@ -1,4 +1,4 @@
--- While workers are hired, the last first, and while they are called off.
+-- Within this crate: while workers are hired, the last first, and while they are called off.
 use Rattle.std.specs.Prelude.{◌≡◌, ◌⊎◌, ℕ, ◌+◌, ◌<◌, ◌≤◌, List, [], length, ⊤}
 use Rattle.atomic_table.specs.Seated.{TableId}
 use Rattle.amo_kk.specs.Record.{jobs_in_hand}

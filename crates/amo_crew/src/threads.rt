@@ -72,6 +72,7 @@ where
         return;
     };
     let before = Snapshot::of(&member);
+    let runs = Runs(floor, queue, work, before);
     let promise = Runs(floor, queue, work, Snapshot::of(&member));
     let child = scope.spawn_with(
         promise,
@@ -82,7 +83,7 @@ where
     );
     run_from(rt, scope, floor, queue, work, inlet, crew, finishes);
     take_all(rt, queue, inlet);
-    finishes.push_reserved(finish_of(rt, floor, queue, work, child, before));
+    finishes.push_reserved(finish_of(rt, runs, child));
 }
 
 /// Runs each member in a thread of its own, the last member's first.
