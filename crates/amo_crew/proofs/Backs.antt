@@ -25,7 +25,7 @@ use Rattle.amo_words.specs.Rule.{AllStand, Stands}
 use Rattle.amo_words.specs.declared.floor.settling.Settlement.{Settlement}
 use Rattle.amo_words.specs.Settling.{free_of, IsWhole}
 use Rattle.amo_claims.specs.Calls.{worker_in}
-use Rattle.amo_mailbox.specs.declared.hand.Output.{Output}
+use Rattle.amo_mailbox.specs.declared.output.Output.{Output}
 use Rattle.amo_crew.specs.declared.outcome.End.{End}
 use Rattle.amo_crew.specs.declared.outcome.End.TheVariants.{NotStarted}
 use Rattle.amo_words.specs.Faces.{Seated, machine, spots}

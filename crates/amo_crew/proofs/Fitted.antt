@@ -25,7 +25,7 @@ use Rattle.amo_words.proofs.Worlds.{lawful}
 use Rattle.amo_words.proofs.Turns.{inside_of}
 use Rattle.amo_words.proofs.Settles.{get_or_at}
 use Rattle.amo_words.proofs.Meetings.{stands_back, worker_back}
-use Rattle.amo_mailbox.specs.declared.hand.Output.{Output}
+use Rattle.amo_mailbox.specs.declared.output.Output.{Output}
 use Rattle.amo_crew.specs.declared.outcome.Outcome.{Outcome}
 use Rattle.amo_mailbox.specs.Mailbox.{of}
 use Rattle.amo_crew.specs.Outcomes.{spot_of, dones_in, IsOutcome}

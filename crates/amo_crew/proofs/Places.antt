@@ -22,7 +22,7 @@ use Rattle.amo_words.proofs.Worlds.{lawful}
 use Rattle.amo_words.proofs.Turns.{some_at}
 use Rattle.amo_words.proofs.Whole.{settles}
 use Rattle.amo_words.proofs.Meetings.{stands_back, worker_back}
-use Rattle.amo_mailbox.specs.declared.hand.Output.{Output}
+use Rattle.amo_mailbox.specs.declared.output.Output.{Output}
 use Rattle.amo_crew.specs.declared.outcome.End.{End}
 use Rattle.amo_crew.specs.declared.outcome.End.TheVariants.{Ended, Halted, NotStarted}
 use Rattle.amo_crew.specs.declared.outcome.Outcome.{Outcome}

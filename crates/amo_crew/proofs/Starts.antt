@@ -15,13 +15,13 @@ use Rattle.amo_words.specs.Faces.{Seated, ClosedView, spots}
 use Rattle.amo_mailbox.specs.declared.queue.Queue.{Queue}
 use Rattle.amo_mailbox.specs.declared.outlet.Outlet.{Outlet}
 use Rattle.amo_crew.specs.declared.member.Member.{Member}
-use Rattle.amo_mailbox.specs.Ends.{IsNewOutletOf}
+use Rattle.amo_mailbox.specs.Endpoints.{IsNewOutletOf}
 use Rattle.amo_crew.specs.Outcomes.{spot_of, IsBare, HaveRun, IsOutcome}
 use Rattle.amo_crew.specs.Plans.{IsPlan, AreSmall}
 use Rattle.amo_crew.specs.Hired.{AreOutlets, AreHired}
 use Rattle.std.specs.Prelude.{Result, Ok, Err, IfOk, IfErr}
 use Rattle.amo_words.specs.Settling.{HasClosed}
-use Rattle.amo_mailbox.specs.declared.hand.Output.{Output}
+use Rattle.amo_mailbox.specs.declared.output.Output.{Output}
 use Rattle.amo_crew.specs.declared.outcome.End.{End}
 use Rattle.amo_crew.specs.declared.outcome.Outcome.{Outcome}
 use Rattle.amo_crew.specs.declared.fault.ExecFault.{ExecFault}

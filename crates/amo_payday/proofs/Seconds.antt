@@ -18,7 +18,7 @@ use Rattle.amo_words.specs.Looking.{IsBack}
 use Rattle.amo_words.specs.Settling.{IsWhole}
 use Rattle.amo_words.proofs.Worlds.{lawful}
 use Rattle.amo_words.proofs.Meetings.{stands_back, worker_back}
-use Rattle.amo_mailbox.specs.declared.hand.Output.{Output}
+use Rattle.amo_mailbox.specs.declared.output.Output.{Output}
 use Rattle.amo_crew.specs.Outcomes.{jobs_of}
 use Rattle.amo_crew.specs.Running.{IsAnswer}
 use Rattle.amo_crew.proofs.Hires.{fresh_first}

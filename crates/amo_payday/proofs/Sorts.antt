@@ -10,7 +10,7 @@ use Rattle.amo_kk.specs.declared.model.Process.{Process}
 use Rattle.amo_words.specs.Settling.{free_of}
 use Rattle.amo_kk.specs.World.{world_of}
 use Rattle.amo_words.specs.Logs.{is_claimed}
-use Rattle.amo_mailbox.specs.declared.hand.Output.{Output}
+use Rattle.amo_mailbox.specs.declared.output.Output.{Output}
 use Rattle.amo_crew.specs.declared.outcome.Outcome.{Outcome}
 use Rattle.amo_crew.specs.Running.{IsAnswer}
 use Rattle.amo_crew.specs.Outcomes.{jobs_of, IsOutcome, HasAPlace, IsOfNoThread}

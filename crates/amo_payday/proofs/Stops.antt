@@ -10,7 +10,7 @@ use Rattle.amo_claims.specs.States.{Holds}
 use Rattle.amo_claims.specs.Calls.{IsOneStepOn, IsOverNow, FilesOn, state_of, worker_in}
 use Rattle.amo_claims.specs.declared.states.After.{After}
 use Rattle.amo_claims.specs.declared.states.After.TheVariants.{More, Over}
-use Rattle.amo_mailbox.specs.declared.hand.Output.{Output}
+use Rattle.amo_mailbox.specs.declared.output.Output.{Output}
 use Rattle.amo_crew.specs.Running.{IsAnswer}
 use Rattle.amo_payday.specs.Stopping.{HasPaid, HasEnded, EndsIfOver, StaysAs}
 

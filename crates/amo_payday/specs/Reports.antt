@@ -2,7 +2,7 @@
 use Rattle.std.specs.Prelude.{◌≡◌, ◌⊎◌, ℕ, true, List, [], ◌++◌, map, filter, All, Option, Some, IfSome, length, codes}
 use Rattle.std.specs.List.{flat_map}
 use Rattle.std.specs.Io.KnownBytes.{Appends, Keeps}
-use Rattle.amo_mailbox.specs.declared.hand.Output.{Output}
+use Rattle.amo_mailbox.specs.declared.output.Output.{Output}
 use Rattle.amo_ledger.specs.declared.journal.Attempt.{Attempt}
 use Rattle.amo_payday.specs.declared.day.Day.{Day}
 use Rattle.amo_payday.specs.declared.day.payment.Payment.{Payment}

@@ -3,9 +3,9 @@ use Rattle.std.specs.List.{list_any}
 use Rattle.std.specs.List.Sorted.{IsPermutation, IsNonDecreasingBy}
 use Rattle.std.specs.Prelude.{Bool, ◌==◌, flat_map, ◌≡◌, ℕ, ◌≤◌, List, [], ◌++◌, length}
 use Rattle.crossbeam_queue.specs.Passes.{view, IsPassOf, ruled_capacity}
-use Rattle.amo_mailbox.specs.declared.hand.Output.{Output}
-use Rattle.amo_mailbox.specs.declared.hand.Hand.{Hand}
-use Rattle.amo_mailbox.specs.declared.hand.Hand.TheVariants.{Sends, Gets, Spent}
+use Rattle.amo_mailbox.specs.declared.output.Output.{Output}
+use Rattle.amo_mailbox.specs.declared.pass_state.PassState.{PassState}
+use Rattle.amo_mailbox.specs.declared.pass_state.PassState.TheVariants.{Sends, Gets, Spent}
 use Rattle.amo_mailbox.specs.declared.queue.Queue.{Queue}
 use Rattle.amo_mailbox.specs.declared.inlet.Inlet.{Inlet}
 use Rattle.amo_mailbox.specs.declared.outlet.Outlet.{Outlet}
@@ -17,7 +17,7 @@ module _ {Out : Type 0} where
   places queue = ruled_capacity queue.ring
 
   -- what an outlet's pass says that it sent
-  abbrev pub sent_by : Hand Out → List (Output Out)
+  abbrev pub sent_by : PassState Out → List (Output Out)
   sent_by (Sends p put) = put
   sent_by (Gets taken made back) = []
   sent_by Spent = []
@@ -51,18 +51,18 @@ module _ {Out : Type 0} where
     pub room_is : i.room ≡ n
 
   -- what an outlet's pass says at the end: its worker, and what was sent
-  abbrev pub told : Outlet Out → ℕ × List (Output Out)
-  told o = (o.worker, sent_by (view o.pass))
+  abbrev pub worker_and_sent : Outlet Out → ℕ × List (Output Out)
+  worker_and_sent o = (o.worker, sent_by (view o.pass))
 
   abbrev pub has_worker : List (Outlet Out) → ℕ → Bool
   has_worker os p = list_any (λ o. p == o.worker) os
 
   -- what does not change when the passes go
-  abbrev pub left_of : Outlet Out → ℕ × List (Output Out)
-  left_of o = (o.worker, o.kept)
+  abbrev pub worker_and_kept : Outlet Out → ℕ × List (Output Out)
+  worker_and_kept o = (o.worker, o.kept)
 
   -- it is an inlet's pass
-  abbrev pub IsGets : Hand Out → Type 0
+  abbrev pub IsGets : PassState Out → Type 0
   IsGets v = v ≡ Gets (taken_of v) (made_of v) (back_of v)
 
   -- the list ends with this one
