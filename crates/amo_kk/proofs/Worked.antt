@@ -1,5 +1,5 @@
 -- Worked schedules, first choices, judged lists, ranks and places of words: the definitions give these values.
-use Rattle.std.proofs.Common.{◌≡◌, ℕ, List, [], ◌∷◌, ◌++◌, refl, replicate, Bool, true, false, not, ◌&&◌, length}
+use Rattle.std.proofs.Common.{◌≡◌, ℕ, List, [], ◌∷◌, ◌++◌, refl, replicate, Bool, true, false, not, ◌&&◌, length, map}
 use Rattle.std.specs.Prelude.{Some, None}
 use Rattle.amo_sets.specs.Sets.{has}
 use Rattle.amo_sets.specs.Rank.{count, number_of_rank}
@@ -208,26 +208,11 @@ beta_high = refl
 abbrev first_phase : Givens → ℕ → Phase
 first_phase g p = (first_record g p).phase
 
-spread_1 : first_phase (givens 100 4 4 refl) 1 ≡ Announcing 1
-spread_1 = refl
+spread : map (first_phase (givens 100 4 4 refl)) (1 ∷ 2 ∷ 3 ∷ 4 ∷ []) ≡ Announcing 1 ∷ Announcing 25 ∷ Announcing 49 ∷ Announcing 73 ∷ []
+spread = refl
 
-spread_2 : first_phase (givens 100 4 4 refl) 2 ≡ Announcing 25
-spread_2 = refl
-
-spread_3 : first_phase (givens 100 4 4 refl) 3 ≡ Announcing 49
-spread_3 = refl
-
-spread_4 : first_phase (givens 100 4 4 refl) 4 ≡ Announcing 73
-spread_4 = refl
-
-crowded_1 : first_phase (givens 4 3 3 refl) 1 ≡ Announcing 1
-crowded_1 = refl
-
-crowded_2 : first_phase (givens 4 3 3 refl) 2 ≡ Announcing 2
-crowded_2 = refl
-
-crowded_3 : first_phase (givens 4 3 3 refl) 3 ≡ Announcing 3
-crowded_3 = refl
+crowded : map (first_phase (givens 4 3 3 refl)) (1 ∷ 2 ∷ 3 ∷ []) ≡ Announcing 1 ∷ Announcing 2 ∷ Announcing 3 ∷ []
+crowded = refl
 
 -- Lists that are judged: 0, or the place of the first event that is no step.
 
@@ -321,20 +306,8 @@ passes k = has (2 ∷ 4 ∷ 5 ∷ 7 ∷ []) k && not (has (4 ∷ 9 ∷ []) k)
 ranked_count : count 9 passes ≡ 3
 ranked_count = refl
 
-rank_0 : number_of_rank 9 passes 0 ≡ 0
-rank_0 = refl
-
-rank_1 : number_of_rank 9 passes 1 ≡ 2
-rank_1 = refl
-
-rank_2 : number_of_rank 9 passes 2 ≡ 5
-rank_2 = refl
-
-rank_3 : number_of_rank 9 passes 3 ≡ 7
-rank_3 = refl
-
-rank_4 : number_of_rank 9 passes 4 ≡ 0
-rank_4 = refl
+ranks : map (number_of_rank 9 passes) (0 ∷ 1 ∷ 2 ∷ 3 ∷ 4 ∷ []) ≡ 0 ∷ 2 ∷ 5 ∷ 7 ∷ 0 ∷ []
+ranks = refl
 
 -- Places of words: the last of the largest table, and the row of worker 2 in a small one.
 
