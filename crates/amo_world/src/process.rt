@@ -82,7 +82,7 @@ impl Process {
         shown
     }
 
-    /// The performance of j is stored, as entry k of the row.
+    /// Job j is filed as performed, as entry k of the row.
     fn store_done(&mut self, k: u32, j: u32) -> Shown
         requires want { want self.old.local.state ≡ Want.StoreDone k j }
         requires low { 1 ≤ k }
