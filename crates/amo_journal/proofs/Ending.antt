@@ -6,7 +6,7 @@ use Rattle.amo_journal.specs.Device.{AgreesBut, Cut, CutFrom, Differs, Holds, Is
 use Rattle.amo_journal.specs.Journal.{IsAtRest, IsUnsure}
 use Rattle.amo_journal.specs.Texts.{AreOneLine, texts_in, blocks, at_rest}
 use Rattle.amo_journal.proofs.Blocks.{texts_in-blocks, texts_in_closed}
-use Rattle.amo_journal.proofs.Moments.{IsOnDisk, KeepsTexts, leaves_weaker, near_same}
+use Rattle.amo_journal.proofs.Moments.{IsOnDisk, KeepsTexts, keeps_texts}
 use Rattle.amo_journal.proofs.Parts.{parts, front_nothing, short_nothing, take_past, texts_are_one_line}
 use Rattle.amo_journal.proofs.Places.{agrees_all, differ_behind}
 
@@ -90,6 +90,10 @@ module _ (texts : List (List ℕ)) (all : AreOneLine texts) (end : ℕ) (stands 
   pub rest_texts : (seen : List ℕ) → seen ≡ at_rest texts → texts_in seen ≡ texts
   rest_texts seen is = ap texts_in is ∙ texts_in_closed texts 45 [] all (omega arith)
 
+-- a place behind the blocks of what is read is unsure
+behind_blocks : (texts : List (List ℕ)) (read : List ℕ) (i : ℕ) → texts_in read ≡ texts → length (blocks texts) ≤ i → IsUnsure (texts_in read) i
+behind_blocks texts read i is far = subst (λ (ts : List (List ℕ)). IsUnsure ts i) (sym is) (inr far)
+
 module _ {D : Type 0} (moment : D → ℕ) (left_since : D → ℕ → List ℕ → Type 0) (seen : D → List ℕ) (may_leave : D → List ℕ → Type 0) (stale : D → ℕ → Type 0) where
   -- what the cut comes to, whatever it answers
   pub cut_off : (old new : D) (end : ℕ) → end ≡ length (blocks (texts_in (seen old))) → ((c : List ℕ) → may_leave old c → texts_in c ≡ texts_in (seen old))
@@ -101,15 +105,8 @@ module _ {D : Type 0} (moment : D → ℕ) (left_since : D → ℕ → List ℕ 
       let all = texts_are_one_line (seen old) in
       let keeps = λ (c : List ℕ) (from : CutFrom end (may_leave old) c). cut_keeps texts all end stands from.0 c (kept from.0 from.1) from.2 in
       let read = cut_keeps texts all end stands (seen old) (seen new) refl cut in
-      record {
-        any_moment = leaves_weaker moment left_since old new _ (λ c. texts_in c ≡ texts) run keeps;
-        read = read;
-        again = record {
-          near = λ c now. near_same texts (texts_in (seen new)) c read (keeps c (crash c now));
-          unsure = λ i st. subst (λ (ts : List (List ℕ)). IsUnsure ts i) (sym read)
-              (inr (⊎_elim (fresh i) (cut_unsure texts all end stands (may_leave old) (seen old) (seen new) kept refl cut i) (unsure i st)));
-        };
-      }
+      keeps_texts moment left_since seen may_leave stale texts old new _ run crash keeps read
+      (λ i st. behind_blocks texts (seen new) i read (⊎_elim (fresh i) (cut_unsure texts all end stands (may_leave old) (seen old) (seen new) kept refl cut i) (unsure i st)))
 
   -- and where it is done: nothing stands behind the blocks
   pub is_cut_off : (old new : D) (end : ℕ) → end ≡ length (blocks (texts_in (seen old))) → ((i : ℕ) → stale old i → length (blocks (texts_in (seen old))) ≤ i) → seen new ≡ take end (seen old)
@@ -131,16 +128,8 @@ module _ {D : Type 0} (moment : D → ℕ) (left_since : D → ℕ → List ℕ 
   closed texts old new end all stands s front crash unsure run =
       let w = subst (λ f. WritesFront f end (45 ∷ []) (seen new)) s.file_is front in
       let read = close_read texts all end stands (seen new) w in
-      let torn = close_crash texts all end stands (seen new) (may_leave old) s.durable in
-      record {
-        any_moment = leaves_weaker moment left_since old new _ (λ c. texts_in c ≡ texts) run torn;
-        read = read;
-        again = record {
-          near = λ c now. near_same texts (texts_in (seen new)) c read (torn c (crash c now));
-          unsure = λ i st. subst (λ (ts : List (List ℕ)). IsUnsure ts i) (sym read)
-              (inr (⊎_elim (λ was. absurd (s.fresh i was)) (close_unsure texts all end stands (seen new) (may_leave old) s.durable w i) (unsure i st)));
-        };
-      }
+      keeps_texts moment left_since seen may_leave stale texts old new _ run crash (close_crash texts all end stands (seen new) (may_leave old) s.durable) read
+      (λ i st. behind_blocks texts (seen new) i read (⊎_elim (λ was. absurd (s.fresh i was)) (close_unsure texts all end stands (seen new) (may_leave old) s.durable w i) (unsure i st)))
 
   -- and where it is done
   pub is_closed : (texts : List (List ℕ)) (old new : D) (end : ℕ) → AreOneLine texts → end ≡ length (blocks texts) → IsOnDisk seen may_leave stale (blocks texts) old → Holds (seen old) end (45 ∷ []) (seen new)

@@ -1,7 +1,7 @@
 -- How a run of device calls goes on.
 use Rattle.std.proofs.Common.{◌≡◌, inl, inr, ⊎_elim, ℕ, List, sym, ◌∙◌, arith}
 use Rattle.amo_journal.specs.Device.{Elapses, LeavesOnly, Only}
-use Rattle.amo_journal.specs.Journal.{IsNear, MaySettle}
+use Rattle.amo_journal.specs.Journal.{IsNear, IsUnsure, MaySettle}
 use Rattle.amo_journal.specs.Texts.{texts_in}
 
 -- each crash during the calls, and each read after them, has these texts, and the journal can be settled
@@ -49,4 +49,14 @@ module _ {D : Type 0} (moment : D → ℕ) (left_since : D → ℕ → List ℕ 
     later = run.later;
     each = λ c left. weaker c (run.each c left);
     before = λ t c le left. ⊎_elim (λ older. inl older) (λ some. inr (weaker c some)) (run.before t c le left);
+  }
+
+module _ {D : Type 0} (moment : D → ℕ) (left_since : D → ℕ → List ℕ → Type 0) (seen : D → List ℕ) (may_leave : D → List ℕ → Type 0) (stale : D → ℕ → Type 0) where
+  -- where whatever a crash may leave has the texts
+  pub keeps_texts : (texts : List (List ℕ)) (old new : D) (P : List ℕ → Type 0) → LeavesOnly moment left_since old new P → ((c : List ℕ) → may_leave new c → P c) → ((c : List ℕ) → P c → texts_in c ≡ texts)
+      → texts_in (seen new) ≡ texts → ((i : ℕ) → stale new i → IsUnsure (texts_in (seen new)) i) → KeepsTexts moment left_since seen may_leave stale texts old new
+  keeps_texts texts old new P run crash keeps read unsure = record {
+    any_moment = leaves_weaker moment left_since old new P (λ c. texts_in c ≡ texts) run keeps;
+    read = read;
+    again = record { near = λ c now. inl (keeps c (crash c now) ∙ sym read); unsure = unsure };
   }

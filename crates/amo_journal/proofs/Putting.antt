@@ -7,7 +7,7 @@ use Rattle.amo_journal.specs.Device.{AgreesBut, Differs, Holds, IsOutside, Leave
 use Rattle.amo_journal.specs.Texts.{IsOneLine, AreOneLine, texts_in, blocks, at_rest}
 use Rattle.amo_journal.specs.Journal.{IsAtRest, IsBeforeOrAfter, IsNear, IsUnsure, MaySettle}
 use Rattle.amo_journal.proofs.Blocks.{blocks-push, texts_in_closed, texts_in_gate, texts_in-blocks, texts_in_block, all_push}
-use Rattle.amo_journal.proofs.Moments.{IsOnDisk, KeepsTexts, leaves_weaker, near_same}
+use Rattle.amo_journal.proofs.Moments.{IsOnDisk, KeepsTexts, keeps_texts, leaves_weaker, near_same}
 use Rattle.amo_journal.proofs.Parts.{texts_are_one_line}
 use Rattle.amo_journal.proofs.Places.{agrees_all, get-seam, differ_behind, differ_at}
 
@@ -179,16 +179,8 @@ module _ {D : Type 0} (moment : D → ℕ) (left_since : D → ℕ → List ℕ 
       let all = texts_are_one_line (seen old) in
       let only = subst (λ f. Only f (may_leave old)) rest.file rest.durable in
       let w = subst (λ f. WritesFront f (gate + 1) bytes (seen new)) rest.file front in
-      let torn = stage_crash texts all gate stands (length bytes) (seen new) (may_leave old) only in
-      let read = stage_read texts all gate stands bytes (seen new) w in
-      record {
-        any_moment = leaves_weaker moment left_since old new _ (λ c. texts_in c ≡ texts) run torn;
-        read = read;
-        again = record {
-          near = λ c now. near_same texts (texts_in (seen new)) c read (torn c (crash c now));
-          unsure = λ i st. ⊎_elim (λ was. absurd (rest.fresh i was)) (stage_unsure texts all gate stands (length bytes) bytes (seen new) (may_leave old) only w i) (unsure i st);
-        };
-      }
+      keeps_texts moment left_since seen may_leave stale texts old new _ run crash (stage_crash texts all gate stands (length bytes) (seen new) (may_leave old) only) (stage_read texts all gate stands bytes (seen new) w)
+      (λ i st. ⊎_elim (λ was. absurd (rest.fresh i was)) (stage_unsure texts all gate stands (length bytes) bytes (seen new) (may_leave old) only w i) (unsure i st))
 
   -- and where it is done: the block stands behind the closed gate
   pub is_staged : (old new : D) (gate : ℕ) (text bytes : List ℕ) → IsAtRest seen may_leave stale old → gate ≡ length (blocks (texts_in (seen old))) → bytes ≡ behind text → Holds (seen old) (gate + 1) bytes (seen new)

@@ -15,7 +15,7 @@ use Rattle.amo_ledger.specs.Numbers.{number_in, has_blank, first_word, other_wor
 use Rattle.amo_ledger.specs.Entries.{text_of, text_of_answer, Fits, FitsAnswer, code_in, answer_of_word, entry_of_word, entry_in}
 use Rattle.amo_ledger.proofs.NumberTexts.{reads_printed, printed_of_read}
 use Rattle.amo_ledger.proofs.Readings.{found_by, no_text_by, none_by}
-use Rattle.amo_ledger.proofs.Words.{word_reads, split, two_reads, three_reads, and_then_some, blank_and, two_printed, three_printed, either_way, ascii_by_test, two_ascii, three_ascii}
+use Rattle.amo_ledger.proofs.Words.{word_reads, printed_by, two_reads, three_reads, and_then_some, blank_and, two_printed, three_printed, either_way, ascii_by_test, two_ascii, three_ascii}
 
 -- codes
 
@@ -135,10 +135,7 @@ word_printed w r e h = elim (either_way (bytes_eq w (codes "intent")) _ _ (Some 
 ]
 
 pub entry_printed : (text : List ℕ) (e : Entry) → entry_in text ≡ Some e → (text_of e ≡ text) × Fits e
-entry_printed text e h =
-    let (blank, read) = blank_and (has_blank text) _ e h in
-    let p = word_printed (first_word text) (other_words text) e read in
-    (p.0 ∙ sym (split text blank), p.1)
+entry_printed = printed_by text_of Fits entry_of_word word_printed
 
 pub found : (text : List ℕ) (r : Option Entry) → r ≡ entry_in text → IfSome r (λ e. text_of e ≡ text)
 found = found_by text_of Fits entry_in entry_printed

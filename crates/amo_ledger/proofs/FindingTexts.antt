@@ -10,7 +10,7 @@ use Rattle.amo_ledger.specs.declared.finding.Verdict.TheVariants.{Done, NotDone}
 use Rattle.amo_ledger.specs.Numbers.{has_blank, first_word, other_words, three_in}
 use Rattle.amo_ledger.specs.Findings.{word_of, text_of_finding, FitsFinding, verdict_in, finding_of_word, finding_in}
 use Rattle.amo_ledger.proofs.Readings.{found_by, no_text_by, none_by}
-use Rattle.amo_ledger.proofs.Words.{word_reads, split, three_reads, and_then_some, blank_and, three_printed, either_word, ascii_by_test, three_ascii}
+use Rattle.amo_ledger.proofs.Words.{word_reads, printed_by, three_reads, and_then_some, blank_and, three_printed, either_word, ascii_by_test, three_ascii}
 
 -- what is printed is read
 
@@ -37,10 +37,7 @@ word_printed w r f h =
     subst (λ (x : Finding). (text_of_finding x ≡ w ++ 32 ∷ r) × FitsFinding x) is (ap (λ x. word_of v ++ 32 ∷ x) p.0 ∙ ap (λ x. x ++ 32 ∷ r) (sym (verdict_printed w v is_v)), (p.1, p.2, p.3))
 
 pub finding_printed : (text : List ℕ) (f : Finding) → finding_in text ≡ Some f → (text_of_finding f ≡ text) × FitsFinding f
-finding_printed text f h =
-    let (blank, read) = blank_and (has_blank text) _ f h in
-    let p = word_printed (first_word text) (other_words text) f read in
-    (p.0 ∙ sym (split text blank), p.1)
+finding_printed = printed_by text_of_finding FitsFinding finding_of_word word_printed
 
 pub found : (text : List ℕ) (r : Option Finding) → r ≡ finding_in text → IfSome r (λ f. text_of_finding f ≡ text)
 found = found_by text_of_finding FitsFinding finding_in finding_printed

@@ -95,6 +95,18 @@ split text h =
     is_equal : (a b : ℕ) → (a == b) ≡ true → a ≡ b
     is_equal a b h = grind (arith, nat_tests)
 
+pub blank_and : {A : Type 0} (b : Bool) (o : Option A) (y : A) → cond b o None ≡ Some y → (b ≡ true) × (o ≡ Some y)
+blank_and true o y h = (refl, h)
+blank_and false o y h = absurd (cc)
+
+-- what is read of its parts was printed so, where what is read of two words was
+pub printed_by : {A : Type 0} (say : A → List ℕ) (Fits : A → Type 0) (read : List ℕ → List ℕ → Option A) → ((w r : List ℕ) (x : A) → read w r ≡ Some x → (say x ≡ w ++ 32 ∷ r) × Fits x)
+    → (text : List ℕ) (x : A) → cond (has_blank text) (read (first_word text) (other_words text)) None ≡ Some x → (say x ≡ text) × Fits x
+printed_by say Fits read printed text x h =
+    let (blank, found) = blank_and (has_blank text) _ x h in
+    let p = printed (first_word text) (other_words text) x found in
+    (p.0 ∙ sym (split text blank), p.1)
+
 -- what is printed is read
 
 abbrev two_parts : Bool → List ℕ → List ℕ → Option (ℕ × ℕ)
@@ -125,10 +137,6 @@ three_reads a b c fa fb fc =
 pub and_then_some : {A B : Type 0} (f : A → Option B) (o : Option A) (y : B) → option_and_then f o ≡ Some y → (x : A) × (o ≡ Some x) × (f x ≡ Some y)
 and_then_some f None y h = absurd (cc)
 and_then_some f (Some x) y h = (x, refl, h)
-
-pub blank_and : {A : Type 0} (b : Bool) (o : Option A) (y : A) → cond b o None ≡ Some y → (b ≡ true) × (o ≡ Some y)
-blank_and true o y h = (refl, h)
-blank_and false o y h = absurd (cc)
 
 pub two_printed : (text : List ℕ) (ab : ℕ × ℕ) → two_in text ≡ Some ab → (decimal ab.0 ++ 32 ∷ decimal ab.1 ≡ text) × (ab.0 < 2 ^ 64) × (ab.1 < 2 ^ 64)
 two_printed text ab h =
