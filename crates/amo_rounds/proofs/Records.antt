@@ -8,7 +8,7 @@ use Rattle.amo_sets.specs.Sets.{has}
 use Rattle.amo_sets.proofs.Numbers.{has-get_or}
 use Rattle.amo_ledger.specs.Records.{RecordView, ascends_from, is_sound}
 use Rattle.amo_ledger.specs.Rounds.{turn_of, seat_of}
-use Rattle.amo_rounds.specs.World.{IsNumber}
+use Rattle.amo_rounds.specs.Site.{IsNumber}
 
 pub record HasParts (r : RecordView) : Type 0 where
   pub jobs : r.givens.jobs ≡ length r.lines

@@ -3,7 +3,7 @@ use Rattle.std.specs.Prelude.{ℕ, List, [], ◌∷◌, ◌++◌, Option, Some, 
 use Rattle.amo_course.specs.declared.model.Deed.{Deed}
 use Rattle.amo_course.specs.declared.model.Deed.TheVariants.{Fell}
 use Rattle.amo_ledger.specs.declared.journal.Attempt.{Attempt}
-use Rattle.amo_rounds.specs.World.{Event, Starts, Acts, Misses}
+use Rattle.amo_rounds.specs.Site.{Event, Starts, Acts, Misses}
 
 -- What its journal said as it began, and what it has done since.
 pub record Asker : Type 0 where

@@ -5,7 +5,7 @@ use Rattle.amo_course.specs.Stage.{Intending, Performing}
 use Rattle.amo_course.specs.Course.{Stands}
 use Rattle.amo_course.specs.Life.{beginning}
 use Rattle.amo_course.proofs.Deeds.{stands_by, falls, may_try}
-use Rattle.amo_course.proofs.life.Life.perform.Goals as goal
+use Rattle.amo_course.proofs.life.Life.hand_over.Goals as goal
 
 pub returns-then-self-clause-stops : goal.returns-then-self-clause-stops
 returns-then-self-clause-stops g c = (

@@ -12,13 +12,13 @@ use Rattle.amo_ledger.specs.Records.{RecordView}
 use Rattle.amo_rounds.specs.File.{File, empty}
 
 -- Where the process of a worker is. There is at most one: it holds the lock of the worker's journal.
-pub data Place : Type 0 where
+pub data Whereabouts : Type 0 where
   -- there is none, or it is dead
-  Away : Place
+  Away : Whereabouts
   -- it has settled its journal, and asks for the intents that former processes have left
-  Before : Stage → Place
+  Before : Stage → Whereabouts
   -- it has joined the round of this number, and acts as this one of its workers
-  Inside : (round seat : ℕ) → Place
+  Inside : (round seat : ℕ) → Whereabouts
 
 -- A round: its givens, its record, and what has happened in it, as a history of workers over one list of words.
 pub record Round : Type 0 where
@@ -26,8 +26,8 @@ pub record Round : Type 0 where
   pub written : RecordView
   pub moments : List Moment
 
--- All that there is. Journals and places go by the worker's number.
-pub record World : Type 0 where
+-- The site of a run: all that there is of it. Journals and whereabouts go by the worker's number.
+pub record Site : Type 0 where
   pub journals : ℕ → File Entry
   pub findings : File Finding
   -- how many lines the run knows
@@ -36,11 +36,11 @@ pub record World : Type 0 where
   pub rounds : ℕ → Option Round
   pub last : ℕ
   pub joinable : Bool
-  pub places : ℕ → Place
+  pub whereabouts : ℕ → Whereabouts
 
 -- nothing was done yet
-abbrev pub first_world : World
-first_world = record { journals = λ p. empty; findings = empty; lines = 0; rounds = λ k. None; last = 0; joinable = false; places = λ p. Away }
+abbrev pub first_site : Site
+first_site = record { journals = λ p. empty; findings = empty; lines = 0; rounds = λ k. None; last = 0; joinable = false; whereabouts = λ p. Away }
 
 -- What happens next. A first number is the worker's.
 pub data Event : Type 0 where
@@ -72,7 +72,7 @@ pub record IsNumber (p : ℕ) : Type 0 where
   pub high : p ≤ 16
 
 -- it has joined a round
-abbrev pub is_inside : Place → Bool
+abbrev pub is_inside : Whereabouts → Bool
 is_inside Away = false
 is_inside (Before s) = false
 is_inside (Inside k q) = true
@@ -87,7 +87,7 @@ lines_of None = []
 lines_of (Some r) = r.written.lines
 
 -- those of the round in which a process is
-abbrev pub lines_at : (ℕ → Option Round) → Place → List ℕ
+abbrev pub lines_at : (ℕ → Option Round) → Whereabouts → List ℕ
 lines_at rounds Away = []
 lines_at rounds (Before s) = []
 lines_at rounds (Inside k q) = lines_of (rounds k)
