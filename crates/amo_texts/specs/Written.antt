@@ -4,7 +4,7 @@ use Rattle.std.specs.Result.{IsOkAnd}
 use Rattle.std.specs.Io.KnownBytes.{Keeps, Appends}
 use Rattle.amo_plan.specs.declared.fault.PlanFault.{PlanFault}
 use Rattle.amo_plan.specs.declared.fault.PlanFault.TheVariants as fault
-use Rattle.amo_plan.specs.Steps.{◌>>=◌}
+use Rattle.amo_plan.specs.Passing.{◌>>=◌}
 use Rattle.amo_plan.specs.Plan.{PlanSeen, plan_of}
 use Rattle.amo_texts.specs.declared.writing.ReplayFault.{ReplayFault}
 use Rattle.amo_texts.specs.declared.writing.ReplayFault.TheVariants.{Plan, Read, Write, NoMemory}
