@@ -7,7 +7,7 @@ use Rattle.std.proofs.lemmas.Grind.{div_ceil_times}
 use Rattle.std.proofs.Math.Nat.{div-lt_iff_lt-mul}
 use Rattle.amo_sets.proofs.Sets.{members_agree}
 use Rattle.amo_plan.specs.Keeps.{is_form}
-use Rattle.amo_plan.specs.Steps.{is_between}
+use Rattle.amo_plan.specs.Passing.{is_between}
 use Rattle.amo_plan.specs.declared.plan.Heads.{Heads}
 use Rattle.amo_crew.specs.declared.outcome.End.{End}
 use Rattle.amo_outcome.specs.declared.filed.Filed.{Filed}

@@ -5,8 +5,8 @@ ghost use Rattle.std.specs.Vec.Iter.{into_iter_items};
 ghost use Rattle.amo_plan.specs.Results.{capped_answer};
 ghost use Rattle.amo_plan.specs.Blocks.{blocks_of};
 
-use super::answer::{Answer, capped_answer};
-use super::task::Task;
+use crate::answer::{Answer, capped_answer};
+use crate::task::Task;
 use std::alloc::{AllocError, Global};
 use std::marker::Model;
 use std::vec::IntoIter;

@@ -1,4 +1,4 @@
-//! Runs the moves of a plan.
+//! Simulates a plan: makes its moves on one thread.
 ghost use Rattle.std.specs.Prelude.{◌≡◌, IfOk};
 ghost use Rattle.amo_sets.specs.Lists.{table};
 ghost use Rattle.amo_kk.specs.World.{world_after_moves, round, rounds};
@@ -20,7 +20,7 @@ fn run_round(world: &mut World)
 }
 
 /// So many rounds.
-pub fn run_rounds(world: &mut World, count: u32)
+pub(crate) fn run_rounds(world: &mut World, count: u32)
     ensures { world.new ≡ record { givens = world.old.givens; world = world_after_moves world.old.givens world.old.world (rounds world.old.givens.workers count) } }
 {
     for _done in 0..count {
@@ -29,7 +29,7 @@ pub fn run_rounds(world: &mut World, count: u32)
 }
 
 /// The world of a plan: after its schedule and its rounds. The only error is out of memory.
-pub fn run_plan(alloc: Global, plan: &Plan) -> Result<World, AllocError>
+pub(crate) fn simulate(alloc: Global, plan: &Plan) -> Result<World, AllocError>
     ensures { IfOk result (λ w. w ≡ record { givens = (plan_seen plan.now).givens; world = plan_world (plan_seen plan.now) }) }
 {
     let mut world = World::new(alloc, plan.heads.givens)?;

@@ -1,6 +1,6 @@
 use Rattle.std.proofs.Common.{◌≡◌, ◌++◌}
 use Rattle.amo_kk.specs.World.{rounds}
-use Rattle.amo_trace.proofs.steps.moves_of.Given as goal
+use Rattle.amo_trace.proofs.transitions.moves_of.Given as goal
 
 -- the schedule and the rounds so far
 abbrev pub invariant-loop-done : goal.invariant-loop-done

@@ -1,6 +1,6 @@
-//! Steps: what one move of a run does.
+//! Transitions: what one move of a run does.
 ghost use Rattle.std.specs.Prelude.{◌≡◌, slice_get};
-ghost use Rattle.amo_trace.specs.Steps.{loads, fails, job_of, fact_of_want, fact_of_act, fact_of};
+ghost use Rattle.amo_trace.specs.Transitions.{loads, fails, job_of, fact_of_want, fact_of_act, fact_of};
 
 use amo_kk::{Phase, Want};
 
@@ -21,7 +21,7 @@ pub enum Act {
 
 /// One move of a run.
 #[derive(Clone, Copy, Debug, PartialEq, Eq)]
-pub struct Step {
+pub struct Transition {
     /// The number of the move among those of the schedule and the rounds, from 1.
     pub number: usize,
     /// The worker of the move.
@@ -36,7 +36,7 @@ pub struct Step {
     pub gone: bool,
 }
 
-/// What a step comes to, besides its load or store.
+/// What a transition comes to, besides its load or store.
 #[derive(Clone, Copy, Debug, PartialEq, Eq)]
 pub enum Fact {
     /// Nothing more.
@@ -102,17 +102,17 @@ fn fact_of_act(act: Act) -> Fact
     }
 }
 
-/// The step at a place.
-pub fn step_at(steps: &[Step], place: usize) -> Option<Step>
-    ensures { result ≡ slice_get steps.now place }
+/// The transition at a place.
+pub(crate) fn transition_at(transitions: &[Transition], place: usize) -> Option<Transition>
+    ensures { result ≡ slice_get transitions.now place }
 {
-    match steps.get(place) {
-        Some(step) => Some(*step),
+    match transitions.get(place) {
+        Some(transition) => Some(*transition),
         None => None,
     }
 }
 
-impl Step {
+impl Transition {
     /// Whether its attempt has failed: after a load the worker is about to announce another job, or has ended.
     pub fn fails(&self) -> bool
         ensures { result ≡ fails self.now }

@@ -1,6 +1,6 @@
 use Rattle.std.proofs.Common.{◌≡◌, true}
-use Rattle.amo_trace.specs.Steps.{are_gone}
-use Rattle.amo_trace.proofs.steps.all_gone.Given as goal
+use Rattle.amo_trace.specs.Transitions.{are_gone}
+use Rattle.amo_trace.proofs.transitions.all_gone.Given as goal
 
 -- the workers so far are gone
 abbrev pub invariant-loop-before : goal.invariant-loop-before

@@ -19,7 +19,7 @@ abbrev pub unless : {A : Type 0} → Bool → PlanFault → Result A PlanFault �
 unless true e more = more
 unless false e more = Err e
 
--- A place in a fault has 32 bits; no text that is short enough for a plan has as many jobs or words.
+-- An ordinal in a fault has 32 bits; no text that is short enough for a plan has as many jobs or words.
 abbrev pub capped : ℕ → ℕ
 capped i = min i 4294967295
 

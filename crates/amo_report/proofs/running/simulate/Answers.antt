@@ -2,7 +2,7 @@ use Rattle.std.proofs.Common.{refl, sym, ap, []}
 use Rattle.amo_kk.specs.World.{opening_world, rounds}
 use Rattle.amo_world.specs.Views.{WorldView}
 use Rattle.amo_report.proofs.Rounds.{range_of, moves_more}
-use Rattle.amo_report.proofs.running.run_plan.Goals as goal
+use Rattle.amo_report.proofs.running.simulate.Goals as goal
 
 pub run-requires : goal.run-requires
 run-requires c = range_of _ _ _ _ (ap (λ (v : WorldView). v.givens) c.in_ok-world.ensures) c.as_slice.ensures c.args.plan.now.within

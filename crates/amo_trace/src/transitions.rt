@@ -1,12 +1,12 @@
-//! The steps of a plan.
+//! The transitions of a plan.
 ghost use Rattle.std.specs.Prelude.{◌≡◌, ◌++◌, true, OnOk, IfOk};
 ghost use Rattle.amo_kk.specs.Givens.{IsWorker};
 ghost use Rattle.amo_kk.specs.World.{worker_of, world_after_move, world_after_moves, are_in_range, round};
 ghost use Rattle.amo_plan.specs.PlanSeen.{plan_seen};
 ghost use Rattle.amo_report.specs.Texts.{moves_of, plan_world};
-ghost use Rattle.amo_trace.specs.Steps.{act_here, act_of, all_gone, step_of, steps, steps_of};
+ghost use Rattle.amo_trace.specs.Transitions.{act_here, act_of, all_gone, transition_of, transitions, transitions_of};
 
-use crate::step::{Act, Step};
+use crate::transition::{Act, Transition};
 use amo_kk::Move;
 use amo_plan::Plan;
 use amo_world::World;
@@ -48,10 +48,10 @@ fn act_of(world: &World, one: Move) -> Act
     act_here(world, one)
 }
 
-/// Makes the move with this number, and answers its step.
-fn take_step(world: &mut World, number: usize, one: Move) -> Step
+/// Makes the move with this number, and answers its transition.
+fn make_move(world: &mut World, number: usize, one: Move) -> Transition
     requires { IsWorker world.old.givens (worker_of one) }
-    ensures step { result ≡ step_of world.old.givens world.old.world number one }
+    ensures transition { result ≡ transition_of world.old.givens world.old.world number one }
     ensures world { world.new ≡ record { givens = world.old.givens; world = world_after_move world.old.givens world.old.world one } }
 {
     let worker = one.worker();
@@ -60,7 +60,7 @@ fn take_step(world: &mut World, number: usize, one: Move) -> Step
     world.run(&[one]);
     let after = world.local(worker).phase();
     let gone = world.is_gone(worker);
-    Step {
+    Transition {
         number,
         worker,
         act,
@@ -70,22 +70,26 @@ fn take_step(world: &mut World, number: usize, one: Move) -> Step
     }
 }
 
-/// Makes these moves until all workers are gone, from when on moves change nothing, and answers their steps. The only
+/// Makes these moves until all workers are gone, from when on moves change nothing, and answers their transitions. The only
 /// error is out of memory.
-fn take_steps(alloc: Global, world: &mut World, moves: &[Move]) -> Result<Vec<Step>, AllocError>
+fn make_moves(
+    alloc: Global,
+    world: &mut World,
+    moves: &[Move],
+) -> Result<Vec<Transition>, AllocError>
     requires { are_in_range world.old.givens moves.now ≡ true }
-    ensures steps { IfOk result (λ v. v.items ≡ steps world.old.givens world.old.world 1 moves.now) }
+    ensures transitions { IfOk result (λ v. v.items ≡ transitions world.old.givens world.old.world 1 moves.now) }
     ensures world { OnOk result (world.new ≡ record { givens = world.old.givens; world = world_after_moves world.old.givens world.old.world moves.now }) }
 {
-    let mut steps = Vec::new(alloc);
+    let mut transitions = Vec::new(alloc);
     for (i, one) in moves.iter().enumerate() {
         if all_gone(world) {
-            return Ok(steps);
+            return Ok(transitions);
         }
-        let step = take_step(world, i + 1, *one);
-        steps.push(step)?;
+        let transition = make_move(world, i + 1, *one);
+        transitions.push(transition)?;
     }
-    Ok(steps)
+    Ok(transitions)
 }
 
 /// Appends a round: a turn of each worker.
@@ -112,28 +116,28 @@ fn moves_of(alloc: Global, plan: &Plan) -> Result<Vec<Move>, AllocError>
 
 /// The run of a plan.
 #[derive(Drop)]
-pub struct Run {
-    /// Its steps.
-    pub steps: Vec<Step>,
+pub(crate) struct TracedRun {
+    /// Its transitions.
+    pub(crate) transitions: Vec<Transition>,
     /// The world to which its moves lead.
-    pub world: World,
+    pub(crate) world: World,
 }
 
 /// Makes the moves of a plan, until all workers are gone. The only error is out of memory.
-pub fn run_of(alloc: Global, plan: &Plan) -> Result<Run, AllocError>
-    ensures steps { IfOk result (λ r. r.steps.items ≡ steps_of (plan_seen plan.now)) }
+pub(crate) fn run_of(alloc: Global, plan: &Plan) -> Result<TracedRun, AllocError>
+    ensures transitions { IfOk result (λ r. r.transitions.items ≡ transitions_of (plan_seen plan.now)) }
     ensures world { IfOk result (λ r. r.world ≡ record { givens = (plan_seen plan.now).givens; world = plan_world (plan_seen plan.now) }) }
 {
     let moves = moves_of(alloc, plan)?;
     let mut world = World::new(alloc, plan.heads.givens)?;
-    let steps = take_steps(alloc, &mut world, &moves)?;
-    Ok(Run { steps, world })
+    let transitions = make_moves(alloc, &mut world, &moves)?;
+    Ok(TracedRun { transitions, world })
 }
 
-/// The steps of a plan: what each move of its schedule and its rounds does, until all workers are gone. The only error is
+/// The transitions of a plan: what each move of its schedule and its rounds does, until all workers are gone. The only error is
 /// out of memory.
-pub fn steps_of(alloc: Global, plan: &Plan) -> Result<Vec<Step>, AllocError>
-    ensures { IfOk result (λ v. v.items ≡ steps_of (plan_seen plan.now)) }
+pub fn transitions_of(alloc: Global, plan: &Plan) -> Result<Vec<Transition>, AllocError>
+    ensures { IfOk result (λ v. v.items ≡ transitions_of (plan_seen plan.now)) }
 {
-    Ok(run_of(alloc, plan)?.steps)
+    Ok(run_of(alloc, plan)?.transitions)
 }

@@ -2,7 +2,7 @@
 use Rattle.std.proofs.Common.{◌≡◌, ℕ, ◌+◌, ◌<◌, ◌≤◌, List, [], ◌∷◌, ◌++◌, map, length, get_or, drop, Bool, true, false, cond, Option, Some, None, Result, Ok, Err, refl, sym, ap, ◌∙◌, append_assoc}
 use Rattle.std.proofs.lemmas.List.{append-nil, drop_all, drop_more}
 use Rattle.amo_plan.specs.declared.fault.PlanFault.{PlanFault}
-use Rattle.amo_plan.specs.Steps.{◌>>=◌, or_fault, unless, each, capped}
+use Rattle.amo_plan.specs.Passing.{◌>>=◌, or_fault, unless, each, capped}
 
 -- what was read, and what is still to be read
 abbrev pub with_front : {B : Type 0} → List B → Result (List B) PlanFault → Result (List B) PlanFault

@@ -1,7 +1,7 @@
 use Rattle.std.proofs.Common.{◌<◌, sym, subst, ◌∙◌}
 use Rattle.amo_kk.specs.declared.givens.Givens.{Givens}
 use Rattle.amo_trace.proofs.Gone.{one_is_here}
-use Rattle.amo_trace.proofs.steps.all_gone.Goals as goal
+use Rattle.amo_trace.proofs.transitions.all_gone.Goals as goal
 
 pub returns-then-not-is_gone : goal.returns-then-not-is_gone
 returns-then-not-is_gone c =
