@@ -1,4 +1,5 @@
-//! Where each shared word stands, wherever the words are kept. Word 0 is the book word, which no worker writes.
+//! Where each shared word stands, wherever the words are kept. Word 0 is the book word, which no worker touches: in threads
+//! a split and a join of seats load it.
 ghost use Rattle.std.specs.Prelude.{◌≡◌, ◌≤◌, ◌+◌};
 ghost use Rattle.amo_kk.specs.Givens.{IsWorker};
 ghost use Rattle.amo_kk.specs.Words.{word_count, next_word, claim_word, done_word};
