@@ -98,7 +98,7 @@ module _ {P : Type 0} (k : Key P) (slots id : ℕ) (me : Me (Option P) (View P))
     still : is_claiming l.state.phase ≡ false → wants_nothing l.state.phase ≡ false → (j : ℕ) → is_claimed (world_of g (h.log ++ Turn p ∷ [])).processes j ≡ is_claimed w0.processes j
     still quiet goes j = ap (λ (w : World). is_claimed w.processes j) (world_more g (opening_world g) h.log (Turn p)) ∙ quiet_claims g w0 p law (here goes) (ap is_claiming (sym phase_is) ∙ quiet) j
 
-  -- an announcement or a performance is stored
+  -- an announcement is stored, or a job is filed
   pub stores : (i new : ℕ) (x : Want) → want l.state ≡ x → is_store x ≡ true → is_claim x ≡ false → ((words : List ℕ) → set words i new ≡ words_after l.givens p x words)
       → Allows (IsOpen k) slots id me i (λ _. new) (λ _. told_by_store (step slots i new 0 none) me new)
   stores i new x wants store quiet wrote s h deep at _ =

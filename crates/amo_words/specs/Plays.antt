@@ -80,7 +80,7 @@ abbrev pub TakenBy : {P : Type 0} → List P → List (ℕ × Option P) → Role
 TakenBy payloads out (Working l) out' = TakesIn payloads out l.state.phase out'
 TakenBy payloads out role out' = ⊤
 
--- the store of an announcement or of a performance
+-- the store of an announcement, or that which files a job
 abbrev pub told_by_store : {P : Type 0} → Step (Option P) → Me (Option P) (View P) → ℕ → Me (Option P) (View P) → Type 0
 told_by_store st me n me' = TurnedBy me.0 me.0.role 0 me'.0 × (me'.1 ≡ me.1) × (n ≡ st.first)
 

@@ -111,7 +111,7 @@ impl<P> Worker<P> {
         take_out(words, &mut self.seat, j)
     }
 
-    /// Stores the performance of j, as the k-th of the worker's row.
+    /// Files j, as the k-th of the worker's row.
     fn store_done(&mut self, words: &Words<P>, k: u32, j: u32) -> Shown
         requires table { self.old.table_id ≡ words.now.table_id }
         requires wants { want (machine self.old).state ≡ Wanted.StoreDone k j }
