@@ -22,8 +22,8 @@ use Rattle.amo_mailbox.specs.declared.output.Output.{Output}
 use Rattle.amo_crew.specs.Outcomes.{jobs_of}
 use Rattle.amo_crew.specs.Running.{IsAnswer}
 use Rattle.amo_crew.proofs.Hires.{fresh_first}
-use Rattle.amo_payday.specs.declared.second.Rest.{Rest}
-use Rattle.amo_payday.specs.Second.{IsRest}
+use Rattle.amo_payday.specs.declared.second.Leftover.{Leftover}
+use Rattle.amo_payday.specs.Second.{IsLeftover}
 use Rattle.amo_payday.specs.Stopping.{HasPaid, IsEmpty}
 use Rattle.amo_payday.proofs.Filters.{free_filtered}
 
@@ -78,7 +78,7 @@ module _ {P Out : Type 0} (related : ℕ → ℕ → P → Out → Type 0) (b c 
   only : (j : ℕ) → is_claimed (world_of d.view.givens whole.log).processes j ≡ has (jobs_of outputs) j
   only j = single (world_of d.view.givens whole.log).processes one j ∙ ap (λ (l : LocalView). has l.state.claimed j) (sym same) ∙ ap (λ l. has l j) claimed
 
-  pub rest_of : (r : Rest P Out) → r.outputs.items ≡ outputs → r.free.items ≡ s.free.items → IsRest related b.view.payloads r
+  pub rest_of : (r : Leftover P Out) → r.outputs.items ≡ outputs → r.free.items ≡ s.free.items → IsLeftover related b.view.payloads r
   rest_of r is free = record {
     answers = subst (λ l. All (IsAnswer related b.view.payloads) l) (sym is) (subst (λ xs. All (IsAnswer related xs) outputs) hired.worker.payloads paid.answers);
     distinct = subst AreDistinct (claimed ∙ ap jobs_of (sym is)) sound.distinct;

@@ -1,4 +1,4 @@
--- What a worker does in a loop of its caller's own.
+-- Within this crate: what a worker does in a loop of its caller's own.
 use Rattle.std.specs.Prelude.{◌≡◌, ℕ, true, List, [], ◌++◌, map, All, ⊤}
 use Rattle.amo_kk.specs.Record.{jobs_in_hand, wants_nothing}
 use Rattle.amo_words.specs.Faces.{Seated, machine}

@@ -15,11 +15,11 @@ use std::io::Read;
 
 mod payment;
 
-pub use payment::Payment;
+pub(crate) use payment::Payment;
 
 /// A day.
 #[derive(Drop)]
-pub struct Day {
+pub(crate) struct Day {
     /// Who pays in each round.
     pub crew: Crew,
     /// After so many payments the workers of the second floor are asked to stop.
@@ -30,7 +30,7 @@ pub struct Day {
 
 impl Day {
     /// A day without payments, with one worker and no limit.
-    pub fn new(alloc: Global) -> Day
+    pub(crate) fn new(alloc: Global) -> Day
         ensures { IsDay [] result }
     {
         Day {
@@ -44,7 +44,7 @@ impl Day {
     }
 
     /// Adds what a line says. Where memory is refused the day is of no use.
-    pub fn add(&mut self, line: Line) -> Result<(), AllocError>
+    pub(crate) fn add(&mut self, line: Line) -> Result<(), AllocError>
         ensures { OnOk result (IsDayWith self.old line self.new) }
     {
         match line {
@@ -99,7 +99,7 @@ fn day_of(alloc: Global, text: &str) -> Result<Day, Fault>
 
 /// Reads all of the input, and the day that it says. A line that is none, or whose end is missing, refuses the whole day, as
 /// does a crew that is outside its ranges. Input is refused where it can't be read, or is no text.
-pub fn read_day<B: Read>(alloc: Global, input: &mut B) -> Result<Day, Fault>
+pub(crate) fn read_day<B: Read>(alloc: Global, input: &mut B) -> Result<Day, Fault>
     ensures day { IfOk result (λ day. IfSome (B.remaining input.old) (λ text. IsDayOf text day)) }
     ensures fit { IfOk result (λ day. is_fit day.crew ≡ true) }
     ensures line { result ≡ Err BrokenLine → IfSome (B.remaining input.old) (λ text. has_broken_line text ≡ true) }

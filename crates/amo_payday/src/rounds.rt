@@ -26,7 +26,7 @@ use std::time::Clock;
 
 /// How many workers pay, and after how many steps each is halted, in each round.
 #[derive(Clone, Copy, Debug, PartialEq, Eq)]
-pub struct Crew {
+pub(crate) struct Crew {
     /// From 1 to 16.
     pub workers: u64,
     /// At most 10,000,000.
@@ -35,7 +35,7 @@ pub struct Crew {
 
 impl Crew {
     /// Whether both numbers are within their ranges.
-    pub fn is_fit(self) -> bool
+    pub(crate) fn is_fit(self) -> bool
         ensures { result ≡ is_fit self }
     {
         1 <= self.workers && self.workers <= 16 && self.steps <= 10_000_000
@@ -44,7 +44,7 @@ impl Crew {
 
 /// Why a round gives no sorted jobs.
 #[derive(Drop)]
-pub enum RoundFault {
+pub(crate) enum RoundFault {
     /// Nothing was paid, and the payments come back in their order: there was no memory, or the crew is outside its ranges.
     Unpaid(Vec<Payment>),
     /// Memory was refused where the round was to be settled, twice. What it left can be settled later.
@@ -54,7 +54,7 @@ pub enum RoundFault {
 }
 
 /// Takes the next round off the payments: their first 4096, or all. Where memory is refused they stay as they are.
-pub fn next_round(payments: &mut Vec<Payment>) -> Result<Vec<Payment>, AllocError>
+pub(crate) fn next_round(payments: &mut Vec<Payment>) -> Result<Vec<Payment>, AllocError>
     ensures round { IfOk result (λ round. payments.old.items ≡ round.items ++ payments.new.items) }
     ensures size { IfOk result (λ round. vec_len round ≡ min (vec_len payments.old) 4096) }
     ensures refused { OnErr result (payments.new.items ≡ payments.old.items) }
@@ -150,7 +150,11 @@ fn run_round<D: Device + Drop + Send, S: Write + Drop + Send, R: Threads + Wait 
 }
 
 /// Pays one round, and sorts what came of it. There have to be at most 4096 payments. May wait.
-pub fn pay_round<D: Device + Drop + Send, S: Write + Drop + Send, R: Threads + Wait + Clock + Sync>(
+pub(crate) fn pay_round<
+    D: Device + Drop + Send,
+    S: Write + Drop + Send,
+    R: Threads + Wait + Clock + Sync,
+>(
     rt: &R,
     alloc: Global,
     bank: &Bank<'_, D, S, R>,
@@ -175,7 +179,7 @@ pub fn pay_round<D: Device + Drop + Send, S: Write + Drop + Send, R: Threads + W
 
 /// Adds the payments that nobody began, in their order: what a new floor is made of. What was in a worker's hand is not
 /// among them. Where memory is refused they are dropped, and the journal has no entry of them.
-pub fn add_free(free: Vec<(u32, Payment)>, list: &mut Vec<Payment>) -> Result<(), AllocError>
+pub(crate) fn add_free(free: Vec<(u32, Payment)>, list: &mut Vec<Payment>) -> Result<(), AllocError>
     ensures { OnOk result (list.new.items ≡ list.old.items ++ map (λ t. t.1) free.items) }
 {
     for (_, payment) in free {

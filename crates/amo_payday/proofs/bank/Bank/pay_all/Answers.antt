@@ -1,7 +1,7 @@
 use Rattle.std.proofs.Common.{rules}
 use Rattle.amo_payday.proofs.Floors.{next_none, next_more, part_more}
 use Rattle.amo_payday.proofs.Fronts.{on_err}
-use Rattle.amo_payday.proofs.serving.pay_all.Goals as goal
+use Rattle.amo_payday.proofs.bank.Bank.pay_all.Goals as goal
 
 pub paying-init : goal.paying-init
 paying-init g c = next_none _ _ _ _ _ _ (search rules)

@@ -4,7 +4,7 @@ use Rattle.amo_streams.specs.Streams.{AppendsFront}
 use Rattle.amo_payday.specs.Reports.{answer_lines}
 use Rattle.amo_payday.proofs.Floors.{part_none, part_one, next_one}
 use Rattle.amo_payday.proofs.Fronts.{on_err, whole}
-use Rattle.amo_payday.proofs.serving.try_next.Goals as goal
+use Rattle.amo_payday.proofs.bank.Bank.try_next.Goals as goal
 
 pub returns-in_err-round-clause-part : goal.returns-in_err-round-clause-part
 returns-in_err-round-clause-part g c = on_err _ (part_none _ _ _ _ _)
