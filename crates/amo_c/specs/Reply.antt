@@ -75,16 +75,17 @@ abbrev pub bound_in : Result Givens FaultCode → ℕ
 bound_in (Ok g) = bound g
 bound_in (Err fault) = 0
 
--- the places of a worker's words; 0, which is no worker's word, where there is no such worker
+-- the place of a worker's announcement; 0, which is no worker's word, where there is no such worker
 abbrev pub announcement_in : Result Worker FaultCode → ℕ
 announcement_in (Ok w) = next_word w.number
 announcement_in (Err fault) = 0
 
+-- the place of its count of claims
 abbrev pub claims_in : Result Worker FaultCode → ℕ
 claims_in (Ok w) = claim_word w.givens w.number
 claims_in (Err fault) = 0
 
--- the k-th entry of its row, from 1, the last 0 among them
+-- that of the k-th entry of its row, from 1, the last 0 among them
 abbrev pub entry_in : Result Worker FaultCode → ℕ → ℕ
 entry_in (Ok w) k = if is_within (w.givens.jobs + 1) k then done_word w.givens w.number k else 0
 entry_in (Err fault) k = 0

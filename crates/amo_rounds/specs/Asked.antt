@@ -22,6 +22,7 @@ asker_after p a (Acts q time d) = if p == q then with_more a d else a
 asker_after p a (Misses q time t) = if p == q then with_more a (Fell t) else a
 asker_after p a e = a
 
+-- the same after all of these, in their order
 abbrev pub asker_after_all : ℕ → Option Asker → List Event → Option Asker
 asker_after_all p a [] = a
 asker_after_all p a (e ∷ es) = asker_after_all p (asker_after p a e) es

@@ -48,6 +48,7 @@ is_stop e = false
 abbrev pub unless_stopped : Event → List Handing → List Handing
 unless_stopped e hs = if is_stop e then [] else hs
 
+-- what there is after the next action
 abbrev pub yard_after : Yard → Action → Yard
 yard_after y (Happens e) = record y {
   site = site_after y.site e;
@@ -98,6 +99,7 @@ AreActionsBy over actions = AreActionsFrom over first_yard actions
 abbrev pub AreActions : List Action → Type 0
 AreActions actions = AreActionsBy IsOver actions
 
+-- and after all of these, in their order
 abbrev pub yard_after_all : Yard → List Action → Yard
 yard_after_all y [] = y
 yard_after_all y (a ∷ actions) = yard_after_all (yard_after y a) actions
@@ -111,6 +113,7 @@ abbrev pub said_by : Yard → Action → List (ℕ × ℕ)
 said_by y (Happens e) = openings_by y.site e
 said_by y a = []
 
+-- what is said in these, from here on
 abbrev pub said_from : Yard → List Action → List (ℕ × ℕ)
 said_from y [] = []
 said_from y (a ∷ actions) = said_by y a ++ said_from (yard_after y a) actions
@@ -128,6 +131,7 @@ abbrev pub IsTruthfulFrom : Yard → List Action → Type 0
 IsTruthfulFrom y [] = ⊤
 IsTruthfulFrom y (a ∷ actions) = AreTrue y.performed (said_by y a) × IsTruthfulFrom (yard_after y a) actions
 
+-- and so from the first on
 abbrev pub IsTruthful : List Action → Type 0
 IsTruthful actions = IsTruthfulFrom first_yard actions
 

@@ -83,6 +83,7 @@ with_moment_at Away moment rounds = rounds
 with_moment_at (Before s) moment rounds = rounds
 with_moment_at (Inside k q) moment rounds = with_at rounds k (with_moment (moment q) (rounds k))
 
+-- the site after the next event
 abbrev pub site_after : Site → Event → Site
 site_after w (Dies p) = record w { whereabouts = with_at w.whereabouts p Away }
 site_after w (Starts p es) = record w { journals = with_at w.journals p (settled (w.journals p)); whereabouts = with_at w.whereabouts p (Before (Asking (left_in es))) }
@@ -173,6 +174,7 @@ pub record IsOfIntent (w : Site) (f : Finding) : Type 0 where
   pub journal : journal_of w.lines (w.journals f.worker).kept ≡ Some attempts
   pub high : f.serial ≤ length attempts
 
+-- this event may be the next
 abbrev pub MayHappen : Site → Event → Type 0
 MayHappen w (Dies p) = ⊤
 MayHappen w (Starts p es) = IsNumber p × (journal_of w.lines (read_of (w.journals p)) ≡ Some es)
@@ -194,6 +196,7 @@ IsRunFrom w (e ∷ es) = MayHappen w e × IsRunFrom (site_after w e) es
 abbrev pub IsRun : List Event → Type 0
 IsRun es = IsRunFrom first_site es
 
+-- the site after all of these, in their order
 abbrev pub site_after_all : Site → List Event → Site
 site_after_all w [] = w
 site_after_all w (e ∷ es) = site_after_all (site_after w e) es
@@ -221,6 +224,7 @@ handings_by w (Acts p time d) = handings_of_try p (lines_at w.rounds (w.whereabo
 handings_by w (Misses p time t) = handings_of_try p (lines_at w.rounds (w.whereabouts p)) t
 handings_by w e = []
 
+-- what is handed over in these, from here on
 abbrev pub handings_from : Site → List Event → List Handing
 handings_from w [] = []
 handings_from w (e ∷ es) = handings_by w e ++ handings_from (site_after w e) es
@@ -248,6 +252,7 @@ openings_by w (SaysUnheard f) = opened_by_finding f
 openings_by w (SaysUnread f) = opened_by_finding f
 openings_by w e = []
 
+-- the intents of which it is said in these, from here on
 abbrev pub openings_from : Site → List Event → List (ℕ × ℕ)
 openings_from w [] = []
 openings_from w (e ∷ es) = openings_by w e ++ openings_from (site_after w e) es
