@@ -27,6 +27,7 @@ use Rattle.amo_crew.specs.Crew.{MayRun, IsFinishOf, IsCrew, HasFinished, AreFini
 use Rattle.amo_crew.specs.Outcomes.{spot_of, IsBare, AllStarted, SomeRefused}
 use Rattle.amo_crew.specs.Refusing.{is_refused, any_refused}
 use Rattle.amo_crew.specs.Collecting.{RanAt, AreCollected}
+use Rattle.amo_kk.specs.declared.limits.TheConstants.{MAX_STEPS}
 
 pub all_at : {A : Type 0} (Q : A → Type 0) (xs : List A) → ((k : ℕ) (x : A) → get_elem? xs k ≡ some x → Q x) → All Q xs
 all_at Q [] h = All-nil Q
@@ -46,7 +47,7 @@ zip_length R (a ∷ xs) [] h = absurd h
 zip_length R (a ∷ xs) (b ∷ ys) h = ap suc (zip_length R xs ys h.1)
 
 module _ {P Out : Type 0} (related : ℕ → ℕ → P → Out → Type 0) (queue : Queue Out) (table : TableId) (g : Givens) (payloads : List P) (budgets : List ℕ) where
-  may_run : (p budget : ℕ) (m : Member P Out) → budget ≤ 10000000 → IsMember queue table g payloads p budget m → MayRun queue table m
+  may_run : (p budget : ℕ) (m : Member P Out) → budget ≤ MAX_STEPS → IsMember queue table g payloads p budget m → MayRun queue table m
   may_run p budget m small is = (
     record {
       begun = is.begun;

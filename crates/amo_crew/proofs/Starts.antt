@@ -29,12 +29,13 @@ use Rattle.amo_crew.specs.declared.fault.ExecFault.TheVariants.{WrongCount, NoMe
 use Rattle.amo_crew.specs.Unsettling.{UnsettledView, IsUnsettled, IsSettledOf}
 use Rattle.amo_crew.specs.Refusing.{Concludes, Refuses}
 use Rattle.amo_crew.proofs.Outputs.{at_all}
+use Rattle.amo_kk.specs.declared.limits.TheConstants.{MAX_STEPS}
 
 pub all_small : (g : Givens) (budgets : List ℕ) → IsPlan g budgets → AreSmall budgets
 all_small g budgets is zero = omega arith
 all_small g budgets is (suc k) = go budgets k is.1
   where
-    go : (l : List ℕ) (k : ℕ) → All (λ b. b ≤ 10000000) l → get_or l k 0 ≤ 10000000
+    go : (l : List ℕ) (k : ℕ) → All (λ b. b ≤ MAX_STEPS) l → get_or l k 0 ≤ MAX_STEPS
     go [] k h = omega arith
     go (x ∷ xs) zero h = h 0 x (omega arith)
     go (x ∷ xs) (suc k) h = go xs k (λ i d l. h (suc i) d (omega arith))

@@ -17,12 +17,13 @@ use Rattle.amo_outcome.specs.Became.{Handed, Fate, fate_of, claimer_of, lists_bl
 use Rattle.amo_outcome.specs.Noted.{IsNoted, fate_in}
 use Rattle.amo_outcome.specs.OutcomeLines.{fate_line, block_of, place_of, job_line, job_lines, end_lines}
 use Rattle.amo_outcome.specs.OutcomeTexts.{run_lines}
+use Rattle.amo_plan.specs.declared.limits.TheConstants.{MOST_IN_BLOCK}
 
 -- blocks have jobs
 pub some_block : (version block : ℕ) → is_form version block ≡ true → 1 ≤ block
 some_block version block h = split (version == 1 && block == 1) refl h
   where
-    split : (c : Bool) → (version == 1 && block == 1) ≡ c → (c || (version == 2 && is_between 1 4096 block)) ≡ true → 1 ≤ block
+    split : (c : Bool) → (version == 1 && block == 1) ≡ c → (c || (version == 2 && is_between 1 MOST_IN_BLOCK block)) ≡ true → 1 ≤ block
     split true is e = let same = eqb-true block 1 (and_parts (version == 1) _ is).1 in omega arith
     split false is e = leb-true 1 block (and_parts (nat_le 1 block) _ (and_parts (version == 2) _ e).1).0
 

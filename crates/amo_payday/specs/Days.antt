@@ -9,6 +9,7 @@ use Rattle.amo_payday.specs.declared.day.payment.Payment.{Payment}
 use Rattle.amo_payday.specs.declared.rounds.Crew.{Crew}
 use Rattle.amo_payday.specs.Lines.{line_in}
 use Rattle.amo_payday.specs.Sorting.{ids_of}
+use Rattle.amo_kk.specs.declared.limits.TheConstants.{MAX_STEPS}
 
 -- the payments that a line adds, the next number being id
 abbrev pub payments_in : ℕ → Line → List Payment
@@ -46,7 +47,7 @@ paid_in line = map (λ p. (p.account, p.cents)) (payments_in 1 line)
 
 -- What a day without lines is: one worker, and no limit.
 abbrev pub first_crew : Crew
-first_crew = record { workers = 1; steps = 10000000 }
+first_crew = record { workers = 1; steps = MAX_STEPS }
 
 -- The lines say this day: its crew and its limit are the last that are said, and its payments are those that are said, in their
 -- order, numbered from 1.

@@ -10,6 +10,7 @@ ghost use Rattle.amo_payday.specs.declared.fault.Fault.TheVariants.{Line as Brok
 use crate::fault::Fault;
 use crate::line::{Line, line_of};
 use crate::rounds::Crew;
+use amo_kk::MAX_STEPS;
 use std::alloc::{AllocError, Global};
 use std::io::Read;
 
@@ -36,7 +37,7 @@ impl Day {
         Day {
             crew: Crew {
                 workers: 1,
-                steps: 10_000_000,
+                steps: MAX_STEPS,
             },
             limit: u64::MAX,
             payments: Vec::new(alloc),

@@ -9,6 +9,7 @@ ghost use Rattle.amo_payday.specs.Payments.{Answers};
 ghost use Rattle.amo_payday.specs.Sorting.{ids_of, IsSorted, IsSortingOf};
 ghost use Rattle.amo_payday.specs.Rounds.{is_fit, IsRound, IsRunFault, IsRoundFault};
 ghost use Rattle.amo_payday.specs.declared.rounds.RoundFault.TheVariants.{Unsettled as UnsettledRound, Unsorted};
+ghost use Rattle.amo_kk.specs.declared.limits.TheConstants.{MAX_JOBS};
 
 use crate::bank::{Answer, Bank};
 use crate::day::Payment;
@@ -16,7 +17,7 @@ use crate::sorting::{Sorted, sort_out};
 use amo_crew::laws::settled_later;
 use amo_crew::{ExecFault, Outcome, StopPlan, Unsettled, execute};
 use amo_journal::Device;
-use amo_kk::Givens;
+use amo_kk::{Givens, MAX_JOBS, MAX_STEPS, MAX_WORKERS};
 use std::alloc::{AllocError, Global};
 use std::io::Write;
 use std::mem;
@@ -38,7 +39,7 @@ impl Crew {
     pub(crate) fn is_fit(self) -> bool
         ensures { result ≡ is_fit self }
     {
-        1 <= self.workers && self.workers <= 16 && self.steps <= 10_000_000
+        1 <= self.workers && self.workers <= MAX_WORKERS as u64 && self.steps <= MAX_STEPS
     }
 }
 
@@ -56,10 +57,10 @@ pub(crate) enum RoundFault {
 /// Takes the next round off the payments: their first 4096, or all. Where memory is refused they stay as they are.
 pub(crate) fn next_round(payments: &mut Vec<Payment>) -> Result<Vec<Payment>, AllocError>
     ensures round { IfOk result (λ round. payments.old.items ≡ round.items ++ payments.new.items) }
-    ensures size { IfOk result (λ round. vec_len round ≡ min (vec_len payments.old) 4096) }
+    ensures size { IfOk result (λ round. vec_len round ≡ min (vec_len payments.old) MAX_JOBS) }
     ensures refused { OnErr result (payments.new.items ≡ payments.old.items) }
 {
-    let count = payments.len().min(4096);
+    let count = payments.len().min(MAX_JOBS as usize);
     let rest = payments.split_off(count)?;
     Ok(mem::replace(payments, rest))
 }
@@ -96,7 +97,7 @@ fn sort_twice(
     ids: &[u64],
     outcome: Outcome<Payment, Answer>,
 ) -> Result<Sorted, RoundFault>
-    requires few { length ids.now ≤ 4096 }
+    requires few { length ids.now ≤ MAX_JOBS }
     ensures lists { IfOk result (IsSortingOf ids.now outcome) }
     ensures sorted { IfOk result (λ s. (givens : GivensView) (payloads : List PaymentView) (budgets : List ℕ)
         → IsOutcome Answers givens payloads budgets outcome → ids.now ≡ ids_of payloads → IsSorted payloads s) }
@@ -161,7 +162,7 @@ pub(crate) fn pay_round<
     crew: Crew,
     payments: Vec<Payment>,
 ) -> Result<Sorted, RoundFault>
-    requires few { vec_len payments ≤ 4096 }
+    requires few { vec_len payments ≤ MAX_JOBS }
     ensures sorted { IfOk result (IsRound crew payments.items) }
     ensures fault { IfErr result (IsRoundFault crew payments.items) }
 {

@@ -3,6 +3,7 @@ ghost use Rattle.std.specs.Prelude.{◌≡◌, ◌≤◌, [], length, replicate,
 ghost use Rattle.amo_words.specs.Faces.{spots};
 ghost use Rattle.amo_words.specs.declared.rule.Spot.TheVariants.{Home};
 ghost use Rattle.amo_payday.specs.Second.{IsLeftover, IsLeftoverFault};
+ghost use Rattle.amo_kk.specs.declared.limits.TheConstants.{MAX_JOBS};
 
 use crate::stopping::run_until;
 use amo_crew::{Output, Work};
@@ -73,7 +74,7 @@ pub(crate) fn run_alone<P: Drop, W: Work<P>>(
 ) -> Result<Leftover<P, W::Out>, LeftoverFault<P, W::Out>>
 where
     W::Out: Drop,
-    requires few { vec_len payloads ≤ 4096 }
+    requires few { vec_len payloads ≤ MAX_JOBS }
     ensures rest { IfOk result (IsLeftover (W.related work.now) payloads.items) }
     ensures fault { IfErr result (IsLeftoverFault (W.related work.now) payloads.items) }
 {

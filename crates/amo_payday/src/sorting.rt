@@ -8,6 +8,7 @@ ghost use Rattle.amo_crew.specs.Outcomes.{IsOutcome};
 ghost use Rattle.amo_payday.specs.Payments.{Answers};
 ghost use Rattle.amo_payday.specs.Sorting.{is_paid, has_receipt_of, has_job, ids_of, IsSorted, IsSortingOf};
 ghost use Rattle.amo_payday.specs.declared.day.payment.Payment.{Payment as PaymentView};
+ghost use Rattle.amo_kk.specs.declared.limits.TheConstants.{MAX_JOBS};
 
 use crate::bank::Answer;
 use crate::day::Payment;
@@ -96,7 +97,7 @@ fn list_unsure(
 )
     requires empty { unsure.old.items ≡ [] }
     requires room { (vec_len unsure.old ≡ 0) × (length ids.now ≤ vec_capacity unsure.old) }
-    requires small { length ids.now ≤ 4096 }
+    requires small { length ids.now ≤ MAX_JOBS }
     ensures { unsure.new.items ≡ filter (λ t. not (contains nat_cmp paid.now t.0 || contains nat_cmp free.now t.0)) (enumerate_from 1 ids.now) }
 {
     for before in 0..ids.len() {
@@ -111,7 +112,7 @@ pub(crate) fn sort_out(
     ids: &[u64],
     outcome: Outcome<Payment, Answer>,
 ) -> Result<Sorted, Outcome<Payment, Answer>>
-    requires few { length ids.now ≤ 4096 }
+    requires few { length ids.now ≤ MAX_JOBS }
     ensures lists { IfOk result (IsSortingOf ids.now outcome) }
     ensures sorted { IfOk result (λ s. (givens : GivensView) (payloads : List PaymentView) (budgets : List ℕ)
         → IsOutcome Answers givens payloads budgets outcome → ids.now ≡ ids_of payloads → IsSorted payloads s) }

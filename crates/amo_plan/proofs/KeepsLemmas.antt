@@ -16,7 +16,7 @@ use Rattle.amo_kk.specs.Givens.{givens_of, numbers_or_fault}
 use Rattle.amo_kk.specs.Limits.{first_fault}
 use Rattle.amo_plan.specs.declared.fault.PlanFault.TheVariants.{TooLong, WrongKind, UnknownKey, MissingKey}
 use Rattle.amo_plan.specs.declared.job.Job.{Job}
-use Rattle.amo_plan.specs.declared.limits.TheConstants.{NEWEST_VERSION, MOST_BYTES, MOST_MOVES, MOST_ROUNDS, USUAL_BUDGET}
+use Rattle.amo_plan.specs.declared.limits.TheConstants.{NEWEST_VERSION, MOST_BYTES, MOST_MOVES, MOST_ROUNDS, USUAL_BUDGET, MOST_IN_BLOCK}
 use Rattle.amo_plan.specs.declared.top.Form.{Form}
 use Rattle.amo_plan.specs.Jobs.{read_jobs, fine_jobs}
 use Rattle.amo_plan.specs.Keeps.{is_form, Keeps}
@@ -38,15 +38,15 @@ within_bounds low high (Some m) n e =
     let same : m ≡ n = cc in
     rw (← same) fits
 
-block_known : (o : Option Data) (b : ℕ) → block_in o ≡ Some b → is_between 1 4096 b ≡ true
+block_known : (o : Option Data) (b : ℕ) → block_in o ≡ Some b → is_between 1 MOST_IN_BLOCK b ≡ true
 block_known None b e = let same : 1 ≡ b = cc in rw (← same) refl
 block_known (Some d) b e = within_bounds 1 4096 (natural d) b e
 
 -- a version with its block
-form_fits : (v b : ℕ) (o : Option ℕ) → is_between 1 NEWEST_VERSION v ≡ true → cond (v == 2) o (Some 1) ≡ Some b → (o ≡ Some b → is_between 1 4096 b ≡ true) → is_form v b ≡ true
+form_fits : (v b : ℕ) (o : Option ℕ) → is_between 1 NEWEST_VERSION v ≡ true → cond (v == 2) o (Some 1) ≡ Some b → (o ≡ Some b → is_between 1 MOST_IN_BLOCK b ≡ true) → is_form v b ≡ true
 form_fits v b o known e fits =
     elim (cases_Bool (v == 2)) [
-      | inl two ↦ let of_block : o ≡ Some b = rw two at e in let last : is_between 1 4096 b ≡ true = fits of_block in grind (arith, nat_tests)
+      | inl two ↦ let of_block : o ≡ Some b = rw two at e in let last : is_between 1 MOST_IN_BLOCK b ≡ true = fits of_block in grind (arith, nat_tests)
       | inr other ↦ let one : Some 1 ≡ Some b = rw other at e in let same : 1 ≡ b = cc in grind (arith, nat_tests)
     ]
 

@@ -5,10 +5,11 @@ use Rattle.amo_plan.specs.declared.fault.PlanFault.{PlanFault}
 use Rattle.amo_plan.specs.declared.fault.PlanFault.TheVariants.{TooLong}
 use Rattle.amo_plan.specs.declared.limits.TheConstants.{MOST_ROUNDS, USUAL_BUDGET}
 use Rattle.amo_plan.specs.Passing.{unless}
+use Rattle.amo_kk.specs.declared.limits.TheConstants.{MAX_STEPS}
 
--- at most ten million steps
+-- no more steps than a worker may have
 abbrev pub is_small : ℕ → Bool
-is_small budget = nat_le budget 10000000
+is_small budget = nat_le budget MAX_STEPS
 
 -- the budgets of m workers: as many steps each as is usual, where none are named
 abbrev pub small_budgets : ℕ → Option (List ℕ) → Result (List ℕ) PlanFault

@@ -4,7 +4,7 @@ use Rattle.std.specs.Str.{bytes_eq}
 use Rattle.toml.specs.Data.{Data, Members, as_str, as_array, get_member}
 use Rattle.amo_plan.specs.declared.fault.PlanFault.{PlanFault}
 use Rattle.amo_plan.specs.declared.fault.PlanFault.TheVariants.{UnknownKey, MissingKey, WrongKind}
-use Rattle.amo_plan.specs.declared.limits.TheConstants.{NEWEST_VERSION}
+use Rattle.amo_plan.specs.declared.limits.TheConstants.{NEWEST_VERSION, MOST_IN_BLOCK}
 use Rattle.amo_plan.specs.declared.top.Form.{Form}
 use Rattle.amo_plan.specs.Passing.{◌>>=◌, or_fault, unless, is_between}
 use Rattle.amo_plan.specs.Tree.{Key, has, natural, natural_at, is_known, each_key, tables_of, naturals_in}
@@ -47,9 +47,9 @@ is_top_key with_block k = is_known top_keys k || (with_block && bytes_eq k (code
 
 -- how many jobs a block may have
 abbrev pub known_block : ℕ → Option ℕ
-known_block g = if is_between 1 4096 g then Some g else None
+known_block g = if is_between 1 MOST_IN_BLOCK g then Some g else None
 
--- an integer of 1..=4096, or 1 where there is none
+-- an integer of 1..=MOST_IN_BLOCK, or 1 where there is none
 abbrev pub block_in : Option Data → Option ℕ
 block_in None = Some 1
 block_in (Some d) = option_and_then known_block (natural d)

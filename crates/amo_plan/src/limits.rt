@@ -6,6 +6,7 @@ ghost use Rattle.amo_plan.specs.Limits.{is_small, budgets_within};
 ghost use Rattle.amo_plan.specs.declared.limits.TheConstants.{MOST_ROUNDS};
 
 use crate::fault::PlanFault;
+use amo_kk::MAX_STEPS;
 use std::alloc::Global;
 
 /// The newest version of the format.
@@ -20,6 +21,9 @@ pub const MOST_MOVES: u64 = 100_000;
 /// The most rounds.
 pub const MOST_ROUNDS: u64 = 10_000;
 
+/// The most jobs of a block.
+pub const MOST_IN_BLOCK: u64 = 4096;
+
 /// How many steps each worker has where no budgets are named.
 pub const USUAL_BUDGET: u64 = 1_000_000;
 
@@ -29,11 +33,11 @@ pub const HIGHEST_IN_WORD: u64 = 999_999;
 /// The highest number that is read from digits.
 pub const HIGHEST_NUMBER: u64 = 1_000_000_000_000;
 
-/// No budget is above 10,000,000.
+/// No budget is above `MAX_STEPS`.
 fn are_small(budgets: &[u64]) -> bool
     ensures { result ≡ list_all is_small budgets.now }
 {
-    budgets.iter().all(|budget| *budget <= 10_000_000)
+    budgets.iter().all(|budget| *budget <= MAX_STEPS)
 }
 
 /// The budgets of the workers, `USUAL_BUDGET` steps each where none are named, if rounds and budgets keep their limits.

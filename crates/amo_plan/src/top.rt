@@ -7,11 +7,11 @@ ghost use Rattle.amo_plan.specs.Keeps.{is_form};
 ghost use Rattle.amo_plan.specs.Passing.{Gives, or_fault, is_between};
 ghost use Rattle.amo_plan.specs.Tree.{each_key};
 ghost use Rattle.amo_plan.specs.Top.{version_of, is_two, is_top_key, known_block, block_in, block_of, jobs_of, text_of, rounds_of, budgets_of, form_of, more_values, top_values, top_of};
-ghost use Rattle.amo_plan.specs.declared.limits.TheConstants.{NEWEST_VERSION};
+ghost use Rattle.amo_plan.specs.declared.limits.TheConstants.{NEWEST_VERSION, MOST_IN_BLOCK};
 ghost use Rattle.amo_plan.specs.Seen.{top_seen, more_seen};
 
 use crate::fault::PlanFault;
-use crate::limits::NEWEST_VERSION;
+use crate::limits::{MOST_IN_BLOCK, NEWEST_VERSION};
 use crate::tree::{has_key, natural, natural_at, naturals, tables, value_at};
 use std::alloc::Global;
 use toml::{Table, Value};
@@ -21,7 +21,7 @@ use toml::{Table, Value};
 pub(crate) struct Form {
     /// The version, 1 or 2.
     pub(crate) version: u32,
-    /// How many jobs make a block, 1 to 4096.
+    /// How many jobs make a block, 1 to `MOST_IN_BLOCK`.
     pub(crate) block: u32,
 }
 
@@ -92,14 +92,14 @@ fn has_top_keys(with_block: bool, table: &Table) -> bool
 
 /// How many jobs make a block in version 2, where the key may be absent.
 fn block_in(value: Option<&Value>) -> Option<u32>
-    ensures within { IfSome result (λ b. is_between 1 4096 b ≡ true) }
+    ensures within { IfSome result (λ b. is_between 1 MOST_IN_BLOCK b ≡ true) }
     ensures block { result ≡ block_in (option_map (λ v. view v.now) value.entry) }
 {
     let Some(value) = value else {
         return Some(1);
     };
     let block = natural(value)?;
-    if 1 <= block && block <= 4096 {
+    if 1 <= block && block <= MOST_IN_BLOCK {
         Some(block as u32)
     } else {
         None
