@@ -4,11 +4,14 @@ use Rattle.std.proofs.Math.ListN.{get_or-map}
 use Rattle.std.proofs.lemmas.List.{length-map}
 use Rattle.std.proofs.lemmas.List.Sums.{sum_by-cons}
 use Rattle.std.proofs.lemmas.List.Elements.{filter-append, All-append}
+use Rattle.std.specs.List.Sorted.{IsPermutation}
+use Rattle.std.proofs.lemmas.List.Sorted.{All-permutation, sum_by-IsPermutation}
 use Rattle.crossbeam_queue.specs.Passes.{view}
 use Rattle.amo_mailbox.specs.declared.output.Output.{Output}
 use Rattle.amo_mailbox.specs.declared.outlet.Outlet.{Outlet}
+use Rattle.amo_mailbox.specs.declared.queue.Queue.{Queue}
 use Rattle.amo_mailbox.specs.Mailbox.{of, AreApart, AreWhole}
-use Rattle.amo_mailbox.specs.Endpoints.{given, worker_and_sent, has_worker, worker_and_kept, sent_by}
+use Rattle.amo_mailbox.specs.Endpoints.{IsOutletOf, given, worker_and_sent, has_worker, worker_and_kept, sent_by}
 use Rattle.amo_mailbox.proofs.Gathers.{among, workers_of, any_map, all_of, own_of_all, only_of_all}
 
 all_map : {X Y : Type 0} (f : X → Y) (P : Y → Type 0) (xs : List X) → All (λ x. P (f x)) xs → All P (map f xs)
@@ -92,3 +95,15 @@ module _ {Out : Type 0} where
 
   pub kept_same : (os os' : List (Outlet Out)) → map worker_and_kept os' ≡ map worker_and_kept os → flat_map (λ o. o.kept) os' ≡ flat_map (λ o. o.kept) os
   kept_same os os' e = flat_left os' ∙ ap all_of e ∙ sym (flat_left os)
+
+  -- what sorted outlets sent and kept is what these outlets were given
+  pub gathered_room : (queue : Queue Out) (os sorted after : List (Outlet Out)) (back : List (ℕ × List (Output Out))) → IsPermutation os sorted → All (λ o. IsOutletOf queue o) os → back ≡ map worker_and_sent sorted → map worker_and_kept after ≡ map worker_and_kept sorted
+      → sum_by (λ e. length e.1) back + sum_by (λ o. length o.kept) after ≡ sum_by (λ o. o.put_count) os
+  gathered_room queue os sorted after back perm belong is kept =
+      let len : ℕ × List (Output Out) → ℕ = λ e. length e.1 in
+      let each : All (λ o. IsOutletOf queue o) sorted = All-permutation (λ (o : Outlet Out). IsOutletOf queue o) os sorted perm belong in
+      let same : sum_by len back ≡ sum_by len (map worker_and_sent sorted) = ap (sum_by len) is in
+      let left : sum_by (λ (o : Outlet Out). length o.kept) after ≡ sum_by len (map worker_and_kept sorted) = kept_len after ∙ ap (sum_by len) kept in
+      let all = room_of sorted (λ k d lt. (each k d lt).counted) in
+      let count : sum_by (λ (o : Outlet Out). o.put_count) sorted ≡ sum_by (λ (o : Outlet Out). o.put_count) os = sum_by-IsPermutation (λ (o : Outlet Out). o.put_count) os sorted perm in
+      let goal : sum_by len back + sum_by (λ (o : Outlet Out). length o.kept) after ≡ sum_by (λ (o : Outlet Out). o.put_count) os = omega arith in goal

@@ -1,5 +1,5 @@
-use Rattle.std.proofs.Common.{rules, arith, ◌≡◌, ◌++◌, ℕ, List, length, map, flat_map, sum_by, get_or, ap, subst, ◌∙◌, eqb, true, All}
-use Rattle.std.proofs.lemmas.List.Sorted.{All-permutation, IsPermutation-sym, sum_by-IsPermutation, list_any-IsPermutation, IsNonDecreasingBy-from_sort_by_key}
+use Rattle.std.proofs.Common.{rules, arith, ◌≡◌, ◌++◌, ℕ, List, map, flat_map, get_or, ap, subst, ◌∙◌, eqb, true, All}
+use Rattle.std.proofs.lemmas.List.Sorted.{All-permutation, IsPermutation-sym, list_any-IsPermutation, IsNonDecreasingBy-from_sort_by_key}
 use Rattle.crossbeam_queue.specs.Passes.{view}
 use Rattle.amo_mailbox.specs.declared.output.Output.{Output}
 use Rattle.amo_mailbox.specs.declared.outlet.Outlet.{Outlet}
@@ -7,7 +7,7 @@ use Rattle.amo_mailbox.specs.Mailbox.{of, back_of, AreWhole, AreApart}
 use Rattle.amo_mailbox.specs.Ports.{InletView}
 use Rattle.amo_mailbox.specs.Endpoints.{IsOutletOf, given, worker_and_sent, worker_and_kept, has_worker}
 use Rattle.amo_mailbox.proofs.Gathers.{workers_of}
-use Rattle.amo_mailbox.proofs.Ended.{workers_same, room_of, kept_len, kept_same, gathered_each, gathered_only}
+use Rattle.amo_mailbox.proofs.Ended.{workers_same, kept_same, gathered_each, gathered_only, gathered_room}
 use Rattle.amo_mailbox.proofs.inlet.Inlet.gather.Goals as goal
 
 pub bring_back-requires-clause-belong : goal.bring_back-requires-clause-belong
@@ -19,33 +19,17 @@ take_rest-requires-clause-workers g c = ap workers_of (ap back_of c.bring_back.e
 
 pub take_rest-requires-clause-room : goal.take_rest-requires-clause-room
 take_rest-requires-clause-room g c =
-    let O : Type 0 = Output g.row.Out.Denot in
-    let os : List (Outlet g.row.Out.Denot) = c.sort_unstable_by_key.new.self.items in
-    let len : ℕ × List O → ℕ = λ e. length e.1 in
-    let belong : All (IsOutletOf c.args.queue) os = All-permutation (λ (o : Outlet g.row.Out.Denot). IsOutletOf c.args.queue o) _ _ c.sort_unstable_by_key.ensures.permutation c.requires.outlets in
-    let same : sum_by len (back_of (view c.bring_back.new.pass)) ≡ sum_by len (map worker_and_sent os) =
-    ap (sum_by len) (ap back_of c.bring_back.ensures.view ∙ ap (map worker_and_sent) c.as_mut_slice-row.ensures.value) in
-    let all = room_of os (λ k d lt. (belong k d lt).counted) in
-    let count = sum_by-IsPermutation (λ (o : Outlet g.row.Out.Denot). o.put_count) _ _ c.sort_unstable_by_key.ensures.permutation in
+    let all = gathered_room c.args.queue _ _ c.bring_back.new.outlets _ c.sort_unstable_by_key.ensures.permutation c.requires.outlets
+    (ap back_of c.bring_back.ensures.view ∙ ap (map worker_and_sent) c.as_mut_slice-row.ensures.value) (c.bring_back.ensures.left ∙ ap (map worker_and_kept) c.as_mut_slice-row.ensures.value) in
     let room = ap (λ (v : InletView g.row.Out.Denot). v.room) c.self.view_is in
-    let fits = c.self.invariant in
-    omega (arith, room, fits)
+    let fits = c.self.invariant in omega (arith, room, fits)
 
 pub append_kept-requires : goal.append_kept-requires
 append_kept-requires g c =
-    let O : Type 0 = Output g.row.Out.Denot in
-    let os : List (Outlet g.row.Out.Denot) = c.sort_unstable_by_key.new.self.items in
-    let len : ℕ × List O → ℕ = λ e. length e.1 in
-    let belong : All (IsOutletOf c.args.queue) os = All-permutation (λ (o : Outlet g.row.Out.Denot). IsOutletOf c.args.queue o) _ _ c.sort_unstable_by_key.ensures.permutation c.requires.outlets in
-    let same : sum_by len (back_of (view c.bring_back.new.pass)) ≡ sum_by len (map worker_and_sent os) =
-    ap (sum_by len) (ap back_of c.bring_back.ensures.view ∙ ap (map worker_and_sent) c.as_mut_slice-row.ensures.value) in
-    let all = room_of os (λ k d lt. (belong k d lt).counted) in
-    let kept : sum_by (λ (o : Outlet g.row.Out.Denot). length o.kept) c.bring_back.new.outlets ≡ sum_by len (map worker_and_kept os) =
-    kept_len c.bring_back.new.outlets ∙ ap (sum_by len) (c.bring_back.ensures.left ∙ ap (map worker_and_kept) c.as_mut_slice-row.ensures.value) in
-    let count = sum_by-IsPermutation (λ (o : Outlet g.row.Out.Denot). o.put_count) _ _ c.sort_unstable_by_key.ensures.permutation in
+    let all = gathered_room c.args.queue _ _ c.bring_back.new.outlets _ c.sort_unstable_by_key.ensures.permutation c.requires.outlets
+    (ap back_of c.bring_back.ensures.view ∙ ap (map worker_and_sent) c.as_mut_slice-row.ensures.value) (c.bring_back.ensures.left ∙ ap (map worker_and_kept) c.as_mut_slice-row.ensures.value) in
     let room = ap (λ (v : InletView g.row.Out.Denot). v.room) c.self.view_is in
-    let fits = c.self.invariant in
-    omega (arith, room, fits)
+    let fits = c.self.invariant in omega (arith, room, fits)
 
 pub returns-clause-each : goal.returns-clause-each
 returns-clause-each g c =
