@@ -15,7 +15,7 @@ use std::alloc::{AllocError, Global};
 
 /// An output that says of its block that it is done: its worker, and its place among all outputs.
 #[derive(Clone, Copy)]
-pub struct Filed {
+pub struct BlockDone {
     pub worker: u32,
     pub place: usize,
 }
@@ -66,7 +66,7 @@ fn is_in(sets: &[JobSet], number: u32, job: u32) -> bool
 }
 
 /// The output that stays noted: the earlier, unless the later is of a lesser worker.
-fn kept(earlier: Option<Filed>, later: Filed) -> Filed
+fn kept(earlier: Option<BlockDone>, later: BlockDone) -> BlockDone
     ensures { result ≡ kept earlier later }
 {
     match earlier {
@@ -76,7 +76,7 @@ fn kept(earlier: Option<Filed>, later: Filed) -> Filed
 }
 
 /// Notes an output at its job, unless there is no such job, or an output of the same or of a lesser worker is noted.
-fn note(filed: &mut [Option<Filed>], job: u32, output: Filed)
+fn note(filed: &mut [Option<BlockDone>], job: u32, output: BlockDone)
     ensures { filed.new ≡ put filed.old job (Some (kept (numbered None filed.old job) output)) }
 {
     if 1 <= job && job as usize <= filed.len() {
@@ -88,7 +88,7 @@ fn note(filed: &mut [Option<Filed>], job: u32, output: Filed)
 /// Notes the output at a place, where the set of its worker has its job.
 #[tactic(auto, using(crate::proofs::Noting::put_noted, crate::proofs::Noting::not_noted))]
 fn note_output(
-    filed: &mut [Option<Filed>],
+    filed: &mut [Option<BlockDone>],
     sets: &[JobSet],
     place: usize,
     output: &Output<Vec<Answer>>,
@@ -99,12 +99,12 @@ fn note_output(
 {
     let worker = output.worker;
     if is_in(sets, worker, output.job) {
-        note(filed, output.job, Filed { worker, place });
+        note(filed, output.job, BlockDone { worker, place });
     }
 }
 
 /// Notes of each block the first output of the least worker that has it in its set.
-fn note_outputs(filed: &mut [Option<Filed>], sets: &[JobSet], outputs: &[Output<Vec<Answer>>])
+fn note_outputs(filed: &mut [Option<BlockDone>], sets: &[JobSet], outputs: &[Output<Vec<Answer>>])
     requires { filed.old ≡ replicate (length filed.old) None }
     ensures len { length filed.new ≡ length filed.old }
     ensures noted { (b : ℕ) → 1 ≤ b → b ≤ length filed.old → IsNoted (is_in sets.now) outputs.now b (numbered None filed.new b) }
@@ -120,7 +120,7 @@ pub fn filed_of(
     jobs: u32,
     dones: &[Vec<u32>],
     outputs: &[Output<Vec<Answer>>],
-) -> Result<Vec<Option<Filed>>, AllocError>
+) -> Result<Vec<Option<BlockDone>>, AllocError>
     ensures len { IfOk result (λ v. length v.items ≡ jobs) }
     ensures noted { IfOk result (λ v. (b : ℕ) → 1 ≤ b → b ≤ jobs
         → IsNoted (lists_block (listed dones.now)) outputs.now b (numbered None v.items b)) }
@@ -132,11 +132,11 @@ pub fn filed_of(
 }
 
 /// Of how many blocks an output is noted.
-pub fn count_filed(filed: &[Option<Filed>]) -> usize
+pub fn count_filed(filed: &[Option<BlockDone>]) -> usize
     ensures { result ≡ length (filed_blocks filed.now (length filed.now)) }
 {
     let mut count = 0;
-    for (i, noted) in filed.iter().enumerate() {
+    for noted in filed {
         if let Some(_) = noted {
             count += 1;
         }
@@ -145,7 +145,7 @@ pub fn count_filed(filed: &[Option<Filed>]) -> usize
 }
 
 /// How many jobs these blocks have.
-pub fn count_filed_jobs(filed: &[Option<Filed>], block: u32, jobs: usize) -> u64
+pub fn count_filed_jobs(filed: &[Option<BlockDone>], block: u32, jobs: usize) -> u64
     requires { length filed.now < 2 ^ 32 }
     ensures { result ≡ sum_by (jobs_in_block block jobs) (filed_blocks filed.now (length filed.now)) }
 {

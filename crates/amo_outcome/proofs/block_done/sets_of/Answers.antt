@@ -3,7 +3,7 @@ use Rattle.std.specs.List.{AllZip}
 use Rattle.std.proofs.lemmas.List.{take_more}
 use Rattle.amo_crew.proofs.Zips.{zip_more}
 use Rattle.amo_outcome.specs.Noted.{IsSetOf}
-use Rattle.amo_outcome.proofs.filed.sets_of.Goals as goal
+use Rattle.amo_outcome.proofs.block_done.sets_of.Goals as goal
 
 pub loop-list-preserved : goal.loop-list-preserved
 loop-list-preserved c =

@@ -1,7 +1,7 @@
 use Rattle.std.proofs.Common.{◌≡◌, ◌≤◌, ◌*◌, sum_by}
 use Rattle.amo_texts.specs.Results.{jobs_in_block}
 use Rattle.amo_outcome.specs.Noted.{filed_blocks}
-use Rattle.amo_outcome.proofs.filed.count_filed_jobs.Given as goal
+use Rattle.amo_outcome.proofs.block_done.count_filed_jobs.Given as goal
 
 -- the jobs of those so far are counted
 abbrev pub invariant-loop-i : goal.invariant-loop-i

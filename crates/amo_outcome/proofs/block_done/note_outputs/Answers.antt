@@ -1,7 +1,7 @@
 use Rattle.std.proofs.Common.{◌∙◌, arith}
 use Rattle.amo_outcome.specs.Noted.{is_in}
 use Rattle.amo_outcome.proofs.Noting.{noted_next}
-use Rattle.amo_outcome.proofs.filed.note_outputs.Goals as goal
+use Rattle.amo_outcome.proofs.block_done.note_outputs.Goals as goal
 
 pub loop-place-preserved : goal.loop-place-preserved
 loop-place-preserved c =

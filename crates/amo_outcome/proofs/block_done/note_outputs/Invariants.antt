@@ -1,7 +1,7 @@
 use Rattle.std.proofs.Common.{◌≡◌, ◌≤◌, ℕ, None, length, take}
 use Rattle.amo_sets.specs.Lists.{numbered}
 use Rattle.amo_outcome.specs.Noted.{is_in, IsNoted}
-use Rattle.amo_outcome.proofs.filed.note_outputs.Given as goal
+use Rattle.amo_outcome.proofs.block_done.note_outputs.Given as goal
 
 -- what is noted is that of the outputs so far
 abbrev pub invariant-loop-place : goal.invariant-loop-place
