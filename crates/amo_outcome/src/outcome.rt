@@ -4,8 +4,8 @@ ghost use Rattle.amo_outcome.specs.Became.{listed};
 ghost use Rattle.amo_outcome.specs.Noted.{noted_fate};
 ghost use Rattle.amo_outcome.specs.OutcomeTexts.{run_lines, fates_of, outcome_of, FitsHeads};
 
-use crate::claimers::claimers_of;
 use crate::block_done::{count_filed, count_filed_jobs, filed_of};
+use crate::claimers::claimers_of;
 use crate::outcome_lines::{Notes, push_ends, push_jobs};
 use amo_crew::Outcome;
 use amo_kk::Givens;
