@@ -4,7 +4,6 @@ use Rattle.std.proofs.lemmas.Bool.{cases_eq, cases_lt, true≢false, false_from_
 use Rattle.amo_sets.specs.Sets.{has}
 use Rattle.amo_kk.specs.Givens.{IsWorker, IsOther, next_other}
 use Rattle.amo_kk.specs.Step.{with_announced}
-use Rattle.amo_kk.specs.Lawful.{AreLawful, IsSoundProcess}
 use Rattle.amo_kk.specs.declared.givens.Givens.{Givens}
 use Rattle.amo_kk.specs.declared.phase.Phase.{Phase}
 use Rattle.amo_kk.specs.declared.phase.Phase.TheVariants.{Announcing, Trying, Reading}
@@ -13,33 +12,28 @@ use Rattle.amo_kk.specs.declared.model.Process.{Process}
 use Rattle.amo_kk.proofs.Choice.{next_other_next}
 use Rattle.amo_kk.proofs.Kept.{others_room, others_next, noted_cases, noted_kept, noted_same, none_before}
 use Rattle.amo_bounds.proofs.Turns.{next_after}
-use Rattle.amo_bounds.proofs.Still.{IsTurnOf}
 use Rattle.amo_bounds.proofs.Homes.{IsHome, one_home}
-use Rattle.amo_bounds.proofs.Potential.{togo, cost, Passes, GradeIn, Grade, ClearedIn, Cleared, Charge, HasPotential, Rebuilds}
-use Rattle.amo_bounds.proofs.Fallen.{Room, Fallen, nearer, graded_as, charge_kept, next_kept, cost_is}
+use Rattle.amo_bounds.proofs.Potential.{togo, cost, Passes, GradeIn, Grade, ClearedIn, Cleared, Charge, Rebuilds}
+use Rattle.amo_bounds.proofs.Fallen.{IsTaken, Fallen, nearer, graded_as, charge_kept, next_kept, cost_is}
 
-module _ {g : Givens} {at now : ℕ → Process} {p : ℕ} (law : AreLawful g at) (turn : IsTurnOf g at now p) (h : HasPotential g at) (room : Room g h.free) where
+module _ {g : Givens} {at now : ℕ → Process} {p : ℕ} (given : IsTaken g at now p) where
+  open given use {law, turn, turn.{worker as o}, h, room}
+
   abbrev r : Record
   r = (at p).local
-
-  o : IsWorker g p
-  o = turn.worker
-
-  sound : IsSoundProcess g p (at p)
-  sound = law.sound p o
 
   -- p stores the announcement
   pub begins : (j : ℕ) → r.phase ≡ Announcing j → r.tried ≡ [] → IsOther g p (next_other p 0) → (now p).local ≡ record r { phase = Trying j (next_other p 0); steps = 0 } → Fallen g at now h
   begins j is none first e = ⊎_elim
-      (λ (home : IsHome g h.free p j). nearer law turn h room p 0 0 (made 0 0 (inl (home, ap (λ l. has l j) none)) (inr (λ i w d there. absurd (d (one_home g h.free i p j w o (subst (λ y. IsHome g h.free i y) stored there) home))))) (omega arith) near)
-      (λ l. nearer law turn h room p 1 1 (made 1 1 (inr (omega arith)) (inl (omega arith))) (omega arith) near)
-      (graded_as law turn h room (Announcing j) is)
+      (λ (home : IsHome g h.free p j). nearer given p 0 0 (made 0 0 (inl (home, ap (λ l. has l j) none)) (inr (λ i w d there. absurd (d (one_home g h.free i p j w o (subst (λ y. IsHome g h.free i y) stored there) home))))) (omega arith) near)
+      (λ l. nearer given p 1 1 (made 1 1 (inr (omega arith)) (inl (omega arith))) (omega arith) near)
+      (graded_as given (Announcing j) is)
     where
       stored : (now p).next ≡ j
       stored = turn.next ∙ ap (λ x. next_after x (at p).next) is
 
       near : cost g p (now p).local < cost g p r
-      near = let c = cost_is law turn h room (record r { phase = Trying j (next_other p 0); steps = 0 }) e refl in let was = ap (togo g p) is in let some = g.limits.some in omega arith
+      near = let c = cost_is given (record r { phase = Trying j (next_other p 0); steps = 0 }) e refl in let was = ap (togo g p) is in let some = g.limits.some in omega arith
 
       made : (k c : ℕ) → GradeIn g at h.free p (record r { phase = Trying j (next_other p 0); steps = 0 }) k (Trying j (next_other p 0)) → Charge g now h.free p c → Rebuilds g at now h p p k c
       made k c grade charge =
@@ -63,22 +57,22 @@ module _ {g : Givens} {at now : ℕ → Process} {p : ℕ} (law : AreLawful g at
   noted j q phase is other e grade clear near = ⊎_elim
       (λ (m : Passes g h.free p r j). ⊎_elim
       (λ (same : (at q).next ≡ j). ⊎_elim
-      (λ (l : 1 ≤ h.charges q). nearer law turn h room q 1 (h.charges q - 1) (made q other.worker 1 (h.charges q - 1) (grade 1 (inr (omega arith))) (inr (seen same m.0))) (omega arith) fewer)
+      (λ (l : 1 ≤ h.charges q). nearer given q 1 (h.charges q - 1) (made q other.worker 1 (h.charges q - 1) (grade 1 (inr (omega arith))) (inr (seen same m.0))) (omega arith) fewer)
       (λ all. ⊎_elim
       (λ (there : has r.tried (at q).next ≡ true). absurd (true≢false (sym there ∙ ap (has r.tried) same ∙ m.1)))
       (λ (there : (j ≢ (at q).next) × (q ≤ q)). absurd (there.0 (sym same)))
       (subst (λ y. ClearedIn r q (at q).next y) is (all p o (λ y. other.differs (sym y)) (subst (λ y. IsHome g h.free p y) (sym same) m.0))))
       (h.charged q other.worker))
-      (λ n. nearer law turn h room p (h.grades p) (h.charges p) (made p o (h.grades p) (h.charges p) (grade (h.grades p) (inl (m.0, untried n m.1))) (charge_kept law turn h room kept)) (omega arith) fewer)
+      (λ n. nearer given p (h.grades p) (h.charges p) (made p o (h.grades p) (h.charges p) (grade (h.grades p) (inl (m.0, untried n m.1))) (charge_kept given kept)) (omega arith) fewer)
       (cases_eq (at q).next j))
-      (λ l. nearer law turn h room p (h.grades p) (h.charges p) (made p o (h.grades p) (h.charges p) (grade (h.grades p) (inr l)) (charge_kept law turn h room kept)) (omega arith) fewer)
-      (graded_as law turn h room (Trying j q) is)
+      (λ l. nearer given p (h.grades p) (h.charges p) (made p o (h.grades p) (h.charges p) (grade (h.grades p) (inr l)) (charge_kept given kept)) (omega arith) fewer)
+      (graded_as given (Trying j q) is)
     where
       kept : (now p).next ≡ (at p).next
-      kept = next_kept law turn h room (Trying j q) is refl
+      kept = next_kept given (Trying j q) is refl
 
       fewer : cost g p (now p).local < cost g p r
-      fewer = let c = cost_is law turn h room (record r { phase = phase; tried = with_announced (at q).next r.tried; steps = 0 }) e refl in let was = ap (togo g p) is in omega arith
+      fewer = let c = cost_is given (record r { phase = phase; tried = with_announced (at q).next r.tried; steps = 0 }) e refl in let was = ap (togo g p) is in omega arith
 
       untried : (at q).next ≢ j → has r.tried j ≡ false → has (with_announced (at q).next r.tried) j ≡ false
       untried n f = false_from_ne_true (has (with_announced (at q).next r.tried) j) (λ t. ⊎_elim (λ (new : (1 ≤ (at q).next) × ((at q).next ≡ j)). n new.1) (λ old. true≢false (sym old ∙ f)) (noted_cases (at q).next j r.tried t))

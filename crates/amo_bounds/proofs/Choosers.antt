@@ -13,7 +13,7 @@ use Rattle.amo_kk.specs.Step.{with_announced}
 use Rattle.amo_kk.specs.Lawful.{IsDone}
 use Rattle.amo_kk.specs.declared.givens.Givens.{Givens}
 use Rattle.amo_kk.specs.declared.phase.Phase.{Phase}
-use Rattle.amo_kk.specs.declared.phase.Phase.TheVariants.{Announcing, Trying, Reading, Claiming, Holding, Over, Left}
+use Rattle.amo_kk.specs.declared.phase.Phase.TheVariants.{Announcing, Trying, Reading}
 use Rattle.amo_kk.specs.declared.model.Record.{Record}
 use Rattle.amo_kk.proofs.FirstChoice.{ranks_rise}
 use Rattle.amo_kk.proofs.Choice.{open_parts, chosen_is, next_other_next, choice_cases, check_cases}
@@ -126,29 +126,16 @@ module _ {g : Givens} (c : Circle g) (x : ℕ) (none_below : (y : ℕ) → y < x
   Fair p r (Announcing j) = j ≡ x → IsChoice p
   Fair p r (Trying j q) = Seen p r.tried q
   Fair p r (Reading j q) = Seen p r.tried (suc g.workers) × HasRead p r q
-  Fair p r (Claiming j) = Unit {0}
-  Fair p r (Holding j) = Unit {0}
-  Fair p r Over = Unit {0}
-  Fair p r Left = Unit {0}
+  Fair p r phase = Unit {0}
 
   -- the same, but that an attempt may be about to begin after anything
   abbrev Begun : ℕ → Record → Phase → Type 0
   Begun p r (Announcing j) = Unit {0}
-  Begun p r (Trying j q) = Seen p r.tried q
-  Begun p r (Reading j q) = Seen p r.tried (suc g.workers) × HasRead p r q
-  Begun p r (Claiming j) = Unit {0}
-  Begun p r (Holding j) = Unit {0}
-  Begun p r Over = Unit {0}
-  Begun p r Left = Unit {0}
+  Begun p r phase = Fair p r phase
 
   fair_begun : (p : ℕ) (r : Record) (phase : Phase) → Fair p r phase → Begun p r phase
   fair_begun p r (Announcing j) h = tt
-  fair_begun p r (Trying j q) h = h
-  fair_begun p r (Reading j q) h = h
-  fair_begun p r (Claiming j) h = tt
-  fair_begun p r (Holding j) h = tt
-  fair_begun p r Over h = tt
-  fair_begun p r Left h = tt
+  fair_begun p r phase h = h
 
   module _ (p : ℕ) (o : IsWorker g p) (high : x ≤ (c.at 0 p).next) where
     -- the check after a whole attempt

@@ -11,7 +11,7 @@ use Rattle.amo_kk.specs.Step.{with_announced}
 use Rattle.amo_kk.specs.Lawful.{AreLawful, IsDone}
 use Rattle.amo_kk.specs.declared.givens.Givens.{Givens}
 use Rattle.amo_kk.specs.declared.phase.Phase.{Phase}
-use Rattle.amo_kk.specs.declared.phase.Phase.TheVariants.{Announcing, Trying, Reading, Claiming, Holding, Over, Left}
+use Rattle.amo_kk.specs.declared.phase.Phase.TheVariants.{Announcing, Trying, Reading}
 use Rattle.amo_kk.specs.declared.model.Record.{Record}
 use Rattle.amo_kk.specs.declared.model.Process.{Process}
 use Rattle.amo_kk.proofs.Choice.{choice_cases, check_cases}
@@ -201,12 +201,7 @@ module _ {g : Givens} (c : Circle g) where
 
           by_phase : (phase : Phase) → (c.at t q).local.phase ≡ phase → StoredOrSame t q
           by_phase (Announcing j) is = inl (j, record { turn = turn; phase = is })
-          by_phase (Trying j i) is = kept (Trying j i) is refl
-          by_phase (Reading j i) is = kept (Reading j i) is refl
-          by_phase (Claiming j) is = kept (Claiming j) is refl
-          by_phase (Holding j) is = kept (Holding j) is refl
-          by_phase Over is = kept Over is refl
-          by_phase Left is = kept Left is refl
+          by_phase phase is = kept phase is refl
 
   -- the announcement of o never changes
   abbrev pub Constant : ℕ → Type 0

@@ -39,12 +39,7 @@ phase_of k j q =
 
 phase_back : (phase : Phase) → phase_of (get_or (phase_digits phase) 0 0) (get_or (phase_digits phase) 1 0) (get_or (phase_digits phase) 2 0) ≡ phase
 phase_back (Announcing j) = refl
-phase_back (Trying j q) = refl
-phase_back (Reading j q) = refl
-phase_back (Claiming j) = refl
-phase_back (Holding j) = refl
-phase_back Over = refl
-phase_back Left = refl
+phase_back phase = refl
 
 phase_same : (a b : Phase) → phase_digits a ≡ phase_digits b → a ≡ b
 phase_same a b e = sym (phase_back a) ∙ ap (λ l. phase_of (get_or l 0 0) (get_or l 1 0) (get_or l 2 0)) e ∙ phase_back b

@@ -8,7 +8,7 @@ use Rattle.amo_kk.specs.Choice.{record_after_check}
 use Rattle.amo_kk.specs.Step.{with_announced}
 use Rattle.amo_kk.specs.declared.givens.Givens.{Givens}
 use Rattle.amo_kk.specs.declared.phase.Phase.{Phase}
-use Rattle.amo_kk.specs.declared.phase.Phase.TheVariants.{Announcing, Trying, Reading, Claiming, Holding, Over, Left}
+use Rattle.amo_kk.specs.declared.phase.Phase.TheVariants.{Announcing, Trying, Reading, Claiming}
 use Rattle.amo_kk.specs.declared.model.Record.{Record}
 use Rattle.amo_kk.specs.declared.model.Process.{Process}
 use Rattle.amo_kk.proofs.Choice.{choice_cases, check_cases}
@@ -40,32 +40,19 @@ module _ {g : Givens} (c : Circle g) (x : ℕ) (none_below : (y : ℕ) → y < x
 
   -- the attempt on x goes on, or passed, and x was not seen announced
   abbrev GoesOn : Record → Phase → Type 0
-  GoesOn r (Announcing j) = ⊥
   GoesOn r (Trying j q) = (j ≡ x) × (has r.tried x ≡ false)
   GoesOn r (Reading j q) = (j ≡ x) × (has r.tried x ≡ false)
   GoesOn r (Claiming j) = Unit {0}
-  GoesOn r (Holding j) = ⊥
-  GoesOn r Over = ⊥
-  GoesOn r Left = ⊥
+  GoesOn r phase = ⊥
 
   -- so it is, or its announcement is about to be stored
   abbrev GoesIn : Record → Phase → Type 0
   GoesIn r (Announcing j) = j ≡ x
-  GoesIn r (Trying j q) = (j ≡ x) × (has r.tried x ≡ false)
-  GoesIn r (Reading j q) = (j ≡ x) × (has r.tried x ≡ false)
-  GoesIn r (Claiming j) = Unit {0}
-  GoesIn r (Holding j) = ⊥
-  GoesIn r Over = ⊥
-  GoesIn r Left = ⊥
+  GoesIn r phase = GoesOn r phase
 
   goes_in : (r : Record) (phase : Phase) → GoesOn r phase → GoesIn r phase
   goes_in r (Announcing j) h = absurd h
-  goes_in r (Trying j q) h = h
-  goes_in r (Reading j q) h = h
-  goes_in r (Claiming j) h = h
-  goes_in r (Holding j) h = h
-  goes_in r Over h = h
-  goes_in r Left h = h
+  goes_in r phase h = h
 
   module _ (p : ℕ) (choice : IsChoice c x none_below p) where
     abbrev IsSeenOr : Record → Type 0
@@ -138,13 +125,9 @@ module _ {g : Givens} (c : Circle g) where
 
   -- turns left until the check
   abbrev togo : ℕ → Phase → ℕ
-  togo p (Announcing j) = 0
   togo p (Trying j q) = 2 + (left_from g p q + (g.workers - 1))
   togo p (Reading j q) = 2 + left_from g p q
-  togo p (Claiming j) = 0
-  togo p (Holding j) = 0
-  togo p Over = 0
-  togo p Left = 0
+  togo p phase = 0
 
   -- after a check none are left
   checked : (p j : ℕ) (r : Record) → togo p (still (record_after_check g p j r)).phase ≡ 0

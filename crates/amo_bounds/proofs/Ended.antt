@@ -1,4 +1,4 @@
--- Whoever is gone was stopped, has left or has ended; so where nobody leaves and fewer are stopped than there are, one has ended.
+-- Whoever is gone was halted, has left or has ended; so where nobody leaves and fewer are halted than there are, one has ended.
 use Rattle.std.proofs.Common.{◌≡◌, ◌≢◌, ⊎_elim, ℕ, zero, suc, ◌+◌, ◌<◌, ◌≤◌, Bool, true, false, List, [], ◌∷◌, ◌++◌, refl, sym, ap, ◌∙◌, subst, arith}
 use Rattle.std.specs.Prelude.{if◌then◌else◌}
 use Rattle.std.proofs.lemmas.Bool.{cases_eq, or_parts, eqb-false}
@@ -10,10 +10,10 @@ use Rattle.amo_kk.specs.Givens.{IsWorker}
 use Rattle.amo_kk.specs.Record.{empty_record, is_over, wants_nothing, can_leave}
 use Rattle.amo_kk.specs.Step.{record_after_leave}
 use Rattle.amo_kk.specs.declared.phase.Phase.{Phase}
-use Rattle.amo_kk.specs.declared.phase.Phase.TheVariants.{Announcing, Trying, Reading, Claiming, Holding, Over, Left}
+use Rattle.amo_kk.specs.declared.phase.Phase.TheVariants.{Over, Left}
 use Rattle.amo_kk.specs.declared.phase.Want.TheVariants.{StoreNext}
 use Rattle.amo_kk.specs.declared.event.Event.TheVariants.{Left as EventLeft}
-use Rattle.amo_kk.specs.World.{nobody, process, world_after_turn, world_after_move, world_after_moves, world_after_leave, world_with, process_after, worker_of, first_process, opening_world}
+use Rattle.amo_kk.specs.World.{nobody, process, world_after_turn, world_after_move, world_after_moves, world_after_leave, world_with, process_after, worker_of, first_process, opening_world, world_of}
 use Rattle.amo_kk.specs.Lawful.{IsLawful}
 use Rattle.amo_kk.specs.declared.givens.Givens.{Givens}
 use Rattle.amo_kk.specs.declared.model.Record.{Record}
@@ -25,96 +25,82 @@ use Rattle.amo_kk.proofs.Choice.{choice_cases}
 use Rattle.amo_kk.proofs.Moves.{move_other}
 use Rattle.amo_kk.proofs.Shows.{idle}
 use Rattle.amo_kk.proofs.Worlds.{move_lawful, opening_lawful}
-use Rattle.amo_bounds.specs.Fewest.{world_of, stopped, leavers, ComesToEnd}
+use Rattle.amo_bounds.specs.Fewest.{stopped, leavers, ComesToEnd}
 use Rattle.amo_bounds.proofs.Turns.{after_turn}
 
 -- some moves after others
 
 pub stopped-append : (ms ns : List Move) → stopped (ms ++ ns) ≡ stopped ms ++ stopped ns
 stopped-append [] ns = refl
-stopped-append (Turn p ∷ ms) ns = stopped-append ms ns
 stopped-append (Halt p ∷ ms) ns = ap (λ l. p ∷ l) (stopped-append ms ns)
-stopped-append (Leave p ∷ ms) ns = stopped-append ms ns
+stopped-append (m ∷ ms) ns = stopped-append ms ns
 
 pub leavers-append : (ms ns : List Move) → leavers (ms ++ ns) ≡ leavers ms ++ leavers ns
 leavers-append [] ns = refl
-leavers-append (Turn p ∷ ms) ns = leavers-append ms ns
-leavers-append (Halt p ∷ ms) ns = leavers-append ms ns
 leavers-append (Leave p ∷ ms) ns = ap (λ l. p ∷ l) (leavers-append ms ns)
+leavers-append (m ∷ ms) ns = leavers-append ms ns
+
+over_rests : (f : Phase) → is_over f ≡ true → wants_nothing f ≡ true
+over_rests Over h = refl
+over_rests Left h = refl
+over_rests phase h = h
+
+rests_over : (f : Phase) → wants_nothing f ≡ true → f ≢ Left → is_over f ≡ true
+rests_over Over h n = refl
+rests_over Left h n = absurd (n refl)
+rests_over phase h n = h
+
+-- if p is gone, its phase is such a one
+module _ (test : Phase → Bool) (of_over : (f : Phase) → is_over f ≡ true → test f ≡ true) where
+  abbrev PassesIfGone : Process → Type 0
+  PassesIfGone a = a.gone ≡ true → test a.local.phase ≡ true
+
+  turn_passes : (g : Givens) (w : World) (q p : ℕ) → IsLawful g w → PassesIfGone (process w p) → PassesIfGone (process (world_after_turn g w q) p)
+  turn_passes g w q p law h = go (process w q).gone refl
+    where
+      go : (b : Bool) → (process w q).gone ≡ b → PassesIfGone (process (world_after_turn g w q) p)
+      go true e = subst (λ v. PassesIfGone (process v p)) (sym (idle g w q e)) h
+      go false e =
+          let t = after_turn g w q law e in
+          ⊎_elim
+          (λ (same : p ≡ q). subst (λ k. PassesIfGone (process (world_after_turn g w q) k)) (sym same)
+          (λ gone. of_over (process (world_after_turn g w q) q).local.phase (ap (λ (x : Record). is_over x.phase) t.local ∙ sym t.gone ∙ gone)))
+          (λ n. subst PassesIfGone (sym (t.others p n)) h)
+          (cases_eq p q)
+
+  -- a halt or a leaving of another worker
+  other_passes : (g : Givens) (w : World) (m : Move) (p : ℕ) → p ≢ worker_of m → PassesIfGone (process w p) → PassesIfGone (process (world_after_move g w m) p)
+  other_passes g w m p other h = subst PassesIfGone (sym (move_other g w m p other)) h
+
+  opening_passes : (g : Givens) (p : ℕ) → IsWorker g p → PassesIfGone (first_process g p) → PassesIfGone (process (opening_world g) p)
+  opening_passes g p o h = subst PassesIfGone (sym (numbered-table nobody (first_process g) g.workers p o.low o.high)) h
 
 -- if p is gone it has ended
 abbrev EndedIfGone : World → ℕ → Type 0
-EndedIfGone w p = (process w p).gone ≡ true → is_over (process w p).local.phase ≡ true
-
-turn_ended : (g : Givens) (w : World) (q p : ℕ) → IsLawful g w → EndedIfGone w p → EndedIfGone (world_after_turn g w q) p
-turn_ended g w q p law h = go (process w q).gone refl
-  where
-    go : (b : Bool) → (process w q).gone ≡ b → EndedIfGone (world_after_turn g w q) p
-    go true e = subst (λ v. EndedIfGone v p) (sym (idle g w q e)) h
-    go false e =
-        let t = after_turn g w q law e in
-        ⊎_elim
-        (λ (same : p ≡ q). subst (λ k. EndedIfGone (world_after_turn g w q) k) (sym same) (λ gone. ap (λ (x : Record). is_over x.phase) t.local ∙ sym t.gone ∙ gone))
-        (λ n. subst (λ (x : Process). x.gone ≡ true → is_over x.local.phase ≡ true) (sym (t.others p n)) h)
-        (cases_eq p q)
-
--- a stop or a leaving of another worker
-other_ended : (g : Givens) (w : World) (m : Move) (p : ℕ) → p ≢ worker_of m → EndedIfGone w p → EndedIfGone (world_after_move g w m) p
-other_ended g w m p other h = subst (λ (x : Process). x.gone ≡ true → is_over x.local.phase ≡ true) (sym (move_other g w m p other)) h
+EndedIfGone w p = PassesIfGone is_over (λ f h. h) (process w p)
 
 moves_ended : (g : Givens) (w : World) (ms : List Move) (p : ℕ) → IsLawful g w → has (stopped ms) p ≡ false → has (leavers ms) p ≡ false → EndedIfGone w p → EndedIfGone (world_after_moves g w ms) p
 moves_ended g w [] p law goes_on stays h = h
-moves_ended g w (Turn q ∷ ms) p law goes_on stays h = moves_ended g (world_after_move g w (Turn q)) ms p (move_lawful g w (Turn q) g.limits law) goes_on stays (turn_ended g w q p law h)
+moves_ended g w (Turn q ∷ ms) p law goes_on stays h = moves_ended g (world_after_move g w (Turn q)) ms p (move_lawful g w (Turn q) g.limits law) goes_on stays (turn_passes is_over (λ f h. h) g w q p law h)
 moves_ended g w (Halt q ∷ ms) p law goes_on stays h =
     let parts = or_parts _ (has (stopped ms) p) goes_on in
-    moves_ended g (world_after_move g w (Halt q)) ms p (move_lawful g w (Halt q) g.limits law) parts.1 stays (other_ended g w (Halt q) p (λ e. eqb-false q p parts.0 (sym e)) h)
+    moves_ended g (world_after_move g w (Halt q)) ms p (move_lawful g w (Halt q) g.limits law) parts.1 stays (other_passes is_over (λ f h. h) g w (Halt q) p (λ e. eqb-false q p parts.0 (sym e)) h)
 moves_ended g w (Leave q ∷ ms) p law goes_on stays h =
     let parts = or_parts _ (has (leavers ms) p) stays in
-    moves_ended g (world_after_move g w (Leave q)) ms p (move_lawful g w (Leave q) g.limits law) goes_on parts.1 (other_ended g w (Leave q) p (λ e. eqb-false q p parts.0 (sym e)) h)
+    moves_ended g (world_after_move g w (Leave q)) ms p (move_lawful g w (Leave q) g.limits law) goes_on parts.1 (other_passes is_over (λ f h. h) g w (Leave q) p (λ e. eqb-false q p parts.0 (sym e)) h)
 
 opening_ended : (g : Givens) (p : ℕ) → IsWorker g p → EndedIfGone (opening_world g) p
-opening_ended g p o = subst (λ (x : Process). x.gone ≡ true → is_over x.local.phase ≡ true) (sym (numbered-table nobody (first_process g) g.workers p o.low o.high))
+opening_ended g p o = opening_passes is_over (λ f h. h) g p o
     (choice_cases g p (empty_record g) (λ x. wants_nothing x.phase ≡ true → is_over x.phase ≡ true) (λ _ h. h) (λ _ h. h))
 
--- whoever is gone, wasn't stopped and didn't leave has ended
+-- whoever is gone, wasn't halted and didn't leave has ended
 pub gone_ended : (g : Givens) (ms : List Move) (p : ℕ) → IsWorker g p → has (stopped ms) p ≡ false → has (leavers ms) p ≡ false
     → (process (world_of g ms) p).gone ≡ true → is_over (process (world_of g ms) p).local.phase ≡ true
 gone_ended g ms p o goes_on stays = moves_ended g (opening_world g) ms p (opening_lawful g g.limits) goes_on stays (opening_ended g p o)
 
 -- if p is gone it has ended or left
 abbrev RestsIfGone : World → ℕ → Type 0
-RestsIfGone w p = (process w p).gone ≡ true → wants_nothing (process w p).local.phase ≡ true
-
-over_rests : (f : Phase) → is_over f ≡ true → wants_nothing f ≡ true
-over_rests (Announcing j) h = h
-over_rests (Trying j q) h = h
-over_rests (Reading j q) h = h
-over_rests (Claiming j) h = h
-over_rests (Holding j) h = h
-over_rests Over h = refl
-over_rests Left h = refl
-
-rests_over : (f : Phase) → wants_nothing f ≡ true → f ≢ Left → is_over f ≡ true
-rests_over (Announcing j) h n = h
-rests_over (Trying j q) h n = h
-rests_over (Reading j q) h n = h
-rests_over (Claiming j) h n = h
-rests_over (Holding j) h n = h
-rests_over Over h n = refl
-rests_over Left h n = absurd (n refl)
-
-turn_rests : (g : Givens) (w : World) (q p : ℕ) → IsLawful g w → RestsIfGone w p → RestsIfGone (world_after_turn g w q) p
-turn_rests g w q p law h = go (process w q).gone refl
-  where
-    go : (b : Bool) → (process w q).gone ≡ b → RestsIfGone (world_after_turn g w q) p
-    go true e = subst (λ v. RestsIfGone v p) (sym (idle g w q e)) h
-    go false e =
-        let t = after_turn g w q law e in
-        ⊎_elim
-        (λ (same : p ≡ q). subst (λ k. RestsIfGone (world_after_turn g w q) k) (sym same)
-        (λ gone. over_rests (process (world_after_turn g w q) q).local.phase (ap (λ (x : Record). is_over x.phase) t.local ∙ sym t.gone ∙ gone)))
-        (λ n. subst (λ (x : Process). x.gone ≡ true → wants_nothing x.local.phase ≡ true) (sym (t.others p n)) h)
-        (cases_eq p q)
+RestsIfGone w p = PassesIfGone wants_nothing over_rests (process w p)
 
 leave_rests : (g : Givens) (w : World) (p : ℕ) → IsLawful g w → IsWorker g p → RestsIfGone w p → RestsIfGone (world_after_leave w p) p
 leave_rests g w p law o h = go (process w p).gone (can_leave (process w p).local.phase)
@@ -130,26 +116,23 @@ leave_rests g w p law o h = go (process w p).gone (can_leave (process w p).local
     go false true = subst (λ (x : Process). x.gone ≡ true → wants_nothing x.local.phase ≡ true) (sym here) (λ gone. gone)
     go false false = h
 
-other_rests : (g : Givens) (w : World) (m : Move) (p : ℕ) → p ≢ worker_of m → RestsIfGone w p → RestsIfGone (world_after_move g w m) p
-other_rests g w m p other h = subst (λ (x : Process). x.gone ≡ true → wants_nothing x.local.phase ≡ true) (sym (move_other g w m p other)) h
-
 moves_rest : (g : Givens) (w : World) (ms : List Move) (p : ℕ) → IsLawful g w → IsWorker g p → has (stopped ms) p ≡ false → RestsIfGone w p → RestsIfGone (world_after_moves g w ms) p
 moves_rest g w [] p law o goes_on h = h
-moves_rest g w (Turn q ∷ ms) p law o goes_on h = moves_rest g (world_after_move g w (Turn q)) ms p (move_lawful g w (Turn q) g.limits law) o goes_on (turn_rests g w q p law h)
+moves_rest g w (Turn q ∷ ms) p law o goes_on h = moves_rest g (world_after_move g w (Turn q)) ms p (move_lawful g w (Turn q) g.limits law) o goes_on (turn_passes wants_nothing over_rests g w q p law h)
 moves_rest g w (Halt q ∷ ms) p law o goes_on h =
     let parts = or_parts _ (has (stopped ms) p) goes_on in
-    moves_rest g (world_after_move g w (Halt q)) ms p (move_lawful g w (Halt q) g.limits law) o parts.1 (other_rests g w (Halt q) p (λ e. eqb-false q p parts.0 (sym e)) h)
+    moves_rest g (world_after_move g w (Halt q)) ms p (move_lawful g w (Halt q) g.limits law) o parts.1 (other_passes wants_nothing over_rests g w (Halt q) p (λ e. eqb-false q p parts.0 (sym e)) h)
 moves_rest g w (Leave q ∷ ms) p law o goes_on h =
     moves_rest g (world_after_move g w (Leave q)) ms p (move_lawful g w (Leave q) g.limits law) o goes_on
     (⊎_elim
     (λ (same : p ≡ q). subst (λ k. RestsIfGone (world_after_leave w k) p) same (leave_rests g w p law o h))
-    (λ n. other_rests g w (Leave q) p n h)
+    (λ n. other_passes wants_nothing over_rests g w (Leave q) p n h)
     (cases_eq p q))
 
 opening_rests : (g : Givens) (p : ℕ) → IsWorker g p → RestsIfGone (opening_world g) p
-opening_rests g p o = subst (λ (x : Process). x.gone ≡ true → wants_nothing x.local.phase ≡ true) (sym (numbered-table nobody (first_process g) g.workers p o.low o.high)) (λ gone. gone)
+opening_rests g p o = opening_passes wants_nothing over_rests g p o (λ gone. gone)
 
--- whoever is gone, wasn't stopped and hasn't left has ended, also one that was asked to leave
+-- whoever is gone, wasn't halted and hasn't left has ended, also one that was asked to leave
 pub stayed_ended : (g : Givens) (ms : List Move) (p : ℕ) → IsWorker g p → has (stopped ms) p ≡ false → (process (world_of g ms) p).gone ≡ true
     → (process (world_of g ms) p).local.phase ≢ Left → is_over (process (world_of g ms) p).local.phase ≡ true
 stayed_ended g ms p o goes_on gone stays = rests_over (process (world_of g ms) p).local.phase (moves_rest g (opening_world g) ms p (opening_lawful g g.limits) o goes_on (opening_rests g p o) gone) stays

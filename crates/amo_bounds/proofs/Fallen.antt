@@ -5,7 +5,7 @@ use Rattle.amo_sets.specs.Lists.{numbered}
 use Rattle.amo_sets.specs.Sets.{has}
 use Rattle.amo_sets.specs.Rank.{count}
 use Rattle.amo_sets.proofs.Numbers.{get_or-has}
-use Rattle.amo_kk.specs.Givens.{IsJob, IsWorker, IsOther}
+use Rattle.amo_kk.specs.Givens.{IsJob, IsOther}
 use Rattle.amo_kk.specs.Record.{is_free}
 use Rattle.amo_kk.specs.Lawful.{AreLawful, IsSoundProcess}
 use Rattle.amo_kk.specs.declared.givens.Givens.{Givens}
@@ -30,14 +30,20 @@ Fallen g at now h = (n : HasPotential g now) × (weight g now n < weight g at h)
 abbrev pub Room : Givens → (ℕ → Bool) → Type 0
 Room g free = (width g ≤ g.beta) ⊎ (width g ≤ count g.jobs free)
 
-module _ {g : Givens} {at now : ℕ → Process} {p : ℕ} (law : AreLawful g at) (turn : IsTurnOf g at now p) (h : HasPotential g at) (room : Room g h.free) where
+-- a turn of p is taken where all are lawful, have a potential, and there is room
+pub record IsTaken (g : Givens) (at now : ℕ → Process) (p : ℕ) : Type 0 where
+  pub law : AreLawful g at
+  pub turn : IsTurnOf g at now p
+  pub h : HasPotential g at
+  pub room : Room g h.free
+
+module _ {g : Givens} {at now : ℕ → Process} {p : ℕ} (given : IsTaken g at now p) where
+  open given use {law, turn, turn.{worker as o}, h, room}
+
   abbrev r : Record
   r = (at p).local
 
-  o : IsWorker g p
-  o = turn.worker
-
-  sound : IsSoundProcess g p (at p)
+  pub sound : IsSoundProcess g p (at p)
   sound = law.sound p o
 
   settle : (q k c : ℕ) → Rebuilds g at now h p q k c → 2 * g.workers * (k + c) + cost g p (now p).local < 2 * g.workers * (h.grades p + h.charges q) + cost g p r → Fallen g at now h

@@ -6,11 +6,11 @@ use Rattle.amo_sets.specs.Lists.{numbered}
 use Rattle.amo_sets.specs.Sets.{has}
 use Rattle.amo_sets.proofs.Numbers.{count_true}
 use Rattle.amo_sets.proofs.Tables.{numbered-table}
-use Rattle.amo_kk.specs.Givens.{IsWorker}
+use Rattle.amo_kk.specs.Givens.{IsWorker, IsOther}
 use Rattle.amo_kk.specs.Record.{is_over, can_leave, empty_record}
 use Rattle.amo_kk.specs.Choice.{first_record}
 use Rattle.amo_kk.specs.Step.{record_after_leave}
-use Rattle.amo_kk.specs.World.{nobody, process, process_after, first_process, world_after_step, world_after_move, world_after_turn, opening_world}
+use Rattle.amo_kk.specs.World.{nobody, process, process_after, first_process, world_after_step, world_after_move, world_after_turn, opening_world, world_of, rounds}
 use Rattle.amo_kk.specs.Lawful.{IsLawful}
 use Rattle.amo_kk.specs.declared.givens.Givens.{Givens}
 use Rattle.amo_kk.specs.declared.phase.Phase.TheVariants.{Left}
@@ -22,15 +22,14 @@ use Rattle.amo_kk.specs.declared.event.Move.{Move}
 use Rattle.amo_kk.specs.declared.event.Move.TheVariants.{Turn, Halt, Leave}
 use Rattle.amo_kk.proofs.Choice.{choice_cases}
 use Rattle.amo_kk.proofs.Worlds.{here_is_worker, move_lawful, opening_lawful}
-use Rattle.amo_bounds.specs.Rest.{without_steps, is_taken, turns_taken, turns_of, rounds}
-use Rattle.amo_bounds.specs.Fewest.{world_of}
+use Rattle.amo_bounds.specs.Rest.{without_steps, is_taken, turns_taken, turns_of}
 use Rattle.amo_bounds.specs.Turns.{width, most_turns}
 use Rattle.amo_bounds.proofs.Still.{still, view, moved, view_moved, still_lawful, turn_of}
 use Rattle.amo_bounds.proofs.Rest.{takes_all}
 use Rattle.amo_bounds.proofs.Rounds.{over_after}
 use Rattle.amo_bounds.proofs.Sums.{times_le, total, total_le, total_constant}
 use Rattle.amo_bounds.proofs.Homes.{IsHome, chosen_home}
-use Rattle.amo_bounds.proofs.Potential.{unread, cost, Grade, Cleared, HasPotential, price, weight, Rebuilds, rebuilt, rebuilt_weighs}
+use Rattle.amo_bounds.proofs.Potential.{unread, cost, Grade, Cleared, Charge, HasPotential, price, weight, Rebuilds, rebuilt, rebuilt_weighs}
 use Rattle.amo_bounds.proofs.Fallen.{Room}
 use Rattle.amo_bounds.proofs.Falls.{falls}
 
@@ -38,50 +37,54 @@ use Rattle.amo_bounds.proofs.Falls.{falls}
 abbrev Lighter : (g : Givens) (w : World) (h : HasPotential g (view w)) (v : World) → Type 0
 Lighter g w h v = (n : HasPotential g (view v)) × (weight g (view v) n ≤ weight g (view w) h)
 
--- p is stopped or leaves: its record and its announcement stay, or it has left and announces nothing
-rebuilt_lighter : (g : Givens) (w v : World) (p k c : ℕ) (h : HasPotential g (view w)) → (s : Rebuilds g (view w) (view v) h p p k c)
-    → k + c ≤ h.grades p + h.charges p → cost g p (view v p).local ≤ cost g p (view w p).local → Lighter g w h v
-rebuilt_lighter g w v p k c h s few less = (
+-- p halts or leaves: its record becomes x, and does no job
+changed_lighter : (g : Givens) (w v : World) (p k c : ℕ) (h : HasPotential g (view w)) → IsWorker g p → ((i : ℕ) → i ≢ p → view v i ≡ view w i)
+    → (x : Record) → (view v p).local ≡ x → x.dones ≡ (view w p).local.dones → Grade g (view w) h.free p x k → Charge g (view v) h.free p c
+    → ((i : ℕ) → IsOther g p i → Cleared (view w p).local i (view w i).next → Cleared x i (view w i).next)
+    → k + c ≤ h.grades p + h.charges p → cost g p x ≤ cost g p (view w p).local → Lighter g w h v
+changed_lighter g w v p k c h o others x local dones grade charge cleared few less = (
   rebuilt g (view w) (view v) h p p k c s,
   let e = rebuilt_weighs g (view w) (view v) h p p k c s in
       let t = times_le (2 * g.workers) (k + c) (h.grades p + h.charges p) few in
+      let m = ap (cost g p) local in
       omega arith,
 )
+  where
+    s : Rebuilds g (view w) (view v) h p p k c
+    s =
+        record {
+          worker = o;
+          charger = o;
+          others = others;
+          dones = ap (λ (y : Record). y.dones) local ∙ dones;
+          next = λ n. absurd (n refl);
+          grade = subst (λ y. Grade g (view w) h.free p y k) (sym local) grade;
+          charge = charge;
+          cleared = λ i other low was. subst (λ y. Cleared y i (view w i).next) (sym local) (cleared i other was);
+        }
 
+-- its record and its announcement stay
 same_lighter : (g : Givens) (w v : World) (p : ℕ) (h : HasPotential g (view w)) → IsWorker g p → ((i : ℕ) → i ≢ p → view v i ≡ view w i)
     → (view v p).local ≡ (view w p).local → (view v p).next ≡ (view w p).next → Lighter g w h v
-same_lighter g w v p h o others local next = rebuilt_lighter g w v p (h.grades p) (h.charges p) h
-    (record {
-      worker = o;
-      charger = o;
-      others = others;
-      dones = ap (λ (x : Record). x.dones) local;
-      next = λ n. absurd (n refl);
-      grade = subst (λ x. Grade g (view w) h.free p x (h.grades p)) (sym local) (h.graded p o);
-      charge = ⊎_elim (λ l. inl l)
-          (λ clear. inr (λ i m d home. subst (λ (x : Process). Cleared x.local p (view v p).next) (sym (others i d))
-          (subst (λ y. Cleared (view w i).local p y) (sym next) (clear i m d (subst (λ y. IsHome g h.free i y) next home)))))
-          (h.charged p o);
-      cleared = λ i other low was. subst (λ x. Cleared x i (view w i).next) (sym local) was;
-    })
+same_lighter g w v p h o others local next = changed_lighter g w v p (h.grades p) (h.charges p) h o others (view w p).local local refl
+    (h.graded p o)
+    (⊎_elim (λ l. inl l)
+    (λ clear. inr (λ i m d home. subst (λ (x : Process). Cleared x.local p (view v p).next) (sym (others i d))
+    (subst (λ y. Cleared (view w i).local p y) (sym next) (clear i m d (subst (λ y. IsHome g h.free i y) next home)))))
+    (h.charged p o))
+    (λ i other was. was)
     (omega arith)
-    (let e = ap (cost g p) local in omega arith)
+    (omega arith)
 
+-- it has left, and announces nothing
 left_lighter : (g : Givens) (w v : World) (p : ℕ) (h : HasPotential g (view w)) → IsWorker g p → ((i : ℕ) → i ≢ p → view v i ≡ view w i)
     → (view v p).local ≡ still (record (view w p).local { phase = Left }) → (view v p).next ≡ 0 → Lighter g w h v
-left_lighter g w v p h o others local next = rebuilt_lighter g w v p 0 0 h
-    (record {
-      worker = o;
-      charger = o;
-      others = others;
-      dones = ap (λ (x : Record). x.dones) local;
-      next = λ n. absurd (n refl);
-      grade = subst (λ x. Grade g (view w) h.free p x 0) (sym local) tt;
-      charge = inr (λ i m d home. absurd (let low = home.job.low in omega arith));
-      cleared = λ i other low was. subst (λ x. Cleared x i (view w i).next) (sym local) tt;
-    })
+left_lighter g w v p h o others local next = changed_lighter g w v p 0 0 h o others (still (record (view w p).local { phase = Left })) local refl
+    tt
+    (inr (λ i m d home. absurd (let low = home.job.low in omega arith)))
+    (λ i other was. tt)
     (omega arith)
-    (let e = ap (cost g p) local in omega arith)
+    (omega arith)
 
 -- a move of p changes nobody else
 move_others : (g : Givens) (w : World) (m : Move) (p : ℕ) → IsLawful g w → (m ≡ Halt p) ⊎ (m ≡ Leave p) → (i : ℕ) → i ≢ p → view (world_after_move g w m) i ≡ view w i
@@ -111,7 +114,7 @@ step g w (Turn p) law h room = go (process w p).gone refl
     go : (b : Bool) → (process w p).gone ≡ b → Stepped g w h (Turn p) (world_after_turn g w p)
     go true e = subst (λ x. Stepped g w h (Turn p) x) (sym (gone_same w (world_after_step g w p (process w p)) (process w p).gone e)) (h, subst (λ b. (if not b then 1 else 0) + weight g (view w) h ≤ weight g (view w) h) (sym e) (omega arith))
     go false e =
-        let n = falls (still_lawful g w law) (turn_of g w p law e) h room in
+        let n = falls (record { law = still_lawful g w law; turn = turn_of g w p law e; h = h; room = room }) in
         (n.0, subst (λ b. (if not b then 1 else 0) + weight g (view (world_after_turn g w p)) n.0 ≤ weight g (view w) h) (sym e) (let l = n.1 in omega arith))
 step g w (Halt p) law h room = go (process w p).gone refl
   where
@@ -223,7 +226,7 @@ gone_after g ms p high many = true_from_ne_false (process (world_of g ms) p).gon
     let few = always_few g ms high in
     absurd (omega arith))
 
-pub over_soon : (g : Givens) (p : ℕ) → width g ≤ g.beta → IsWorker g p → is_over (process (world_of g (rounds g (most_turns g + 1))) p).local.phase ≡ true
+pub over_soon : (g : Givens) (p : ℕ) → width g ≤ g.beta → IsWorker g p → is_over (process (world_of g (rounds g.workers (most_turns g + 1))) p).local.phase ≡ true
 over_soon g p high o =
     let next : suc (most_turns g) ≡ most_turns g + 1 = omega arith in
-    subst (λ k. is_over (process (world_of g (rounds g k)) p).local.phase ≡ true) next (over_after g (most_turns g) p o (λ ms. gone_after g ms p high))
+    subst (λ k. is_over (process (world_of g (rounds g.workers k)) p).local.phase ≡ true) next (over_after g (most_turns g) p o (λ ms. gone_after g ms p high))

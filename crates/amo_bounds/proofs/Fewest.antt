@@ -5,7 +5,7 @@ use Rattle.std.proofs.lemmas.Bool.{cases_lt, le-ltb, lt-ltb}
 use Rattle.amo_sets.specs.Sets.{has}
 use Rattle.amo_kk.specs.Givens.{IsWorker, bound}
 use Rattle.amo_kk.specs.Record.{is_over}
-use Rattle.amo_kk.specs.World.{process}
+use Rattle.amo_kk.specs.World.{process, world_of}
 use Rattle.amo_kk.specs.Lawful.{IsSoundProcess, IsLawful, object_of}
 use Rattle.amo_kk.specs.declared.givens.Givens.{Givens}
 use Rattle.amo_kk.specs.declared.model.Record.{Record}
@@ -15,7 +15,7 @@ use Rattle.amo_kk.proofs.Steps.{enough}
 use Rattle.amo_kk.proofs.Ends.{over_few}
 use Rattle.amo_kk.proofs.Counts.{performed_count}
 use Rattle.amo_kk.proofs.Runs.{always_runs}
-use Rattle.amo_bounds.specs.Fewest.{fewest, world_of, jobs_done}
+use Rattle.amo_bounds.specs.Fewest.{fewest, jobs_done}
 use Rattle.amo_bounds.proofs.Firsts.{some_done}
 
 -- and the bound

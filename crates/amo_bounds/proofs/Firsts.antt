@@ -12,7 +12,7 @@ use Rattle.amo_kk.specs.Record.{is_over, can_leave, jobs_in_hand, empty_record}
 use Rattle.amo_kk.specs.Choice.{record_after_check}
 use Rattle.amo_kk.specs.Step.{with_announced, record_after_leave}
 use Rattle.amo_kk.specs.Run.{done_jobs}
-use Rattle.amo_kk.specs.World.{nobody, process, process_after, world_with, world_after_turn, world_after_halt, world_after_leave, world_after_moves, first_process, opening_world, world_after_move}
+use Rattle.amo_kk.specs.World.{nobody, process, process_after, world_with, world_after_turn, world_after_halt, world_after_leave, world_after_moves, first_process, opening_world, world_after_move, world_of}
 use Rattle.amo_kk.specs.Lawful.{IsLawful}
 use Rattle.amo_kk.specs.declared.givens.Givens.{Givens}
 use Rattle.amo_kk.specs.declared.phase.Phase.{Phase}
@@ -29,7 +29,7 @@ use Rattle.amo_kk.proofs.FirstChoice.{ranks_rise}
 use Rattle.amo_kk.proofs.Kept.{noted_cases}
 use Rattle.amo_kk.proofs.Worlds.{here_is_worker, put_here, move_lawful, opening_lawful}
 use Rattle.amo_kk.proofs.Shows.{idle}
-use Rattle.amo_bounds.specs.Fewest.{world_of, jobs_done}
+use Rattle.amo_bounds.specs.Fewest.{jobs_done}
 use Rattle.amo_bounds.proofs.Turns.{next_after, IsAfterTurn, after_turn, check_passes}
 use Rattle.amo_bounds.proofs.Histories.{dones_grow}
 use Rattle.amo_bounds.proofs.Still.{still, view, still_lawful, turn_of}
@@ -144,12 +144,7 @@ module _ (g : Givens) (many : g.beta ≤ g.jobs) where
     -- what it announces then
     announces_first : (phase : Phase) → r.phase ≡ phase → IsFirstWord p (next_after phase (process w p).next)
     announces_first (Announcing j) is = inr (on_first (Announcing j) is)
-    announces_first (Trying j q) is = all.word p o
-    announces_first (Reading j q) is = all.word p o
-    announces_first (Claiming j) is = all.word p o
-    announces_first (Holding j) is = all.word p o
-    announces_first Over is = all.word p o
-    announces_first Left is = all.word p o
+    announces_first phase is = all.word p o
 
     turn_goes : SomeOrFirst (world_after_turn g w p)
     turn_goes = ⊎_elim
@@ -239,10 +234,5 @@ module _ (g : Givens) (many : g.beta ≤ g.jobs) where
   some_done ms p o over = ⊎_elim (λ s. s) (λ (all : AllFirst (world_of g ms)). absurd (go (process (world_of g ms) p).local.phase over (all.local p o).phase)) (moves_some (opening_world g) ms (opening_lawful g g.limits) opening_some)
     where
       go : (phase : Phase) → is_over phase ≡ true → OnFirst p phase → ⊥
-      go (Announcing j) e h = true≢false (sym e)
-      go (Trying j q) e h = true≢false (sym e)
-      go (Reading j q) e h = true≢false (sym e)
-      go (Claiming j) e h = true≢false (sym e)
-      go (Holding j) e h = true≢false (sym e)
       go Over e h = h
-      go Left e h = true≢false (sym e)
+      go phase e h = true≢false (sym e)

@@ -15,7 +15,7 @@ use Rattle.amo_kk.specs.declared.model.World.{World}
 use Rattle.amo_kk.specs.declared.event.Move.{Move}
 use Rattle.amo_kk.proofs.Counts.{performed_count}
 use Rattle.amo_kk.proofs.Runs.{move_runs, always_runs}
-use Rattle.amo_kk.proofs.Steps.{all_jobs}
+use Rattle.amo_kk.proofs.Steps.{all_jobs, has_all}
 use Rattle.amo_kk.proofs.Worlds.{move_lawful, opening_lawful}
 use Rattle.amo_bounds.specs.Rest.{turns_taken}
 use Rattle.amo_bounds.specs.Fewest.{jobs_done}
@@ -24,17 +24,6 @@ use Rattle.amo_bounds.proofs.Histories.{dones_grow}
 use Rattle.amo_bounds.proofs.Still.{view}
 use Rattle.amo_bounds.proofs.Potential.{HasPotential, weight}
 use Rattle.amo_bounds.proofs.Few.{step, opening_potential, opening_weighs}
-
-has_all : (xs : List (ℕ × ℕ)) (q j : ℕ) → has (jobs_of xs q) j ≡ true → has (all_jobs xs) j ≡ true
-has_all [] q j h = h
-has_all (x ∷ xs) q j h = go (nat_eq x.0 q) (has_all xs q j) h
-  where
-    both : (a b c : Bool) → (b ≡ true → c ≡ true) → (a || b) ≡ true → (a || c) ≡ true
-    both a b c f h = grind arith
-
-    go : (b : Bool) → (has (jobs_of xs q) j ≡ true → has (all_jobs xs) j ≡ true) → has (if b then x.1 ∷ jobs_of xs q else jobs_of xs q) j ≡ true → ((x.1 == j) || has (all_jobs xs) j) ≡ true
-    go true rest h = both (x.1 == j) (has (jobs_of xs q) j) (has (all_jobs xs) j) rest h
-    go false rest h = or_right (x.1 == j) (has (all_jobs xs) j) (rest h)
 
 -- what isn't free has been shown done
 free_or_done : (g : Givens) (w : World) → HasRun g w → (h : HasPotential g (view w)) → g.jobs ≤ count g.jobs h.free + length (done_jobs w.history)

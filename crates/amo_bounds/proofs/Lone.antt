@@ -1,4 +1,4 @@
--- Worker 1 beside others that announced their first choices and stopped: while it goes on it performs a job in each attempt,
+-- Worker 1 beside others that announced their first choices and were halted: while it goes on it performs a job in each attempt,
 -- and it ends where as many are done as must be.
 use Rattle.std.proofs.Common.{◌≡◌, ◌≢◌, ⊎_elim, ℕ, zero, suc, ◌+◌, ◌-◌, ◌<◌, ◌≤◌, Bool, true, false, not, ◌&&◌, List, [], ◌∷◌, ◌++◌, length, refl, sym, ap, ◌∙◌, subst, arith, length-append}
 use Rattle.std.specs.Prelude.{if◌then◌else◌, ◌==◌}
@@ -249,13 +249,8 @@ module _ (g : Givens) (enough : g.beta ≤ g.jobs) where
   hand_done p v r phase is = go phase (has_done g p v r phase is)
     where
       go : (phase : Phase) → HasDone r (record_after_phase g p v r phase) phase → (record_after_phase g p v r phase).dones ≡ r.dones ++ jobs_in_hand phase
-      go (Announcing j) d = d.done
-      go (Trying j q) d = d.done
-      go (Reading j q) d = d.done
-      go (Claiming j) d = d.done
       go (Holding j) d = d.done
-      go Over d = d.done
-      go Left d = d.done
+      go phase d = d.done
 
   running_turn : (w : World) → IsRunning w → (process w 1).gone ≡ false → IsRunning (world_after_turn g w 1)
   running_turn w run here =
@@ -319,10 +314,5 @@ module _ (g : Givens) (enough : g.beta ≤ g.jobs) where
   ends_with_the_fewest w run gone = run.counts ∙ last (process w 1).local.phase (view w 1).local (sym run.gone ∙ gone) run.good.at
     where
       last : (phase : Phase) (r : Record) → is_over phase ≡ true → AtPhase r phase → length r.dones ≡ fewest g
-      last (Announcing j) r e h = absurd (true≢false (sym e))
-      last (Trying j q) r e h = absurd (true≢false (sym e))
-      last (Reading j q) r e h = absurd (true≢false (sym e))
-      last (Claiming j) r e h = absurd (true≢false (sym e))
-      last (Holding j) r e h = absurd (true≢false (sym e))
       last Over r e h = h
-      last Left r e h = absurd (true≢false (sym e))
+      last phase r e h = absurd (true≢false (sym e))

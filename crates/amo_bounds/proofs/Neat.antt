@@ -15,7 +15,7 @@ use Rattle.amo_kk.specs.World.{nobody, process_after, world_after_move, first_pr
 use Rattle.amo_kk.specs.Lawful.{IsLawful}
 use Rattle.amo_kk.specs.declared.givens.Givens.{Givens}
 use Rattle.amo_kk.specs.declared.phase.Phase.{Phase}
-use Rattle.amo_kk.specs.declared.phase.Phase.TheVariants.{Announcing, Trying, Reading, Claiming, Holding, Over, Left}
+use Rattle.amo_kk.specs.declared.phase.Phase.TheVariants.{Announcing, Trying, Reading, Holding}
 use Rattle.amo_kk.specs.declared.phase.Want.TheVariants.{StoreNext}
 use Rattle.amo_kk.specs.declared.model.Record.{Record}
 use Rattle.amo_kk.specs.declared.model.Process.{Process}
@@ -55,10 +55,8 @@ after_rising g p v r phase h = go phase
         read : (b : Bool) → Rises (if b then record_at_row g p j (next_other p q) r else record r { known = with_number v r.known; fronts = put r.fronts q (numbered 0 r.fronts q + 1) })
         read true = row j (next_other p q) r h
         read false = rising_with v r.known h
-    go (Claiming j) = h
     go (Holding j) = choose (record r { dones = r.dones ++ j ∷ []; known = with_number j r.known }) (rising_with j r.known h)
-    go Over = h
-    go Left = h
+    go phase = h
 
 -- and so does a move
 moved_neat : (g : Givens) (at : ℕ → Process) (m : Move) → ((q : ℕ) → IsRising (at q).local.known) → (q : ℕ) → IsRising (moved g at m q).local.known

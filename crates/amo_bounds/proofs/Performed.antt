@@ -6,20 +6,20 @@ use Rattle.amo_sets.specs.Sets.{has, with_number}
 use Rattle.amo_sets.specs.Rank.{count}
 use Rattle.amo_sets.proofs.Numbers.{has-append, has_push, has_push_kept, has_push_cases}
 use Rattle.amo_sets.proofs.Tally.{count_gain}
-use Rattle.amo_kk.specs.Givens.{IsJob, IsWorker}
+use Rattle.amo_kk.specs.Givens.{IsJob}
 use Rattle.amo_kk.specs.Record.{jobs_in_hand}
 use Rattle.amo_kk.specs.Choice.{record_after_choice}
-use Rattle.amo_kk.specs.Lawful.{AreLawful, IsDone, IsSoundProcess}
+use Rattle.amo_kk.specs.Lawful.{IsDone}
 use Rattle.amo_kk.specs.declared.givens.Givens.{Givens}
 use Rattle.amo_kk.specs.declared.phase.Phase.{Phase}
-use Rattle.amo_kk.specs.declared.phase.Phase.TheVariants.{Announcing, Trying, Reading, Claiming, Holding, Over, Left}
+use Rattle.amo_kk.specs.declared.phase.Phase.TheVariants.{Announcing, Trying, Reading, Holding}
 use Rattle.amo_kk.specs.declared.model.Record.{Record}
 use Rattle.amo_kk.specs.declared.model.Process.{Process}
 use Rattle.amo_kk.proofs.Choice.{choice_cases}
-use Rattle.amo_bounds.proofs.Still.{still, IsTurnOf}
+use Rattle.amo_bounds.proofs.Still.{still}
 use Rattle.amo_bounds.proofs.Sums.{total, total_changed, total_constant}
 use Rattle.amo_bounds.proofs.Potential.{togo, unread, cost, GradeIn, HasPotential, price, weight}
-use Rattle.amo_bounds.proofs.Fallen.{Room, Fallen}
+use Rattle.amo_bounds.proofs.Fallen.{IsTaken, Fallen, sound}
 
 priced : (u n : ℕ) → u * (n + 1) ≡ u * n + u
 priced u n = grind arith
@@ -27,20 +27,16 @@ priced u n = grind arith
 fails_most : (m s : ℕ) → s ≡ m * 3 + m * 1 → 2 * m * s ≡ 8 * (m * m)
 fails_most m s e = ap (λ x. 2 * m * x) e ∙ grind arith
 
-module _ {g : Givens} {at now : ℕ → Process} {p : ℕ} (law : AreLawful g at) (turn : IsTurnOf g at now p) (h : HasPotential g at) (room : Room g h.free) where
+module _ {g : Givens} {at now : ℕ → Process} {p : ℕ} (given : IsTaken g at now p) where
+  open given use {law, turn, turn.{worker as o}, h, room}
+
   abbrev r : Record
   r = (at p).local
-
-  o : IsWorker g p
-  o = turn.worker
-
-  sound : IsSoundProcess g p (at p)
-  sound = law.sound p o
 
   -- p does the job that it holds: whatever could fail before may fail anew, but a job less is free
   module _ (j : ℕ) (is : r.phase ≡ Holding j) (e : (now p).local ≡ still (record_after_choice g p (record r { dones = r.dones ++ j ∷ []; known = with_number j r.known }))) where
     held : IsJob g j × (has r.known j ≡ false) × (has r.tried j ≡ false)
-    held = rw is at sound.local.stands
+    held = rw is at (sound given).local.stands
 
     after : (now p).local.dones ≡ r.dones ++ j ∷ []
     after = ap (λ (x : Record). x.dones) e ∙ choice_cases g p (record r { dones = r.dones ++ j ∷ []; known = with_number j r.known }) (λ x. x.dones ≡ r.dones ++ j ∷ []) (λ _. refl) (λ _. refl)
@@ -53,10 +49,10 @@ module _ {g : Givens} {at now : ℕ → Process} {p : ℕ} (law : AreLawful g at
     others_done q n = ap (λ (x : Process). x.local.dones) (turn.others q n)
 
     claimed : has r.claimed j ≡ true
-    claimed = ap (λ l. has l j) (sound.local.claims ∙ ap (λ x. r.dones ++ jobs_in_hand x) is) ∙ has_push r.dones j
+    claimed = ap (λ l. has l j) ((sound given).local.claims ∙ ap (λ x. r.dones ++ jobs_in_hand x) is) ∙ has_push r.dones j
 
     undone : has r.dones j ≡ false
-    undone = false_from_ne_true (has r.dones j) (λ t. true≢false (sym (sound.local.own j t) ∙ held.1))
+    undone = false_from_ne_true (has r.dones j) (λ t. true≢false (sym ((sound given).local.own j t) ∙ held.1))
 
     -- j was free
     was_free : h.free j ≡ true
@@ -106,10 +102,7 @@ module _ {g : Givens} {at now : ℕ → Process} {p : ℕ} (law : AreLawful g at
     any_grade i x (Announcing k) = inr (omega arith)
     any_grade i x (Trying k q) = inr (omega arith)
     any_grade i x (Reading k q) = inr (omega arith)
-    any_grade i x (Claiming k) = tt
-    any_grade i x (Holding k) = tt
-    any_grade i x Over = tt
-    any_grade i x Left = tt
+    any_grade i x phase = tt
 
     abbrev potential : HasPotential g now
     potential =

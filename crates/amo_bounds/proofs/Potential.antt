@@ -8,7 +8,7 @@ use Rattle.amo_kk.specs.Givens.{IsJob, IsWorker, IsOther}
 use Rattle.amo_kk.specs.Lawful.{IsDone}
 use Rattle.amo_kk.specs.declared.givens.Givens.{Givens}
 use Rattle.amo_kk.specs.declared.phase.Phase.{Phase}
-use Rattle.amo_kk.specs.declared.phase.Phase.TheVariants.{Announcing, Trying, Reading, Claiming, Holding, Over, Left}
+use Rattle.amo_kk.specs.declared.phase.Phase.TheVariants.{Announcing, Trying, Reading, Claiming, Holding}
 use Rattle.amo_kk.specs.declared.model.Record.{Record}
 use Rattle.amo_kk.specs.declared.model.Process.{Process}
 use Rattle.amo_kk.proofs.OwnTurns.{left_from}
@@ -22,8 +22,7 @@ togo g p (Trying j q) = left_from g p q + (g.workers - 1) + 2
 togo g p (Reading j q) = left_from g p q + 2
 togo g p (Claiming j) = 2
 togo g p (Holding j) = 1
-togo g p Over = 0
-togo g p Left = 0
+togo g p phase = 0
 
 -- entries that the worker may still read
 abbrev pub unread : Givens → Record → ℕ
@@ -46,10 +45,7 @@ abbrev pub GradeIn : Givens → (ℕ → Process) → (ℕ → Bool) → ℕ →
 GradeIn g at free p r k (Announcing j) = IsHome g free p j ⊎ (2 ≤ k)
 GradeIn g at free p r k (Trying j q) = Passes g free p r j ⊎ (1 ≤ k)
 GradeIn g at free p r k (Reading j q) = (HasRead g at p r q × (Passes g free p r j ⊎ (1 ≤ k))) ⊎ (3 ≤ k)
-GradeIn g at free p r k (Claiming j) = Unit {0}
-GradeIn g at free p r k (Holding j) = Unit {0}
-GradeIn g at free p r k Over = Unit {0}
-GradeIn g at free p r k Left = Unit {0}
+GradeIn g at free p r k phase = Unit {0}
 
 abbrev pub Grade : Givens → (ℕ → Process) → (ℕ → Bool) → ℕ → Record → ℕ → Type 0
 Grade g at free p r k = GradeIn g at free p r k r.phase
@@ -59,10 +55,7 @@ abbrev pub ClearedIn : Record → ℕ → ℕ → Phase → Type 0
 ClearedIn r q v (Announcing j) = j ≢ v
 ClearedIn r q v (Trying j i) = (has r.tried v ≡ true) ⊎ ((j ≢ v) × (i ≤ q))
 ClearedIn r q v (Reading j i) = has r.tried v ≡ true
-ClearedIn r q v (Claiming j) = Unit {0}
-ClearedIn r q v (Holding j) = Unit {0}
-ClearedIn r q v Over = Unit {0}
-ClearedIn r q v Left = Unit {0}
+ClearedIn r q v phase = Unit {0}
 
 abbrev pub Cleared : Record → ℕ → ℕ → Type 0
 Cleared r q v = ClearedIn r q v r.phase
@@ -121,13 +114,8 @@ module _ (g : Givens) (at now : ℕ → Process) (h : HasPotential g at) (p q k 
   grade_same o l r e = go r.phase e
     where
       go : (phase : Phase) → GradeIn g at h.free o r l phase → GradeIn g now h.free o r l phase
-      go (Announcing j) e = e
-      go (Trying j i) e = e
       go (Reading j i) e = ⊎_elim (λ (t : HasRead g at o r i × (Passes g h.free o r j ⊎ (1 ≤ l))). inl (read_same o i r t.0, t.1)) (λ m. inr m) e
-      go (Claiming j) e = e
-      go (Holding j) e = e
-      go Over e = e
-      go Left e = e
+      go phase e = e
 
   abbrev new_grades : ℕ → ℕ
   new_grades = with_at p k h.grades

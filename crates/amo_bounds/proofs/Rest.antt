@@ -4,7 +4,7 @@ use Rattle.std.specs.Prelude.{if◌then◌else◌, ◌==◌}
 use Rattle.std.proofs.lemmas.Bool.{true≢false, false_from_ne_true, or_cases, eqb-true}
 use Rattle.amo_sets.specs.Sets.{has, AreDistinct}
 use Rattle.amo_sets.proofs.Numbers.{length_distinct, count_le_all}
-use Rattle.amo_kk.specs.World.{process, world_after_move, world_after_moves, opening_world}
+use Rattle.amo_kk.specs.World.{process, world_after_move, world_after_moves, opening_world, world_of}
 use Rattle.amo_kk.specs.Lawful.{IsLawful}
 use Rattle.amo_kk.specs.declared.givens.Givens.{Givens}
 use Rattle.amo_kk.specs.declared.model.World.{World}
@@ -25,11 +25,11 @@ codes_length : (g : Givens) (w : World) (ms : List Move) → length (codes g w m
 codes_length g w [] = refl
 codes_length g w (m ∷ ms) = go (is_taken w m) (codes_length g (world_after_move g w m) ms)
   where
-    rest : List ℕ
-    rest = codes g (world_after_move g w m) ms
+    left : List ℕ
+    left = codes g (world_after_move g w m) ms
 
-    go : (b : Bool) → length rest ≡ turns_taken g (world_after_move g w m) ms
-        → length (if b then suc (world_code g w) ∷ rest else rest) ≡ (if b then 1 else 0) + turns_taken g (world_after_move g w m) ms
+    go : (b : Bool) → length left ≡ turns_taken g (world_after_move g w m) ms
+        → length (if b then suc (world_code g w) ∷ left else left) ≡ (if b then 1 else 0) + turns_taken g (world_after_move g w m) ms
     go true e = omega arith
     go false e = omega arith
 
@@ -111,8 +111,8 @@ pub takes_all : (g : Givens) (w : World) (ms : List Move) (p : ℕ) → IsLawful
 takes_all g w [] p law here = omega arith
 takes_all g w (Turn q ∷ ms) p law here = go (q == p) refl (takes_all g (world_after_move g w (Turn q)) ms p (move_lawful g w (Turn q) g.limits law) here)
   where
-    rest : ℕ
-    rest = turns_taken g (world_after_move g w (Turn q)) ms
+    left : ℕ
+    left = turns_taken g (world_after_move g w (Turn q)) ms
 
     some : (b : Bool) (k : ℕ) → k ≤ (if b then 1 else 0) + k
     some true k = omega arith
@@ -121,19 +121,19 @@ takes_all g w (Turn q ∷ ms) p law here = go (q == p) refl (takes_all g (world_
     was : q ≡ p → (process w q).gone ≡ false
     was e = false_from_ne_true (process w q).gone (λ t. true≢false (sym (after_gone g w (Turn q ∷ ms) p law (subst (λ k. (process w k).gone ≡ true) e t)) ∙ here))
 
-    go : (b : Bool) → (q == p) ≡ b → turns_of p ms ≤ rest → (if b then suc (turns_of p ms) else turns_of p ms) ≤ (if not (process w q).gone then 1 else 0) + rest
-    go true e h = subst (λ c. suc (turns_of p ms) ≤ (if not c then 1 else 0) + rest) (sym (was (eqb-true q p e))) (omega arith)
-    go false e h = let l = some (not (process w q).gone) rest in omega arith
+    go : (b : Bool) → (q == p) ≡ b → turns_of p ms ≤ left → (if b then suc (turns_of p ms) else turns_of p ms) ≤ (if not (process w q).gone then 1 else 0) + left
+    go true e h = subst (λ c. suc (turns_of p ms) ≤ (if not c then 1 else 0) + left) (sym (was (eqb-true q p e))) (omega arith)
+    go false e h = let l = some (not (process w q).gone) left in omega arith
 takes_all g w (Halt q ∷ ms) p law here = let l = takes_all g (world_after_move g w (Halt q)) ms p (move_lawful g w (Halt q) g.limits law) here in omega arith
 takes_all g w (Leave q ∷ ms) p law here = let l = takes_all g (world_after_move g w (Leave q)) ms p (move_lawful g w (Leave q) g.limits law) here in omega arith
 
-pub always_gone : (g : Givens) → (k : ℕ) × ((ms : List Move) (p : ℕ) → k < turns_of p ms → (process (world_after_moves g (opening_world g) ms) p).gone ≡ true)
+pub always_gone : (g : Givens) → (k : ℕ) × ((ms : List Move) (p : ℕ) → k < turns_of p ms → (process (world_of g ms) p).gone ≡ true)
 always_gone g = (world_room g, gone)
   where
-    gone : (ms : List Move) (p : ℕ) → world_room g < turns_of p ms → (process (world_after_moves g (opening_world g) ms) p).gone ≡ true
-    gone ms p many = go (process (world_after_moves g (opening_world g) ms) p).gone refl
+    gone : (ms : List Move) (p : ℕ) → world_room g < turns_of p ms → (process (world_of g ms) p).gone ≡ true
+    gone ms p many = go (process (world_of g ms) p).gone refl
       where
-        go : (b : Bool) → (process (world_after_moves g (opening_world g) ms) p).gone ≡ b → (process (world_after_moves g (opening_world g) ms) p).gone ≡ true
+        go : (b : Bool) → (process (world_of g ms) p).gone ≡ b → (process (world_of g ms) p).gone ≡ true
         go true e = e
         go false e =
             let all = takes_all g (opening_world g) ms p (opening_lawful g g.limits) e in

@@ -14,9 +14,9 @@ use Rattle.amo_kk.specs.World.{nobody, process, loaded_value, process_after, wor
 use Rattle.amo_kk.specs.Lawful.{IsDoneByOther, IsUnclaimedByOther, AreLawful, IsLawful}
 use Rattle.amo_kk.specs.declared.givens.Givens.{Givens}
 use Rattle.amo_kk.specs.declared.phase.Phase.{Phase}
-use Rattle.amo_kk.specs.declared.phase.Phase.TheVariants.{Announcing, Trying, Reading, Claiming, Holding, Over, Left}
+use Rattle.amo_kk.specs.declared.phase.Phase.TheVariants.{Announcing, Trying, Reading, Claiming, Holding, Over}
 use Rattle.amo_kk.specs.declared.phase.Want.{Want}
-use Rattle.amo_kk.specs.declared.phase.Want.TheVariants.{StoreNext, LoadNext, LoadDone, StoreClaim, StoreDone, Nothing}
+use Rattle.amo_kk.specs.declared.phase.Want.TheVariants.{StoreNext, LoadNext, LoadDone, StoreClaim, StoreDone}
 use Rattle.amo_kk.specs.declared.model.Record.{Record}
 use Rattle.amo_kk.specs.declared.model.Process.{Process}
 use Rattle.amo_kk.specs.declared.model.World.{World}
@@ -34,12 +34,9 @@ still r = record r { steps = 0 }
 
 -- what is loaded where the workers are so
 abbrev pub heard : (ℕ → Process) → Want → ℕ
-heard at (StoreNext j) = 0
 heard at (LoadNext q) = (at q).next
 heard at (LoadDone q k) = numbered 0 (at q).row k
-heard at (StoreClaim c j) = 0
-heard at (StoreDone k j) = 0
-heard at Nothing = 0
+heard at want = 0
 
 -- b is a after a turn of p, counts of steps apart
 pub record IsTurnOf (g : Givens) (a b : ℕ → Process) (p : ℕ) : Type 0 where
@@ -61,7 +58,7 @@ turned g at p q =
     then at q
     else (if q == p then without_steps (process_after (want (at p).local) (at p) (record_after g p (heard at (want (at p).local)) (at p).local)) else at q)
 
--- a stop of p
+-- a halt of p
 abbrev pub halted : (ℕ → Process) → ℕ → ℕ → Process
 halted at p q = if (at p).gone then at q else (if q == p then record (at p) { gone = true } else at q)
 
@@ -120,30 +117,19 @@ still_phase g p v r (Reading j q) = go (v == 0)
         ≡ still (if b then record_at_row g p j (next_other p q) r else record r { known = with_number v r.known; fronts = put r.fronts q (numbered 0 r.fronts q + 1) })
     go true = still_row g p j (next_other p q) r
     go false = refl
-still_phase g p v r (Claiming j) = refl
 still_phase g p v r (Holding j) = still_choice g p (record r { dones = r.dones ++ j ∷ []; known = with_number j r.known })
-still_phase g p v r Over = refl
-still_phase g p v r Left = refl
+still_phase g p v r phase = refl
 
 still_after : (g : Givens) (p v : ℕ) (r : Record) → still (record_after g p v (still r)) ≡ still (record_after g p v r)
 still_after g p v r = still_phase g p v r r.phase
 
 still_want_in : (r : Record) (phase : Phase) → want_in (still r) phase ≡ want_in r phase
 still_want_in r (Announcing j) = refl
-still_want_in r (Trying j q) = refl
-still_want_in r (Reading j q) = refl
-still_want_in r (Claiming j) = refl
-still_want_in r (Holding j) = refl
-still_want_in r Over = refl
-still_want_in r Left = refl
+still_want_in r phase = refl
 
 heard_is : (w : World) (x : Want) → heard (view w) x ≡ loaded_value w x
-heard_is w (StoreNext j) = refl
 heard_is w (LoadNext q) = refl
-heard_is w (LoadDone q k) = refl
-heard_is w (StoreClaim c j) = refl
-heard_is w (StoreDone k j) = refl
-heard_is w Nothing = refl
+heard_is w want = refl
 
 -- what is loaded is the same
 pub hears : (w : World) (p : ℕ) → heard (view w) (want (view w p).local) ≡ loaded_value w (want (process w p).local)
@@ -152,11 +138,9 @@ hears w p = ap (heard (view w)) (still_want_in (process w p).local (process w p)
 -- a process after an event, by the still record alone
 still_stored : (x : Want) (a b : Process) (r s : Record) → without_steps a ≡ without_steps b → still r ≡ still s → without_steps (process_after x a r) ≡ without_steps (process_after x b s)
 still_stored (StoreNext j) a b r s e f = λ i. record { local = f i; next = j; claim = (e i).claim; row = (e i).row; gone = wants_nothing (f i).phase }
-still_stored (LoadNext q) a b r s e f = λ i. record { local = f i; next = (e i).next; claim = (e i).claim; row = (e i).row; gone = wants_nothing (f i).phase }
-still_stored (LoadDone q k) a b r s e f = λ i. record { local = f i; next = (e i).next; claim = (e i).claim; row = (e i).row; gone = wants_nothing (f i).phase }
 still_stored (StoreClaim c j) a b r s e f = λ i. record { local = f i; next = (e i).next; claim = c; row = (e i).row; gone = wants_nothing (f i).phase }
 still_stored (StoreDone k j) a b r s e f = λ i. record { local = f i; next = (e i).next; claim = (e i).claim; row = put (e i).row k j; gone = wants_nothing (f i).phase }
-still_stored Nothing a b r s e f = λ i. record { local = f i; next = (e i).next; claim = (e i).claim; row = (e i).row; gone = wants_nothing (f i).phase }
+still_stored x a b r s e f = λ i. record { local = f i; next = (e i).next; claim = (e i).claim; row = (e i).row; gone = wants_nothing (f i).phase }
 
 -- the workers of a world with another process at p
 view_with : (g : Givens) (w : World) (p : ℕ) (a : Process) (events : List Event) → IsLawful g w → (process w p).gone ≡ false

@@ -1,4 +1,4 @@
--- All others of worker 1 announce their first choices and stop.
+-- All others of worker 1 announce their first choices and are halted.
 use Rattle.std.proofs.Common.{◌≡◌, ◌≢◌, length, ⊎_elim, ℕ, zero, suc, ◌+◌, ◌<◌, ◌≤◌, Bool, true, false, List, [], ◌∷◌, ◌++◌, refl, sym, ap, ◌∙◌, subst, arith, append-nil}
 use Rattle.std.specs.Prelude.{if◌then◌else◌}
 use Rattle.std.proofs.lemmas.Bool.{cases_eq, le-ltb}
@@ -11,7 +11,7 @@ use Rattle.amo_kk.specs.Record.{wants_nothing, jobs_in_hand, empty_record}
 use Rattle.amo_kk.specs.Choice.{chosen_rank, first_record}
 use Rattle.amo_kk.specs.Step.{want, record_after_phase}
 use Rattle.amo_kk.specs.Run.{done_jobs}
-use Rattle.amo_kk.specs.World.{nobody, process, loaded_value, world_with, world_after_turn, world_after_halt, world_after_moves, first_process, opening_world}
+use Rattle.amo_kk.specs.World.{nobody, process, loaded_value, world_with, world_after_turn, world_after_halt, first_process, opening_world, world_of}
 use Rattle.amo_kk.specs.Lawful.{IsLawful}
 use Rattle.amo_kk.specs.declared.givens.Givens.{Givens}
 use Rattle.amo_kk.specs.declared.phase.Phase.TheVariants.{Announcing}
@@ -31,7 +31,7 @@ use Rattle.amo_bounds.specs.Fewest.{stopped, leavers}
 use Rattle.amo_bounds.proofs.Turns.{next_after, IsAfterTurn, after_turn}
 use Rattle.amo_bounds.proofs.Ended.{stopped-append, leavers-append}
 
--- each of the first k others of worker 1 announces its first choice, and stops
+-- each of the first k others of worker 1 announces its first choice, and is halted
 abbrev pub stuck_moves : ℕ → List Move
 stuck_moves zero = []
 stuck_moves (suc k) = stuck_moves k ++ Turn (k + 2) ∷ Halt (k + 2) ∷ []
@@ -64,7 +64,7 @@ module _ (g : Givens) (enough : g.beta ≤ g.jobs) where
   pub first_here : (p : ℕ) → IsWorker g p → (first_process g p).gone ≡ false
   first_here p o = ap wants_nothing (first_phase p o)
 
-  -- a turn and a stop of a worker that is as at first
+  -- a turn and a halt of a worker that is as at first
   sticks : (k : ℕ) (w : World) → k + 2 ≤ g.workers → AreStuck g k w → AreStuck g (suc k) (world_after_halt (world_after_turn g w (k + 2)) (k + 2))
   sticks k w room s = go (process v p).gone refl
     where
@@ -140,11 +140,11 @@ module _ (g : Givens) (enough : g.beta ≤ g.jobs) where
       at : (p : ℕ) → IsWorker g p → process (opening_world g) p ≡ first_process g p
       at p o = numbered-table nobody (first_process g) g.workers p o.low o.high
 
-  pub all_stick : (k : ℕ) → k + 1 ≤ g.workers → AreStuck g k (world_after_moves g (opening_world g) (stuck_moves k))
+  pub all_stick : (k : ℕ) → k + 1 ≤ g.workers → AreStuck g k (world_of g (stuck_moves k))
   all_stick zero h = opening_stuck
   all_stick (suc k) h =
       subst (λ w. AreStuck g (suc k) w) (sym (world_after_moves-append g (opening_world g) (stuck_moves k) (Turn (k + 2) ∷ Halt (k + 2) ∷ [])))
-      (sticks k (world_after_moves g (opening_world g) (stuck_moves k)) (omega arith) (all_stick k (omega arith)))
+      (sticks k (world_of g (stuck_moves k)) (omega arith) (all_stick k (omega arith)))
 
 -- what these moves are
 

@@ -6,44 +6,29 @@ use Rattle.amo_kk.specs.Givens.{IsWorker}
 use Rattle.amo_kk.specs.Choice.{record_after_choice, record_after_check}
 use Rattle.amo_kk.specs.Record.{is_over, jobs_in_hand}
 use Rattle.amo_kk.specs.Run.{done_jobs}
-use Rattle.amo_kk.specs.Step.{want_in, want, shown, events_of}
-use Rattle.amo_kk.specs.World.{process, loaded_value, process_after, world_after_turn}
+use Rattle.amo_kk.specs.Step.{want_in, shown, events_of}
+use Rattle.amo_kk.specs.World.{process, process_after, world_after_turn}
 use Rattle.amo_kk.specs.Answer.{turn_shown}
 use Rattle.amo_kk.specs.Lawful.{IsLawful}
 use Rattle.amo_kk.specs.declared.givens.Givens.{Givens}
 use Rattle.amo_kk.specs.declared.phase.Phase.{Phase}
-use Rattle.amo_kk.specs.declared.phase.Phase.TheVariants.{Announcing, Trying, Reading, Claiming, Holding, Over, Left}
+use Rattle.amo_kk.specs.declared.phase.Phase.TheVariants.{Announcing, Claiming, Holding, Over, Left}
 use Rattle.amo_kk.specs.declared.model.Record.{Record}
 use Rattle.amo_kk.specs.declared.model.Process.{Process}
 use Rattle.amo_kk.specs.declared.model.World.{World}
-use Rattle.amo_kk.specs.declared.event.Move.TheVariants.{Turn}
 use Rattle.amo_kk.specs.declared.event.Shown.TheVariants.{Quiet, Done as DoneShown, DoneEnded, Ended as EndedShown}
-use Rattle.amo_kk.proofs.Choice.{after_rests}
 use Rattle.amo_kk.proofs.Claims.{done-append}
-use Rattle.amo_kk.proofs.Moves.{turned_process, turned_local, move_other}
-use Rattle.amo_kk.proofs.OwnTurns.{next_record, wants_some}
-use Rattle.amo_kk.proofs.Runs.{stored_gone}
+use Rattle.amo_kk.proofs.OwnTurns.{next_record, has_turned}
 use Rattle.amo_kk.proofs.Shows.{turn_history}
-use Rattle.amo_kk.proofs.Worlds.{turn_lawful, here_is_worker}
 
 -- the announcement after a turn in this phase
 abbrev pub next_after : Phase → ℕ → ℕ
 next_after (Announcing j) next = j
-next_after (Trying j q) next = next
-next_after (Reading j q) next = next
-next_after (Claiming j) next = next
-next_after (Holding j) next = next
-next_after Over next = next
-next_after Left next = next
+next_after phase next = next
 
 stored_next : (a : Process) (phase : Phase) (r : Record) → (process_after (want_in a.local phase) a r).next ≡ next_after phase a.next
 stored_next a (Announcing j) r = refl
-stored_next a (Trying j q) r = refl
-stored_next a (Reading j q) r = refl
-stored_next a (Claiming j) r = refl
-stored_next a (Holding j) r = refl
-stored_next a Over r = refl
-stored_next a Left r = refl
+stored_next a phase r = refl
 
 -- a turn shows done what was in the hand before it
 shown_done : (p : ℕ) (before after : Phase) → done_jobs (events_of p (shown before after)) ≡ jobs_in_hand before
@@ -58,13 +43,11 @@ shown_done p before after = go before
     done j false = refl
 
     go : (before : Phase) → done_jobs (events_of p (shown before after)) ≡ jobs_in_hand before
-    go (Announcing j) = quiet (is_over after)
-    go (Trying j q) = quiet (is_over after)
-    go (Reading j q) = quiet (is_over after)
     go (Claiming j) = refl
     go (Holding j) = done j (is_over after)
     go Over = refl
     go Left = refl
+    go attempting = quiet (is_over after)
 
 -- v is w after a turn of p
 pub record IsAfterTurn (g : Givens) (w : World) (p : ℕ) (v : World) : Type 0 where
@@ -79,24 +62,18 @@ pub record IsAfterTurn (g : Givens) (w : World) (p : ℕ) (v : World) : Type 0 w
 
 pub after_turn : (g : Givens) (w : World) (p : ℕ) → IsLawful g w → (process w p).gone ≡ false → IsAfterTurn g w p (world_after_turn g w p)
 after_turn g w p law here =
+    let turned = has_turned g w p law here in
+    let r = (process w p).local in
+    let x = next_record g w p in
     record {
-      worker = o;
-      law = turn_lawful g w p g.limits law;
-      local = turned_local g w p law here;
-      next = ap (λ (y : Process). y.next) (turned_process g w p law here) ∙ stored_next (process w p) r.phase x;
-      gone = ap (λ (y : Process). y.gone) (turned_process g w p law here) ∙ stored_gone (want r) (process w p) x ∙ after_rests g p (loaded_value w (want r)) r (wants_some g w p law o here);
-      others = λ q n. move_other g w (Turn p) q n;
+      worker = turned.worker;
+      law = turned.law;
+      local = turned.local;
+      next = ap (λ (y : Process). y.next) turned.now ∙ stored_next (process w p) r.phase x;
+      gone = turned.gone;
+      others = turned.others;
       done = ap done_jobs (turn_history g w p here) ∙ done-append w.history (events_of p (turn_shown g w p)) ∙ ap (λ l. done_jobs w.history ++ l) (shown_done p r.phase x.phase);
     }
-  where
-    o : IsWorker g p
-    o = here_is_worker g w p law.size here
-
-    r : Record
-    r = (process w p).local
-
-    x : Record
-    x = next_record g w p
 
 -- a check of j passes where j is neither known nor tried
 pub check_passes : (g : Givens) (p j : ℕ) (r : Record) → has r.known j ≡ false → has r.tried j ≡ false → record_after_check g p j r ≡ record r { phase = Claiming j }

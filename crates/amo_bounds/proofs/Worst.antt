@@ -1,4 +1,4 @@
--- The fewest are met: all others of worker 1 announce and stop, and worker 1 goes on alone.
+-- The fewest are met: all others of worker 1 announce and are halted, and worker 1 goes on alone.
 use Rattle.std.proofs.Common.{◌≡◌, ⊎_elim, ℕ, zero, suc, ◌-◌, ◌<◌, ◌≤◌, true, List, [], ◌∷◌, ◌++◌, length, replicate, refl, sym, ap, ◌∙◌, subst, arith, append-nil}
 use Rattle.std.specs.Prelude.{if◌then◌else◌, nat_lt, ◌==◌}
 use Rattle.std.proofs.lemmas.Bool.{cases_eq, cases_lt, lt-ltb, eq-eqb}
@@ -7,7 +7,7 @@ use Rattle.amo_sets.proofs.Tables.{numbered-table}
 use Rattle.amo_kk.specs.Givens.{bound}
 use Rattle.amo_kk.specs.Record.{wants_nothing}
 use Rattle.amo_kk.specs.Run.{done_jobs}
-use Rattle.amo_kk.specs.World.{nobody, process, first_process, opening_world}
+use Rattle.amo_kk.specs.World.{nobody, process, first_process, opening_world, world_of}
 use Rattle.amo_kk.specs.declared.givens.Givens.{Givens}
 use Rattle.amo_kk.specs.declared.model.Process.{Process}
 use Rattle.amo_kk.specs.declared.event.Event.TheVariants.{Ended}
@@ -16,7 +16,7 @@ use Rattle.amo_kk.specs.declared.event.Move.TheVariants.{Turn}
 use Rattle.amo_kk.proofs.FirstChoice.{first_over}
 use Rattle.amo_kk.proofs.Claims.{done-append}
 use Rattle.amo_kk.proofs.Moves.{world_after_moves-append}
-use Rattle.amo_bounds.specs.Fewest.{fewest, world_of, jobs_done, stopped, leavers, ComesToEnd, IsWorst, IsEffectiveness}
+use Rattle.amo_bounds.specs.Fewest.{fewest, jobs_done, stopped, leavers, ComesToEnd, IsWorst, IsEffectiveness}
 use Rattle.amo_bounds.specs.Rest.{turns_of}
 use Rattle.amo_bounds.proofs.Rest.{turns-append, always_gone}
 use Rattle.amo_bounds.proofs.Ended.{stopped-append, leavers-append, gone_ended, nobody_leaves, someone_ended}

@@ -4,45 +4,39 @@ use Rattle.amo_sets.specs.Sets.{has}
 use Rattle.amo_kk.specs.Givens.{bound, IsWorker}
 use Rattle.amo_kk.specs.Record.{is_over}
 use Rattle.amo_kk.specs.Run.{done_jobs}
-use Rattle.amo_kk.specs.World.{process, world_after_moves, opening_world}
+use Rattle.amo_kk.specs.World.{process, world_of}
 use Rattle.amo_kk.specs.declared.givens.Givens.{Givens}
 use Rattle.amo_kk.specs.declared.event.Move.{Move}
-use Rattle.amo_kk.specs.declared.event.Move.TheVariants.{Turn, Halt, Leave}
+use Rattle.amo_kk.specs.declared.event.Move.TheVariants.{Halt, Leave}
 use Rattle.amo_kk.specs.declared.model.World.{World}
 
 -- none where there are fewer jobs than the threshold, so that all are over from birth; else the bound, but at least one
 abbrev pub fewest : Givens → ℕ
 fewest g = if nat_lt g.jobs g.beta then 0 else (if bound g == 0 then 1 else bound g)
 
--- the world after these moves from the opening
-abbrev pub world_of : Givens → List Move → World
-world_of g ms = world_after_moves g (opening_world g) ms
-
 -- how many jobs are done then, as the history shows
 abbrev pub jobs_done : Givens → List Move → ℕ
 jobs_done g ms = length (done_jobs (world_of g ms).history)
 
--- the workers that the moves stop, in their order
+-- the workers that the moves halt, in their order
 abbrev pub stopped : List Move → List ℕ
 stopped [] = []
-stopped (Turn p ∷ ms) = stopped ms
 stopped (Halt p ∷ ms) = p ∷ stopped ms
-stopped (Leave p ∷ ms) = stopped ms
+stopped (m ∷ ms) = stopped ms
 
 -- the workers that leave in them, if they may, in their order
 abbrev pub leavers : List Move → List ℕ
 leavers [] = []
-leavers (Turn p ∷ ms) = leavers ms
-leavers (Halt p ∷ ms) = leavers ms
 leavers (Leave p ∷ ms) = p ∷ leavers ms
+leavers (m ∷ ms) = leavers ms
 
--- The moves are turns and fewer stops than there are workers, and after them all workers are gone.
+-- The moves are turns and fewer halts than there are workers, and after them all workers are gone.
 pub record ComesToEnd (g : Givens) (ms : List Move) : Type 0 where
   pub none_leaves : leavers ms ≡ []
   pub few_stops : length (stopped ms) < g.workers
   pub gone : (p : ℕ) → IsWorker g p → (process (world_of g ms) p).gone ≡ true
 
--- The moves come to an end, each worker that wasn't stopped has ended, and no more jobs are done than the fewest.
+-- The moves come to an end, each worker that wasn't halted has ended, and no more jobs are done than the fewest.
 pub record IsWorst (g : Givens) (ms : List Move) : Type 0 where
   pub comes_to_end : ComesToEnd g ms
   pub ended : (p : ℕ) → IsWorker g p → has (stopped ms) p ≡ false → is_over (process (world_of g ms) p).local.phase ≡ true

@@ -1,43 +1,43 @@
 //! The theorems over the definitions of `amo_kk`. Nothing here runs: each function's contract is a law.
 //!
-//! The moves are any turns, stops and leavings, in any order, unless a law says which.
+//! The moves are any turns, halts and leavings, in any order, unless a law says which.
 ghost use Rattle.std.specs.Prelude.{◌≡◌, ◌≢◌, ◌<◌, ◌≤◌, ◌+◌, ℕ, true, false, List, ◌∷◌};
 ghost use Rattle.amo_sets.specs.Sets.{has};
 ghost use Rattle.amo_kk.specs.Givens.{IsWorker};
 ghost use Rattle.amo_kk.specs.Record.{is_over};
-ghost use Rattle.amo_kk.specs.World.{process, world_after_moves, opening_world};
+ghost use Rattle.amo_kk.specs.World.{process, world_after_moves, opening_world, world_of, rounds};
 ghost use Rattle.amo_kk.specs.Lawful.{IsLawful};
 ghost use Rattle.amo_kk.specs.declared.phase.Phase.{Phase};
 ghost use Rattle.amo_kk.specs.declared.givens.Givens.{Givens};
 ghost use Rattle.amo_kk.specs.declared.event.Move.{Move};
 ghost use Rattle.amo_kk.specs.declared.event.Move.TheVariants.{Turn};
 ghost use Rattle.amo_kk.specs.declared.model.World.{World};
-ghost use Rattle.amo_bounds.specs.Fewest.{fewest, world_of, jobs_done, stopped, leavers, IsWorst, IsEffectiveness};
-ghost use Rattle.amo_bounds.specs.Rest.{turns_taken, turns_of, rounds, AreAlike};
+ghost use Rattle.amo_bounds.specs.Fewest.{fewest, jobs_done, stopped, leavers, IsWorst, IsEffectiveness};
+ghost use Rattle.amo_bounds.specs.Rest.{turns_taken, turns_of, AreAlike};
 ghost use Rattle.amo_bounds.specs.Turns.{width, most_turns};
 
-/// Wherever a worker has ended by its own choice, after any turns, stops and leavings, at least `fewest` jobs are done:
+/// Wherever a worker has ended by its own choice, after any turns, halts and leavings, at least `fewest` jobs are done:
 /// none where there are fewer jobs than the threshold, else the bound, but at least one.
 pub fn fewest_are_done()
     ensures { (g : Givens) (ms : List Move) (p : ℕ) → IsWorker g p → is_over (process (world_of g ms) p).local.phase ≡ true
         → fewest g ≤ jobs_done g ms }
 {}
 
-/// No more can be promised. For all givens there are turns and fewer stops than workers, after which all are gone, each
-/// that wasn't stopped has ended, and no more jobs are done than `fewest`.
+/// No more can be promised. For all givens there are turns and fewer halts than workers, after which all are gone, each
+/// that wasn't halted has ended, and no more jobs are done than `fewest`.
 pub fn fewest_are_met()
     ensures { (g : Givens) → (ms : List Move) × IsWorst g ms }
 {}
 
-/// The effectiveness is exactly `fewest`: over all turns, and fewer stops than workers, after which all are gone, it is the
+/// The effectiveness is exactly `fewest`: over all turns, and fewer halts than workers, after which all are gone, it is the
 /// least number of jobs done.
 pub fn effectiveness_is_fewest()
     ensures { (g : Givens) → IsEffectiveness g (fewest g) }
 {}
 
 /// Everyone comes to rest. For all givens there is a number such that in no list of moves more turns are taken by workers
-/// that aren't gone, and one such that whoever is given more turns is gone, whatever the others do and whoever is stopped.
-/// So whoever keeps getting turns ends by its own choice, if it isn't stopped and doesn't leave: also one that was asked to
+/// that aren't gone, and one such that whoever is given more turns is gone, whatever the others do and whoever is halted.
+/// So whoever keeps getting turns ends by its own choice, if it isn't halted and doesn't leave: also one that was asked to
 /// leave, and stayed.
 pub fn everyone_rests()
     ensures all { (g : Givens) → (k : ℕ) × ((ms : List Move) → turns_taken g (opening_world g) ms ≤ k) }
@@ -50,7 +50,7 @@ pub fn everyone_rests()
 
 /// For all givens there is a number of rounds after which each worker has ended by its own choice.
 pub fn rounds_come_to_an_end()
-    ensures { (g : Givens) → (k : ℕ) × ((p : ℕ) → IsWorker g p → is_over (process (world_of g (rounds g k)) p).local.phase ≡ true) }
+    ensures { (g : Givens) → (k : ℕ) × ((p : ℕ) → IsWorker g p → is_over (process (world_of g (rounds g.workers k)) p).local.phase ≡ true) }
 {}
 
 /// No turn is undone: from every lawful world, moves that begin with a turn of a worker that isn't gone lead to
@@ -69,5 +69,5 @@ pub fn turns_are_few()
     ensures each { (g : Givens) (ms : List Move) (p : ℕ) → width g ≤ g.beta → most_turns g < turns_of p ms
         → (process (world_of g ms) p).gone ≡ true }
     ensures rounds { (g : Givens) (p : ℕ) → width g ≤ g.beta → IsWorker g p
-        → is_over (process (world_of g (rounds g (most_turns g + 1))) p).local.phase ≡ true }
+        → is_over (process (world_of g (rounds g.workers (most_turns g + 1))) p).local.phase ≡ true }
 {}

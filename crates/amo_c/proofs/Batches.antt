@@ -8,14 +8,14 @@ use Rattle.amo_kk.specs.Givens.{IsWorker}
 use Rattle.amo_kk.specs.Object.{is_within}
 use Rattle.amo_kk.specs.declared.givens.Givens.{Givens}
 use Rattle.amo_kk.specs.Step.{want, is_load}
-use Rattle.amo_kk.specs.Words.{next_word, claim_word, done_word}
+use Rattle.amo_kk.specs.Words.{next_word, claim_word, done_word, word_count}
 use Rattle.amo_kk.specs.declared.phase.Want.{Want}
 use Rattle.amo_kk.specs.declared.phase.Want.TheVariants.{StoreNext, LoadNext, LoadDone, StoreClaim, StoreDone, Nothing}
 use Rattle.amo_process.specs.declared.standing.Standing.{Standing}
 use Rattle.amo_process.specs.declared.standing.Standing.TheVariants.{Beginning, Going}
 use Rattle.amo_process.specs.declared.batch.Item.{Item}
 use Rattle.amo_process.specs.declared.batch.Item.TheVariants.{Store, Load, LoadUntilZero}
-use Rattle.amo_process.specs.Heard.{word_count, standing_of}
+use Rattle.amo_process.specs.Heard.{standing_of}
 use Rattle.amo_process.specs.Stepped.{access_for}
 use Rattle.amo_process.specs.Batch.{last_word, items_from, items_of, left_after_all, wants_load, IsWithin, AreWithin}
 use Rattle.amo_process.proofs.Batches.{rest_wanted}

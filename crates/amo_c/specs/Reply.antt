@@ -3,10 +3,10 @@ use Rattle.std.specs.Prelude.{ℕ, ◌+◌, Bool, List, Option, Some, None, Resu
 use Rattle.std.specs.Result.{is_ok}
 use Rattle.amo_kk.specs.Givens.{givens_of, bound}
 use Rattle.amo_kk.specs.Object.{is_within}
-use Rattle.amo_kk.specs.Words.{next_word, claim_word, done_word}
+use Rattle.amo_kk.specs.Words.{next_word, claim_word, done_word, word_count}
 use Rattle.amo_kk.specs.declared.givens.Givens.{Givens}
 use Rattle.amo_kk.specs.declared.givens.GivensFault.{GivensFault}
-use Rattle.amo_process.specs.Heard.{word_count, standing_of}
+use Rattle.amo_process.specs.Heard.{standing_of}
 use Rattle.amo_process.specs.declared.standing.Standing.{Standing}
 use Rattle.amo_c.specs.Codes.{fault_code, fault_of}
 use Rattle.amo_c.specs.Told.{next_of, leave_by}
@@ -75,16 +75,17 @@ abbrev pub bound_in : Result Givens FaultCode → ℕ
 bound_in (Ok g) = bound g
 bound_in (Err fault) = 0
 
--- the places of a worker's words; 0, which is no worker's word, where there is no such worker
+-- the place of a worker's announcement; 0, which is no worker's word, where there is no such worker
 abbrev pub announcement_in : Result Worker FaultCode → ℕ
 announcement_in (Ok w) = next_word w.number
 announcement_in (Err fault) = 0
 
+-- the place of its count of claims
 abbrev pub claims_in : Result Worker FaultCode → ℕ
 claims_in (Ok w) = claim_word w.givens w.number
 claims_in (Err fault) = 0
 
--- the k-th entry of its row, from 1, the last 0 among them
+-- that of the k-th entry of its row, from 1, the last 0 among them
 abbrev pub entry_in : Result Worker FaultCode → ℕ → ℕ
 entry_in (Ok w) k = if is_within (w.givens.jobs + 1) k then done_word w.givens w.number k else 0
 entry_in (Err fault) k = 0

@@ -16,6 +16,14 @@ const SMALL: AmoGivens = AmoGivens {
     beta: 2,
 };
 
+fn givens_of(jobs: u64, workers: u64, beta: u64) -> AmoGivens {
+    AmoGivens {
+        jobs,
+        workers,
+        beta,
+    }
+}
+
 /// What is there where nothing was written.
 const UNTOLD: [u64; 8] = [9; 8];
 
@@ -65,6 +73,19 @@ fn leave(alloc: Global, givens: AmoGivens, p: u64, heard: &[u64]) -> (u32, [u64;
     (code, fields(next))
 }
 
+/// The code, the count and what is told of `amo_batch`, whose items go to these places.
+fn batch_into(
+    alloc: Global,
+    givens: AmoGivens,
+    p: u64,
+    heard: &[u64],
+    places: &mut [AmoItem],
+) -> (u32, u64, AmoNext) {
+    let (mut count, mut next) = (99, untold());
+    let code = amo_batch(alloc, &givens, p, heard, places, &mut count, &mut next);
+    (code, count, next)
+}
+
 /// Sees that `amo_batch` tells these items, as many of them as there are places, and answers what it tells beside them.
 fn batch(
     rt: &impl Abort,
@@ -74,8 +95,8 @@ fn batch(
     heard: &[u64],
     items: &[(u64, u64, u64)],
 ) -> [u64; 8] {
-    let (mut places, mut count, mut next) = ([UNTOLD_ITEM; 33], 99, untold());
-    let code = amo_batch(alloc, &givens, p, heard, &mut places, &mut count, &mut next);
+    let mut places = [UNTOLD_ITEM; 33];
+    let (code, count, next) = batch_into(alloc, givens, p, heard, &mut places);
     assert!(rt; code == 0 && count == items.len() as u64);
     for (k, (place, item)) in places.iter().zip(items).enumerate() {
         assert!(rt;
@@ -139,21 +160,9 @@ fn what_is_wrong_has_its_code(rt: HostRuntime) {
         (3, 2, 2, 2, &[0, 1, 4, 0], 7),
     ];
     for (jobs, workers, beta, p, heard, code) in rows {
-        let givens = AmoGivens {
-            jobs,
-            workers,
-            beta,
-        };
-        let (mut places, mut count, mut told) = ([UNTOLD_ITEM; 2], 99, untold());
-        let batch_code = amo_batch(
-            rt.alloc(),
-            &givens,
-            p,
-            heard,
-            &mut places,
-            &mut count,
-            &mut told,
-        );
+        let givens = givens_of(jobs, workers, beta);
+        let mut places = [UNTOLD_ITEM; 2];
+        let (batch_code, count, told) = batch_into(rt.alloc(), givens, p, heard, &mut places);
         assert!(&rt;
             next(rt.alloc(), givens, p, heard) == (code, UNTOLD),
             "{code}"
@@ -172,11 +181,7 @@ fn what_is_wrong_has_its_code(rt: HostRuntime) {
 
 #[test]
 fn words_have_their_places(rt: HostRuntime) {
-    let none = AmoGivens {
-        jobs: 3,
-        workers: 2,
-        beta: 1,
-    };
+    let none = givens_of(3, 2, 1);
     assert!(&rt; amo_words(&SMALL) == 13 && amo_words(&none) == 0);
     assert!(&rt; amo_bound(&SMALL) == 1 && amo_bound(&none) == 0);
     let rows = [(0, 0, 0), (1, 1, 3), (2, 2, 4), (3, 0, 0)];
@@ -221,28 +226,15 @@ fn a_batch_is_a_whole_pass(rt: HostRuntime) {
 
 #[test]
 fn a_batch_is_cut_where_there_is_no_room(rt: HostRuntime) {
-    let (mut places, mut count, mut told) = ([UNTOLD_ITEM; 3], 99, untold());
-    let heard = [0; 3];
-    let code = amo_batch(
-        rt.alloc(),
-        &SMALL,
-        1,
-        &heard,
-        &mut places[..2],
-        &mut count,
-        &mut told,
-    );
+    let mut places = [UNTOLD_ITEM; 3];
+    let (code, count, _) = batch_into(rt.alloc(), SMALL, 1, &[0; 3], &mut places[..2]);
     assert!(&rt; code == 0 && count == 2 && places[1].access == 1 && places[2].access == 9);
 }
 
 #[test]
 fn the_longest_lists_are_taken(rt: HostRuntime) -> Result<(), Fail> {
     // worker 16 has filed 4095, 4094, .. 1, and has claimed 4096
-    let crowd = AmoGivens {
-        jobs: 4096,
-        workers: 16,
-        beta: 65535,
-    };
+    let crowd = givens_of(4096, 16, 65535);
     let mut heard = Vec::from_slice(rt.alloc(), &[4096, 4096])?;
     for entry in (0..4096).rev() {
         heard.push(entry)?;
@@ -252,11 +244,7 @@ fn the_longest_lists_are_taken(rt: HostRuntime) -> Result<(), Fail> {
     assert!(&rt; next(rt.alloc(), crowd, 16, &heard) == (0, told));
     assert!(&rt; leave(rt.alloc(), crowd, 16, &heard) == (9, UNTOLD));
     // a worker alone, which stores three times for each job
-    let alone = AmoGivens {
-        jobs: 4096,
-        workers: 1,
-        beta: 1,
-    };
+    let alone = givens_of(4096, 1, 1);
     let zeros = Vec::from_elem(rt.alloc(), 0, 3 + 3 * 4096)?;
     assert!(&rt; next(rt.alloc(), alone, 1, &zeros) == (0, [0, 6, 0, 0, 0, 0, 4096, 4096]));
     Ok(())
@@ -264,24 +252,11 @@ fn the_longest_lists_are_taken(rt: HostRuntime) -> Result<(), Fail> {
 
 #[test]
 fn a_batch_of_16_workers_is_whole(rt: HostRuntime) {
-    let crowd = AmoGivens {
-        jobs: 4096,
-        workers: 16,
-        beta: 16,
-    };
+    let crowd = givens_of(4096, 16, 16);
     // worker 16 has loaded its own words, and then announced, passed 15 announcements and 15 rows, and claimed job
     // 15 * 4081 / 16 + 1; next is job 15 * 4080 / 16 + 1 of those that are left
-    let heard = [0; 35];
-    let (mut places, mut count, mut told) = ([UNTOLD_ITEM; 33], 99, untold());
-    let code = amo_batch(
-        rt.alloc(),
-        &crowd,
-        16,
-        &heard,
-        &mut places,
-        &mut count,
-        &mut told,
-    );
+    let mut places = [UNTOLD_ITEM; 33];
+    let (code, count, told) = batch_into(rt.alloc(), crowd, 16, &[0; 35], &mut places);
     assert!(&rt; code == 0 && count == 32 && told.perform == 3826);
     let items = [
         (places[0], 2, 61488, 3826),

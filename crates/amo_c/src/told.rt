@@ -2,7 +2,8 @@
 ghost use Rattle.std.specs.Prelude.{◌≡◌, ◌<◌, ◌+◌, Ok, IfOk};
 ghost use Rattle.amo_kk.specs.Givens.{IsWorker};
 ghost use Rattle.amo_kk.specs.Record.{job_in_hand};
-ghost use Rattle.amo_process.specs.Heard.{word_count, IsOf};
+ghost use Rattle.amo_kk.specs.Words.{word_count};
+ghost use Rattle.amo_process.specs.Heard.{IsOf};
 ghost use Rattle.amo_process.specs.declared.standing.Standing.TheVariants.{Going};
 ghost use Rattle.amo_c.specs.Told.{told_of, next_of, leave_by};
 

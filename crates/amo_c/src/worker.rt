@@ -1,7 +1,7 @@
 //! The worker that a call is about.
 ghost use Rattle.std.specs.Prelude.{◌≡◌, ◌≢◌, ◌+◌, ◌<◌, ◌≤◌, Ok, Err, IfOk, IfErr};
 ghost use Rattle.amo_kk.specs.Givens.{IsWorker};
-ghost use Rattle.amo_process.specs.Heard.{word_count, IsOf};
+ghost use Rattle.amo_process.specs.Heard.{IsOf};
 ghost use Rattle.amo_c.specs.Reply.{givens_in, worker_in, standing_in};
 ghost use Rattle.amo_c.specs.declared.codes.FaultCode.TheVariants.{NoMemory};
 

@@ -17,7 +17,7 @@ use Rattle.amo_course.specs.declared.past.Asked.{Asked}
 use Rattle.amo_course.specs.declared.past.Intent.{Intent}
 use Rattle.amo_course.specs.Stage.{Stage, Going, Finding, Intending, Leaving, Settling, Unanswered, Refused, Broken}
 use Rattle.amo_course.specs.Course.{with_deed, try_of, due, stage_by_jobs, stage_heard, stage_told, stage_asking, stage_asked, stage_after, stage_after_all, AreDue, Stands, MayTry}
-use Rattle.amo_course.specs.Stops.{asked_after, AsksOn}
+use Rattle.amo_course.specs.Life.{asked_after, AsksOn}
 
 -- where it stands after all these deeds and one more
 pub stage_after_more : (s : Stage) (ds : List Deed) (d : Deed) → stage_after_all s (ds ++ d ∷ []) ≡ stage_after (stage_after_all s ds) d

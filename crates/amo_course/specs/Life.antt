@@ -1,12 +1,17 @@
--- A process between two turns.
+-- Within this crate: a process between two turns, and the asking between two questions.
 use Rattle.std.specs.Prelude.{◌≡◌, false, List, Option, Some, None}
 use Rattle.amo_process.specs.Stepped.{is_refused}
+use Rattle.amo_course.specs.declared.answer.Way.{Way}
+use Rattle.amo_course.specs.declared.answer.Way.TheVariants.{Go, Leave}
 use Rattle.amo_course.specs.declared.model.Deed.{Deed}
-use Rattle.amo_course.specs.declared.stop.End.{End}
+use Rattle.amo_course.specs.declared.stop.LifeEnd.{LifeEnd}
 use Rattle.amo_course.specs.declared.life.Life.{Life}
-use Rattle.amo_course.specs.Stage.{Stage, Going}
+use Rattle.amo_course.specs.declared.past.Asked.{Asked}
+use Rattle.amo_course.specs.declared.past.Asked.TheVariants.{Dismissed}
+use Rattle.amo_course.specs.declared.past.Intent.{Intent}
+use Rattle.amo_course.specs.Stage.{Stage, Going, Asking}
 use Rattle.amo_course.specs.Course.{stage_heard, first_stage, Stands}
-use Rattle.amo_course.specs.Stops.{EndsAt}
+use Rattle.amo_course.specs.Stops.{EndsAt, AsksTo}
 
 -- where it stood when it had done nothing
 abbrev pub beginning : Life → Stage
@@ -21,6 +26,16 @@ abbrev pub HasHeard : (first : Stage) → Option (List Deed) → Life → Type 0
 HasHeard first ds l = Stands first ds (stage_heard l.next l.way l.process) × (is_refused l.process.standing ≡ false)
 
 -- after a turn it goes on, or it has ended so
-abbrev pub TurnsTo : (first : Stage) → Option (List Deed) → Life → Option End → Type 0
+abbrev pub TurnsTo : (first : Stage) → Option (List Deed) → Life → Option LifeEnd → Type 0
 TurnsTo first ds l None = IsGoing first ds l
 TurnsTo first ds l (Some end) = EndsAt first ds end
+
+-- whether the asking ends with an answer that says this
+abbrev pub asked_after : Way → Option Asked
+asked_after Go = None
+asked_after Leave = Some Dismissed
+
+-- after one was asked for, these are left, or the asking has ended so
+abbrev pub AsksOn : (first : Stage) → Option (List Deed) → List Intent → Option Asked → Type 0
+AsksOn first ds rest None = Stands first ds (Asking rest)
+AsksOn first ds rest (Some asked) = AsksTo first ds asked

@@ -5,10 +5,9 @@ use Rattle.amo_process.specs.declared.access.Access.TheVariants.{Nothing}
 use Rattle.amo_course.specs.declared.answer.Reply.{Reply}
 use Rattle.amo_course.specs.declared.answer.Reply.TheVariants.{Answered, Running, Garbled, Closed}
 use Rattle.amo_course.specs.declared.answer.Way.{Way}
-use Rattle.amo_course.specs.declared.answer.Way.TheVariants.{Go, Leave}
 use Rattle.amo_course.specs.declared.model.Deed.{Deed}
-use Rattle.amo_course.specs.declared.stop.End.{End}
-use Rattle.amo_course.specs.declared.stop.End.TheVariants.{Over, Left, Cut}
+use Rattle.amo_course.specs.declared.stop.LifeEnd.{LifeEnd}
+use Rattle.amo_course.specs.declared.stop.LifeEnd.TheVariants.{Over, Left, Cut}
 use Rattle.amo_course.specs.declared.stop.Stop.{Stop}
 use Rattle.amo_course.specs.declared.stop.Stop.TheVariants.{Failed, NoMemory, NoSuchNumber, NoAnswer, OtherAnswer, NoSerial, TooLong}
 use Rattle.amo_course.specs.declared.past.Asked.{Asked}
@@ -26,7 +25,7 @@ serial_of Closed = None
 
 -- how a process has ended that has stood first at `first` says where it stands: its worker wants nothing more, it has left, or
 -- nothing more can come in answer
-abbrev pub EndsAt : (first : Stage) → Option (List Deed) → End → Type 0
+abbrev pub EndsAt : (first : Stage) → Option (List Deed) → LifeEnd → Type 0
 EndsAt first ds Over = (s : ℕ) × (a : ProcessView) × (way : Way) × Stands first ds (Going s a way)
     × (access_of a.givens a.number a.standing ≡ Nothing) × (is_refused a.standing ≡ false)
 EndsAt first ds Left = Stands first ds Gone
@@ -49,13 +48,3 @@ abbrev pub AsksTo : (first : Stage) → Option (List Deed) → Asked → Type 0
 AsksTo first ds All = Stands first ds (Asking [])
 AsksTo first ds DismissedBy = (rest : List Intent) × Stands first ds (Dismissed rest)
 AsksTo first ds (CutThere s) = Stands first ds (Unanswered s Closed)
-
--- whether the asking ends with an answer that says this
-abbrev pub asked_after : Way → Option Asked
-asked_after Go = None
-asked_after Leave = Some DismissedBy
-
--- after one was asked for, these are left, or the asking has ended so
-abbrev pub AsksOn : (first : Stage) → Option (List Deed) → List Intent → Option Asked → Type 0
-AsksOn first ds rest None = Stands first ds (Asking rest)
-AsksOn first ds rest (Some asked) = AsksTo first ds asked

@@ -14,5 +14,5 @@ pub use answer::{Answer, Reply, Way};
 pub use model::{Deed, Try};
 pub use outside::{Failed, Outside};
 pub use past::{Asked, Intent, Past, ask_pending};
-pub use stop::{End, Stop};
+pub use stop::{LifeEnd, Stop};
 pub use working::work;

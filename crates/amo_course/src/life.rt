@@ -12,7 +12,7 @@ ghost use Rattle.amo_course.specs.Life.{beginning, IsGoing, HasHeard, TurnsTo};
 
 use super::answer::{Answer, Reply, Way};
 use super::outside::Outside;
-use super::stop::{End, Stop};
+use super::stop::{LifeEnd, Stop};
 use amo_kk::Givens;
 use amo_process::{Access, NoSuchNumber, Process};
 use std::alloc::{AllocError, Global};
@@ -49,7 +49,7 @@ impl Life {
     }
 
     /// Goes on to the end.
-    pub(crate) fn go_on<O: Outside>(&mut self, outside: &mut O) -> Result<End, Stop>
+    pub(crate) fn go_on<O: Outside>(&mut self, outside: &mut O) -> Result<LifeEnd, Stop>
         requires goes { IsGoing (beginning self.old) (O.deeds outside.old) self.old }
         requires served { (o : _) (t : Try) → MayTry (beginning self.old) (O.deeds o) t → O.may o t }
         ensures ends { IfOk result (λ end. EndsAt (beginning self.old) (O.deeds outside.new) end) }
@@ -64,7 +64,7 @@ impl Life {
     }
 
     /// The next access of the process, and what is due between it and the one after.
-    fn turn<O: Outside>(&mut self, outside: &mut O) -> Result<Option<End>, Stop>
+    fn turn<O: Outside>(&mut self, outside: &mut O) -> Result<Option<LifeEnd>, Stop>
         requires goes { IsGoing (beginning self.old) (O.deeds outside.old) self.old }
         requires served { (o : _) (t : Try) → MayTry (beginning self.old) (O.deeds o) t → O.may o t }
         ensures same { beginning self.new ≡ beginning self.old }
@@ -74,13 +74,13 @@ impl Life {
         match self.process.want() {
             Access::Load(word) => self.load(word, outside)?,
             Access::Store(word, value) => self.store(word, value, outside)?,
-            Access::Nothing => return Ok(Some(End::Over)),
+            Access::Nothing => return Ok(Some(LifeEnd::Over)),
         }
         self.settle(outside)
     }
 
     /// What is due between an access that was made and the next.
-    fn settle<O: Outside>(&mut self, outside: &mut O) -> Result<Option<End>, Stop>
+    fn settle<O: Outside>(&mut self, outside: &mut O) -> Result<Option<LifeEnd>, Stop>
         requires heard { HasHeard (beginning self.old) (O.deeds outside.old) self.old }
         requires served { (o : _) (t : Try) → MayTry (beginning self.old) (O.deeds o) t → O.may o t }
         ensures same { beginning self.new ≡ beginning self.old }
@@ -128,7 +128,7 @@ impl Life {
     }
 
     /// Leaves, if the worker may.
-    fn leave<O: Outside>(&self, outside: &mut O) -> Result<Option<End>, Stop>
+    fn leave<O: Outside>(&self, outside: &mut O) -> Result<Option<LifeEnd>, Stop>
         requires heard { HasHeard (beginning self.now) (O.deeds outside.old) self.now }
         requires served { (o : _) (t : Try) → MayTry (beginning self.now) (O.deeds o) t → O.may o t }
         requires way { self.now.way ≡ Leave }
@@ -142,11 +142,11 @@ impl Life {
         let Ok(()) = outside.store(word, 0) else {
             return Err(Stop::Failed);
         };
-        Ok(Some(End::Left))
+        Ok(Some(LifeEnd::Left))
     }
 
     /// Has the job performed that the process is told to, and says which it found in its hand.
-    fn attend<O: Outside>(&mut self, outside: &mut O) -> Result<Option<End>, Stop>
+    fn attend<O: Outside>(&mut self, outside: &mut O) -> Result<Option<LifeEnd>, Stop>
         requires heard { HasHeard (beginning self.old) (O.deeds outside.old) self.old }
         requires served { (o : _) (t : Try) → MayTry (beginning self.old) (O.deeds o) t → O.may o t }
         requires way { self.old.way ≡ Go }
@@ -155,7 +155,7 @@ impl Life {
         ensures stops { IfErr result (λ e. StopsAt (beginning self.old) (O.deeds outside.new) e) }
     {
         if let Some(job) = self.process.to_perform() {
-            return self.perform(job, outside);
+            return self.hand_over(job, outside);
         }
         if let Some(job) = self.process.in_doubt() {
             let Ok(()) = outside.found(job) else {
@@ -165,8 +165,8 @@ impl Life {
         Ok(None)
     }
 
-    /// Puts the intent, and then has the job performed.
-    fn perform<O: Outside>(&mut self, job: u32, outside: &mut O) -> Result<Option<End>, Stop>
+    /// Puts the intent, and then hands the job over to the partner.
+    fn hand_over<O: Outside>(&mut self, job: u32, outside: &mut O) -> Result<Option<LifeEnd>, Stop>
         requires claimed { Stands (beginning self.old) (O.deeds outside.old) (Intending self.old.next self.old.process job) }
         requires fine { is_refused self.old.process.standing ≡ false }
         requires served { (o : _) (t : Try) → MayTry (beginning self.old) (O.deeds o) t → O.may o t }
@@ -187,7 +187,7 @@ impl Life {
     }
 
     /// Hears what came in answer to the intent.
-    fn hear<O: Outside>(&mut self, reply: Reply, outside: &mut O) -> Result<Option<End>, Stop>
+    fn hear<O: Outside>(&mut self, reply: Reply, outside: &mut O) -> Result<Option<LifeEnd>, Stop>
         requires performed { Stands (beginning self.old) (O.deeds outside.old) (stage_replied self.old.next self.old.process reply) }
         requires fine { is_refused self.old.process.standing ≡ false }
         requires served { (o : _) (t : Try) → MayTry (beginning self.old) (O.deeds o) t → O.may o t }
@@ -213,7 +213,7 @@ impl Life {
                 Ok(None)
             }
             Reply::Garbled => Err(Stop::NoAnswer(serial)),
-            Reply::Closed => Ok(Some(End::Cut(serial))),
+            Reply::Closed => Ok(Some(LifeEnd::Cut(serial))),
         }
     }
 
@@ -223,7 +223,7 @@ impl Life {
         answer: Answer,
         way: Way,
         outside: &mut O,
-    ) -> Result<Option<End>, Stop>
+    ) -> Result<Option<LifeEnd>, Stop>
         requires answered { Stands (beginning self.old) (O.deeds outside.old) (Noting self.old.next self.old.process answer way) }
         requires fine { is_refused self.old.process.standing ≡ false }
         requires served { (o : _) (t : Try) → MayTry (beginning self.old) (O.deeds o) t → O.may o t }

@@ -6,7 +6,8 @@ ghost use Rattle.amo_course.specs.declared.model.Try.{Try};
 ghost use Rattle.amo_course.specs.declared.model.Try.TheVariants.{Note, Ask};
 ghost use Rattle.amo_course.specs.Stage.{Asking};
 ghost use Rattle.amo_course.specs.Course.{with_deed, stage_asked, Stands, MayTry};
-ghost use Rattle.amo_course.specs.Stops.{AsksTo, AsksOn, StopsAt, asked_after};
+ghost use Rattle.amo_course.specs.Stops.{AsksTo, StopsAt};
+ghost use Rattle.amo_course.specs.Life.{AsksOn, asked_after};
 
 use super::answer::{Answer, Reply, Way};
 use super::outside::Failed;
@@ -104,13 +105,13 @@ fn hear<P: Past>(
             let Ok(()) = past.note(serial, answer) else {
                 return Err(Stop::Failed);
             };
-            Ok(told(way))
+            Ok(asked_after(way))
         }
         Reply::Running(of, way) => {
             if of != serial {
                 return Err(Stop::OtherAnswer(serial, of));
             }
-            Ok(told(way))
+            Ok(asked_after(way))
         }
         Reply::Garbled => Err(Stop::NoAnswer(serial)),
         Reply::Closed => Ok(Some(Asked::Cut(serial))),
@@ -118,7 +119,7 @@ fn hear<P: Past>(
 }
 
 /// Whether the asking ends with an answer that says this.
-fn told(way: Way) -> Option<Asked>
+fn asked_after(way: Way) -> Option<Asked>
     ensures { result ≡ asked_after way }
 {
     match way {

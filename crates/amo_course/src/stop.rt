@@ -3,7 +3,7 @@ use thiserror::Error;
 
 /// How a process has ended.
 #[derive(Clone, Copy, Debug, PartialEq, Eq)]
-pub enum End {
+pub enum LifeEnd {
     /// Its worker wants nothing more.
     Over,
     /// It was told to leave, and has left.

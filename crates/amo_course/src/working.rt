@@ -7,7 +7,7 @@ ghost use Rattle.amo_course.specs.Stops.{EndsAt, StopsAt};
 
 use super::life::Life;
 use super::outside::Outside;
-use super::stop::{End, Stop};
+use super::stop::{LifeEnd, Stop};
 use amo_kk::Givens;
 use std::alloc::Global;
 
@@ -21,7 +21,7 @@ pub fn work<O: Outside>(
     p: u32,
     serial: u64,
     outside: &mut O,
-) -> Result<End, Stop>
+) -> Result<LifeEnd, Stop>
     requires worker { IsWorker givens p }
     requires begins { Stands (first_stage givens p serial) (O.deeds outside.old) (first_stage givens p serial) }
     requires served { (o : _) (t : Try) → MayTry (first_stage givens p serial) (O.deeds o) t → O.may o t }

@@ -1,9 +1,10 @@
 //! Whole lives of workers over words in memory, with a log that the contracts see.
-ghost use Rattle.std.specs.Prelude.{◌≡◌, ◌++◌, ◌∷◌, [], Some, None, ⊤};
+ghost use Rattle.std.specs.Prelude.{◌≡◌, ◌++◌, ◌∷◌, [], Some, None, ⊤, OnOk, OnErr};
+ghost use Rattle.amo_course.specs.declared.model.Deed.TheVariants.{Fell};
 
 use amo_course::{
-    Answer, Asked, Deed, End, Failed, Intent, Outside, Past, Reply, Stop, Try, Way, ask_pending,
-    work,
+    Answer, Asked, Deed, Failed, Intent, LifeEnd, Outside, Past, Reply, Stop, Try, Way,
+    ask_pending, work,
 };
 use amo_kk::Givens;
 use std::alloc::Global;
@@ -31,6 +32,28 @@ impl<'a, A: Abort> Memory<'a, A> {
         ensures { self.new.log.items ≡ self.old.log.items ++ deed ∷ [] }
     {
         self.log.push(deed).expect(self.rt, "memory for the log");
+    }
+
+    /// What comes in answer to this intent, of this job or line.
+    fn reply_to(&self, serial: u64, number: u64) -> Reply {
+        if number == 1 {
+            self.reply
+        } else {
+            done(serial)
+        }
+    }
+
+    /// Does this deed, in which this is tried, unless the call is the one that fails.
+    fn act(&mut self, tried: Try, deed: Deed) -> Result<(), Failed>
+        ensures done { OnOk result (self.new.log.items ≡ self.old.log.items ++ deed ∷ []) }
+        ensures fails { OnErr result (self.new.log.items ≡ self.old.log.items ++ Fell tried ∷ []) }
+    {
+        if self.fails() {
+            self.add(Deed::Fell(tried));
+            return Err(Failed);
+        }
+        self.add(deed);
+        Ok(())
     }
 }
 
@@ -60,40 +83,24 @@ impl<'a, A: Abort> Outside for Memory<'a, A> {
     }
 
     fn found(&mut self, job: u32) -> Result<(), Failed> {
-        if self.fails() {
-            self.add(Deed::Fell(Try::Find(job)));
-            return Err(Failed);
-        }
-        self.add(Deed::Found(job));
-        Ok(())
+        self.act(Try::Find(job), Deed::Found(job))
     }
 
     fn intend(&mut self, serial: u64, job: u32) -> Result<(), Failed> {
-        if self.fails() {
-            self.add(Deed::Fell(Try::Intend(serial, job)));
-            return Err(Failed);
-        }
-        self.add(Deed::Intended(serial, job));
-        Ok(())
+        self.act(Try::Intend(serial, job), Deed::Intended(serial, job))
     }
 
     fn perform(&mut self, serial: u64, job: u32) -> Result<Reply, Failed> {
-        if self.fails() {
-            self.add(Deed::Fell(Try::Perform(serial, job)));
-            return Err(Failed);
-        }
-        let reply = if job == 1 { self.reply } else { done(serial) };
-        self.add(Deed::Performed(serial, job, reply));
+        let reply = self.reply_to(serial, job as u64);
+        self.act(
+            Try::Perform(serial, job),
+            Deed::Performed(serial, job, reply),
+        )?;
         Ok(reply)
     }
 
     fn note(&mut self, serial: u64, answer: Answer) -> Result<(), Failed> {
-        if self.fails() {
-            self.add(Deed::Fell(Try::Note(serial, answer)));
-            return Err(Failed);
-        }
-        self.add(Deed::Noted(serial, answer));
-        Ok(())
+        self.act(Try::Note(serial, answer), Deed::Noted(serial, answer))
     }
 }
 
@@ -103,22 +110,13 @@ impl<'a, A: Abort> Past for Memory<'a, A> {
     ghost may = { λ _ _. ⊤ };
 
     fn was(&mut self, serial: u64, line: u64) -> Result<Reply, Failed> {
-        if self.fails() {
-            self.add(Deed::Fell(Try::Ask(serial, line)));
-            return Err(Failed);
-        }
-        let reply = if line == 1 { self.reply } else { done(serial) };
-        self.add(Deed::Asked(serial, line, reply));
+        let reply = self.reply_to(serial, line);
+        self.act(Try::Ask(serial, line), Deed::Asked(serial, line, reply))?;
         Ok(reply)
     }
 
     fn note(&mut self, serial: u64, answer: Answer) -> Result<(), Failed> {
-        if self.fails() {
-            self.add(Deed::Fell(Try::Note(serial, answer)));
-            return Err(Failed);
-        }
-        self.add(Deed::Noted(serial, answer));
-        Ok(())
+        self.act(Try::Note(serial, answer), Deed::Noted(serial, answer))
     }
 }
 
@@ -135,7 +133,7 @@ fn live<A: Abort>(
     serial: u64,
     fails_at: usize,
     reply: Reply,
-) -> Result<(Result<End, Stop>, Vec<u64>, Vec<Deed>), Fail> {
+) -> Result<(Result<LifeEnd, Stop>, Vec<u64>, Vec<Deed>), Fail> {
     let givens = Givens::try_new(2, 1, 1)?;
     let log = Vec::new(alloc);
     let mut memory = Memory {
@@ -199,7 +197,7 @@ fn another_order_of_deeds(rt: HostRuntime) -> Result<(), Fail> {
         Deed::Noted(6, Answer::Done(7)),
         Deed::Stored(4, 2),
     ];
-    assert!(rt; end == Ok(End::Over));
+    assert!(rt; end == Ok(LifeEnd::Over));
     assert!(rt; is_log(&log, &expected));
     assert!(rt; words[..] == [0, 2, 2, 1, 2, 0]);
     Ok(())
@@ -210,19 +208,19 @@ fn a_reply_leads_elsewhere(rt: HostRuntime) -> Result<(), Fail> {
     let rows = [
         (
             Reply::Answered(5, Answer::Unbegun, Way::Leave),
-            Ok(End::Left),
+            Ok(LifeEnd::Left),
             10,
             Deed::Stored(1, 0),
         ),
         (
             Reply::Running(5, Way::Leave),
-            Ok(End::Left),
+            Ok(LifeEnd::Left),
             9,
             Deed::Stored(1, 0),
         ),
         (
             Reply::Running(5, Way::Go),
-            Ok(End::Over),
+            Ok(LifeEnd::Over),
             14,
             Deed::Stored(4, 2),
         ),
@@ -240,7 +238,7 @@ fn a_reply_leads_elsewhere(rt: HostRuntime) -> Result<(), Fail> {
         ),
         (
             Reply::Closed,
-            Ok(End::Cut(5)),
+            Ok(LifeEnd::Cut(5)),
             7,
             Deed::Performed(5, 1, Reply::Closed),
         ),
@@ -263,7 +261,7 @@ fn a_job_is_handed_over_again(rt: HostRuntime) -> Result<(), Fail> {
         let words = words_of(rt.alloc(), &[0, 0, 0, 0, 0, 0])?;
         let (first, words, log) = live(&rt, rt.alloc(), words, 1, at, done(1))?;
         let (second, _words, later) = live(&rt, rt.alloc(), words, 9, 1000, done(9))?;
-        assert!(rt; second == Ok(End::Over), "{at}");
+        assert!(rt; second == Ok(LifeEnd::Over), "{at}");
         if at < 15 {
             assert!(rt; first == Err(Stop::Failed) && log.len() == at + 1, "{at}");
         }
@@ -281,7 +279,7 @@ fn a_job_is_handed_over_again(rt: HostRuntime) -> Result<(), Fail> {
 fn what_is_in_doubt_is_not_found(rt: HostRuntime) -> Result<(), Fail> {
     let words = words_of(rt.alloc(), &[0, 1, 1, 0, 0, 0])?;
     let (end, _words, log) = live(&rt, rt.alloc(), words, 5, 1000, done(5))?;
-    assert!(rt; end == Ok(End::Over));
+    assert!(rt; end == Ok(LifeEnd::Over));
     assert!(rt; log.len() > 5 && log[3] == Deed::Found(1) && log[4] == Deed::Stored(3, 1));
     assert!(rt; times(&log, 1) == 0 && times(&log, 2) == 1);
     Ok(())
@@ -409,7 +407,7 @@ fn refused_work(rt: HostRuntime) {
             calls: 0,
         };
         match work(rt.alloc(), givens, 1, 1, &mut silent) {
-            Ok(end) => assert!(rt; end == End::Over && silent.words == [0, 2, 2, 1, 2, 0]),
+            Ok(end) => assert!(rt; end == LifeEnd::Over && silent.words == [0, 2, 2, 1, 2, 0]),
             Err(stop) => assert!(rt; stop == Stop::NoMemory && silent.calls == 0),
         }
     }

@@ -13,19 +13,19 @@ use Rattle.atomic_table.proofs.Lists.{at_longer, at_last}
 use Rattle.amo_sets.specs.Lists.{numbered, put}
 use Rattle.amo_sets.specs.Sets.{has}
 use Rattle.amo_sets.proofs.Numbers.{numbered-put_same, numbered-put_other, length-put}
-use Rattle.amo_kk.specs.World.{nobody}
+use Rattle.amo_kk.specs.World.{nobody, world_of}
 use Rattle.amo_kk.specs.Machine.{LocalView}
 use Rattle.amo_kk.specs.declared.givens.Givens.{Givens}
 use Rattle.amo_kk.specs.declared.event.Move.{Move}
 use Rattle.amo_kk.specs.declared.model.Process.{Process}
 use Rattle.amo_words.specs.declared.rule.Spot.{Spot}
 use Rattle.amo_words.specs.declared.rule.Spot.TheVariants.{Home, Out as Away, Back}
-use Rattle.amo_words.specs.Logs.{world_after, machine_after, is_claimed}
+use Rattle.amo_words.specs.Logs.{machine_after, is_claimed}
 use Rattle.amo_words.specs.Rule.{AllStand, Stands}
 use Rattle.amo_words.specs.declared.floor.settling.Settlement.{Settlement}
 use Rattle.amo_words.specs.Settling.{free_of, IsWhole}
 use Rattle.amo_claims.specs.Calls.{worker_in}
-use Rattle.amo_mailbox.specs.declared.hand.Output.{Output}
+use Rattle.amo_mailbox.specs.declared.output.Output.{Output}
 use Rattle.amo_crew.specs.declared.outcome.End.{End}
 use Rattle.amo_crew.specs.declared.outcome.End.TheVariants.{NotStarted}
 use Rattle.amo_words.specs.Faces.{Seated, machine, spots}
@@ -138,17 +138,17 @@ claimed_none g log p Home h st = ap (λ (m : LocalView). m.state.claimed) (sym s
 claimed_none g log p Away h st = absurd h
 claimed_none g log p (Back l) h st = ap (λ (m : LocalView). m.state.claimed) (sym st) ∙ h.0
 
-pub none_claimed : (g : Givens) (log : List Move) (ss : List Spot) → AllStand g log ss → ((p : ℕ) → IsUntouched (spot_of ss p)) → (j : ℕ) → is_claimed (world_after g log).processes j ≡ false
-none_claimed g log ss stand h j = unclaimed_by j (world_after g log).processes (λ p low high. ap (λ l. has l j) (at p low (let z = (lawful g log).size in omega arith)))
+pub none_claimed : (g : Givens) (log : List Move) (ss : List Spot) → AllStand g log ss → ((p : ℕ) → IsUntouched (spot_of ss p)) → (j : ℕ) → is_claimed (world_of g log).processes j ≡ false
+none_claimed g log ss stand h j = unclaimed_by j (world_of g log).processes (λ p low high. ap (λ l. has l j) (at p low (let z = (lawful g log).size in omega arith)))
   where
-    at : (p : ℕ) → 1 ≤ p → p ≤ g.workers → (numbered nobody (world_after g log).processes p).local.claimed ≡ []
+    at : (p : ℕ) → 1 ≤ p → p ≤ g.workers → (numbered nobody (world_of g log).processes p).local.claimed ≡ []
     at zero low high = absurd (omega arith)
     at (suc k) low high = claimed_none g log (suc k) (spot_of ss (suc k)) (h (suc k))
         (stand.1 (suc k) (spot_of ss (suc k)) (omega arith) (let n : k ≡ suc k - 1 = omega arith in let z = stand.0 in subst (λ i. get_elem? ss i ≡ some (get_or ss k Home)) n (at_spot ss k (omega arith))))
 
 -- so all payloads come back, in their order
 pub all_back : {P : Type 0} (g : Givens) (payloads : List P) (seen : List Move) (ss : List Spot) (s : Settlement P) → IsWhole g payloads seen ss s → ((p : ℕ) → IsUntouched (spot_of ss p)) → map (λ (t : ℕ × P). t.1) s.free.items ≡ payloads
-all_back {P} g payloads seen ss s w h = ap (map (λ (t : ℕ × P). t.1)) w.free ∙ all_free (world_after g w.log).processes (none_claimed g w.log ss w.stand h) 1 payloads
+all_back {P} g payloads seen ss s w h = ap (map (λ (t : ℕ × P). t.1)) w.free ∙ all_free (world_of g w.log).processes (none_claimed g w.log ss w.stand h) 1 payloads
 
 -- nothing was started
 pub none_ran : {P Out : Type 0} (related : ℕ → ℕ → P → Out → Type 0) (g : Givens) (payloads : List P) (budgets : List ℕ) (ss : List Spot) (ends : List End) (outputs : List (Output Out)) (hands : List (ℕ × ℕ × P)) → ((p : ℕ) → IsUntouched (spot_of ss p))

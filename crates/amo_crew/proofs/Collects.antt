@@ -23,7 +23,7 @@ use Rattle.amo_words.specs.declared.rule.Spot.TheVariants.{Home, Back}
 use Rattle.amo_words.specs.Rule.{AllStand}
 use Rattle.amo_words.specs.Faces.{Seated, machine, spots}
 use Rattle.amo_words.specs.Hiring.{HasCollected}
-use Rattle.amo_mailbox.specs.declared.hand.Output.{Output}
+use Rattle.amo_mailbox.specs.declared.output.Output.{Output}
 use Rattle.amo_mailbox.specs.declared.queue.Queue.{Queue}
 use Rattle.amo_mailbox.specs.declared.outlet.Outlet.{Outlet}
 use Rattle.amo_crew.specs.declared.outcome.End.{End}
@@ -31,7 +31,7 @@ use Rattle.amo_crew.specs.declared.outcome.End.TheVariants.{Ended, Halted, NotSt
 use Rattle.amo_crew.specs.declared.member.Ran.{Ran}
 use Rattle.amo_crew.specs.declared.member.Finish.{Finish}
 use Rattle.amo_crew.specs.declared.member.Finish.TheVariants.{Ran as HasRan, NotStarted as WasNotStarted}
-use Rattle.amo_mailbox.specs.Ends.{IsOutletOf, given}
+use Rattle.amo_mailbox.specs.Endpoints.{IsOutletOf, given}
 use Rattle.amo_crew.specs.Running.{EndsSo, IsInHand, HasRun}
 use Rattle.amo_crew.specs.Crew.{HasFinished}
 use Rattle.amo_crew.specs.Outcomes.{spot_of, dones_in, hand_in, IsBare, EndsAs, hands_upto}

@@ -21,10 +21,13 @@ use Rattle.amo_crew.specs.declared.member.Finish.{Finish}
 use Rattle.amo_crew.specs.declared.member.Finish.TheVariants.{Ran as HasRan, NotStarted as WasNotStarted}
 use Rattle.amo_crew.specs.Running.{HasRun, IsMember}
 use Rattle.amo_crew.specs.Plans.{AreSmall}
+use Rattle.amo_crew.specs.declared.crew.Gear.{Gear}
+use Rattle.amo_crew.specs.Gears.{IsGeared}
 use Rattle.amo_crew.specs.Crew.{MayRun, IsFinishOf, IsCrew, HasFinished, AreFinished}
 use Rattle.amo_crew.specs.Outcomes.{spot_of, IsBare, AllStarted, SomeRefused}
 use Rattle.amo_crew.specs.Refusing.{is_refused, any_refused}
 use Rattle.amo_crew.specs.Collecting.{RanAt, AreCollected}
+use Rattle.amo_kk.specs.declared.limits.TheConstants.{MAX_STEPS}
 
 pub all_at : {A : Type 0} (Q : A → Type 0) (xs : List A) → ((k : ℕ) (x : A) → get_elem? xs k ≡ some x → Q x) → All Q xs
 all_at Q [] h = All-nil Q
@@ -44,7 +47,7 @@ zip_length R (a ∷ xs) [] h = absurd h
 zip_length R (a ∷ xs) (b ∷ ys) h = ap suc (zip_length R xs ys h.1)
 
 module _ {P Out : Type 0} (related : ℕ → ℕ → P → Out → Type 0) (queue : Queue Out) (table : TableId) (g : Givens) (payloads : List P) (budgets : List ℕ) where
-  may_run : (p budget : ℕ) (m : Member P Out) → budget ≤ 10000000 → IsMember queue table g payloads p budget m → MayRun queue table m
+  may_run : (p budget : ℕ) (m : Member P Out) → budget ≤ MAX_STEPS → IsMember queue table g payloads p budget m → MayRun queue table m
   may_run p budget m small is = (
     record {
       begun = is.begun;
@@ -128,3 +131,13 @@ all_started es h = all_at (λ e. e ≢ NotStarted) es (go es h)
     go (Ended n ∷ xs) h (suc k) e at = go xs h k e at
     go (Halted n ∷ xs) h (suc k) e at = go xs h k e at
     go (NotStarted ∷ xs) h (suc k) e at = absurd (true≢false h)
+
+-- of a geared crew that has ended each worker is finished, and nobody is collected yet
+pub ended_crew : {P Out : Type 0} (related : ℕ → ℕ → P → Out → Type 0) (table : TableId) (g : Givens) (book : Seated P) (budgets : List ℕ) (gear : Gear P Out) (fs : List (Finish P Out)) → IsGeared table g book budgets gear
+    → AllZip (IsFinishOf related gear.queue table) gear.crew.items fs
+    → (length fs ≡ g.workers) × AreFinished related gear.queue table g book.view.payloads budgets fs × AreCollected related gear.queue table g book.view.payloads budgets 0 book gear.into.outlets.items gear.into.ends.items gear.into.in_hand.items
+ended_crew related table g book budgets gear fs is zip = (
+  zip_length (IsFinishOf related gear.queue table) gear.crew.items fs zip ∙ is.count,
+  all_finished related gear.queue table g book.view.payloads budgets gear.crew.items fs is.members zip,
+  starts related gear.queue table g book.view.payloads budgets book _ _ _ is.tied is.givens refl is.size is.stand is.bare is.no_outlets is.no_ends is.no_hands,
+)

@@ -9,7 +9,7 @@ use lib.ListN.{get_elem?}
 use Rattle.amo_sets.specs.Sets.{has}
 use Rattle.amo_sets.proofs.Numbers.{has-append, is_itself}
 use Rattle.amo_kk.specs.Givens.{IsJob, IsWorker}
-use Rattle.amo_kk.specs.World.{process, nobody}
+use Rattle.amo_kk.specs.World.{process, nobody, world_of}
 use Rattle.amo_kk.specs.Record.{jobs_in_hand}
 use Rattle.amo_kk.specs.Lawful.{IsSoundRecord}
 use Rattle.amo_kk.specs.Machine.{LocalView}
@@ -19,14 +19,13 @@ use Rattle.amo_kk.specs.declared.model.Process.{Process}
 use Rattle.amo_kk.specs.declared.model.Record.{Record}
 use Rattle.amo_words.specs.declared.rule.Spot.{Spot}
 use Rattle.amo_words.specs.declared.rule.Spot.TheVariants.{Home, Out as Away, Back}
-use Rattle.amo_words.specs.Logs.{world_after}
 use Rattle.amo_words.specs.Rule.{AllStand}
 use Rattle.amo_words.specs.Looking.{IsBack}
 use Rattle.amo_words.proofs.Worlds.{lawful}
 use Rattle.amo_words.proofs.Turns.{inside_of}
 use Rattle.amo_words.proofs.Settles.{get_or_at}
 use Rattle.amo_words.proofs.Meetings.{stands_back, worker_back}
-use Rattle.amo_mailbox.specs.declared.hand.Output.{Output}
+use Rattle.amo_mailbox.specs.declared.output.Output.{Output}
 use Rattle.amo_crew.specs.declared.outcome.Outcome.{Outcome}
 use Rattle.amo_mailbox.specs.Mailbox.{of}
 use Rattle.amo_crew.specs.Outcomes.{spot_of, dones_in, IsOutcome}
@@ -58,21 +57,21 @@ lists_hold Q f (v ∷ vs) (a ∷ all) e h =
 
 module _ (g : Givens) (log : List Move) where
   -- each process of the world is sound
-  sound_at : (k : ℕ) (a : Process) → get_elem? (world_after g log).processes k ≡ some a → IsSoundRecord g (suc k) a.local
+  sound_at : (k : ℕ) (a : Process) → get_elem? (world_of g log).processes k ≡ some a → IsSoundRecord g (suc k) a.local
   sound_at k a at =
-      let inside = inside_of (world_after g log).processes k a at in
+      let inside = inside_of (world_of g log).processes k a at in
       let size = (lawful g log).size in
-      subst (λ (b : Process). IsSoundRecord g (suc k) b.local) (sym (get_or_at (world_after g log).processes k a nobody at)) ((lawful g log).lawful.sound (suc k) (record { low = omega arith; high = omega (arith, inside, size) })).local
+      subst (λ (b : Process). IsSoundRecord g (suc k) b.local) (sym (get_or_at (world_of g log).processes k a nobody at)) ((lawful g log).lawful.sound (suc k) (record { low = omega arith; high = omega (arith, inside, size) })).local
 
-  claims_fit : (vs : List (Vec ℕ Global)) → map (λ (v : Vec ℕ Global). v.items) vs ≡ map (λ (a : Process). a.local.claimed) (world_after g log).processes → All (λ (v : Vec ℕ Global). All (IsJob g) v.items) vs
-  claims_fit vs e = lists_hold (IsJob g) (λ a. a.local.claimed) vs (world_after g log).processes e (λ k a at. all_had (IsJob g) a.local.claimed (sound_at k a at).jobs)
+  claims_fit : (vs : List (Vec ℕ Global)) → map (λ (v : Vec ℕ Global). v.items) vs ≡ map (λ (a : Process). a.local.claimed) (world_of g log).processes → All (λ (v : Vec ℕ Global). All (IsJob g) v.items) vs
+  claims_fit vs e = lists_hold (IsJob g) (λ a. a.local.claimed) vs (world_of g log).processes e (λ k a at. all_had (IsJob g) a.local.claimed (sound_at k a at).jobs)
 
-  dones_fit : (vs : List (Vec ℕ Global)) → map (λ (v : Vec ℕ Global). v.items) vs ≡ map (λ (a : Process). a.local.dones) (world_after g log).processes → All (λ (v : Vec ℕ Global). All (IsJob g) v.items) vs
-  dones_fit vs e = lists_hold (IsJob g) (λ a. a.local.dones) vs (world_after g log).processes e (λ k a at. all_had (IsJob g) a.local.dones (done_job g (suc k) a.local (sound_at k a at)))
+  dones_fit : (vs : List (Vec ℕ Global)) → map (λ (v : Vec ℕ Global). v.items) vs ≡ map (λ (a : Process). a.local.dones) (world_of g log).processes → All (λ (v : Vec ℕ Global). All (IsJob g) v.items) vs
+  dones_fit vs e = lists_hold (IsJob g) (λ a. a.local.dones) vs (world_of g log).processes e (λ k a at. all_had (IsJob g) a.local.dones (done_job g (suc k) a.local (sound_at k a at)))
 
-  as_many : (f : Process → List ℕ) (vs : List (Vec ℕ Global)) → map (λ (v : Vec ℕ Global). v.items) vs ≡ map f (world_after g log).processes → length vs ≡ g.workers
+  as_many : (f : Process → List ℕ) (vs : List (Vec ℕ Global)) → map (λ (v : Vec ℕ Global). v.items) vs ≡ map f (world_of g log).processes → length vs ≡ g.workers
   as_many f vs e =
-      sym (length-map vs (λ (v : Vec ℕ Global). v.items)) ∙ ap (λ (l : List (List ℕ)). length l) e ∙ length-map (world_after g log).processes f ∙ (lawful g log).size
+      sym (length-map vs (λ (v : Vec ℕ Global). v.items)) ∙ ap (λ (l : List (List ℕ)). length l) e ∙ length-map (world_of g log).processes f ∙ (lawful g log).size
 
 -- a spot that has done something is of a worker that came back
 back_at : (spots : List Spot) (k : ℕ) (l : LocalView) → get_or spots k Home ≡ Back l → slice_get spots k ≡ Some (Back l)
@@ -92,7 +91,7 @@ module _ (g : Givens) (log : List Move) (spots : List Spot) (stand : AllStand g 
       let back = is_back spots p l is in
       let worker = worker_back g log spots stand p l back in
       let same = stands_back g log spots stand p l back in
-      (done_job g p (process (world_after g log) p).local ((lawful g log).lawful.sound p worker).local j (ap (λ (m : LocalView). has m.state.dones j) (sym same) ∙ e), worker)
+      (done_job g p (process (world_of g log) p).local ((lawful g log).lawful.sound p worker).local j (ap (λ (m : LocalView). has m.state.dones j) (sym same) ∙ e), worker)
 
 module _ {Out : Type 0} where
   -- an output is among those of its worker

@@ -22,7 +22,7 @@ use Rattle.amo_words.specs.Rule.{AllStand}
 use Rattle.amo_claims.specs.Calls.{state_of, worker_in}
 use Rattle.amo_mailbox.specs.declared.queue.Queue.{Queue}
 use Rattle.amo_crew.specs.declared.member.Member.{Member}
-use Rattle.amo_mailbox.specs.Ends.{IsNewOutletOf}
+use Rattle.amo_mailbox.specs.Endpoints.{IsNewOutletOf}
 use Rattle.amo_crew.specs.Running.{IsFresh, IsMember}
 use Rattle.amo_crew.specs.Outcomes.{spot_of}
 use Rattle.amo_crew.specs.Hired.{AreHired}

@@ -12,13 +12,14 @@ use Rattle.amo_kk.specs.declared.event.Move.{Move}
 use Rattle.amo_kk.specs.declared.model.Process.{Process}
 use Rattle.amo_words.specs.declared.rule.Spot.{Spot}
 use Rattle.amo_words.specs.declared.rule.Spot.TheVariants.{Home, Out as Away, Back}
-use Rattle.amo_words.specs.Logs.{world_after, machine_after, is_claimed}
+use Rattle.amo_kk.specs.World.{world_of}
+use Rattle.amo_words.specs.Logs.{machine_after, is_claimed}
 use Rattle.amo_words.specs.Rule.{AllStand}
 use Rattle.amo_words.specs.Looking.{IsBack}
 use Rattle.amo_words.specs.Settling.{free_of}
 use Rattle.amo_words.proofs.Worlds.{lawful, claimed_by}
 use Rattle.amo_words.proofs.Meetings.{stands_back, worker_back, claims_apart}
-use Rattle.amo_mailbox.specs.declared.hand.Output.{Output}
+use Rattle.amo_mailbox.specs.declared.output.Output.{Output}
 use Rattle.amo_crew.specs.declared.outcome.Outcome.{Outcome}
 use Rattle.amo_mailbox.specs.Mailbox.{of}
 use Rattle.amo_crew.specs.Outcomes.{spot_of, dones_in, hand_in, hands_upto, jobs_of, IsOutcome, answered, in_hand, free_jobs}
@@ -151,19 +152,30 @@ module _ (g : Givens) (log : List Move) (spots : List Spot) (stand : AllStand g 
   pub claimed_if_in_hand : (p j : ℕ) (l : LocalView) → IsBack spots p l → has (jobs_in_hand l.state.phase) j ≡ true → has l.state.claimed j ≡ true
   claimed_if_in_hand p j l back h = ap (λ c. has c j) (sound p l back).claims ∙ has_back l.state.dones (jobs_in_hand l.state.phase) j h
 
-  is_claimed_by : (p j : ℕ) (l : LocalView) → IsBack spots p l → has l.state.claimed j ≡ true → is_claimed (world_after g log).processes j ≡ true
-  is_claimed_by p j l back h = claimed_by j (world_after g log).processes p (ap (λ (m : LocalView). has m.state.claimed j) (sym (stands_back g log spots stand p l back)) ∙ h)
+  is_claimed_by : (p j : ℕ) (l : LocalView) → IsBack spots p l → has l.state.claimed j ≡ true → is_claimed (world_of g log).processes j ≡ true
+  is_claimed_by p j l back h = claimed_by j (world_of g log).processes p (ap (λ (m : LocalView). has m.state.claimed j) (sym (stands_back g log spots stand p l back)) ∙ h)
 
   own_dones : (p : ℕ) (s : Spot) → spot_of spots p ≡ s → AreDistinct (dones_in s)
   own_dones p Home e = tt
   own_dones p Away e = tt
   own_dones p (Back l) e = let of_it = sound p l (is_back spots p l e) in distinct_front l.state.dones (jobs_in_hand l.state.phase) (subst AreDistinct of_it.claims of_it.distinct)
 
+  -- a worker that came back has claimed the job
+  abbrev HasClaimed : ℕ → ℕ → Type 0
+  HasClaimed p j = (l : LocalView) × IsBack spots p l × (has l.state.claimed j ≡ true)
+
+  done_claimed : (p j : ℕ) → has (dones_in (spot_of spots p)) j ≡ true → HasClaimed p j
+  done_claimed p j h = let a = done_back p j (spot_of spots p) refl h in (a.0, a.1, claimed_if_done p j a.0 a.1 a.2)
+
+  hand_claimed : (p j : ℕ) → has (hand_in (spot_of spots p)) j ≡ true → HasClaimed p j
+  hand_claimed p j h = let a = hand_back p j (spot_of spots p) refl h in (a.0, a.1, claimed_if_in_hand p j a.0 a.1 a.2)
+
+  -- no two workers have claimed one job
+  claimed_apart : (p q j : ℕ) → q ≢ p → HasClaimed p j → HasClaimed q j → ⊥
+  claimed_apart p q j differ a b = not_both (has b.0.state.claimed j) b.2 (claims_apart g log spots stand p q j a.0 b.0 a.1 b.1 differ a.2)
+
   dones_apart : (p q j : ℕ) → q ≢ p → has (dones_in (spot_of spots p)) j ≡ true → has (dones_in (spot_of spots q)) j ≡ true → ⊥
-  dones_apart p q j differ h k =
-      let a = done_back p j (spot_of spots p) refl h in
-      let b = done_back q j (spot_of spots q) refl k in
-      not_both (has b.0.state.claimed j) (claimed_if_done q j b.0 b.1 b.2) (claims_apart g log spots stand p q j a.0 b.0 a.1 b.1 differ (claimed_if_done p j a.0 a.1 a.2))
+  dones_apart p q j differ h k = claimed_apart p q j differ (done_claimed p j h) (done_claimed q j k)
 
   -- no worker has done what is in a hand
   done_not_in_hand : (p q j : ℕ) → has (dones_in (spot_of spots p)) j ≡ true → has (hand_in (spot_of spots q)) j ≡ true → ⊥
@@ -174,8 +186,7 @@ module _ (g : Givens) (log : List Move) (spots : List Spot) (stand : AllStand g 
           let of_it = sound p a.0 a.1 in
           let same : c.0 ≡ a.0 = stands_back g log spots stand q c.0 c.1 ∙ ap (machine_after g log) (eqb-true q p e) ∙ sym (stands_back g log spots stand p a.0 a.1) in
           distinct_apart a.0.state.dones (jobs_in_hand a.0.state.phase) j (subst AreDistinct of_it.claims of_it.distinct) a.2 (ap (λ (m : LocalView). has (jobs_in_hand m.state.phase) j) (sym same) ∙ c.2)
-      go a c false e =
-          not_both (has c.0.state.claimed j) (claimed_if_in_hand q j c.0 c.1 c.2) (claims_apart g log spots stand p q j a.0 c.0 a.1 c.1 (eqb-false q p e) (claimed_if_done p j a.0 a.1 a.2))
+      go a c false e = claimed_apart p q j (eqb-false q p e) (done_claimed p j h) (hand_claimed q j k)
 
   -- a job in hand is in some worker's
   pub hand_of : (i j : ℕ) → has (map (λ (e : ℕ × ℕ). e.1) (hands_upto spots i)) j ≡ true → (p : ℕ) × (p ≤ i) × (has (hand_in (spot_of spots p)) j ≡ true)
@@ -196,10 +207,7 @@ module _ (g : Givens) (log : List Move) (spots : List Spot) (stand : AllStand g 
 
   -- no two workers have one job in hand
   hands_apart : (p q j : ℕ) → q ≢ p → has (hand_in (spot_of spots p)) j ≡ true → has (hand_in (spot_of spots q)) j ≡ true → ⊥
-  hands_apart p q j differ h k =
-      let a = hand_back p j (spot_of spots p) refl h in
-      let b = hand_back q j (spot_of spots q) refl k in
-      not_both (has b.0.state.claimed j) (claimed_if_in_hand q j b.0 b.1 b.2) (claims_apart g log spots stand p q j a.0 b.0 a.1 b.1 differ (claimed_if_in_hand p j a.0 a.1 a.2))
+  hands_apart p q j differ h k = claimed_apart p q j differ (hand_claimed p j h) (hand_claimed q j k)
 
   hands_once : (i : ℕ) → AreDistinct (map (λ (e : ℕ × ℕ). e.1) (hands_upto spots i))
   hands_once zero = tt
@@ -285,12 +293,12 @@ module _ {P Out : Type 0} (related : ℕ → ℕ → P → Out → Type 0) (g : 
       go false k = refl
 
   -- what is claimed is not free
-  claimed_not_free : (j : ℕ) → is_claimed (world_after g is.whole.log).processes j ≡ true → has (free_jobs o) j ≡ false
+  claimed_not_free : (j : ℕ) → is_claimed (world_of g is.whole.log).processes j ≡ true → has (free_jobs o) j ≡ false
   claimed_not_free j h = go (has (free_jobs o) j) refl
     where
       go : (b : Bool) → has (free_jobs o) j ≡ b → b ≡ false
-      go true k = absurd (not_both (is_claimed (world_after g is.whole.log).processes j) h
-          (free_is_unclaimed (world_after g is.whole.log).processes 1 payloads j (ap (λ l. has (map (λ (t : ℕ × P). t.0) l) j) (sym is.whole.free) ∙ k)))
+      go true k = absurd (not_both (is_claimed (world_of g is.whole.log).processes j) h
+          (free_is_unclaimed (world_of g is.whole.log).processes 1 payloads j (ap (λ l. has (map (λ (t : ℕ × P). t.0) l) j) (sym is.whole.free) ∙ k)))
       go false k = refl
 
   pub answered_not_free : (j : ℕ) → has (answered o) j ≡ true → has (free_jobs o) j ≡ false
@@ -309,4 +317,4 @@ module _ {P Out : Type 0} (related : ℕ → ℕ → P → Out → Type 0) (g : 
   in_hand_once = subst AreDistinct (sym in_hand_is) (hands_once g is.whole.log is.spots is.whole.stand g.workers)
 
   pub free_once : AreDistinct (free_jobs o)
-  free_once = subst (λ (l : List (ℕ × P)). AreDistinct (map (λ (t : ℕ × P). t.0) l)) (sym is.whole.free) (free_distinct (world_after g is.whole.log).processes 1 payloads)
+  free_once = subst (λ (l : List (ℕ × P)). AreDistinct (map (λ (t : ℕ × P). t.0) l)) (sym is.whole.free) (free_distinct (world_of g is.whole.log).processes 1 payloads)

@@ -11,10 +11,10 @@ use Rattle.amo_words.specs.Faces.{Seated, spots}
 use Rattle.amo_mailbox.specs.declared.queue.Queue.{Queue}
 use Rattle.amo_crew.specs.declared.outcome.End.{End}
 use Rattle.amo_crew.proofs.Few.{dones_within}
-use Rattle.amo_mailbox.specs.declared.hand.Output.{Output}
+use Rattle.amo_mailbox.specs.declared.output.Output.{Output}
 use Rattle.amo_mailbox.specs.declared.outlet.Outlet.{Outlet}
 use Rattle.amo_mailbox.specs.Mailbox.{of}
-use Rattle.amo_mailbox.specs.Ends.{given, has_worker}
+use Rattle.amo_mailbox.specs.Endpoints.{given, has_worker}
 use Rattle.amo_crew.specs.Running.{IsAnswer}
 use Rattle.amo_crew.specs.Outcomes.{spot_of, dones_in, AreOutputs}
 use Rattle.amo_crew.specs.Collecting.{HasOutlet, OutletFits, dones_upto, AreCollected}

@@ -7,7 +7,7 @@ use native.Mathlib.Decide.{ℕ_discrete}
 use Rattle.amo_sets.specs.Lists.{numbered}
 use Rattle.amo_sets.specs.Sets.{has}
 use Rattle.amo_kk.specs.Givens.{IsJob}
-use Rattle.amo_kk.specs.World.{nobody}
+use Rattle.amo_kk.specs.World.{nobody, world_of}
 use Rattle.amo_kk.specs.Lawful.{IsSoundRecord}
 use Rattle.amo_kk.specs.Machine.{LocalView}
 use Rattle.amo_kk.specs.Record.{jobs_in_hand}
@@ -16,13 +16,13 @@ use Rattle.amo_kk.specs.declared.event.Move.{Move}
 use Rattle.amo_kk.specs.declared.model.Process.{Process}
 use Rattle.amo_words.specs.declared.rule.Spot.{Spot}
 use Rattle.amo_words.specs.declared.rule.Spot.TheVariants.{Back}
-use Rattle.amo_words.specs.Logs.{world_after, machine_after, is_claimed}
+use Rattle.amo_words.specs.Logs.{machine_after, is_claimed}
 use Rattle.amo_words.specs.Settling.{free_of, settled_dones}
 use Rattle.amo_words.proofs.Worlds.{lawful}
 use Rattle.amo_words.proofs.Turns.{some_at}
 use Rattle.amo_words.proofs.Whole.{settles}
 use Rattle.amo_words.proofs.Meetings.{stands_back, worker_back}
-use Rattle.amo_mailbox.specs.declared.hand.Output.{Output}
+use Rattle.amo_mailbox.specs.declared.output.Output.{Output}
 use Rattle.amo_crew.specs.declared.outcome.End.{End}
 use Rattle.amo_crew.specs.declared.outcome.End.TheVariants.{Ended, Halted, NotStarted}
 use Rattle.amo_crew.specs.declared.outcome.Outcome.{Outcome}
@@ -98,7 +98,7 @@ module _ {P Out : Type 0} (related : ℕ → ℕ → P → Out → Type 0) (g : 
   log = is.whole.log
 
   abbrev processes : List Process
-  processes = (world_after g log).processes
+  processes = (world_of g log).processes
 
   -- each worker came back, or was not started
   back : (k : ℕ) → k < g.workers → (numbered NotStarted o.ends.items (suc k) ≡ NotStarted) ⊎ ((l : LocalView) × (spot_of is.spots (suc k) ≡ Back l))

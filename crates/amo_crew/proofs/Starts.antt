@@ -15,13 +15,13 @@ use Rattle.amo_words.specs.Faces.{Seated, ClosedView, spots}
 use Rattle.amo_mailbox.specs.declared.queue.Queue.{Queue}
 use Rattle.amo_mailbox.specs.declared.outlet.Outlet.{Outlet}
 use Rattle.amo_crew.specs.declared.member.Member.{Member}
-use Rattle.amo_mailbox.specs.Ends.{IsNewOutletOf}
+use Rattle.amo_mailbox.specs.Endpoints.{IsNewOutletOf}
 use Rattle.amo_crew.specs.Outcomes.{spot_of, IsBare, HaveRun, IsOutcome}
 use Rattle.amo_crew.specs.Plans.{IsPlan, AreSmall}
 use Rattle.amo_crew.specs.Hired.{AreOutlets, AreHired}
 use Rattle.std.specs.Prelude.{Result, Ok, Err, IfOk, IfErr}
 use Rattle.amo_words.specs.Settling.{HasClosed}
-use Rattle.amo_mailbox.specs.declared.hand.Output.{Output}
+use Rattle.amo_mailbox.specs.declared.output.Output.{Output}
 use Rattle.amo_crew.specs.declared.outcome.End.{End}
 use Rattle.amo_crew.specs.declared.outcome.Outcome.{Outcome}
 use Rattle.amo_crew.specs.declared.fault.ExecFault.{ExecFault}
@@ -29,12 +29,13 @@ use Rattle.amo_crew.specs.declared.fault.ExecFault.TheVariants.{WrongCount, NoMe
 use Rattle.amo_crew.specs.Unsettling.{UnsettledView, IsUnsettled, IsSettledOf}
 use Rattle.amo_crew.specs.Refusing.{Concludes, Refuses}
 use Rattle.amo_crew.proofs.Outputs.{at_all}
+use Rattle.amo_kk.specs.declared.limits.TheConstants.{MAX_STEPS}
 
 pub all_small : (g : Givens) (budgets : List ℕ) → IsPlan g budgets → AreSmall budgets
 all_small g budgets is zero = omega arith
 all_small g budgets is (suc k) = go budgets k is.1
   where
-    go : (l : List ℕ) (k : ℕ) → All (λ b. b ≤ 10000000) l → get_or l k 0 ≤ 10000000
+    go : (l : List ℕ) (k : ℕ) → All (λ b. b ≤ MAX_STEPS) l → get_or l k 0 ≤ MAX_STEPS
     go [] k h = omega arith
     go (x ∷ xs) zero h = h 0 x (omega arith)
     go (x ∷ xs) (suc k) h = go xs k (λ i d l. h (suc i) d (omega arith))

@@ -1,4 +1,4 @@
--- While the workers are collected, in the order of their numbers.
+-- Within this crate: while the workers are collected, in the order of their numbers.
 use Rattle.std.specs.Prelude.{◌≡◌, ◌⊎◌, ℕ, zero, suc, ◌+◌, ◌-◌, ◌<◌, false, ◌≤◌, List, [], ◌∷◌, ◌++◌, length, map, sum_by, All, Option, Some, None, vec_len, vec_capacity, ⊤}
 use Rattle.std.specs.List.{AllZip}
 use mathlib.Core.Option.{some}
@@ -20,7 +20,7 @@ use Rattle.amo_crew.specs.declared.member.Finish.{Finish}
 use Rattle.amo_crew.specs.declared.member.Finish.TheVariants.{Ran as HasRan, NotStarted as WasNotStarted}
 use Rattle.amo_crew.specs.Crew.{EachAt, IsFinishOf}
 use Rattle.amo_crew.specs.Unsettling.{UnsettledView}
-use Rattle.amo_mailbox.specs.Ends.{IsOutletOf, given, has_worker}
+use Rattle.amo_mailbox.specs.Endpoints.{IsOutletOf, given, has_worker}
 use Rattle.amo_crew.specs.Running.{IsAnswer}
 use Rattle.amo_crew.specs.Outcomes.{spot_of, dones_in, IsBare, AreEnds, AreInHand}
 

@@ -14,7 +14,7 @@ use Rattle.amo_crew.specs.declared.member.Member.{Member}
 use Rattle.amo_crew.specs.declared.member.Ran.{Ran}
 use Rattle.amo_crew.specs.declared.member.Finish.{Finish}
 use Rattle.amo_crew.specs.declared.member.Finish.TheVariants.{Ran as HasRan, NotStarted}
-use Rattle.amo_mailbox.specs.Ends.{IsInletOf}
+use Rattle.amo_mailbox.specs.Endpoints.{IsInletOf}
 use Rattle.amo_crew.specs.Running.{HasRun, IsMember}
 
 -- R holds of each item with its place

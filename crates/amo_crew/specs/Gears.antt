@@ -1,11 +1,11 @@
--- What a crew's run begins with.
+-- Within this crate: what a crew's run begins with.
 use Rattle.std.specs.Prelude.{◌≡◌, ℕ, ◌≤◌, List, [], length, vec_capacity}
 use Rattle.atomic_table.specs.Seated.{TableId}
 use Rattle.amo_kk.specs.declared.givens.Givens.{Givens}
 use Rattle.amo_words.specs.Rule.{AllStand}
 use Rattle.amo_words.specs.Faces.{Seated, spots}
 use Rattle.amo_crew.specs.declared.crew.Gear.{Gear}
-use Rattle.amo_mailbox.specs.Ends.{IsInletOf}
+use Rattle.amo_mailbox.specs.Endpoints.{IsInletOf}
 use Rattle.amo_crew.specs.Plans.{AreSmall}
 use Rattle.amo_crew.specs.Crew.{IsCrew}
 use Rattle.amo_crew.specs.Outcomes.{spot_of, IsBare}

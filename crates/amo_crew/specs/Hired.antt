@@ -1,4 +1,4 @@
--- While workers are hired, the last first, and while they are called off.
+-- Within this crate: while workers are hired, the last first, and while they are called off.
 use Rattle.std.specs.Prelude.{◌≡◌, ◌⊎◌, ℕ, ◌+◌, ◌<◌, ◌≤◌, List, [], length, ⊤}
 use Rattle.atomic_table.specs.Seated.{TableId}
 use Rattle.amo_kk.specs.Record.{jobs_in_hand}
@@ -11,7 +11,7 @@ use Rattle.amo_claims.specs.Calls.{worker_in}
 use Rattle.amo_mailbox.specs.declared.queue.Queue.{Queue}
 use Rattle.amo_mailbox.specs.declared.outlet.Outlet.{Outlet}
 use Rattle.amo_crew.specs.declared.member.Member.{Member}
-use Rattle.amo_mailbox.specs.Ends.{IsNewOutletOf}
+use Rattle.amo_mailbox.specs.Endpoints.{IsNewOutletOf}
 use Rattle.amo_crew.specs.Crew.{EachAt, IsCrew}
 use Rattle.amo_crew.specs.Outcomes.{spot_of}
 

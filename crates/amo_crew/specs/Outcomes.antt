@@ -7,9 +7,9 @@ use Rattle.amo_kk.specs.Machine.{LocalView}
 use Rattle.amo_kk.specs.declared.givens.Givens.{Givens}
 use Rattle.amo_kk.specs.declared.event.Move.{Move}
 use Rattle.amo_words.specs.declared.rule.Spot.{Spot}
-use Rattle.amo_words.specs.declared.rule.Spot.TheVariants.{Home, Out, Back}
+use Rattle.amo_words.specs.declared.rule.Spot.TheVariants.{Home, Back}
 use Rattle.amo_words.specs.Settling.{IsWhole, settled_claims}
-use Rattle.amo_mailbox.specs.declared.hand.Output.{Output}
+use Rattle.amo_mailbox.specs.declared.output.Output.{Output}
 use Rattle.amo_crew.specs.declared.outcome.End.{End}
 use Rattle.amo_crew.specs.declared.outcome.End.TheVariants.{Ended, Halted, NotStarted}
 use Rattle.amo_crew.specs.declared.outcome.Outcome.{Outcome}
@@ -23,15 +23,13 @@ spot_of spots p = numbered Home spots p
 
 -- what the worker in this spot has done
 abbrev pub dones_in : Spot → List ℕ
-dones_in Home = []
-dones_in Out = []
 dones_in (Back l) = l.state.dones
+dones_in spot = []
 
 -- the job in its hand
 abbrev pub hand_in : Spot → List ℕ
-hand_in Home = []
-hand_in Out = []
 hand_in (Back l) = jobs_in_hand l.state.phase
+hand_in spot = []
 
 -- nothing is known to be done or in hand
 abbrev pub IsBare : Spot → Type 0

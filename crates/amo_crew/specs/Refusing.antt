@@ -3,17 +3,18 @@ use Rattle.std.specs.Prelude.{◌≡◌, ◌≢◌, ℕ, Bool, true, false, List
 use Rattle.std.specs.List.{list_any}
 use Rattle.amo_kk.specs.declared.givens.Givens.{Givens}
 use Rattle.amo_crew.specs.declared.outcome.End.{End}
-use Rattle.amo_crew.specs.declared.outcome.End.TheVariants.{Ended, Halted, NotStarted}
+use Rattle.amo_crew.specs.declared.outcome.End.TheVariants.{NotStarted}
 use Rattle.amo_crew.specs.declared.fault.ExecFault.{ExecFault}
 use Rattle.amo_crew.specs.declared.fault.ExecFault.TheVariants.{WrongCount, NoMemory, ThreadRefused, Unsettled}
 use Rattle.amo_crew.specs.Outcomes.{IsOutcome, SomeRefused}
 use Rattle.amo_crew.specs.Unsettling.{UnsettledView, IsUnsettled, IsSettledOf}
 
+-- its thread could not be started
 abbrev pub is_refused : End → Bool
-is_refused (Ended s) = false
-is_refused (Halted s) = false
 is_refused NotStarted = true
+is_refused end = false
 
+-- so it is with one of these
 abbrev pub any_refused : List End → Bool
 any_refused ends = list_any is_refused ends
 

@@ -7,14 +7,14 @@ use Rattle.amo_kk.specs.declared.givens.Givens.{Givens}
 use Rattle.atomic_table.specs.Seated.{TableId}
 use Rattle.amo_words.specs.Faces.{Seated, machine}
 use Rattle.amo_claims.specs.Calls.{state_of, worker_in}
-use Rattle.amo_mailbox.specs.declared.hand.Output.{Output}
+use Rattle.amo_mailbox.specs.declared.output.Output.{Output}
 use Rattle.amo_mailbox.specs.declared.queue.Queue.{Queue}
 use Rattle.amo_mailbox.specs.declared.outlet.Outlet.{Outlet}
 use Rattle.amo_crew.specs.declared.outcome.End.{End}
 use Rattle.amo_crew.specs.declared.outcome.End.TheVariants.{Ended, Halted, NotStarted}
 use Rattle.amo_crew.specs.declared.member.Member.{Member}
 use Rattle.amo_crew.specs.declared.member.Ran.{Ran}
-use Rattle.amo_mailbox.specs.Ends.{IsOutletOf, given}
+use Rattle.amo_mailbox.specs.Endpoints.{IsOutletOf, given}
 
 -- a worker that took no step yet
 pub record IsFresh {P : Type 0} (w : Seated P) : Type 0 where

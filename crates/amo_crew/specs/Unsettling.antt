@@ -4,7 +4,7 @@ use Rattle.amo_kk.specs.declared.givens.Givens.{Givens}
 use Rattle.amo_kk.specs.declared.event.Move.{Move}
 use Rattle.amo_words.specs.Faces.{ClosedView}
 use Rattle.amo_words.specs.Settling.{HasClosed, IsReadFrom, IsWholeOf}
-use Rattle.amo_mailbox.specs.declared.hand.Output.{Output}
+use Rattle.amo_mailbox.specs.declared.output.Output.{Output}
 use Rattle.amo_crew.specs.declared.outcome.End.{End}
 use Rattle.amo_crew.specs.declared.outcome.Outcome.{Outcome}
 use Rattle.amo_crew.specs.Outcomes.{HaveRun}

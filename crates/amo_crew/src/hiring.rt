@@ -1,6 +1,6 @@
 //! How a crew is hired.
 ghost use Rattle.std.specs.Prelude.{◌≡◌, ◌+◌, ◌<◌, ◌≤◌, [], length, vec_len, vec_capacity, IfOk};
-ghost use Rattle.amo_mailbox.specs.Ends.{IsNewOutletOf};
+ghost use Rattle.amo_mailbox.specs.Endpoints.{IsNewOutletOf};
 ghost use Rattle.amo_crew.specs.Hired.{AreOutlets, AreHired};
 
 use crate::member::Member;

@@ -5,7 +5,7 @@ ghost use Rattle.amo_kk.specs.Givens.{IsJob, IsWorker};
 ghost use Rattle.amo_kk.specs.declared.givens.Givens.{Givens};
 ghost use Rattle.amo_words.specs.Settling.{settled_dones};
 ghost use Rattle.amo_crew.specs.declared.outcome.Outcome.{Outcome};
-ghost use Rattle.amo_mailbox.specs.declared.hand.Output.{Output};
+ghost use Rattle.amo_mailbox.specs.declared.output.Output.{Output};
 ghost use Rattle.amo_crew.specs.Fitting.{FitsGivens};
 ghost use Rattle.amo_crew.specs.Outcomes.{IsOutcome, AllStarted, HasAPlace, HasStarted, IsOfNoThread, answered, in_hand, free_jobs, jobs_of};
 ghost use Rattle.amo_mailbox.specs.Mailbox.{of};

@@ -3,7 +3,7 @@ ghost use Rattle.std.specs.Prelude.{List, ◌≡◌, ◌+◌, ◌<◌, ◌≤◌
 ghost use Rattle.std.specs.List.{AllZip};
 ghost use Rattle.amo_words.specs.Faces.{machine};
 ghost use Rattle.amo_claims.specs.Calls.{worker_in};
-ghost use Rattle.amo_mailbox.specs.Ends.{IsInletOf};
+ghost use Rattle.amo_mailbox.specs.Endpoints.{IsInletOf};
 ghost use Rattle.amo_crew.specs.Running.{HasRun, IsMember};
 ghost use Rattle.amo_crew.specs.Crew.{MayRun, IsFinishOf, IsRunOf, MayStart, HasEnded};
 
@@ -72,6 +72,7 @@ where
         return;
     };
     let before = Snapshot::of(&member);
+    let runs = Runs(floor, queue, work, before);
     let promise = Runs(floor, queue, work, Snapshot::of(&member));
     let child = scope.spawn_with(
         promise,
@@ -82,7 +83,7 @@ where
     );
     run_from(rt, scope, floor, queue, work, inlet, crew, finishes);
     take_all(rt, queue, inlet);
-    finishes.push_reserved(finish_of(rt, floor, queue, work, child, before));
+    finishes.push_reserved(finish_of(rt, runs, child));
 }
 
 /// Runs each member in a thread of its own, the last member's first.

@@ -1,4 +1,4 @@
--- What is noted of what a partner says.
+-- Within this crate: what is noted of what a partner says.
 use Rattle.std.specs.Prelude.{ℕ, Bool, true, false}
 use Rattle.amo_course.specs.declared.answer.Answer.{Answer}
 use Rattle.amo_course.specs.declared.answer.Answer.TheVariants.{Done, Doubt, Unbegun, Untouched}
@@ -31,5 +31,4 @@ is_leave Leave = true
 abbrev pub dismisses : Reply → Bool
 dismisses (Replied serial answer way) = is_leave way
 dismisses (Running serial way) = is_leave way
-dismisses Garbled = false
-dismisses Closed = false
+dismisses reply = false

@@ -2,6 +2,7 @@
 ghost use Rattle.std.specs.Prelude.{◌≡◌, map, take, IfOk};
 ghost use Rattle.amo_ledger.specs.Open.{open_lines};
 ghost use Rattle.amo_desk.specs.Rounds.{IsNextRound, round_after};
+ghost use Rattle.amo_desk.specs.declared.beginning.TheConstants.{MOST_JOBS};
 
 use crate::books::{Books, MOST_WORKERS, known, read_pages};
 use crate::fault::{Fault, had};
@@ -18,7 +19,7 @@ use std::io::Read;
 use std::rt::HostRuntime;
 
 /// The greatest number of jobs of a round.
-pub(crate) const MOST_JOBS: usize = 4096;
+pub const MOST_JOBS: usize = 4096;
 
 /// What there is as a round is begun.
 #[derive(Drop)]
@@ -159,12 +160,12 @@ fn round_after(last: &Option<Record>) -> u64
 
 /// The first of the open lines, as many as a round may have jobs.
 fn first_lines(alloc: Global, lines: &[u64]) -> Result<Vec<u64>, AllocError>
-    ensures { IfOk result (λ first. first.items ≡ take 4096 lines.now) }
+    ensures { IfOk result (λ first. first.items ≡ take MOST_JOBS lines.now) }
 {
-    if lines.len() <= 4096 {
+    if lines.len() <= MOST_JOBS {
         lines.to_vec(alloc)
     } else {
-        lines[..4096].to_vec(alloc)
+        lines[..MOST_JOBS].to_vec(alloc)
     }
 }
 

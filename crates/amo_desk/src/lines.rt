@@ -3,7 +3,7 @@ ghost use Rattle.std.specs.Prelude.{◌≡◌, None};
 
 use crate::fault::Fault;
 use crate::partner::{Partner, shown};
-use amo_course::{End, Failed, Stop, Try, work};
+use amo_course::{Failed, LifeEnd, Stop, Try, work};
 use amo_kk::Givens;
 use amo_lines::{Lines, Wire, text_of};
 use std::rt::HostRuntime;
@@ -62,9 +62,9 @@ pub(crate) fn work_by_lines(rt: HostRuntime, asked: ByLines) -> Result<(), Fault
         fault: None,
     });
     match work(rt.alloc(), givens, asked.worker as u32, 1, &mut lines) {
-        Ok(End::Over) => Ok(()),
-        Ok(End::Left) => Err(Fault::Left),
-        Ok(End::Cut(_)) => Err(Fault::Closed),
+        Ok(LifeEnd::Over) => Ok(()),
+        Ok(LifeEnd::Left) => Err(Fault::Left),
+        Ok(LifeEnd::Cut(_)) => Err(Fault::Closed),
         Err(stop) => Err(fault_of(rt, stop, lines)),
     }
 }

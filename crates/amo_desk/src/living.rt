@@ -12,7 +12,7 @@ use crate::item::Item;
 use crate::partner::Partner;
 use crate::round::{Joined, join};
 use crate::setting::{Jobs, Setting};
-use amo_course::{Asked, End, Intent, Stop, ask_pending};
+use amo_course::{Asked, Intent, LifeEnd, Stop, ask_pending};
 use amo_kk::Givens;
 use amo_ledger::pending;
 use amo_standing::Counts;
@@ -139,9 +139,9 @@ fn work_in(alloc: Global, talk: Talk, joined: Joined, serial: u64) -> Fault {
     };
     match amo_course::work(alloc, givens, seat as u32, serial, &mut desk) {
         // Who was told to leave after its last job had nothing to leave.
-        Ok(End::Over) if !desk.talk.is_dismissed => Fault::Later(Later::Over),
-        Ok(End::Over | End::Left) => Fault::Left,
-        Ok(End::Cut(_)) => Fault::Closed,
+        Ok(LifeEnd::Over) if !desk.talk.is_dismissed => Fault::Later(Later::Over),
+        Ok(LifeEnd::Over | LifeEnd::Left) => Fault::Left,
+        Ok(LifeEnd::Cut(_)) => Fault::Closed,
         Err(stop) => fault_of(stop, &mut desk.talk),
     }
 }

@@ -20,9 +20,9 @@ pub fn serve(rt: HostRuntime, words: io::Result<Args>) -> ExitCode {
     let status = match words {
         Ok(words) => match listed(rt, words) {
             Ok(words) => serve_words(rt, &words),
-            Err(AllocError) => told(rt, &Fault::Memory),
+            Err(AllocError) => tell_fault(rt, &Fault::Memory),
         },
-        Err(_) => told(rt, &Fault::Memory),
+        Err(_) => tell_fault(rt, &Fault::Memory),
     };
     ExitCode::from(status)
 }
@@ -44,21 +44,21 @@ fn texts_of<'a>(rt: HostRuntime, words: &'a [String]) -> Result<Vec<&'a str>, Al
 }
 
 /// Tells of a fault on standard error, and answers its status.
-fn told(rt: HostRuntime, fault: &Fault) -> u8 {
+fn tell_fault(rt: HostRuntime, fault: &Fault) -> u8 {
     let _ = eprintln!(rt; "amo_worker: {fault}");
     fault.status()
 }
 
 fn serve_words(rt: HostRuntime, words: &[String]) -> u8 {
     let Ok(texts) = texts_of(rt, words) else {
-        return told(rt, &Fault::Memory);
+        return tell_fault(rt, &Fault::Memory);
     };
     match asked(rt.alloc(), &texts) {
         Ok((setting, request)) => match done(rt, &setting, request) {
             Ok(()) => 0,
-            Err(fault) => told(rt, &fault),
+            Err(fault) => tell_fault(rt, &fault),
         },
-        Err(Misuse::Memory) => told(rt, &Fault::Memory),
+        Err(Misuse::Memory) => tell_fault(rt, &Fault::Memory),
         Err(Misuse::Number(id)) => {
             let _ = eprintln!(rt;
                 "amo_worker: {id} isn't what it may be; amo_worker --help says more"

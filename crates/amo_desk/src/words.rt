@@ -4,7 +4,7 @@ use crate::folder::path_of;
 use crate::item::Item;
 use crate::setting::Setting;
 use amo_file::open_private;
-use amo_round::place_of;
+use amo_round::offset_of;
 use std::fs::File;
 use std::io;
 use std::io::ErrorKind;
@@ -47,7 +47,7 @@ impl Words {
             return Err(Fault::NoWay);
         }
         let mut bytes = [0u8; 8];
-        had(Item::Words, self.read_whole(&mut bytes, place_of(word)))?;
+        had(Item::Words, self.read_whole(&mut bytes, offset_of(word)))?;
         Ok(u64::from_le_bytes(bytes))
     }
 
@@ -58,7 +58,7 @@ impl Words {
         }
         written(
             Item::Words,
-            self.write_whole(&value.to_le_bytes(), place_of(word)),
+            self.write_whole(&value.to_le_bytes(), offset_of(word)),
         )
     }
 

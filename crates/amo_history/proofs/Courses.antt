@@ -2,15 +2,13 @@
 -- answer.
 use Rattle.std.proofs.Common.{◌≡◌, ℕ, zero, suc, ◌+◌, ◌≤◌, arith, Bool, true, false, refl, sym, ap, ◌∙◌, subst, List, [], ◌∷◌, ◌++◌, length, append-nil, append_assoc, Option, Some, None}
 use Rattle.std.specs.Prelude.{⊤, if◌then◌else◌, ◌==◌}
-use Rattle.std.proofs.lemmas.Bool.{true≢false, eqb-true}
+use Rattle.std.proofs.lemmas.Bool.{true≢false, eqb-true, eq-eqb}
 use Rattle.std.proofs.lemmas.Option.{none-some}
 use Rattle.amo_kk.specs.Step.{want_in}
 use Rattle.amo_kk.specs.Words.{claim_word}
 use Rattle.amo_kk.specs.declared.givens.Givens.{Givens}
 use Rattle.amo_process.specs.Heard.{told_by, doubted_by}
 use Rattle.amo_process.specs.Stepped.{ProcessView, process_after, access_of, may_leave, is_refused}
-use Rattle.amo_process.specs.declared.access.Access.{Access}
-use Rattle.amo_process.specs.declared.access.Access.TheVariants.{Load as LoadAccess, Store as StoreAccess, Nothing}
 use Rattle.amo_course.specs.declared.answer.Answer.{Answer}
 use Rattle.amo_course.specs.declared.answer.Answer.TheVariants.{Doubt}
 use Rattle.amo_course.specs.declared.answer.Reply.{Reply}
@@ -20,12 +18,12 @@ use Rattle.amo_course.specs.declared.answer.Way.TheVariants.{Go, Leave}
 use Rattle.amo_course.specs.declared.model.Deed.{Deed}
 use Rattle.amo_course.specs.declared.model.Deed.TheVariants.{Loaded, Stored, Found, Intended, Performed, Noted, Asked, Fell}
 use Rattle.amo_course.specs.declared.model.Try.{Try}
-use Rattle.amo_course.specs.declared.model.Try.TheVariants.{Load, Store, Perform, Note}
+use Rattle.amo_course.specs.declared.model.Try.TheVariants.{Load, Store, Find, Intend, Perform, Note, Ask}
 use Rattle.amo_course.specs.Stage.{Stage, Going, Intending, Performing, Noting, Leaving, Asking, Settling, Unanswered, Refused, Broken}
 use Rattle.amo_course.specs.Course.{try_of, access_tried, due, stage_by_jobs, stage_heard, stage_told, stage_replied, stage_after, stage_after_all, AreDue, first_stage}
 use Rattle.amo_course.proofs.Deeds.{stage_after_more}
 use Rattle.amo_history.specs.Course.{HasJustClaimed, HasJustIntended, HasJustAnswered}
-use Rattle.amo_history.proofs.Stages.{is_store, is_performance, is_intent, word_in, value_in, job_in, serial_in, performing_at, process_of, hears_more, standing_is, access_is, Shown, all_shown}
+use Rattle.amo_history.proofs.Stages.{word_in, value_in, job_in, serial_in, no_other, performing_at, process_of, hears_more, standing_is, access_is, Shown, all_shown}
 use Rattle.amo_history.proofs.Claims.{IsClaiming, claim_wanted, was_claiming}
 
 -- where nothing is due, nothing follows
@@ -39,22 +37,24 @@ pub fell_there : (s : Stage) (before after : List Deed) (t : Try) → AreDue s (
 fell_there s [] after t h = ends_there Broken [] after h.1 refl
 fell_there s (x ∷ xs) after t h = fell_there (stage_after s x) xs after t h.1
 
--- which try it is
+-- tries of different kinds aren't the same
 
-abbrev pub is_note : Option Try → Bool
-is_note None = false
-is_note (Some (Note n c)) = true
-is_note (Some t) = false
+abbrev kind : Option Try → ℕ
+kind None = 0
+kind (Some (Load w)) = 1
+kind (Some (Store w v)) = 2
+kind (Some (Find j)) = 3
+kind (Some (Intend n j)) = 4
+kind (Some (Perform n j)) = 5
+kind (Some (Note n c)) = 6
+kind (Some (Ask n line)) = 7
+
+differ : (x y : Option Try) → x ≡ y → (kind x == kind y) ≡ false → ⊥
+differ x y same other = true≢false (sym (eq-eqb (kind x) (kind y) (ap kind same)) ∙ other)
 
 abbrev answer_in : Option Try → Answer
-answer_in None = Doubt
 answer_in (Some (Note n c)) = c
-answer_in (Some t) = Doubt
-
-pub no_note : (x : Access) (n : ℕ) (c : Answer) → access_tried x ≡ Some (Note n c) → true ≡ false
-no_note (LoadAccess w) n c e = sym (ap is_note e)
-no_note (StoreAccess w v) n c e = sym (ap is_note e)
-no_note Nothing n c e = sym (ap is_note e)
+answer_in t = Doubt
 
 -- a deed among others, each of which was due
 pub due_among : (s : Stage) (before after : List Deed) (d : Deed) → AreDue s (before ++ d ∷ after)
@@ -110,8 +110,8 @@ module _ (g : Givens) (p s : ℕ) where
     claim_due : (c : IsClaiming g p hs j) → wanted_access ≡ Some (Store (claim_word g p) (length c.machine.state.claimed + 1))
     claim_due c = ap access_tried (sym (access_is g p hs a is) ∙ claim_wanted g p hs j c)
 
-    not_loaded : (c : IsClaiming g p hs j) (w : ℕ) → wanted_access ≡ Some (Load w) → true ≡ false
-    not_loaded c w e = ap is_store (sym (claim_due c) ∙ e)
+    not_loaded : (c : IsClaiming g p hs j) (w : ℕ) → wanted_access ≡ Some (Load w) → ⊥
+    not_loaded c w e = let due_here = claim_due c in cc
 
     by_claim : (c : IsClaiming g p hs j) (ds : List Deed) (n : ℕ) (way : Way) (w v : ℕ) → stage_after_all first ds ≡ Going n a way → wanted_access ≡ Some (Store w v)
         → told_by (process_after a 0).standing ≡ j → HasJustClaimed g p first (ds ++ Stored w v ∷ []) n j (process_after a 0)
@@ -127,7 +127,7 @@ module _ (g : Givens) (p s : ℕ) where
       standing = standing_is g p hs a is ∙ c.stands;
       wanted = ap (want_in c.machine.state) c.phase;
       after = refl;
-      told = told;
+      job = told;
     }
 
   -- this came in answer to intent m
@@ -148,18 +148,18 @@ module _ (g : Givens) (p s : ℕ) where
   one_after : (ds : List Deed) (hs : List ℕ) (t : Stage) (d : Deed) → stage_after_all first ds ≡ t → Shown g p hs t → due t ≡ Some (try_of d) → IsAfter ds t
       → IsAfter (ds ++ d ∷ []) (stage_after t d)
   one_after ds hs (Going n a way) (Loaded w v) at f e h = told_after (ds ++ Loaded w v ∷ []) n (process_after a v)
-      (λ j some told. absurd (true≢false (not_loaded hs a f j (claiming hs a f j v some told) w e))) w v way
+      (λ j some told. absurd (not_loaded hs a f j (claiming hs a f j v some told) w e)) w v way
   one_after ds hs (Going n a way) (Stored w v) at f e h = told_after (ds ++ Stored w v ∷ []) n (process_after a 0)
       (λ j some told. by_claim hs a f j (claiming hs a f j 0 some told) ds n way w v at e told) w v way
   one_after ds hs (Intending m a i) (Intended n j) at f e h = (ds, (λ k. ds ++ Intended (serial_in (sym e k)) (job_in (sym e k)) ∷ []), h)
   one_after ds hs (Intending m a i) (Fell t) at f e h = tt
-  one_after ds hs (Intending m a i) d at f e h = absurd (true≢false (ap is_intent e))
+  one_after ds hs (Intending m a i) d at f e h = absurd (differ _ _ e refl)
   one_after ds hs (Performing m a i) (Performed n j reply) at f e h = replied_after ds m n j a reply (ap serial_in e)
   one_after ds hs (Performing m a i) (Fell t) at f e h = tt
-  one_after ds hs (Performing m a i) d at f e h = absurd (true≢false (ap is_performance e))
+  one_after ds hs (Performing m a i) d at f e h = absurd (differ _ _ e refl)
   one_after ds hs (Noting m a z way) (Noted n c) at f e h = tt
   one_after ds hs (Noting m a z way) (Fell t) at f e h = tt
-  one_after ds hs (Noting m a z way) d at f e h = absurd (true≢false (ap is_note e))
+  one_after ds hs (Noting m a z way) d at f e h = absurd (differ _ _ e refl)
   one_after ds hs (Asking intents) d at f e h = absurd h
   one_after ds hs (Settling m z way rest) d at f e h = absurd h
   one_after ds hs t (Loaded w v) at f e h = tt
@@ -189,10 +189,10 @@ module _ (g : Givens) (p s : ℕ) where
 
   answered_at : (ds : List Deed) (t : Stage) (n : ℕ) (c : Answer) → due t ≡ Some (Note n c) → IsAfter ds t → HasJustAnswered ds n c
   answered_at ds (Noting m a z way) n c e h = subst (λ o. HasJustAnswered ds (serial_in o) (answer_in o)) e h
-  answered_at ds (Going m a way) n c e h = absurd (true≢false (no_note (access_of a.givens a.number a.standing) n c e))
+  answered_at ds (Going m a way) n c e h = absurd (no_other (access_of a.givens a.number a.standing) (Note n c) refl e)
   answered_at ds (Asking intents) n c e h = absurd h
   answered_at ds (Settling m z way rest) n c e h = absurd h
-  answered_at ds t n c e h = absurd (true≢false (sym (ap is_note e)))
+  answered_at ds t n c e h = cc
 
   pub just_answered : (before after : List Deed) (d : Deed) (n : ℕ) (c : Answer) → try_of d ≡ Note n c → AreDue first (before ++ d ∷ after) → HasJustAnswered before n c
   just_answered before after d n c is h =

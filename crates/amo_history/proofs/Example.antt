@@ -12,6 +12,7 @@ use Rattle.amo_course.specs.declared.model.Try.TheVariants.{Store, Perform}
 use Rattle.amo_history.specs.Scene.{IsHistory, handed_jobs}
 use Rattle.amo_history.specs.declared.model.Moment.{Moment}
 use Rattle.amo_history.specs.declared.model.Moment.TheVariants.{Does, Loses, Begins}
+use Rattle.amo_history.proofs.Chains.{◌▸◌}
 
 abbrev pub two_and_two : Givens
 two_and_two = record { jobs = 2; workers = 2; beta = 2; limits = within_limits 2 2 2 refl }
@@ -60,109 +61,25 @@ moments =
     Does 2 (Loaded 9 0) ∷ []
 
 pub is_history : IsHistory two_and_two moments
-is_history = (
-  first_worker,
-  (
-    second_worker,
-    (
-      (first_worker, refl, refl),
-      (
-        (first_worker, refl, refl),
-        (
-          (first_worker, refl, refl),
-          (
-            (first_worker, refl, tt),
-            (
-              (first_worker, refl, refl),
-              (
-                (second_worker, refl, refl),
-                (
-                  (second_worker, refl, refl),
-                  (
-                    (second_worker, refl, refl),
-                    (
-                      (first_worker, refl, refl),
-                      (
-                        (first_worker, refl, tt),
-                        (
-                          (first_worker, refl, tt),
-                          (
-                            (first_worker, refl, tt),
-                            (
-                              (first_worker, refl, tt),
-                              (
-                                (first_worker, refl, tt),
-                                (
-                                  (second_worker, refl, tt),
-                                  (
-                                    (second_worker, refl, refl),
-                                    (
-                                      (second_worker, refl, refl),
-                                      (
-                                        (second_worker, refl, refl),
-                                        (
-                                          (second_worker, refl, tt),
-                                          (
-                                            (second_worker, refl, tt),
-                                            (
-                                              (second_worker, refl),
-                                              (
-                                                second_worker,
-                                                (
-                                                  (second_worker, refl, refl),
-                                                  (
-                                                    (second_worker, refl, refl),
-                                                    (
-                                                      (second_worker, refl, refl),
-                                                      (
-                                                        (second_worker, refl, tt),
-                                                        (
-                                                          (second_worker, refl),
-                                                          (
-                                                            second_worker,
-                                                            (
-                                                              (second_worker, refl, refl),
-                                                              (
-                                                                (second_worker, refl, refl),
-                                                                (
-                                                                  (second_worker, refl, refl),
-                                                                  (
-                                                                    (second_worker, refl, refl),
-                                                                    tt,
-                                                                  ),
-                                                                ),
-                                                              ),
-                                                            ),
-                                                          ),
-                                                        ),
-                                                      ),
-                                                    ),
-                                                  ),
-                                                ),
-                                              ),
-                                            ),
-                                          ),
-                                        ),
-                                      ),
-                                    ),
-                                  ),
-                                ),
-                              ),
-                            ),
-                          ),
-                        ),
-                      ),
-                    ),
-                  ),
-                ),
-              ),
-            ),
-          ),
-        ),
-      ),
-    ),
-  ),
-)
+is_history =
+    first_worker ▸
+    second_worker ▸
+    (first_worker, refl, refl) ▸ (first_worker, refl, refl) ▸ (first_worker, refl, refl) ▸
+    (first_worker, refl, tt) ▸ (first_worker, refl, refl) ▸
+    (second_worker, refl, refl) ▸ (second_worker, refl, refl) ▸ (second_worker, refl, refl) ▸
+    (first_worker, refl, refl) ▸
+    (first_worker, refl, tt) ▸ (first_worker, refl, tt) ▸ (first_worker, refl, tt) ▸
+    (first_worker, refl, tt) ▸ (first_worker, refl, tt) ▸
+    (second_worker, refl, tt) ▸
+    (second_worker, refl, refl) ▸ (second_worker, refl, refl) ▸ (second_worker, refl, refl) ▸
+    (second_worker, refl, tt) ▸ (second_worker, refl, tt) ▸
+    (second_worker, refl) ▸
+    second_worker ▸
+    (second_worker, refl, refl) ▸ (second_worker, refl, refl) ▸ (second_worker, refl, refl) ▸
+    (second_worker, refl, tt) ▸ (second_worker, refl) ▸
+    second_worker ▸
+    (second_worker, refl, refl) ▸ (second_worker, refl, refl) ▸ (second_worker, refl, refl) ▸ (second_worker, refl, refl) ▸
+    tt
 
 pub handed : handed_jobs moments ≡ 1 ∷ 2 ∷ []
 handed = refl

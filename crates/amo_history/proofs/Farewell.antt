@@ -28,9 +28,9 @@ use Rattle.amo_course.specs.declared.model.Try.TheVariants.{Store, Note}
 use Rattle.amo_course.specs.Stage.{Stage, Going, Noting, Leaving, Unanswered, Refused, Broken}
 use Rattle.amo_course.specs.Course.{try_of, access_tried, due, stage_heard, stage_told, stage_replied, stage_after, stage_after_all, AreDue, first_stage}
 use Rattle.amo_history.specs.Course.{tells_to_leave, note_of, AreInTurn, TakesLeave}
-use Rattle.amo_history.proofs.Stages.{is_store, performing_at, number_is, standing_is, access_is, Shown, all_shown}
+use Rattle.amo_history.proofs.Stages.{performing_at, number_is, standing_is, access_is, Shown, all_shown}
 use Rattle.amo_history.proofs.Claims.{told_holds}
-use Rattle.amo_history.proofs.Courses.{is_note, due_among}
+use Rattle.amo_history.proofs.Courses.{due_among}
 
 -- by what is due first
 
@@ -50,7 +50,7 @@ leaving p a ds is h = one_due (Leaving a) (Store (next_word p) 0) [] ds (ap (λ 
     gone : (d : Deed) → try_of d ≡ Store (next_word p) 0 → due (stage_after (Leaving a) d) ≡ None
     gone (Stored w v) e = refl
     gone (Fell t) e = refl
-    gone d e = absurd (true≢false (sym (ap (λ t. is_store (Some t)) e)))
+    gone d e = cc
 
 -- who has filed what was in its hand may leave, or wants nothing more
 module _ (g : Givens) (p v j : ℕ) (l : LocalView) (holds : l.state.phase ≡ Holding j) where
@@ -102,7 +102,7 @@ module _ (p place j : ℕ) (a : ProcessView) (is : a.number ≡ p) (l : LocalVie
       goes_on : (d : Deed) (more : List Deed) → try_of d ≡ Store place j → AreDue (stage_after (Going n a Leave) d) more → AreInTurn (Store (next_word p) 0 ∷ []) more
       goes_on (Stored w v) more e rest = filed p w v n next more is idle rest
       goes_on (Fell t) more e rest = nothing_due Broken (Store (next_word p) 0 ∷ []) more refl rest
-      goes_on d more e rest = absurd (true≢false (sym (ap (λ t. is_store (Some t)) e)))
+      goes_on d more e rest = cc
 
   noting : (n : ℕ) (c : Answer) (ds : List Deed) → AreDue (Noting n a c Leave) ds → AreInTurn (Note n c ∷ last) ds
   noting n c ds h = one_due (Noting n a c Leave) (Note n c) last ds refl goes_on h
@@ -110,7 +110,7 @@ module _ (p place j : ℕ) (a : ProcessView) (is : a.number ≡ p) (l : LocalVie
       goes_on : (d : Deed) (more : List Deed) → try_of d ≡ Note n c → AreDue (stage_after (Noting n a c Leave) d) more → AreInTurn last more
       goes_on (Noted m x) more e rest = filing (n + 1) more rest
       goes_on (Fell t) more e rest = nothing_due Broken last more refl rest
-      goes_on d more e rest = absurd (true≢false (sym (ap (λ t. is_note (Some t)) e)))
+      goes_on d more e rest = cc
 
   replied : (n : ℕ) (reply : Reply) (ds : List Deed) → tells_to_leave reply ≡ true → AreDue (stage_replied n a reply) ds → AreInTurn (note_of n reply ++ last) ds
   replied n (Answered m c Leave) ds tells = by (m == n)

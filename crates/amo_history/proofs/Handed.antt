@@ -53,7 +53,7 @@ module _ (g : Givens) (p : ℕ) (o : IsWorker g p) where
     not_now hs s (Perform n i) f h e =
         let here = here_told g p hs s n i f e in
         ⊎_elim
-        (λ (same : i ≡ j). absurd (⊎_elim (λ (spent : is_spent s ≡ true). true≢false (sym spent ∙ here.unspent)) (λ (other : told_by (standing_of g p hs) ≢ j). other (here.told ∙ same)) h.1))
+        (λ (same : i ≡ j). absurd (⊎_elim (λ (spent : is_spent s ≡ true). true≢false (sym spent ∙ here.unspent)) (λ (other : told_by (standing_of g p hs) ≢ j). other (here.job ∙ same)) h.1))
         (λ other. ap (λ b. b || false) (ne_eqb i j other))
         (cases_eq i j)
     not_now hs s t f h e = refl
@@ -81,6 +81,6 @@ module _ (g : Givens) (p : ℕ) (o : IsWorker g p) where
       by (Perform n j) is rest =
           let e = due_all.0 ∙ ap (λ t. Some t) is in
           let here = here_told g p hs s n j f e in
-          let claimed = subst (λ l. HasClaimed j (standing_of g p l)) (sym (hears_nothing hs s d n j e)) (told_claimed g p o hs j here.low here.told) in
+          let claimed = subst (λ l. HasClaimed j (standing_of g p l)) (sym (hears_nothing hs s d n j e)) (told_claimed g p o hs j here.low here.job) in
           (never j here.low (heard_with hs s d) (stage_after s d) ds (shown_with g p hs s d f) (claimed, inl (after_handing s d n j e is)) due_all.1, rest)
       by t is rest = rest

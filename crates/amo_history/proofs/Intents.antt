@@ -1,5 +1,5 @@
 -- Of each job one intent is tried at most, and then one performance, by the process that has tried it.
-use Rattle.std.proofs.Common.{◌≡◌, ⊎_elim, ℕ, ◌≤◌, true, refl, sym, ap, ◌∙◌, subst, List, [], ◌∷◌, ◌++◌, append_assoc, append-nil, Option, Some, None}
+use Rattle.std.proofs.Common.{◌≡◌, ⊎_elim, ℕ, ◌≤◌, true, refl, sym, ◌∙◌, subst, List, [], ◌∷◌, ◌++◌, append_assoc, append-nil, Option, Some, None}
 use Rattle.std.specs.Prelude.{⊤}
 use Rattle.std.proofs.lemmas.Bool.{true≢false, cases_eq}
 use Rattle.std.proofs.lemmas.Option.{none-some, same_Some}
@@ -21,7 +21,7 @@ use Rattle.amo_history.specs.Scene.{Scene, first_scene, stage_at, scene_after, s
 use Rattle.amo_history.specs.Tries.{worker_of, tried_in, NoneBegins}
 use Rattle.amo_history.specs.declared.model.Moment.{Moment}
 use Rattle.amo_history.specs.declared.model.Moment.TheVariants.{Does, Loses, Begins}
-use Rattle.amo_history.proofs.Stages.{is_intent, intending_at, performing_at}
+use Rattle.amo_history.proofs.Stages.{intending_at, performing_at}
 use Rattle.amo_history.proofs.Spent.{is_spent, replied_spent, found_spent, intended_spent, performed_spent, noted_spent, asked_for_spent, after_handing, IsTold, here_told, here_intends}
 use Rattle.amo_history.proofs.Histories.{happening, happening_done, happenings_at, shared-append, workers-append, no_step_parts, moment_workers, ShowsScene, stage_is, moment_shows, shown_all, history_parts, scene_parts}
 
@@ -76,7 +76,7 @@ still_over o p s d none h = spent_over o (stage_after s d) (still_spent p s d no
 intended_over : (n : ℕ) (a : ProcessView) (j : ℕ) (d : Deed) → try_of d ≡ Intend n j → IsOver (Some n) (stage_after (Intending n a j) d)
 intended_over n a j (Intended m i) is = refl
 intended_over n a j (Fell t) is = tt
-intended_over n a j d is = absurd (true≢false (sym (ap (λ t. is_intent (Some t)) is)))
+intended_over n a j d is = cc
 
 -- what is tried in a moment is due
 pub tried_due : (g : Givens) (sc : Scene) (m : Moment) (t : Try) → MayBe g sc m → tried_in m ≡ Some t → IsWorker g (worker_of m) × (due (stage_at sc (worker_of m)) ≡ Some t)
@@ -142,7 +142,7 @@ module _ (g : Givens) (hs : List Happening) (w : AreOfWorkers g hs) (p : ℕ) (o
   module _ (sc : Scene) (mid : List Moment) (r : Reached sc mid) (q n : ℕ) (v : IsWorker g q) where
     -- what is told to q is told to p, before its next access
     told_here : IsTold g q (numbered [] (shared_after_all g (shared_of g hs) r.more).lists q) (stage_at sc q) j → (p ≡ q) × HasNoStep p r.more
-    told_here t = told_once g hs r.more p q j w r.workers o v low told t.told
+    told_here t = told_once g hs r.more p q j w r.workers o v low told t.job
 
     pub no_intent_again : due (stage_at sc q) ≡ Some (Intend n j) → ⊥
     no_intent_again e =
@@ -180,7 +180,7 @@ module _ (g : Givens) (hs : List Happening) (w : AreOfWorkers g hs) (sc : Scene)
         record {
           worker = it.0;
           low = told.low;
-          told = told.told;
+          told = told.job;
           reached = record {
             more = happenings_at sc m;
             workers = moment_workers g sc m may;

@@ -7,6 +7,7 @@ pub mod Intents
 pub mod Once
 pub mod Courses
 pub mod Logs
+pub mod Chains
 -- These serve this crate alone.
 mod Example
 mod Handed

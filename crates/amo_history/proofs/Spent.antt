@@ -1,22 +1,19 @@
 -- Where no performance comes before the next access.
-use Rattle.std.proofs.Common.{◌≡◌, ℕ, ◌+◌, ◌≤◌, Bool, true, false, refl, sym, ap, ◌∙◌, subst, List, [], ◌∷◌, Some}
-use Rattle.std.specs.Prelude.{if◌then◌else◌, ◌==◌}
+use Rattle.std.proofs.Common.{◌≡◌, ℕ, ◌≤◌, Bool, true, false, refl, sym, ap, ◌∙◌, subst, List, Some}
 use Rattle.std.proofs.lemmas.Bool.{true≢false}
 use Rattle.amo_kk.specs.declared.givens.Givens.{Givens}
 use Rattle.amo_process.specs.Heard.{standing_of, told_by}
 use Rattle.amo_process.specs.Stepped.{ProcessView}
 use Rattle.amo_course.specs.declared.answer.Answer.{Answer}
 use Rattle.amo_course.specs.declared.answer.Reply.{Reply}
-use Rattle.amo_course.specs.declared.answer.Reply.TheVariants.{Answered, Running, Garbled, Closed}
 use Rattle.amo_course.specs.declared.answer.Way.{Way}
-use Rattle.amo_course.specs.declared.answer.Way.TheVariants.{Go, Leave}
 use Rattle.amo_course.specs.declared.model.Deed.{Deed}
-use Rattle.amo_course.specs.declared.model.Deed.TheVariants.{Loaded, Stored, Found, Intended, Performed, Noted, Asked, Fell}
+use Rattle.amo_course.specs.declared.model.Deed.TheVariants.{Found, Intended, Performed, Noted, Asked, Fell}
 use Rattle.amo_course.specs.declared.model.Try.TheVariants.{Intend, Perform}
 use Rattle.amo_course.specs.declared.past.Intent.{Intent}
-use Rattle.amo_course.specs.Stage.{Stage, Going, Finding, Intending, Performing, Noting, Asking, Settling, Unanswered}
+use Rattle.amo_course.specs.Stage.{Stage, Finding, Intending, Performing, Noting, Asking, Settling}
 use Rattle.amo_course.specs.Course.{try_of, due, stage_replied, stage_asking, stage_asked, stage_after}
-use Rattle.amo_history.proofs.Stages.{Shown, is_performance, performing_only, intending_at, standing_is}
+use Rattle.amo_history.proofs.Stages.{after_reply, after_settling, after_question, process_of, Shown, performing_only, intending_at, standing_is}
 
 -- The job in its hand, if there is one, was handed to the partner already: no performance is to come before the next access.
 abbrev pub is_spent : Stage → Bool
@@ -25,37 +22,13 @@ is_spent (Performing s a j) = false
 is_spent s = true
 
 pub replied_spent : (s : ℕ) (a : ProcessView) (reply : Reply) → is_spent (stage_replied s a reply) ≡ true
-replied_spent s a (Answered n c way) = by (n == s)
-  where
-    by : (b : Bool) → is_spent (if b then Noting s a c way else Unanswered s (Answered n c way)) ≡ true
-    by true = refl
-    by false = refl
-replied_spent s a (Running n way) = by (n == s)
-  where
-    by : (b : Bool) → is_spent (if b then Going (s + 1) a way else Unanswered s (Running n way)) ≡ true
-    by true = refl
-    by false = refl
-replied_spent s a Garbled = refl
-replied_spent s a Closed = refl
+replied_spent s a reply = after_reply (λ z. is_spent z ≡ true) s a reply (λ c way. refl) (λ way. refl) (λ r. refl)
 
 asking_spent : (way : Way) (rest : List Intent) → is_spent (stage_asking way rest) ≡ true
-asking_spent Go rest = refl
-asking_spent Leave rest = refl
+asking_spent way rest = after_settling (λ z. is_spent z ≡ true) (λ left. refl) (λ left. refl) way rest
 
 asked_spent : (intents : List Intent) (reply : Reply) → is_spent (stage_asked intents reply) ≡ true
-asked_spent [] reply = refl
-asked_spent (i ∷ rest) (Answered n c way) = by (n == i.serial)
-  where
-    by : (b : Bool) → is_spent (if b then Settling i.serial c way rest else Unanswered i.serial (Answered n c way)) ≡ true
-    by true = refl
-    by false = refl
-asked_spent (i ∷ rest) (Running n way) = by (n == i.serial)
-  where
-    by : (b : Bool) → is_spent (if b then stage_asking way rest else Unanswered i.serial (Running n way)) ≡ true
-    by true = asking_spent way rest
-    by false = refl
-asked_spent (i ∷ rest) Garbled = refl
-asked_spent (i ∷ rest) Closed = refl
+asked_spent intents reply = after_question (λ z. is_spent z ≡ true) (λ left. refl) (λ left. refl) intents reply (λ s c way left. refl) (λ s r. refl)
 
 -- it stays spent after a deed that is no access
 
@@ -82,39 +55,27 @@ asked_for_spent s n line reply h = h
 
 -- it is spent once it was handed over
 pub after_handing : (s : Stage) (d : Deed) (n j : ℕ) → due s ≡ Some (Perform n j) → try_of d ≡ Perform n j → is_spent (stage_after s d) ≡ true
-after_handing s (Loaded w v) n j e is = absurd (true≢false (sym (ap (λ t. is_performance (Some t)) is)))
-after_handing s (Stored w v) n j e is = absurd (true≢false (sym (ap (λ t. is_performance (Some t)) is)))
-after_handing s (Found i) n j e is = absurd (true≢false (sym (ap (λ t. is_performance (Some t)) is)))
-after_handing s (Intended m i) n j e is = absurd (true≢false (sym (ap (λ t. is_performance (Some t)) is)))
 after_handing s (Performed m i reply) n j e is =
     let at = performing_only s n j e in
     ap (λ (z : Stage). is_spent (stage_after z (Performed m i reply))) at.2 ∙ replied_spent at.0 at.1 reply
-after_handing s (Noted m c) n j e is = absurd (true≢false (sym (ap (λ t. is_performance (Some t)) is)))
-after_handing s (Asked m line reply) n j e is = absurd (true≢false (sym (ap (λ t. is_performance (Some t)) is)))
 after_handing s (Fell t) n j e is = refl
+after_handing s d n j e is = cc
 
 -- Where a process tries the intent of job j, or hands it to its partner, it is told to perform it, by what it has heard.
 pub record IsTold (g : Givens) (p : ℕ) (hs : List ℕ) (s : Stage) (j : ℕ) : Type 0 where
-  pub told : told_by (standing_of g p hs) ≡ j
+  pub job : told_by (standing_of g p hs) ≡ j
   pub low : 1 ≤ j
   pub unspent : is_spent s ≡ false
 
+told_there : (g : Givens) (p : ℕ) (hs : List ℕ) (s : Stage) (a : ProcessView) (j : ℕ) → (a ≡ process_of g p hs) × (told_by a.standing ≡ j) × (1 ≤ j) → is_spent s ≡ false → IsTold g p hs s j
+told_there g p hs s a j shown unspent = record {
+  job = sym (ap told_by (standing_is g p hs a shown.0)) ∙ shown.1;
+  low = shown.2;
+  unspent = unspent;
+}
+
 pub here_told : (g : Givens) (p : ℕ) (hs : List ℕ) (s : Stage) (n j : ℕ) → Shown g p hs s → due s ≡ Some (Perform n j) → IsTold g p hs s j
-here_told g p hs s n j f e =
-    let at = performing_only s n j e in
-    let shown = subst (Shown g p hs) at.2 f in
-    record {
-      told = sym (ap told_by (standing_is g p hs at.1 shown.0)) ∙ shown.1;
-      low = shown.2;
-      unspent = ap is_spent at.2;
-    }
+here_told g p hs s n j f e = let at = performing_only s n j e in told_there g p hs s at.1 j (subst (Shown g p hs) at.2 f) (ap is_spent at.2)
 
 pub here_intends : (g : Givens) (p : ℕ) (hs : List ℕ) (s : Stage) (n j : ℕ) → Shown g p hs s → due s ≡ Some (Intend n j) → IsTold g p hs s j
-here_intends g p hs s n j f e =
-    let at = intending_at s n j e in
-    let shown = subst (Shown g p hs) at.1 f in
-    record {
-      told = sym (ap told_by (standing_is g p hs at.0 shown.0)) ∙ shown.1;
-      low = shown.2;
-      unspent = ap is_spent at.1;
-    }
+here_intends g p hs s n j f e = let at = intending_at s n j e in told_there g p hs s at.0 j (subst (Shown g p hs) at.1 f) (ap is_spent at.1)

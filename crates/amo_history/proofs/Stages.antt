@@ -19,123 +19,76 @@ use Rattle.amo_course.specs.declared.model.Deed.TheVariants.{Loaded, Stored, Fou
 use Rattle.amo_course.specs.declared.model.Try.{Try}
 use Rattle.amo_course.specs.declared.model.Try.TheVariants.{Intend, Load, Store, Perform, Note}
 use Rattle.amo_course.specs.declared.past.Intent.{Intent}
-use Rattle.amo_course.specs.Stage.{Stage, Going, Finding, Intending, Performing, Noting, Leaving, Asking, Settling, Dismissed, Gone, Unanswered, Refused, Broken}
+use Rattle.amo_course.specs.Stage.{Stage, Going, Finding, Intending, Performing, Noting, Leaving, Asking, Settling, Dismissed, Unanswered, Refused}
 use Rattle.amo_course.specs.Course.{access_tried, due, stage_by_jobs, stage_heard, stage_told, stage_replied, stage_asking, stage_asked, stage_after, stage_after_all}
 
 -- what was tried, in parts
 
-abbrev is_load : Option Try → Bool
-is_load None = false
-is_load (Some (Load w)) = true
-is_load (Some t) = false
-
-abbrev pub is_store : Option Try → Bool
-is_store None = false
-is_store (Some (Store w v)) = true
-is_store (Some t) = false
-
-abbrev pub is_performance : Option Try → Bool
-is_performance None = false
-is_performance (Some (Perform n j)) = true
-is_performance (Some t) = false
-
-abbrev pub is_intent : Option Try → Bool
-is_intent None = false
-is_intent (Some (Intend n j)) = true
-is_intent (Some t) = false
-
 abbrev pub word_in : Option Try → ℕ
-word_in None = 0
 word_in (Some (Load w)) = w
 word_in (Some (Store w v)) = w
-word_in (Some t) = 0
+word_in t = 0
 
 abbrev pub value_in : Option Try → ℕ
-value_in None = 0
 value_in (Some (Store w v)) = v
-value_in (Some t) = 0
+value_in t = 0
 
 abbrev pub job_in : Option Try → ℕ
-job_in None = 0
 job_in (Some (Intend n j)) = j
 job_in (Some (Perform n j)) = j
-job_in (Some t) = 0
+job_in t = 0
 
 abbrev pub serial_in : Option Try → ℕ
-serial_in None = 0
 serial_in (Some (Intend n j)) = n
 serial_in (Some (Perform n j)) = n
 serial_in (Some (Note n c)) = n
-serial_in (Some t) = 0
+serial_in t = 0
 
 -- an access that is tried is that access
 
 pub tried_load : (x : Access) (w : ℕ) → access_tried x ≡ Some (Load w) → x ≡ LoadAccess w
 tried_load (LoadAccess u) w e = ap (λ o. LoadAccess (word_in o)) e
-tried_load (StoreAccess u v) w e = absurd (true≢false (sym (ap is_load e)))
-tried_load Nothing w e = absurd (true≢false (sym (ap is_load e)))
+tried_load (StoreAccess u v) w e = cc
+tried_load Nothing w e = cc
 
 pub tried_store : (x : Access) (w v : ℕ) → access_tried x ≡ Some (Store w v) → x ≡ StoreAccess w v
-tried_store (LoadAccess u) w v e = absurd (true≢false (sym (ap is_store e)))
+tried_store (LoadAccess u) w v e = cc
 tried_store (StoreAccess u y) w v e = ap (λ o. StoreAccess (word_in o) (value_in o)) e
-tried_store Nothing w v e = absurd (true≢false (sym (ap is_store e)))
+tried_store Nothing w v e = cc
+
+-- and nothing else is tried by one
+
+abbrev is_other : Option Try → Bool
+is_other None = false
+is_other (Some (Load w)) = false
+is_other (Some (Store w v)) = false
+is_other t = true
+
+pub no_other : (x : Access) (t : Try) → is_other (Some t) ≡ true → access_tried x ≡ Some t → ⊥
+no_other (LoadAccess w) t other e = true≢false (sym other ∙ ap is_other (sym e))
+no_other (StoreAccess w v) t other e = true≢false (sym other ∙ ap is_other (sym e))
+no_other Nothing t other e = true≢false (sym other ∙ ap is_other (sym e))
 
 -- a load is due only where the process wants it
 pub load_only : (s : Stage) (w : ℕ) → due s ≡ Some (Load w) → (n : ℕ) × (a : ProcessView) × (way : Way) × (s ≡ Going n a way)
 load_only (Going s a way) w e = (s, a, way, refl)
-load_only (Finding s a j) w e = absurd (true≢false (sym (ap is_load e)))
-load_only (Intending s a j) w e = absurd (true≢false (sym (ap is_load e)))
-load_only (Performing s a j) w e = absurd (true≢false (sym (ap is_load e)))
-load_only (Noting s a c way) w e = absurd (true≢false (sym (ap is_load e)))
-load_only (Leaving a) w e = absurd (true≢false (sym (ap is_load e)))
-load_only (Asking []) w e = absurd (true≢false (sym (ap is_load e)))
-load_only (Asking (i ∷ rest)) w e = absurd (true≢false (sym (ap is_load e)))
-load_only (Settling s c way rest) w e = absurd (true≢false (sym (ap is_load e)))
-load_only (Dismissed rest) w e = absurd (true≢false (sym (ap is_load e)))
-load_only Gone w e = absurd (true≢false (sym (ap is_load e)))
-load_only (Unanswered s reply) w e = absurd (true≢false (sym (ap is_load e)))
-load_only (Refused x y) w e = absurd (true≢false (sym (ap is_load e)))
-load_only Broken w e = absurd (true≢false (sym (ap is_load e)))
+load_only (Asking []) w e = cc
+load_only s w e = cc
 
 -- a store only where the process wants it, or leaves
 pub store_only : (s : Stage) (w v : ℕ) → due s ≡ Some (Store w v)
     → ((n : ℕ) × (a : ProcessView) × (way : Way) × (s ≡ Going n a way)) ⊎ ((a : ProcessView) × (s ≡ Leaving a) × (w ≡ next_word a.number) × (v ≡ 0))
 store_only (Going s a way) w v e = inl (s, a, way, refl)
 store_only (Leaving a) w v e = inr (a, refl, sym (ap word_in e), sym (ap value_in e))
-store_only (Finding s a j) w v e = absurd (true≢false (sym (ap is_store e)))
-store_only (Intending s a j) w v e = absurd (true≢false (sym (ap is_store e)))
-store_only (Performing s a j) w v e = absurd (true≢false (sym (ap is_store e)))
-store_only (Noting s a c way) w v e = absurd (true≢false (sym (ap is_store e)))
-store_only (Asking []) w v e = absurd (true≢false (sym (ap is_store e)))
-store_only (Asking (i ∷ rest)) w v e = absurd (true≢false (sym (ap is_store e)))
-store_only (Settling s c way rest) w v e = absurd (true≢false (sym (ap is_store e)))
-store_only (Dismissed rest) w v e = absurd (true≢false (sym (ap is_store e)))
-store_only Gone w v e = absurd (true≢false (sym (ap is_store e)))
-store_only (Unanswered s reply) w v e = absurd (true≢false (sym (ap is_store e)))
-store_only (Refused x y) w v e = absurd (true≢false (sym (ap is_store e)))
-store_only Broken w v e = absurd (true≢false (sym (ap is_store e)))
-
-no_performance : (x : Access) (n j : ℕ) → access_tried x ≡ Some (Perform n j) → true ≡ false
-no_performance (LoadAccess w) n j e = sym (ap is_performance e)
-no_performance (StoreAccess w v) n j e = sym (ap is_performance e)
-no_performance Nothing n j e = sym (ap is_performance e)
+store_only (Asking []) w v e = cc
+store_only s w v e = cc
 
 -- a performance only where its intent was put
 pub performing_only : (s : Stage) (n j : ℕ) → due s ≡ Some (Perform n j) → (m : ℕ) × (a : ProcessView) × (s ≡ Performing m a j)
 performing_only (Performing s a i) m k e = (s, a, ap (λ o. Performing s a (job_in o)) e)
-performing_only (Going s a way) m k e = absurd (true≢false (no_performance (access_of a.givens a.number a.standing) m k e))
-performing_only (Finding s a j) m k e = absurd (true≢false (sym (ap is_performance e)))
-performing_only (Intending s a j) m k e = absurd (true≢false (sym (ap is_performance e)))
-performing_only (Noting s a c way) m k e = absurd (true≢false (sym (ap is_performance e)))
-performing_only (Leaving a) m k e = absurd (true≢false (sym (ap is_performance e)))
-performing_only (Asking []) m k e = absurd (true≢false (sym (ap is_performance e)))
-performing_only (Asking (i ∷ rest)) m k e = absurd (true≢false (sym (ap is_performance e)))
-performing_only (Settling s c way rest) m k e = absurd (true≢false (sym (ap is_performance e)))
-performing_only (Dismissed rest) m k e = absurd (true≢false (sym (ap is_performance e)))
-performing_only Gone m k e = absurd (true≢false (sym (ap is_performance e)))
-performing_only (Unanswered s reply) m k e = absurd (true≢false (sym (ap is_performance e)))
-performing_only (Refused x y) m k e = absurd (true≢false (sym (ap is_performance e)))
-performing_only Broken m k e = absurd (true≢false (sym (ap is_performance e)))
+performing_only (Going s a way) m k e = absurd (no_other (access_of a.givens a.number a.standing) (Perform m k) refl e)
+performing_only (Asking []) m k e = cc
+performing_only s m k e = cc
 
 -- and just that one
 pub performing_at : (s : Stage) (n j : ℕ) → due s ≡ Some (Perform n j) → (a : ProcessView) × (s ≡ Performing n a j)
@@ -144,27 +97,44 @@ performing_at s n j e =
     let same : at.0 ≡ n = ap serial_in (sym (ap due at.2) ∙ e) in
     (at.1, at.2 ∙ ap (λ x. Performing x at.1 j) same)
 
-no_intent : (x : Access) (n j : ℕ) → access_tried x ≡ Some (Intend n j) → true ≡ false
-no_intent (LoadAccess w) n j e = sym (ap is_intent e)
-no_intent (StoreAccess w v) n j e = sym (ap is_intent e)
-no_intent Nothing n j e = sym (ap is_intent e)
-
 -- an intent only where it is to be put
 pub intending_at : (s : Stage) (n j : ℕ) → due s ≡ Some (Intend n j) → (a : ProcessView) × (s ≡ Intending n a j)
 intending_at (Intending m a i) n j e = (a, (λ k. Intending (serial_in (e k)) a (job_in (e k))))
-intending_at (Going s a way) n j e = absurd (true≢false (no_intent (access_of a.givens a.number a.standing) n j e))
-intending_at (Finding s a i) n j e = absurd (true≢false (sym (ap is_intent e)))
-intending_at (Performing s a i) n j e = absurd (true≢false (sym (ap is_intent e)))
-intending_at (Noting s a c way) n j e = absurd (true≢false (sym (ap is_intent e)))
-intending_at (Leaving a) n j e = absurd (true≢false (sym (ap is_intent e)))
-intending_at (Asking []) n j e = absurd (true≢false (sym (ap is_intent e)))
-intending_at (Asking (i ∷ rest)) n j e = absurd (true≢false (sym (ap is_intent e)))
-intending_at (Settling s c way rest) n j e = absurd (true≢false (sym (ap is_intent e)))
-intending_at (Dismissed rest) n j e = absurd (true≢false (sym (ap is_intent e)))
-intending_at Gone n j e = absurd (true≢false (sym (ap is_intent e)))
-intending_at (Unanswered s reply) n j e = absurd (true≢false (sym (ap is_intent e)))
-intending_at (Refused x y) n j e = absurd (true≢false (sym (ap is_intent e)))
-intending_at Broken n j e = absurd (true≢false (sym (ap is_intent e)))
+intending_at (Going s a way) n j e = absurd (no_other (access_of a.givens a.number a.standing) (Intend n j) refl e)
+intending_at (Asking []) n j e = cc
+intending_at s n j e = cc
+
+-- what holds of each stage to which something may lead holds of the one to which it leads
+
+module _ (P : Stage → Type 0) where
+  either : (b : Bool) (x y : Stage) → P x → P y → P (if b then x else y)
+  either true x y h k = h
+  either false x y h k = k
+
+  -- what came in answer to an intent
+  pub after_reply : (s : ℕ) (a : ProcessView) (reply : Reply) → ((c : Answer) (way : Way) → P (Noting s a c way)) → ((way : Way) → P (Going (s + 1) a way))
+      → ((r : Reply) → P (Unanswered s r)) → P (stage_replied s a reply)
+  after_reply s a (Answered n c way) notes goes ends = either (n == s) (Noting s a c way) (Unanswered s (Answered n c way)) (notes c way) (ends (Answered n c way))
+  after_reply s a (Running n way) notes goes ends = either (n == s) (Going (s + 1) a way) (Unanswered s (Running n way)) (goes way) (ends (Running n way))
+  after_reply s a Garbled notes goes ends = ends Garbled
+  after_reply s a Closed notes goes ends = ends Closed
+
+  module _ (asks : (left : List Intent) → P (Asking left)) (leaves : (left : List Intent) → P (Dismissed left)) where
+    -- what became of an intent that a former process has left is noted, or its job runs
+    pub after_settling : (way : Way) (rest : List Intent) → P (stage_asking way rest)
+    after_settling Go rest = asks rest
+    after_settling Leave rest = leaves rest
+
+    -- what came in answer when such an intent was asked for
+    pub after_question : (intents : List Intent) (reply : Reply) → ((s : ℕ) (c : Answer) (way : Way) (left : List Intent) → P (Settling s c way left))
+        → ((s : ℕ) (r : Reply) → P (Unanswered s r)) → P (stage_asked intents reply)
+    after_question [] reply notes ends = asks []
+    after_question (i ∷ rest) (Answered n c way) notes ends =
+        either (n == i.serial) (Settling i.serial c way rest) (Unanswered i.serial (Answered n c way)) (notes i.serial c way rest) (ends i.serial (Answered n c way))
+    after_question (i ∷ rest) (Running n way) notes ends =
+        either (n == i.serial) (stage_asking way rest) (Unanswered i.serial (Running n way)) (after_settling way rest) (ends i.serial (Running n way))
+    after_question (i ∷ rest) Garbled notes ends = ends i.serial Garbled
+    after_question (i ∷ rest) Closed notes ends = ends i.serial Closed
 
 -- the process that has heard these numbers since it began
 
@@ -207,13 +177,7 @@ Shown g p hs (Intending s a j) = (a ≡ process_of g p hs) × (told_by a.standin
 Shown g p hs (Performing s a j) = (a ≡ process_of g p hs) × (told_by a.standing ≡ j) × (1 ≤ j)
 Shown g p hs (Noting s a c way) = a ≡ process_of g p hs
 Shown g p hs (Leaving a) = (a ≡ process_of g p hs) × (may_leave a.standing ≡ true)
-Shown g p hs (Asking intents) = ⊤
-Shown g p hs (Settling s c way rest) = ⊤
-Shown g p hs (Dismissed rest) = ⊤
-Shown g p hs Gone = ⊤
-Shown g p hs (Unanswered s reply) = ⊤
-Shown g p hs (Refused w v) = ⊤
-Shown g p hs Broken = ⊤
+Shown g p hs s = ⊤
 
 module _ (g : Givens) (p : ℕ) (hs : List ℕ) where
   -- after a number was heard
@@ -240,37 +204,13 @@ module _ (g : Givens) (p : ℕ) (hs : List ℕ) where
         by false = heard_shown way
 
     replied_shown : (reply : Reply) → Shown g p hs (stage_replied s a reply)
-    replied_shown (Answered n c way) = by (n == s)
-      where
-        by : (b : Bool) → Shown g p hs (if b then Noting s a c way else Unanswered s (Answered n c way))
-        by true = is
-        by false = tt
-    replied_shown (Running n way) = by (n == s)
-      where
-        by : (b : Bool) → Shown g p hs (if b then Going (s + 1) a way else Unanswered s (Running n way))
-        by true = is
-        by false = tt
-    replied_shown Garbled = tt
-    replied_shown Closed = tt
+    replied_shown reply = after_reply (Shown g p hs) s a reply (λ c way. is) (λ way. is) (λ r. tt)
 
   asking_shown : (way : Way) (rest : List Intent) → Shown g p hs (stage_asking way rest)
-  asking_shown Go rest = tt
-  asking_shown Leave rest = tt
+  asking_shown way rest = after_settling (Shown g p hs) (λ left. tt) (λ left. tt) way rest
 
   asked_shown : (intents : List Intent) (reply : Reply) → Shown g p hs (stage_asked intents reply)
-  asked_shown [] reply = tt
-  asked_shown (i ∷ rest) (Answered n c way) = by (n == i.serial)
-    where
-      by : (b : Bool) → Shown g p hs (if b then Settling i.serial c way rest else Unanswered i.serial (Answered n c way))
-      by true = tt
-      by false = tt
-  asked_shown (i ∷ rest) (Running n way) = by (n == i.serial)
-    where
-      by : (b : Bool) → Shown g p hs (if b then stage_asking way rest else Unanswered i.serial (Running n way))
-      by true = asking_shown way rest
-      by false = tt
-  asked_shown (i ∷ rest) Garbled = tt
-  asked_shown (i ∷ rest) Closed = tt
+  asked_shown intents reply = after_question (Shown g p hs) (λ left. tt) (λ left. tt) intents reply (λ s c way left. tt) (λ s r. tt)
 
   -- after a deed that no process hears
 

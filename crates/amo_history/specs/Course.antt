@@ -40,9 +40,9 @@ pub record HasJustClaimed (g : Givens) (p : ℕ) (first : Stage) (deeds : List D
   pub fresh : Bool
   pub standing : before.standing ≡ Some (GoingOn machine fresh)
   pub wanted : want machine.state ≡ StoreClaim count j
-  -- what the process is told after it
+  -- the process after it, and the job that it is told to perform
   pub after : process ≡ process_after before 0
-  pub told : told_by process.standing ≡ j
+  pub job : told_by process.standing ≡ j
 
 -- The last of these deeds is intent n of job j, put into the journal, and the one right before it is the store by which
 -- worker p claims j. With them the process stands where the performance of j is due.

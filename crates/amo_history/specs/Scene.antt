@@ -3,7 +3,7 @@ use Rattle.std.specs.Prelude.{◌≡◌, ⊤, ℕ, List, [], ◌∷◌, ◌++◌
 use Rattle.amo_sets.specs.Lists.{numbered, put, table}
 use Rattle.amo_kk.specs.Givens.{IsWorker}
 use Rattle.amo_kk.specs.declared.givens.Givens.{Givens}
-use Rattle.amo_process.specs.Heard.{word_count}
+use Rattle.amo_kk.specs.Words.{word_count}
 use Rattle.amo_course.specs.declared.model.Deed.{Deed}
 use Rattle.amo_course.specs.declared.model.Deed.TheVariants.{Loaded, Stored}
 use Rattle.amo_course.specs.declared.model.Try.{Try}

@@ -1,6 +1,24 @@
 -- How a run of device calls goes on.
-use Rattle.std.proofs.Common.{inl, inr, ⊎_elim, ℕ, List, arith}
-use Rattle.amo_journal.specs.Device.{Elapses, LeavesOnly}
+use Rattle.std.proofs.Common.{◌≡◌, inl, inr, ⊎_elim, ℕ, List, sym, ◌∙◌, arith}
+use Rattle.amo_journal.specs.Device.{Elapses, LeavesOnly, Only}
+use Rattle.amo_journal.specs.Journal.{IsNear, IsUnsure, MaySettle}
+use Rattle.amo_journal.specs.Texts.{texts_in}
+
+-- each crash during the calls, and each read after them, has these texts, and the journal can be settled
+pub record KeepsTexts {D : Type 0} (moment : D → ℕ) (left_since : D → ℕ → List ℕ → Type 0) (seen : D → List ℕ) (may_leave : D → List ℕ → Type 0) (stale : D → ℕ → Type 0) (texts : List (List ℕ)) (old new : D) : Type 0 where
+  pub any_moment : LeavesOnly moment left_since old new (λ c. texts_in c ≡ texts)
+  pub read : texts_in (seen new) ≡ texts
+  pub again : MaySettle seen may_leave stale new
+
+-- this is the file, all of it on the disk
+pub record IsOnDisk {D : Type 0} (seen : D → List ℕ) (may_leave : D → List ℕ → Type 0) (stale : D → ℕ → Type 0) (file : List ℕ) (device : D) : Type 0 where
+  pub file_is : seen device ≡ file
+  pub durable : Only file (may_leave device)
+  pub fresh : (i : ℕ) → stale device i → ⊥
+
+-- a file that is read as others are is near what is on the disk
+pub near_same : (texts read : List (List ℕ)) (c : List ℕ) → read ≡ texts → texts_in c ≡ texts → IsNear read c
+near_same texts read c is stands = inl (stands ∙ sym is)
 
 module _ {D : Type 0} (moment : D → ℕ) (left_since : D → ℕ → List ℕ → Type 0) where
   -- before the first call
@@ -31,4 +49,14 @@ module _ {D : Type 0} (moment : D → ℕ) (left_since : D → ℕ → List ℕ 
     later = run.later;
     each = λ c left. weaker c (run.each c left);
     before = λ t c le left. ⊎_elim (λ older. inl older) (λ some. inr (weaker c some)) (run.before t c le left);
+  }
+
+module _ {D : Type 0} (moment : D → ℕ) (left_since : D → ℕ → List ℕ → Type 0) (seen : D → List ℕ) (may_leave : D → List ℕ → Type 0) (stale : D → ℕ → Type 0) where
+  -- where whatever a crash may leave has the texts
+  pub keeps_texts : (texts : List (List ℕ)) (old new : D) (P : List ℕ → Type 0) → LeavesOnly moment left_since old new P → ((c : List ℕ) → may_leave new c → P c) → ((c : List ℕ) → P c → texts_in c ≡ texts)
+      → texts_in (seen new) ≡ texts → ((i : ℕ) → stale new i → IsUnsure (texts_in (seen new)) i) → KeepsTexts moment left_since seen may_leave stale texts old new
+  keeps_texts texts old new P run crash keeps read unsure = record {
+    any_moment = leaves_weaker moment left_since old new P (λ c. texts_in c ≡ texts) run keeps;
+    read = read;
+    again = record { near = λ c now. inl (keeps c (crash c now) ∙ sym read); unsure = unsure };
   }

@@ -75,7 +75,7 @@ stays_more texts less more c wider (inl is) = inl is
 stays_more texts less more c wider (inr (shut, some)) = inr (shut, (some.0, wider some.0 some.1, some.2))
 
 -- the last of the texts that were read
-pub last_text : (vs : List (Vec ℕ Global)) (v : Vec ℕ Global) (texts : List (List ℕ)) → Some v ≡ slice_get vs (length vs - 1) → map (λ (text : Vec ℕ Global). text.items) vs ≡ texts
+last_text : (vs : List (Vec ℕ Global)) (v : Vec ℕ Global) (texts : List (List ℕ)) → Some v ≡ slice_get vs (length vs - 1) → map (λ (text : Vec ℕ Global). text.items) vs ≡ texts
     → (before : List (List ℕ)) × (texts ≡ before ++ v.items ∷ [])
 last_text vs v texts is are =
     let inside = slice_get_within vs (length vs - 1) v (sym is) in
@@ -86,8 +86,21 @@ pub not_outside : (i : ℕ) → IsOutside i 1 i → ⊥
 not_outside i (inl lt) = omega arith
 not_outside i (inr le) = omega arith
 
-pub gate_place : (texts before : List (List ℕ)) (last : List ℕ) (end n : ℕ) → texts ≡ before ++ last ∷ [] → end ≡ length (blocks texts) → n ≡ length last → end ≡ length (blocks before) + (n + 2)
-gate_place texts before last end n are stands long = omega (arith, stands, ap (λ (ts : List (List ℕ)). length (blocks ts)) are, length-blocks_push before last, long)
+-- where the last text and its gate stand
+pub record IsLast (texts : List (List ℕ)) (last : List ℕ) (end n : ℕ) : Type 0 where
+  pub before : List (List ℕ)
+  pub are : texts ≡ before ++ last ∷ []
+  pub place : end ≡ length (blocks before) + (n + 2)
+
+pub last_gate : (vs : List (Vec ℕ Global)) (v : Vec ℕ Global) (texts : List (List ℕ)) (end n : ℕ) → Some v ≡ slice_get vs (length vs - 1) → map (λ (text : Vec ℕ Global). text.items) vs ≡ texts
+    → end ≡ length (blocks texts) → n ≡ length v.items → IsLast texts v.items end n
+last_gate vs v texts end n is are stands long =
+    let found = last_text vs v texts is are in
+    record {
+      before = found.0;
+      are = found.1;
+      place = omega (arith, stands, ap (λ (ts : List (List ℕ)). length (blocks ts)) found.1, length-blocks_push found.0 v.items, long);
+    }
 
 module _ (texts : List (List ℕ)) (all : AreOneLine texts) (before : List (List ℕ)) (last : List ℕ) (are : texts ≡ before ++ last ∷ []) (gate : ℕ) (stands : gate ≡ length (blocks before)) where
   -- the bytes of a file with these texts around their last gate

@@ -3,11 +3,13 @@ use Rattle.std.proofs.Common.{◌≡◌, ◌≢◌, ◌⊎◌, inl, inr, ⊎_eli
 use Rattle.std.specs.List.{slice_get}
 use Rattle.std.proofs.lemmas.Bool.{cases_eq, cases_lt}
 use Rattle.std.proofs.lemmas.List.{take_at, drop_at, drop_more, take_all, drop_all, append-nil}
-use Rattle.amo_journal.specs.Device.{Holds, Torn, TornFrom, Only, Differs, WritesFront}
+use Rattle.amo_journal.specs.Device.{AgreesBut, Differs, Holds, IsOutside, LeavesOnly, Only, Torn, TornFrom, WritesFront}
 use Rattle.amo_journal.specs.Texts.{IsOneLine, AreOneLine, texts_in, blocks, at_rest}
-use Rattle.amo_journal.specs.Journal.{IsNear, IsUnsure, IsBeforeOrAfter}
+use Rattle.amo_journal.specs.Journal.{IsAtRest, IsBeforeOrAfter, IsNear, IsUnsure, MaySettle}
 use Rattle.amo_journal.proofs.Blocks.{blocks-push, texts_in_closed, texts_in_gate, texts_in-blocks, texts_in_block, all_push}
-use Rattle.amo_journal.proofs.Places.{get-seam, differ_behind, differ_at}
+use Rattle.amo_journal.proofs.Moments.{IsOnDisk, KeepsTexts, keeps_texts, leaves_weaker, near_same}
+use Rattle.amo_journal.proofs.Parts.{texts_are_one_line}
+use Rattle.amo_journal.proofs.Places.{agrees_all, get-seam, differ_behind, differ_at}
 
 -- what stands behind a gate
 abbrev pub behind : List ℕ → List ℕ
@@ -16,10 +18,6 @@ behind text = text ++ 10 ∷ 45 ∷ []
 -- the file with a block behind the closed gate
 abbrev pub staged : List (List ℕ) → List ℕ → List ℕ
 staged texts text = blocks texts ++ 45 ∷ behind text
-
--- a file that is read as others are is near what is on the disk
-pub near_same : (texts read : List (List ℕ)) (c : List ℕ) → read ≡ texts → texts_in c ≡ texts → IsNear read c
-near_same texts read c is stands = inl (stands ∙ sym is)
 
 module _ (texts : List (List ℕ)) (all : AreOneLine texts) (gate : ℕ) (stands : gate ≡ length (blocks texts)) where
   pub length-at_rest : length (at_rest texts) ≡ gate + 1
@@ -163,3 +161,68 @@ module _ (texts : List (List ℕ)) (all : AreOneLine texts) (gate : ℕ) (stands
       let place = differ_at (blocks texts) (get_or c gate 0) 43 (behind text) i (subst (λ f. slice_get (blocks texts ++ (get_or c gate 0 ∷ behind text)) i ≢ slice_get f i) read_whole isnt) in
       inl (record { before = texts; last = text; texts_are = texts_opened text seen one reads; place = place }))
       (gate_read text seen w)
+
+-- what the second write of a put comes to, whatever it answers
+pub record IsTried {D : Type 0} (moment : D → ℕ) (left_since : D → ℕ → List ℕ → Type 0) (seen : D → List ℕ) (may_leave : D → List ℕ → Type 0) (stale : D → ℕ → Type 0) (texts : List (List ℕ)) (text : List ℕ) (old new : D) : Type 0 where
+  pub any_moment : LeavesOnly moment left_since old new (IsBeforeOrAfter texts text)
+  pub read : IsBeforeOrAfter texts text (seen new)
+  pub again : MaySettle seen may_leave stale new
+
+module _ {D : Type 0} (moment : D → ℕ) (left_since : D → ℕ → List ℕ → Type 0) (seen : D → List ℕ) (may_leave : D → List ℕ → Type 0) (stale : D → ℕ → Type 0) where
+  -- what the first comes to, whatever it answers
+  pub begun : (old new : D) (gate : ℕ) (bytes : List ℕ) → IsAtRest seen may_leave stale old → gate ≡ length (blocks (texts_in (seen old))) → WritesFront (seen old) (gate + 1) bytes (seen new)
+      → ((c : List ℕ) → may_leave new c → TornFrom (gate + 1) (length bytes) (seen new) (may_leave old) c)
+      → ((i : ℕ) → stale new i → stale old i ⊎ Differs (TornFrom (gate + 1) (length bytes) (seen new) (may_leave old)) (seen new) i)
+      → LeavesOnly moment left_since old new (TornFrom (gate + 1) (length bytes) (seen new) (may_leave old)) → KeepsTexts moment left_since seen may_leave stale (texts_in (seen old)) old new
+  begun old new gate bytes rest stands front crash unsure run =
+      let texts = texts_in (seen old) in
+      let all = texts_are_one_line (seen old) in
+      let only = subst (λ f. Only f (may_leave old)) rest.file rest.durable in
+      let w = subst (λ f. WritesFront f (gate + 1) bytes (seen new)) rest.file front in
+      keeps_texts moment left_since seen may_leave stale texts old new _ run crash (stage_crash texts all gate stands (length bytes) (seen new) (may_leave old) only) (stage_read texts all gate stands bytes (seen new) w)
+      (λ i st. ⊎_elim (λ was. absurd (rest.fresh i was)) (stage_unsure texts all gate stands (length bytes) bytes (seen new) (may_leave old) only w i) (unsure i st))
+
+  -- and where it is done: the block stands behind the closed gate
+  pub is_staged : (old new : D) (gate : ℕ) (text bytes : List ℕ) → IsAtRest seen may_leave stale old → gate ≡ length (blocks (texts_in (seen old))) → bytes ≡ behind text → Holds (seen old) (gate + 1) bytes (seen new)
+      → ((c : List ℕ) → may_leave new c → AgreesBut (λ i. stale old i × IsOutside (gate + 1) (length bytes) i) (seen new) c)
+      → ((i : ℕ) → stale new i → stale old i × IsOutside (gate + 1) (length bytes) i) → IsOnDisk seen may_leave stale (staged (texts_in (seen old)) text) new
+  is_staged old new gate text bytes rest stands are holds durable fresh =
+      let texts = texts_in (seen old) in
+      let on_rest = subst (λ f. Holds f (gate + 1) bytes (seen new)) rest.file holds in
+      let is = written_behind texts (texts_are_one_line (seen old)) gate stands text (seen new) (subst (λ bs. Holds (at_rest texts) (gate + 1) bs (seen new)) are on_rest) in
+      record {
+        file_is = is;
+        durable = λ c now. agrees_all _ (seen new) c (durable c now) (λ i p. rest.fresh i p.0) ∙ is;
+        fresh = λ i st. rest.fresh i (fresh i st).0;
+      }
+
+  -- what the second comes to
+  pub tried : (texts : List (List ℕ)) (text : List ℕ) (old new : D) (gate : ℕ) → AreOneLine texts → IsOneLine text → gate ≡ length (blocks texts) → IsOnDisk seen may_leave stale (staged texts text) old
+      → WritesFront (seen old) gate (43 ∷ []) (seen new) → ((c : List ℕ) → may_leave new c → TornFrom gate 1 (seen new) (may_leave old) c)
+      → ((i : ℕ) → stale new i → stale old i ⊎ Differs (TornFrom gate 1 (seen new) (may_leave old)) (seen new) i)
+      → LeavesOnly moment left_since old new (TornFrom gate 1 (seen new) (may_leave old)) → IsTried moment left_since seen may_leave stale texts text old new
+  tried texts text old new gate all one stands s front crash unsure run =
+      let w = subst (λ f. WritesFront f gate (43 ∷ []) (seen new)) s.file_is front in
+      record {
+        any_moment = leaves_weaker moment left_since old new _ (IsBeforeOrAfter texts text) run (gate_crash texts all gate stands text (seen new) (may_leave old) one s.durable);
+        read = gate_texts texts all gate stands text (seen new) one w;
+        again = record {
+          near = λ c now. gate_near texts all gate stands text (seen new) (may_leave old) one s.durable w c (crash c now);
+          unsure = λ i st. ⊎_elim (λ was. absurd (s.fresh i was)) (gate_unsure texts all gate stands text (seen new) (may_leave old) one s.durable w i) (unsure i st);
+        };
+      }
+
+  -- and where it is done: the file is whole blocks and a closed gate again
+  pub is_put : (texts : List (List ℕ)) (text : List ℕ) (old new : D) (gate : ℕ) → AreOneLine texts → IsOneLine text → gate ≡ length (blocks texts) → IsOnDisk seen may_leave stale (staged texts text) old
+      → Holds (seen old) gate (43 ∷ []) (seen new) → ((c : List ℕ) → may_leave new c → AgreesBut (λ i. stale old i × IsOutside gate 1 i) (seen new) c)
+      → ((i : ℕ) → stale new i → stale old i × IsOutside gate 1 i) → IsAtRest seen may_leave stale new × (texts_in (seen new) ≡ texts ++ text ∷ [])
+  is_put texts text old new gate all one stands s holds durable fresh =
+      let is = written_gate texts all gate stands text (seen new) (subst (λ f. Holds f gate (43 ∷ []) (seen new)) s.file_is holds) in
+      let stand = texts_opened texts all gate stands text (seen new) one is in (
+        record {
+          file = is ∙ ap at_rest (sym stand);
+          durable = λ c now. agrees_all _ (seen new) c (durable c now) (λ i p. s.fresh i p.0);
+          fresh = λ i st. s.fresh i (fresh i st).0;
+        },
+        stand,
+      )

@@ -7,6 +7,7 @@ use Rattle.std.specs.List.{AllByRecursion}
 abbrev pub IsOneLine : List ℕ → Type 0
 IsOneLine text = AllByRecursion (λ b. b ≢ 10) text
 
+-- each of them so
 abbrev pub AreOneLine : List (List ℕ) → Type 0
 AreOneLine texts = AllByRecursion IsOneLine texts
 

@@ -32,10 +32,8 @@ module _ (g : Givens) (ok : AreGivens g) (p : ℕ) (o : IsWorker g p) (at : ℕ 
   cost (Announcing j) = 1 + 2 * (g.workers - 1)
   cost (Trying j q) = left_from g p q + (g.workers - 1)
   cost (Reading j q) = left_from g p q
-  cost (Claiming j) = 0
   cost (Holding j) = 2 + 2 * (g.workers - 1)
-  cost Over = 0
-  cost Left = 0
+  cost phase = 0
 
   abbrev whole_attempt : ℕ
   whole_attempt = 1 + 2 * (g.workers - 1)
@@ -46,9 +44,7 @@ module _ (g : Givens) (ok : AreGivens g) (p : ℕ) (o : IsWorker g p) (at : ℕ 
   IsOn (Trying i q) j = i ≡ j
   IsOn (Reading i q) j = i ≡ j
   IsOn (Claiming i) j = i ≡ j
-  IsOn (Holding i) j = ⊥
-  IsOn Over j = ⊥
-  IsOn Left j = ⊥
+  IsOn phase j = ⊥
 
   -- all that the others have done was read
   abbrev AllRead : Record → Type 0
@@ -67,9 +63,17 @@ module _ (g : Givens) (ok : AreGivens g) (p : ℕ) (o : IsWorker g p) (at : ℕ 
   check_open : (j : ℕ) (r : Record) → has r.known j ≡ false → has r.tried j ≡ false → record_after_check g p j r ≡ record r { phase = Claiming j }
   check_open j r a b = λ i. if not (a i) && not (b i) then record r { phase = Claiming j } else record_after_choice g p r
 
-  passes_step : (k j : ℕ) → ((n : ℕ) (w : World) → IsLone g p at w → Passes (process w p).local j k n → ClaimsOrEndsWithin g p k n w)
-      → (n : ℕ) (w : World) → IsLone g p at w → Passes (process w p).local j (suc k) n → ClaimsOrEndsWithin g p (suc k) n w
-  passes_step k j next n w lone l = go (process w p).local.phase refl
+  -- in each such world whose record of p passes the test, p claims or ends within k turns and so many stores
+  abbrev Leads : (Record → ℕ → ℕ → Type 0) → ℕ → Type 0
+  Leads Holds k = (n : ℕ) (w : World) → IsLone g p at w → Holds (process w p).local k n → ClaimsOrEndsWithin g p k n w
+
+  -- so it does where each turn leads on
+  by_turns : (Holds : Record → ℕ → ℕ → Type 0) → ((r : Record) (n : ℕ) → Holds r 0 n → ⊥) → ((k : ℕ) → Leads Holds k → Leads Holds (suc k)) → (k : ℕ) → Leads Holds k
+  by_turns Holds none step zero n w lone l = absurd (none (process w p).local n l)
+  by_turns Holds none step (suc k) n w lone l = step k (by_turns Holds none step k) n w lone l
+
+  passes_step : (j k : ℕ) → Leads (λ r. Passes r j) k → Leads (λ r. Passes r j) (suc k)
+  passes_step j k next n w lone l = go (process w p).local.phase refl
     where
       r : Record
       r = (process w p).local
@@ -112,13 +116,10 @@ module _ (g : Givens) (ok : AreGivens g) (p : ℕ) (o : IsWorker g p) (at : ℕ 
           (λ _ above. claim _ i on (omega arith))
           (λ below _. absurd (omega arith))
       go (Claiming i) is = claims_now g ok p o at k n i w is
-      go (Holding i) is = absurd (subst (λ x. IsOn x j) is l.on)
-      go Over is = absurd (subst (λ x. IsOn x j) is l.on)
-      go Left is = absurd (subst (λ x. IsOn x j) is l.on)
+      go phase is = absurd (subst (λ x. IsOn x j) is l.on)
 
-  passes : (k j n : ℕ) (w : World) → IsLone g p at w → Passes (process w p).local j k n → ClaimsOrEndsWithin g p k n w
-  passes zero j n w lone l = absurd (let b = l.bound in omega arith)
-  passes (suc k) j n w lone l = passes_step k j (passes k j) n w lone l
+  passes : (j k : ℕ) → Leads (λ r. Passes r j) k
+  passes j k = by_turns (λ r. Passes r j) (λ r n l. let b = l.bound in omega arith) (passes_step j) k
 
   -- the announcement of q is noted
   abbrev IsNoted : Record → ℕ → Type 0
@@ -130,13 +131,9 @@ module _ (g : Givens) (ok : AreGivens g) (p : ℕ) (o : IsWorker g p) (at : ℕ 
 
   -- in an attempt that began alone: what it has seen is so still
   abbrev Sees : Record → Phase → Type 0
-  Sees r (Announcing i) = Unit {0}
   Sees r (Trying i next) = (q : ℕ) → IsOther g p q → q < next → IsNoted r q
   Sees r (Reading i next) = AllNoted r × ((q : ℕ) → IsOther g p q → q < next → length (at q).local.dones ≤ numbered 0 r.fronts q)
-  Sees r (Claiming i) = Unit {0}
-  Sees r (Holding i) = Unit {0}
-  Sees r Over = Unit {0}
-  Sees r Left = Unit {0}
+  Sees r phase = Unit {0}
 
   -- an attempt that began alone: if it fails, the next one passes
   record Began (r : Record) (k n : ℕ) : Type 0 where
@@ -162,7 +159,7 @@ module _ (g : Givens) (ok : AreGivens g) (p : ℕ) (o : IsWorker g p) (at : ℕ 
       }
 
   -- the check after such an attempt
-  rechecks : (k n steps i : ℕ) → ((n : ℕ) (w : World) → IsLone g p at w → Began (process w p).local k n → ClaimsOrEndsWithin g p k n w)
+  rechecks : (k n steps i : ℕ) → Leads Began k
       → (r : Record) → length r.tried < g.workers → unread g p at r + whole_attempt < k → 1 ≤ n → AllNoted r → AllRead r
       → Ready g ok p o at k n (record (record_after_check g p i r) { steps = steps })
   rechecks k n steps i next r few room enough noted_all read_all =
@@ -170,7 +167,7 @@ module _ (g : Givens) (ok : AreGivens g) (p : ℕ) (o : IsWorker g p) (at : ℕ 
       (λ _ _. is_ready g ok p o at (λ y. Began y k n) k n (record r { phase = Claiming i; steps = steps }) (next n) (record { sees = tt; bound = omega arith; stores = omega arith }))
       (choice_cases g p r (λ x. Ready g ok p o at k n (record x { steps = steps }))
       (λ over alive. absurd (true≢false alive))
-      (λ many. is_ready g ok p o at (λ y. Passes y (chosen_job g p r) k n) k n (record r { phase = Announcing (chosen_job g p r); tried = []; steps = steps }) (passes k (chosen_job g p r) n)
+      (λ many. is_ready g ok p o at (λ y. Passes y (chosen_job g p r) k n) k n (record r { phase = Announcing (chosen_job g p r); tried = []; steps = steps }) (passes (chosen_job g p r) k n)
       (chosen_passes k n steps r few many (omega arith) enough noted_all read_all)))
 
   -- what is noted after the announcement of q0
@@ -193,8 +190,7 @@ module _ (g : Givens) (ok : AreGivens g) (p : ℕ) (o : IsWorker g p) (at : ℕ 
       (λ (m : q0 ≤ q). let n = next_other_next p q0 q other.differs h in let e : q0 ≡ q = omega arith in subst (λ x. length (at x).local.dones ≤ numbered 0 r.fronts x) e whole)
       (cases_lt q q0)
 
-  began_step : (k : ℕ) → ((n : ℕ) (w : World) → IsLone g p at w → Began (process w p).local k n → ClaimsOrEndsWithin g p k n w)
-      → (n : ℕ) (w : World) → IsLone g p at w → Began (process w p).local (suc k) n → ClaimsOrEndsWithin g p (suc k) n w
+  began_step : (k : ℕ) → Leads Began k → Leads Began (suc k)
   began_step k next n w lone l = go (process w p).local.phase refl
     where
       r : Record
@@ -251,20 +247,17 @@ module _ (g : Givens) (ok : AreGivens g) (p : ℕ) (o : IsWorker g p) (at : ℕ 
           turn g ok p o at k n w (Holding i) is (omega arith) lone (choice_cases g p (record r { dones = r.dones ++ i ∷ []; known = with_number i r.known }) (λ x. Ready g ok p o at k (n - 0) (stepped r x))
           (λ over alive. absurd (true≢false alive))
           (λ many. to _ _ (record { sees = tt; bound = omega arith; stores = omega arith })))
-      go Over is = absurd (never_idle g ok p o at w lone (ap wants_nothing is))
-      go Left is = absurd (never_idle g ok p o at w lone (ap wants_nothing is))
+      go phase is = absurd (never_idle g ok p o at w lone (ap wants_nothing is))
 
-  began : (k n : ℕ) (w : World) → IsLone g p at w → Began (process w p).local k n → ClaimsOrEndsWithin g p k n w
-  began zero n w lone l = absurd (let b = l.bound in omega arith)
-  began (suc k) n w lone l = began_step k (began k) n w lone l
+  began : (k : ℕ) → Leads Began k
+  began k = by_turns Began (λ r n l. let b = l.bound in omega arith) began_step k
 
   -- any attempt: if it fails, the next one began alone
   record Goes (r : Record) (k n : ℕ) : Type 0 where
     bound : cost r.phase + unread g p at r + 2 * whole_attempt < k
     stores : to_begin r.phase + 2 ≤ n
 
-  goes_step : (k : ℕ) → ((n : ℕ) (w : World) → IsLone g p at w → Goes (process w p).local k n → ClaimsOrEndsWithin g p k n w)
-      → (n : ℕ) (w : World) → IsLone g p at w → Goes (process w p).local (suc k) n → ClaimsOrEndsWithin g p (suc k) n w
+  goes_step : (k : ℕ) → Leads Goes k → Leads Goes (suc k)
   goes_step k next n w lone l = go (process w p).local.phase refl
     where
       r : Record
@@ -285,7 +278,6 @@ module _ (g : Givens) (ok : AreGivens g) (p : ℕ) (o : IsWorker g p) (at : ℕ 
       begins sees = let b = l.bound in let c = l.stores in began (suc k) n w lone (record { sees = sees; bound = omega arith; stores = omega arith })
 
       go : (phase : Phase) → r.phase ≡ phase → ClaimsOrEndsWithin g p (suc k) n w
-      go (Announcing i) is = begins (subst (λ x. Sees r x) (sym is) tt)
       go (Trying i q) is =
           let b : left_from g p q + (g.workers - 1) + unread g p at r + 2 * whole_attempt < suc k = subst (λ x. cost x + unread g p at r + 2 * whole_attempt < suc k) is l.bound in
           let c : 0 + 2 ≤ n = subst (λ x. to_begin x + 2 ≤ n) is l.stores in
@@ -302,23 +294,17 @@ module _ (g : Givens) (ok : AreGivens g) (p : ℕ) (o : IsWorker g p) (at : ℕ 
           (λ _ _. checks _ i (omega arith) (omega arith))
           (λ below less. let b' = l.bound in let c' = l.stores in to _ _ (record { bound = omega arith; stores = omega arith }))
       go (Claiming i) is = claims_now g ok p o at k n i w is
-      go (Holding i) is = begins (subst (λ x. Sees r x) (sym is) tt)
       go Over is = absurd (never_idle g ok p o at w lone (ap wants_nothing is))
       go Left is = absurd (never_idle g ok p o at w lone (ap wants_nothing is))
+      go phase is = begins (subst (λ x. Sees r x) (sym is) tt)
 
-  goes : (k n : ℕ) (w : World) → IsLone g p at w → Goes (process w p).local k n → ClaimsOrEndsWithin g p k n w
-  goes zero n w lone l = absurd (let b = l.bound in omega arith)
-  goes (suc k) n w lone l = goes_step k (goes k) n w lone l
+  goes : (k : ℕ) → Leads Goes k
+  goes k = by_turns Goes (λ r n l. let b = l.bound in omega arith) goes_step k
 
   -- the turns to the end of three attempts, entries apart
   few_turns : (phase : Phase) → cost phase + 2 * whole_attempt < 6 * g.workers
   few_turns (Announcing j) = let s = ok.some in omega arith
-  few_turns (Trying j q) = let s = ok.some in omega arith
-  few_turns (Reading j q) = let s = ok.some in omega arith
-  few_turns (Claiming j) = let s = ok.some in omega arith
-  few_turns (Holding j) = let s = ok.some in omega arith
-  few_turns Over = let s = ok.some in omega arith
-  few_turns Left = let s = ok.some in omega arith
+  few_turns phase = let s = ok.some in omega arith
 
 -- From every lawful world, a worker that isn't gone claims a job or ends within lone_bound turns of its own, and
 -- begins at most three attempts, or two where it is in one.

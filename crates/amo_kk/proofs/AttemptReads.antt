@@ -1,5 +1,5 @@
 -- What an attempt has still to read, and how a turn of its worker takes from it.
-use Rattle.std.proofs.Common.{◌≡◌, ◌≢◌, ⊎_elim, ℕ, ◌+◌, ◌-◌, ◌≤◌, Bool, true, false, not, ◌&&◌, List, [], ◌∷◌, ◌++◌, refl, sym, ap, subst, arith}
+use Rattle.std.proofs.Common.{◌≡◌, ◌≢◌, ⊎_elim, ℕ, ◌+◌, ◌-◌, ◌≤◌, Bool, true, false, not, ◌&&◌, List, [], ◌∷◌, ◌++◌, refl, sym, ap, ◌∙◌, subst, arith}
 use Rattle.std.specs.Prelude.{if◌then◌else◌, ◌==◌, nat_le}
 use Rattle.std.proofs.lemmas.Bool.Decides.{nat_tests}
 use Rattle.std.proofs.lemmas.Bool.{cases_eq, ne_eqb}
@@ -55,6 +55,15 @@ module _ (g : Givens) (p : ℕ) (P : Record → Type 0) where
   at_announcement : (j q : ℕ) (r : Record) → HoldsThrough P r → P (record r { phase = Trying j q }) → P (record r { phase = Reading j (next_other p 0) }) → P (record_at_announcement g p j q r)
   at_announcement j q r h tries reads = to_announcement_cases g p j q r P (λ _. tries) (λ _. at_row j (next_other p 0) r h reads)
 
+-- the same of what is read in a row: 0, or an entry
+at_reading : (g : Givens) (p : ℕ) (P : Bool → Record → Type 0) (j q v : ℕ) (r : Record) → HoldsThrough (P true) r → P true (record r { phase = Reading j (next_other p q) })
+    → P false (record r { known = with_number v r.known; fronts = put r.fronts q (numbered 0 r.fronts q + 1) }) → P (v == 0) (record_after_phase g p v r (Reading j q))
+at_reading g p P j q v r h reads more = go (v == 0)
+  where
+    go : (b : Bool) → P b (if b then record_at_row g p j (next_other p q) r else record r { known = with_number v r.known; fronts = put r.fronts q (numbered 0 r.fronts q + 1) })
+    go true = at_row g p (P true) j (next_other p q) r h reads
+    go false = more
+
 module _ (g : Givens) (p : ℕ) where
   -- whether the next turn of p passes the test, as 0 or 1
   abbrev pub counted : (Want → ℕ → Bool) → World → ℕ
@@ -72,77 +81,53 @@ module _ (g : Givens) (p : ℕ) where
 
   -- how many announcements an attempt in this phase has still to read
   abbrev pub to_hear : Phase → ℕ
-  to_hear (Announcing j) = 0
   to_hear (Trying j q) = left_from g p q
-  to_hear (Reading j q) = 0
-  to_hear (Claiming j) = 0
-  to_hear (Holding j) = 0
-  to_hear Over = 0
-  to_hear Left = 0
+  to_hear phase = 0
 
   -- how many rows an attempt in this phase has still to read to a zero
   abbrev pub to_read : Phase → ℕ
-  to_read (Announcing j) = 0
   to_read (Trying j q) = g.workers - 1
   to_read (Reading j q) = left_from g p q
-  to_read (Claiming j) = 0
-  to_read (Holding j) = 0
-  to_read Over = 0
-  to_read Left = 0
+  to_read phase = 0
+
+  -- where a turn takes no more than n from what the next phase has left, whatever that is
+  abbrev Pays : ℕ → (Phase → ℕ) → ℕ → Record → Type 0
+  Pays spent left n y = spent + left y.phase ≤ n
 
   pub announcements_paid : IsPaid (λ x v. reads_announcement x) (g.workers - 1) (λ r. to_hear r.phase)
-  announcements_paid w law here = go r.phase refl
+  announcements_paid w law here = go (loaded_value w (want (process w p).local)) (process w p).local refl (process w p).local.phase refl
     where
-      r : Record
-      r = (process w p).local
-
-      v : ℕ
-      v = loaded_value w (want r)
-
-      go : (phase : Phase) → r.phase ≡ phase → (if reads_announcement (want_in r phase) then 1 else 0) + to_hear (record_after_phase g p v r phase).phase ≤ (if stores_announcement (want_in r phase) then g.workers - 1 else to_hear phase)
-      go (Announcing i) is = at_announcement g p (λ y. 0 + to_hear y.phase ≤ g.workers - 1) i (next_other p 0) r
+      go : (v : ℕ) (r : Record) → (process w p).local ≡ r → (phase : Phase) → r.phase ≡ phase
+          → Pays (if reads_announcement (want_in r phase) then 1 else 0) to_hear (if stores_announcement (want_in r phase) then g.workers - 1 else to_hear phase) (record_after_phase g p v r phase)
+      go v r at (Announcing i) is = at_announcement g p (Pays 0 to_hear (g.workers - 1)) i (next_other p 0) r
           (record { over = omega arith; announcing = λ _. omega arith; claiming = λ _. omega arith }) (omega arith) (omega arith)
-      go (Trying i q) is =
+      go v r at (Trying i q) is =
           let o = here_is_worker g w p law.size here in
-          let fewer = one_fewer g p q o (heard g w p i q law o is) in
-          at_announcement g p (λ y. 1 + to_hear y.phase ≤ left_from g p q) i (next_other p q) (record r { tried = with_announced v r.tried })
+          let fewer = one_fewer g p q o (heard g w p i q law o (ap (λ (x : Record). x.phase) at ∙ is)) in
+          at_announcement g p (Pays 1 to_hear (left_from g p q)) i (next_other p q) (record r { tried = with_announced v r.tried })
           (record { over = omega arith; announcing = λ _. omega arith; claiming = λ _. omega arith }) (omega arith) (omega arith)
-      go (Reading i q) is = read (v == 0)
-        where
-          read : (b : Bool) → 0 + to_hear (if b then record_at_row g p i (next_other p q) r else record r { known = with_number v r.known; fronts = put r.fronts q (numbered 0 r.fronts q + 1) }).phase ≤ 0
-          read true = at_row g p (λ y. 0 + to_hear y.phase ≤ 0) i (next_other p q) r (record { over = omega arith; announcing = λ _. omega arith; claiming = λ _. omega arith }) (omega arith)
-          read false = let z = ap to_hear is in omega arith
-      go (Claiming i) is = omega arith
-      go (Holding i) is = choice_cases g p (record r { dones = r.dones ++ i ∷ []; known = with_number i r.known }) (λ y. 0 + to_hear y.phase ≤ 0) (λ _. omega arith) (λ _. omega arith)
-      go Over is = let z = ap to_hear is in omega arith
-      go Left is = let z = ap to_hear is in omega arith
+      go v r at (Reading i q) is = at_reading g p (λ _. Pays 0 to_hear 0) i q v r (record { over = omega arith; announcing = λ _. omega arith; claiming = λ _. omega arith }) (omega arith) (let z = ap to_hear is in omega arith)
+      go v r at (Holding i) is = choice_cases g p (record r { dones = r.dones ++ i ∷ []; known = with_number i r.known }) (Pays 0 to_hear 0) (λ _. omega arith) (λ _. omega arith)
+      go v r at (Claiming i) is = omega arith
+      go v r at phase is = let z = ap to_hear is in omega arith
 
   pub zeros_paid : IsPaid reads_zero (g.workers - 1) (λ r. to_read r.phase)
-  zeros_paid w law here = go r.phase refl
+  zeros_paid w law here = go (loaded_value w (want (process w p).local)) (process w p).local refl (process w p).local.phase refl
     where
-      r : Record
-      r = (process w p).local
-
-      v : ℕ
-      v = loaded_value w (want r)
-
-      go : (phase : Phase) → r.phase ≡ phase → (if reads_zero (want_in r phase) v then 1 else 0) + to_read (record_after_phase g p v r phase).phase ≤ (if stores_announcement (want_in r phase) then g.workers - 1 else to_read phase)
-      go (Announcing i) is = at_announcement g p (λ y. 0 + to_read y.phase ≤ g.workers - 1) i (next_other p 0) r
+      go : (v : ℕ) (r : Record) → (process w p).local ≡ r → (phase : Phase) → r.phase ≡ phase
+          → Pays (if reads_zero (want_in r phase) v then 1 else 0) to_read (if stores_announcement (want_in r phase) then g.workers - 1 else to_read phase) (record_after_phase g p v r phase)
+      go v r at (Announcing i) is = at_announcement g p (Pays 0 to_read (g.workers - 1)) i (next_other p 0) r
           (record { over = omega arith; announcing = λ _. omega arith; claiming = λ _. omega arith }) (omega arith) (omega arith)
-      go (Trying i q) is = at_announcement g p (λ y. 0 + to_read y.phase ≤ g.workers - 1) i (next_other p q) (record r { tried = with_announced v r.tried })
+      go v r at (Trying i q) is = at_announcement g p (Pays 0 to_read (g.workers - 1)) i (next_other p q) (record r { tried = with_announced v r.tried })
           (record { over = omega arith; announcing = λ _. omega arith; claiming = λ _. omega arith }) (omega arith) (omega arith)
-      go (Reading i q) is = read (v == 0)
-        where
-          read : (b : Bool) → (if b then 1 else 0) + to_read (if b then record_at_row g p i (next_other p q) r else record r { known = with_number v r.known; fronts = put r.fronts q (numbered 0 r.fronts q + 1) }).phase ≤ left_from g p q
-          read true =
-              let o = here_is_worker g w p law.size here in
-              let fewer = one_fewer g p q o (read_of g w p i q law o is) in
-              at_row g p (λ y. 1 + to_read y.phase ≤ left_from g p q) i (next_other p q) r (record { over = omega arith; announcing = λ _. omega arith; claiming = λ _. omega arith }) (omega arith)
-          read false = let z = ap to_read is in omega arith
-      go (Claiming i) is = omega arith
-      go (Holding i) is = choice_cases g p (record r { dones = r.dones ++ i ∷ []; known = with_number i r.known }) (λ y. 0 + to_read y.phase ≤ 0) (λ _. omega arith) (λ _. omega arith)
-      go Over is = let z = ap to_read is in omega arith
-      go Left is = let z = ap to_read is in omega arith
+      go v r at (Reading i q) is =
+          let o = here_is_worker g w p law.size here in
+          let fewer = one_fewer g p q o (read_of g w p i q law o (ap (λ (x : Record). x.phase) at ∙ is)) in
+          at_reading g p (λ b. Pays (if b then 1 else 0) to_read (left_from g p q)) i q v r
+          (record { over = omega arith; announcing = λ _. omega arith; claiming = λ _. omega arith }) (omega arith) (let z = ap to_read is in omega arith)
+      go v r at (Holding i) is = choice_cases g p (record r { dones = r.dones ++ i ∷ []; known = with_number i r.known }) (Pays 0 to_read 0) (λ _. omega arith) (λ _. omega arith)
+      go v r at (Claiming i) is = omega arith
+      go v r at phase is = let z = ap to_read is in omega arith
 
   pub entries_spent : (q e : ℕ) → IsSpent (reads_entry q e) (λ r. unread_in q e r.fronts)
   entries_spent q e w law here = go r.phase refl
@@ -191,23 +176,12 @@ module _ (g : Givens) (p : ℕ) where
 
   -- an attempt that goes on went on before, or its announcement is stored
   pub attempt_begun : (w : World) → IsLawful g w → (process w p).gone ≡ false → attempts_going_on (next_record g w p).phase ≤ attempts_going_on (process w p).local.phase + stored w p
-  attempt_begun w law here = go r.phase refl
+  attempt_begun w law here = let begun = go (loaded_value w (want (process w p).local)) (process w p).local (process w p).local.phase refl in omega arith
     where
-      r : Record
-      r = (process w p).local
-
-      v : ℕ
-      v = loaded_value w (want r)
-
-      go : (phase : Phase) → r.phase ≡ phase → attempts_going_on (record_after_phase g p v r phase).phase ≤ attempts_going_on phase + (if stores_announcement (want_in r phase) then 1 else 0)
-      go (Announcing i) is = at_announcement g p (λ y. attempts_going_on y.phase ≤ 0 + 1) i (next_other p 0) r (record { over = omega arith; announcing = λ _. omega arith; claiming = λ _. omega arith }) (omega arith) (omega arith)
-      go (Trying i q) is = at_announcement g p (λ y. attempts_going_on y.phase ≤ 1 + 0) i (next_other p q) (record r { tried = with_announced v r.tried }) (record { over = omega arith; announcing = λ _. omega arith; claiming = λ _. omega arith }) (omega arith) (omega arith)
-      go (Reading i q) is = read (v == 0)
-        where
-          read : (b : Bool) → attempts_going_on (if b then record_at_row g p i (next_other p q) r else record r { known = with_number v r.known; fronts = put r.fronts q (numbered 0 r.fronts q + 1) }).phase ≤ 1 + 0
-          read true = at_row g p (λ y. attempts_going_on y.phase ≤ 1 + 0) i (next_other p q) r (record { over = omega arith; announcing = λ _. omega arith; claiming = λ _. omega arith }) (omega arith)
-          read false = let z = ap attempts_going_on is in omega arith
-      go (Claiming i) is = omega arith
-      go (Holding i) is = choice_cases g p (record r { dones = r.dones ++ i ∷ []; known = with_number i r.known }) (λ y. attempts_going_on y.phase ≤ 0 + 0) (λ _. omega arith) (λ _. omega arith)
-      go Over is = let z = ap attempts_going_on is in omega arith
-      go Left is = let z = ap attempts_going_on is in omega arith
+      go : (v : ℕ) (r : Record) (phase : Phase) → r.phase ≡ phase → Pays 0 attempts_going_on (attempts_going_on phase + (if stores_announcement (want_in r phase) then 1 else 0)) (record_after_phase g p v r phase)
+      go v r (Announcing i) is = at_announcement g p (Pays 0 attempts_going_on 1) i (next_other p 0) r (record { over = omega arith; announcing = λ _. omega arith; claiming = λ _. omega arith }) (omega arith) (omega arith)
+      go v r (Trying i q) is = at_announcement g p (Pays 0 attempts_going_on 1) i (next_other p q) (record r { tried = with_announced v r.tried }) (record { over = omega arith; announcing = λ _. omega arith; claiming = λ _. omega arith }) (omega arith) (omega arith)
+      go v r (Reading i q) is = at_reading g p (λ _. Pays 0 attempts_going_on 1) i q v r (record { over = omega arith; announcing = λ _. omega arith; claiming = λ _. omega arith }) (omega arith) (let z = ap attempts_going_on is in omega arith)
+      go v r (Holding i) is = choice_cases g p (record r { dones = r.dones ++ i ∷ []; known = with_number i r.known }) (Pays 0 attempts_going_on 0) (λ _. omega arith) (λ _. omega arith)
+      go v r (Claiming i) is = omega arith
+      go v r phase is = let z = ap attempts_going_on is in omega arith

@@ -40,7 +40,7 @@ module _ (g : Givens) (ok : AreGivens g) (p : ℕ) where
   GoesOn w i = (k : ℕ) → k < i → claims_or_ends g (world_after_turns g w p k) p ≡ false
 
   first_turn : (w : World) (i : ℕ) → IsLawful g w → (process w p).gone ≡ false → GoesOn w (suc i) → IsTurned g w p (world_after_turn g w p)
-  first_turn w i law here goes_on = own_turn g w p ok law here (or_parts (is_claiming (process w p).local.phase) _ (goes_on 0 (omega arith))).1
+  first_turn w i law here goes_on = own_turn g w p law here (or_parts (is_claiming (process w p).local.phase) _ (goes_on 0 (omega arith))).1
 
   paid : (test : Want → ℕ → Bool) (each : ℕ) (left : Record → ℕ) → IsPaid g p test each left
       → (a i n : ℕ) (w : World) → IsLawful g w → (process w p).gone ≡ false → GoesOn w i
@@ -97,12 +97,7 @@ module _ (g : Givens) (ok : AreGivens g) (p : ℕ) where
 -- the attempt of a phase goes on, or is still to begin
 goes_on_or_begins : (phase : Phase) → attempts_going_on phase + to_begin phase ≤ 1
 goes_on_or_begins (Announcing j) = omega arith
-goes_on_or_begins (Trying j q) = omega arith
-goes_on_or_begins (Reading j q) = omega arith
-goes_on_or_begins (Claiming j) = omega arith
-goes_on_or_begins (Holding j) = omega arith
-goes_on_or_begins Over = omega arith
-goes_on_or_begins Left = omega arith
+goes_on_or_begins phase = omega arith
 
 -- only one turn is the first
 one_first : (g : Givens) (w : World) (p i k : ℕ) → IsFirstToClaimOrEnd g w p i → IsFirstToClaimOrEnd g w p k → i ≡ k
@@ -139,21 +134,11 @@ fits_three g w p i ok law here first =
 
     few_to_hear : (phase : Phase) → to_hear g p phase ≤ g.workers - 1
     few_to_hear (Announcing j) = omega arith
-    few_to_hear (Trying j q) = omega arith
-    few_to_hear (Reading j q) = omega arith
-    few_to_hear (Claiming j) = omega arith
-    few_to_hear (Holding j) = omega arith
-    few_to_hear Over = omega arith
-    few_to_hear Left = omega arith
+    few_to_hear phase = omega arith
 
     few_to_read : (phase : Phase) → to_read g p phase ≤ g.workers - 1
     few_to_read (Announcing j) = omega arith
-    few_to_read (Trying j q) = omega arith
-    few_to_read (Reading j q) = omega arith
-    few_to_read (Claiming j) = omega arith
-    few_to_read (Holding j) = omega arith
-    few_to_read Over = omega arith
-    few_to_read Left = omega arith
+    few_to_read phase = omega arith
 
     one_at_most : (b : Bool) (n : ℕ) → n ≤ (if b then 0 else 1) → n ≤ 1
     one_at_most true n h = omega arith

@@ -15,7 +15,7 @@ use Rattle.amo_kk.specs.declared.event.Event.{Event}
 use Rattle.amo_kk.specs.declared.event.Event.TheVariants.{Claimed, Done, Ended, Halted, Left}
 use Rattle.amo_sets.proofs.Numbers.{numbered-put_same, numbered-put_other, length-put, length-table, has_push_none, has_push_kept, has_push_cases, distinct_push}
 use Rattle.amo_kk.proofs.Kept.{not_both}
-use Rattle.amo_kk.proofs.Worlds.{numbered-table_same}
+use Rattle.amo_sets.proofs.Tables.{numbered-table_same}
 use Rattle.amo_sets.proofs.Removed.{has-without_other, has-without_same}
 
 -- one event more

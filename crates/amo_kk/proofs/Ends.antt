@@ -13,7 +13,7 @@ use Rattle.amo_kk.specs.World.{nobody, process, done_count}
 use Rattle.amo_kk.specs.Lawful.{FitsPhase, IsSoundRecord, IsLawful}
 use Rattle.amo_kk.specs.declared.givens.Givens.{Givens}
 use Rattle.amo_kk.specs.declared.phase.Phase.{Phase}
-use Rattle.amo_kk.specs.declared.phase.Phase.TheVariants.{Announcing, Trying, Reading, Claiming, Holding, Over, Left}
+use Rattle.amo_kk.specs.declared.phase.Phase.TheVariants.{Over}
 use Rattle.amo_kk.specs.declared.model.Record.{Record}
 use Rattle.amo_kk.specs.declared.model.Process.{Process}
 use Rattle.amo_kk.specs.declared.model.World.{World}
@@ -21,13 +21,8 @@ use Rattle.amo_kk.proofs.Steps.{enough_known}
 
 -- where a worker is over, few jobs are open
 pub over_few : (g : Givens) (p : ℕ) (r : Record) (phase : Phase) → is_over phase ≡ true → FitsPhase g p r phase → count g.jobs (is_open r) < g.beta
-over_few g p r (Announcing j) h st = absurd (true≢false (sym h))
-over_few g p r (Trying j q) h st = absurd (true≢false (sym h))
-over_few g p r (Reading j q) h st = absurd (true≢false (sym h))
-over_few g p r (Claiming j) h st = absurd (true≢false (sym h))
-over_few g p r (Holding j) h st = absurd (true≢false (sym h))
 over_few g p r Over h st = st
-over_few g p r Left h st = absurd (true≢false (sym h))
+over_few g p r phase h st = absurd (true≢false (sym h))
 
 -- the dones of all these workers
 abbrev dones_of : List Process → List ℕ

@@ -17,7 +17,7 @@ use Rattle.amo_kk.specs.declared.model.Record.{Record}
 use Rattle.amo_sets.proofs.Numbers.{numbered-put_same, numbered-put_other, length-put, length-table, has_with_same, has_with_kept, has_push_cases, distinct_push, length_distinct, count_le_all}
 use Rattle.amo_kk.proofs.Choice.{chosen_is_job, choice_cases, check_cases, to_row_cases, to_announcement_cases, next_other_differs, next_other_above}
 use Rattle.amo_kk.proofs.Kept.{noted_length, noted_cases, others_room, others_next}
-use Rattle.amo_kk.proofs.Worlds.{numbered-table_same}
+use Rattle.amo_sets.proofs.Tables.{numbered-table_same}
 use Rattle.amo_kk.proofs.Again.{has-set_of, AreNew, new_are}
 
 module _ (g : Givens) (ok : AreGivens g) (p : ℕ) (o : IsWorker g p) where
@@ -140,50 +140,43 @@ module _ (g : Givens) (ok : AreGivens g) (p : ℕ) (o : IsWorker g p) where
   pub left_fit : (r : Record) → jobs_in_hand r.phase ≡ [] → IsSoundRecord g p r → IsSoundRecord g p (record_after_leave r)
   left_fit r empty f = quietly r Left r.known r.tried r.fronts (min (r.steps + 1) (2 ^ 64 - 1)) f empty (λ j h. h) f.tried_few f.tried_jobs f.fronts f.front tt
 
-  pub first_fit : IsSoundRecord g p (first_record g p)
-  first_fit = choice_cases g p (empty_record g) (λ x. IsSoundRecord g p x) (λ few. placed (empty_record g) Over 0 b refl few) (λ many. placed (empty_record g) (Announcing (chosen_job g p (empty_record g))) 0 b refl (chosen_is_job g p (empty_record g) o ok.beta_low ok.some many, refl))
-    where
-      b : IsBefore (empty_record g)
-      b = record { claims = refl; distinct = tt; jobs = λ j h. absurd (true≢false (sym h)); own = λ j h. h; tried_few = ok.some; tried_jobs = λ j h. absurd (true≢false (sym h)); fronts = length-table (λ _. 0) g.workers; front = λ q. let z : numbered {X = ℕ} 0 (table g.workers (λ _. 0)) q ≡ 0 = numbered-table_same 0 g.workers q in omega arith }
-
   -- a record that begins again by words that can be so
 
-  dones_before : (dones : List ℕ) → are_new g [] dones ≡ true → IsBefore (record_of_dones g dones)
-  dones_before dones h =
-      let new : AreNew g [] dones = new_are g [] dones h in
+  -- the record that has claimed these jobs, of which it has done some and knows just these
+  pub again_fit : (dones claimed : List ℕ) (phase : Phase) → claimed ≡ dones ++ jobs_in_hand phase → AreDistinct claimed → ((j : ℕ) → has claimed j ≡ true → IsJob g j)
+      → FitsPhase g p (record (record_of_dones g dones) { phase = phase; claimed = claimed }) phase → IsSoundRecord g p (record (record_of_dones g dones) { phase = phase; claimed = claimed })
+  again_fit dones claimed phase claims distinct jobs stands =
       record {
-        claims = refl;
-        distinct = new.distinct;
-        jobs = new.jobs;
+        claims = claims;
+        distinct = distinct;
+        jobs = jobs;
         own = λ j t. has-set_of dones j ∙ t;
         tried_few = ok.some;
         tried_jobs = λ j t. absurd (true≢false (sym t));
         fronts = length-table (λ _. 0) g.workers;
         front = λ q. let z : numbered {X = ℕ} 0 (table g.workers (λ _. 0)) q ≡ 0 = numbered-table_same 0 g.workers q in omega arith;
+        stands = stands;
       }
 
   pub rested_fit : (dones : List ℕ) → are_new g [] dones ≡ true → IsSoundRecord g p (record_after_choice g p (record_of_dones g dones))
   rested_fit dones h =
-      let b = dones_before dones h in
+      let new : AreNew g [] dones = new_are g [] dones h in
       choice_cases g p (record_of_dones g dones) (λ x. IsSoundRecord g p x)
-      (λ few. placed (record_of_dones g dones) Over 0 b refl few)
-      (λ many. placed (record_of_dones g dones) (Announcing (chosen_job g p (record_of_dones g dones))) 0 b refl (chosen_is_job g p (record_of_dones g dones) o ok.beta_low ok.some many, refl))
+      (λ few. again_fit dones dones Over (sym (append-nil dones)) new.distinct new.jobs few)
+      (λ many. again_fit dones dones (Announcing (chosen_job g p (record_of_dones g dones))) (sym (append-nil dones)) new.distinct new.jobs (chosen_is_job g p (record_of_dones g dones) o ok.beta_low ok.some many, refl))
 
   pub doubted_fit : (next : ℕ) (dones : List ℕ) → are_new g [] dones ≡ true → IsJob g next → has (set_of dones) next ≡ false
       → IsSoundRecord g p (record (record_of_dones g dones) { phase = Holding next; claimed = dones ++ next ∷ [] })
   doubted_fit next dones h job fresh =
-      let b = dones_before dones h in
-      record {
-        claims = refl;
-        distinct = distinct_push dones next b.distinct (sym (has-set_of dones next) ∙ fresh);
-        jobs = λ i t. ⊎_elim (λ x. b.jobs i x) (λ (e : next ≡ i). subst (λ x. IsJob g x) e job) (has_push_cases dones next i t);
-        own = b.own;
-        tried_few = b.tried_few;
-        tried_jobs = b.tried_jobs;
-        fronts = b.fronts;
-        front = b.front;
-        stands = (job, fresh, refl);
-      }
+      let new : AreNew g [] dones = new_are g [] dones h in
+      again_fit dones (dones ++ next ∷ []) (Holding next) refl
+      (distinct_push dones next new.distinct (sym (has-set_of dones next) ∙ fresh))
+      (λ i t. ⊎_elim (λ x. new.jobs i x) (λ (e : next ≡ i). subst (λ x. IsJob g x) e job) (has_push_cases dones next i t))
+      (job, fresh, refl)
+
+  -- at first nothing is done
+  pub first_fit : IsSoundRecord g p (first_record g p)
+  first_fit = rested_fit [] refl
 
 -- claims and dones fit into lists of n
 pub claims_fit : (g : Givens) (p : ℕ) (r : Record) → IsSoundRecord g p r → (length r.claimed ≤ g.jobs) × (length r.dones ≤ g.jobs)

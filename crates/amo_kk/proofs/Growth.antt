@@ -7,38 +7,23 @@ use Rattle.amo_kk.specs.Record.{is_over, wants_nothing}
 use Rattle.amo_kk.specs.Step.{record_after_phase, record_after}
 use Rattle.amo_kk.specs.declared.givens.Givens.{Givens}
 use Rattle.amo_kk.specs.declared.phase.Phase.{Phase}
-use Rattle.amo_kk.specs.declared.phase.Phase.TheVariants.{Announcing, Trying, Reading, Claiming, Holding, Over, Left}
+use Rattle.amo_kk.specs.declared.phase.Phase.TheVariants.{Announcing, Claiming, Left}
 use Rattle.amo_kk.specs.declared.model.Record.{Record}
 use Rattle.amo_kk.proofs.Runs.{HasDone, has_done}
 
 -- the jobs that the step of this phase claims
 abbrev claimed_in : Phase → List ℕ
-claimed_in (Announcing j) = []
-claimed_in (Trying j q) = []
-claimed_in (Reading j q) = []
 claimed_in (Claiming j) = j ∷ []
-claimed_in (Holding j) = []
-claimed_in Over = []
-claimed_in Left = []
+claimed_in phase = []
 
 claims_are : (r x : Record) (phase : Phase) → HasDone r x phase → x.claimed ≡ r.claimed ++ claimed_in phase
 claims_are r x (Announcing j) d = d.claimed
-claims_are r x (Trying j q) d = d.claimed
-claims_are r x (Reading j q) d = d.claimed
-claims_are r x (Claiming j) d = d.claimed
-claims_are r x (Holding j) d = d.claimed
-claims_are r x Over d = d.claimed
-claims_are r x Left d = d.claimed
+claims_are r x phase d = d.claimed
 
 -- whoever has ended wants nothing
 pub over_wants : (phase : Phase) → is_over phase ≡ true → wants_nothing phase ≡ true
-over_wants (Announcing j) h = h
-over_wants (Trying j q) h = h
-over_wants (Reading j q) h = h
-over_wants (Claiming j) h = h
-over_wants (Holding j) h = h
-over_wants Over h = h
 over_wants Left h = refl
+over_wants phase h = h
 
 module _ (g : Givens) (p v : ℕ) (r : Record) where
   claims_after : (record_after g p v r).claimed ≡ r.claimed ++ claimed_in r.phase
@@ -49,13 +34,8 @@ module _ (g : Givens) (p v : ℕ) (r : Record) where
   claims_stay h = claims_after ∙ ap (λ l. r.claimed ++ l) (none r.phase h) ∙ append-nil r.claimed
     where
       none : (phase : Phase) → is_claiming phase ≡ false → claimed_in phase ≡ []
-      none (Announcing j) h = refl
-      none (Trying j q) h = refl
-      none (Reading j q) h = refl
       none (Claiming j) h = absurd (true≢false h)
-      none (Holding j) h = refl
-      none Over h = refl
-      none Left h = refl
+      none phase h = refl
 
   -- a claim of j claims j
   pub claims_grow : (j : ℕ) → r.phase ≡ Claiming j → (record_after g p v r).claimed ≡ r.claimed ++ j ∷ []
@@ -66,13 +46,8 @@ module _ (g : Givens) (p v : ℕ) (r : Record) where
   claims_more h = let one = one_of r.phase h in let size = ap length (claims_after ∙ ap (λ l. r.claimed ++ l) one.1) ∙ length_push r.claimed one.0 in omega arith
     where
       one_of : (phase : Phase) → is_claiming phase ≡ true → (j : ℕ) × (claimed_in phase ≡ j ∷ [])
-      one_of (Announcing j) h = absurd (true≢false (sym h))
-      one_of (Trying j q) h = absurd (true≢false (sym h))
-      one_of (Reading j q) h = absurd (true≢false (sym h))
       one_of (Claiming j) h = (j, refl)
-      one_of (Holding j) h = absurd (true≢false (sym h))
-      one_of Over h = absurd (true≢false (sym h))
-      one_of Left h = absurd (true≢false (sym h))
+      one_of phase h = absurd (true≢false (sym h))
 
   -- and no step takes a claim back
   pub keeps_claims : length r.claimed ≤ length (record_after g p v r).claimed

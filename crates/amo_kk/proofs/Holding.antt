@@ -11,7 +11,7 @@ use Rattle.amo_kk.specs.Lawful.{IsSoundRecord}
 use Rattle.amo_kk.specs.declared.phase.Phase.TheVariants.{Claiming, Reading, Left}
 use Rattle.amo_kk.specs.declared.phase.Phase.{Phase}
 use Rattle.amo_kk.specs.declared.phase.Want.{Want}
-use Rattle.amo_kk.specs.declared.phase.Want.TheVariants.{StoreNext, LoadNext, LoadDone, StoreClaim, StoreDone, Nothing}
+use Rattle.amo_kk.specs.declared.phase.Want.TheVariants.{LoadNext, LoadDone}
 use Rattle.amo_kk.specs.declared.givens.Givens.{Givens}
 use Rattle.amo_kk.specs.declared.model.Record.{Record}
 use Rattle.amo_kk.proofs.Bits.{numbered_before}
@@ -36,12 +36,9 @@ pub after_by : (g : Givens) (p v : ℕ) (r y : Record) (phase : Phase) (n : ℕ)
 after_by g p v r y phase n is to steps = ap (λ x. record (record_after_phase g p v r x) { steps = min (r.steps + 1) (2 ^ 64 - 1) }) is ∙ (λ i. record (to i) { steps = sym steps i })
 
 pub hears_zero : (g : Givens) (w : Want) → MayLoad g 0 w
-hears_zero g (StoreNext j) = tt
 hears_zero g (LoadNext q) = omega arith
 hears_zero g (LoadDone q k) = (omega arith, λ _. refl)
-hears_zero g (StoreClaim c j) = tt
-hears_zero g (StoreDone k j) = tt
-hears_zero g Nothing = tt
+hears_zero g want = tt
 
 -- after leaving
 pub held_left : (g : Givens) (p : ℕ) (r : Record) (n range fronts claims dones : ℕ) → IsHeld g p r range fronts claims dones → can_leave r.phase ≡ true → n ≡ min (r.steps + 1) (2 ^ 64 - 1)

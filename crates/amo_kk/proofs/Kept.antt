@@ -11,9 +11,9 @@ use Rattle.amo_kk.specs.Record.{wants_nothing, jobs_in_hand, IsPast, IsThrough, 
 use Rattle.amo_kk.specs.Choice.{chosen_job, record_after_choice, record_after_check}
 use Rattle.amo_kk.specs.Step.{want_in, with_announced, record_at_row, record_at_announcement, record_after_phase, record_after, record_after_leave}
 use Rattle.amo_kk.specs.World.{process_after}
-use Rattle.amo_kk.specs.Lawful.{Announces, FitsPhase, IsSoundProcess, IsDoneByOther, IsUnclaimedByOther, IsSoundTowards, IsDone, AreLawful}
+use Rattle.amo_kk.specs.Lawful.{Announces, FitsPhase, IsSoundRecord, IsSoundProcess, IsDoneByOther, IsUnclaimedByOther, IsSoundTowards, IsDone, AreLawful}
 use Rattle.amo_kk.specs.declared.phase.Want.{Want}
-use Rattle.amo_kk.specs.declared.phase.Want.TheVariants.{StoreNext, LoadNext, LoadDone, StoreClaim, StoreDone, Nothing}
+use Rattle.amo_kk.specs.declared.phase.Want.TheVariants.{StoreNext, LoadNext, LoadDone}
 use Rattle.amo_kk.specs.declared.givens.Givens.{Givens}
 use Rattle.amo_kk.specs.declared.phase.Phase.{Phase}
 use Rattle.amo_kk.specs.declared.phase.Phase.TheVariants.{Announcing, Trying, Reading, Claiming, Holding, Over, Left}
@@ -65,29 +65,22 @@ pub announced : (g : Givens) (q p i : ℕ) (b : Process) → IsSoundProcess g q 
 announced g q p i b sound clear = go b.local.phase sound.announces clear.0
   where
     go : (phase : Phase) → Announces phase b.next → IsPast phase p i → b.next ≡ i
-    go (Announcing k) a c = absurd c
     go (Trying k n) a c = a ∙ c.0
     go (Reading k n) a c = a ∙ c
     go (Claiming k) a c = a ∙ c
     go (Holding k) a c = a ∙ c
-    go Over a c = absurd c
-    go Left a c = absurd c
+    go phase a c = absurd c
 
 -- a worker that does not announce i has done it, or has not claimed it and is not clear of anybody on it
 pub unannounced : (g : Givens) (q p i : ℕ) (b : Process) → IsSoundProcess g q b → b.next ≢ i → (has b.local.dones i ≡ true) ⊎ IsUnclaimedByOther p i b.local
 unannounced g q p i b sound other = ⊎_elim inl (λ not_done. inr (record { free = ap (λ l. has l i) sound.local.claims ∙ has-append b.local.dones (jobs_in_hand b.local.phase) i ∙ none not_done; unclear = λ c. other (announced g q p i b sound c) })) (cases_Bool (has b.local.dones i))
   where
     hand : (phase : Phase) → Announces phase b.next → has (jobs_in_hand phase) i ≡ false
-    hand (Announcing k) a = refl
-    hand (Trying k n) a = refl
-    hand (Reading k n) a = refl
-    hand (Claiming k) a = refl
     hand (Holding k) a = one k (λ e. other (a ∙ e))
       where
         one : (k : ℕ) → k ≢ i → ((k == i) || false) ≡ false
         one k n = grind (arith, nat_tests)
-    hand Over a = refl
-    hand Left a = refl
+    hand phase a = refl
 
     none : has b.local.dones i ≡ false → (has b.local.dones i || has (jobs_in_hand b.local.phase) i) ≡ false
     none not_done = or_from _ _ not_done (hand b.local.phase sound.announces)
@@ -161,14 +154,26 @@ not_both b t f = absurd (true≢false (sym t ∙ f))
 
 -- v is what a load gives
 abbrev pub Hears : (ℕ → Process) → Want → ℕ → Type 0
-Hears at (StoreNext j) v = Unit {0}
 Hears at (LoadNext q) v = v ≡ (at q).next
 Hears at (LoadDone q k) v = v ≡ numbered 0 (at q).row k
-Hears at (StoreClaim c j) v = Unit {0}
-Hears at (StoreDone k j) v = Unit {0}
-Hears at Nothing v = Unit {0}
+Hears at want v = Unit {0}
 
 module _ (g : Givens) (at : ℕ → Process) (before : AreLawful g at) (p : ℕ) (w : IsWorker g p) where
+  -- p with another record of the same claims and dones, and another announcement
+  pub sound_with : (r : Record) (word : ℕ) (gone : Bool) → IsSoundRecord g p r → Announces r.phase word → word ≤ g.jobs → r.claimed ≡ (at p).local.claimed → r.dones ≡ (at p).local.dones
+      → (wants_nothing r.phase ≡ true → gone ≡ true) → IsSoundProcess g p (record (at p) { local = r; next = word; gone = gone })
+  sound_with r word gone sound announces small claims dones rests =
+      let s = before.sound p w in
+      record {
+        local = sound;
+        announces = announces;
+        next = small;
+        claim = s.claim ∙ ap length (sym claims);
+        row_length = s.row_length;
+        row = λ k. s.row k ∙ ap (λ l. get_or l k 0) (sym dones);
+        gone = rests;
+      }
+
   quiet : (phase : Phase) (known tried fronts : List ℕ) (steps word : ℕ) → jobs_in_hand (at p).local.phase ≡ []
       → HasSeen g at p known tried fronts word
       → IsPlaced g p (quiet_record (at p).local phase known tried fronts steps) word
@@ -176,25 +181,17 @@ module _ (g : Givens) (at : ℕ → Process) (before : AreLawful g at) (p : ℕ)
       → IsKept g at p (quiet_process (at p) phase known tried fronts steps word)
   quiet phase known tried fronts steps word empty seen placed owes =
       record {
-        sound = record {
-          local = record {
-            claims = s.local.claims ∙ ap (λ l. (at p).local.dones ++ l) (empty ∙ sym placed.empty);
-            distinct = s.local.distinct;
-            jobs = s.local.jobs;
-            own = λ j h. seen.kept j (s.local.own j h);
-            tried_few = seen.tried_few;
-            tried_jobs = seen.tried_jobs;
-            fronts = seen.fronts_size;
-            front = seen.few_read;
-            stands = placed.stands;
-          };
-          announces = placed.announces;
-          next = seen.next;
-          claim = s.claim;
-          row_length = s.row_length;
-          row = s.row;
-          gone = λ h. h;
-        };
+        sound = sound_with (quiet_record (at p).local phase known tried fronts steps) word (wants_nothing phase) (record {
+          claims = s.local.claims ∙ ap (λ l. (at p).local.dones ++ l) (empty ∙ sym placed.empty);
+          distinct = s.local.distinct;
+          jobs = s.local.jobs;
+          own = λ j h. seen.kept j (s.local.own j h);
+          tried_few = seen.tried_few;
+          tried_jobs = seen.tried_jobs;
+          fronts = seen.fronts_size;
+          front = seen.few_read;
+          stands = placed.stands;
+        }) placed.announces seen.next refl refl (λ h. h);
         mine = λ q o. let was = before.apart p q w o in record { claims = was.claims; front = seen.front q o; read = λ k h. seen.read q k o h; clear = λ j c. (owes q j o c).0 };
         theirs = λ q o. let was = before.apart q p o.worker (record { worker = w; differs = λ e. o.differs (sym e) }) in
             record {
@@ -543,25 +540,7 @@ module _ (g : Givens) (at : ℕ → Process) (before : AreLawful g at) (p : ℕ)
   stops =
       let s = before.sound p w in
       record {
-        sound = record {
-          local = record {
-            claims = s.local.claims;
-            distinct = s.local.distinct;
-            jobs = s.local.jobs;
-            own = s.local.own;
-            tried_few = s.local.tried_few;
-            tried_jobs = s.local.tried_jobs;
-            fronts = s.local.fronts;
-            front = s.local.front;
-            stands = s.local.stands;
-          };
-          announces = s.announces;
-          next = s.next;
-          claim = s.claim;
-          row_length = s.row_length;
-          row = s.row;
-          gone = λ _. refl;
-        };
+        sound = sound_with (at p).local (at p).next true s.local s.announces s.next refl refl (λ _. refl);
         mine = λ q o. before.apart p q w o;
         theirs = λ q o. before.apart q p o.worker (me q o);
         known = λ i h. inr (before.known p i w h);

@@ -28,6 +28,6 @@ pub mod Attempts
 -- These serve this crate alone.
 mod AttemptReads
 mod LoneTurns
-mod Limits
+mod Faults
 mod OpenJobs
 mod Worked

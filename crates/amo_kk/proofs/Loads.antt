@@ -13,19 +13,16 @@ use Rattle.amo_kk.specs.Fits.{WantFits}
 use Rattle.amo_kk.specs.Lawful.{IsSoundProcess, IsLawful}
 use Rattle.amo_kk.specs.declared.givens.Givens.{Givens}
 use Rattle.amo_kk.specs.declared.phase.Want.{Want}
-use Rattle.amo_kk.specs.declared.phase.Want.TheVariants.{StoreNext, LoadNext, LoadDone, StoreClaim, StoreDone, Nothing}
+use Rattle.amo_kk.specs.declared.phase.Want.TheVariants.{LoadNext, LoadDone}
 use Rattle.amo_kk.specs.declared.model.World.{World}
 use Rattle.amo_kk.proofs.Kept.{row_room}
 use Rattle.amo_kk.proofs.Wants.{want_fits}
 
 -- where no load is wanted, 0 stands for its value
 pub store_zero : (w : World) (x : Want) → is_load x ≡ false → loaded_value w x ≡ 0
-store_zero w (StoreNext j) h = refl
 store_zero w (LoadNext q) h = absurd (true≢false h)
 store_zero w (LoadDone q k) h = absurd (true≢false h)
-store_zero w (StoreClaim c j) h = refl
-store_zero w (StoreDone k j) h = refl
-store_zero w Nothing h = refl
+store_zero w want h = refl
 
 module _ (g : Givens) (w : World) (law : IsLawful g w) where
   -- what stands in a row is a job or 0, and in its last place 0
@@ -57,12 +54,9 @@ module _ (g : Givens) (w : World) (law : IsLawful g w) where
 
   -- what fits is found to be what a load may give
   fit_loads : (p : ℕ) (x : Want) → WantFits g p x → MayLoad g (loaded_value w x) x
-  fit_loads p (StoreNext j) fits = tt
   fit_loads p (LoadNext q) fits = (law.lawful.sound q fits.worker).next
   fit_loads p (LoadDone q k) fits = row_is q k fits.0.worker
-  fit_loads p (StoreClaim c j) fits = tt
-  fit_loads p (StoreDone k j) fits = tt
-  fit_loads p Nothing fits = tt
+  fit_loads p want fits = tt
 
   pub may_load : (p : ℕ) → IsWorker g p → MayLoad g (loaded_value w (want (process w p).local)) (want (process w p).local)
   may_load p o = fit_loads p (want (process w p).local) (want_fits g p (process w p).local g.limits o (law.lawful.sound p o).local)

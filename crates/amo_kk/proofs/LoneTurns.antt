@@ -89,7 +89,7 @@ module _ (g : Givens) (ok : AreGivens g) (p : ℕ) (o : IsWorker g p) (at : ℕ 
       go : (b : Bool) → is_over (next_record g w p).phase ≡ b → (claims_or_ends g w p ≡ true) ⊎ ClaimsOrEndsWithin g p k (n - stored w p) (world_after_turn g w p)
       go true e = inl (or_right (is_claiming r.phase) (is_over (next_record g w p).phase) e)
       go false e =
-          let t = own_turn g w p ok lone.law lone.here e in
+          let t = own_turn g w p lone.law lone.here e in
           inr (subst (λ x. ClaimsOrEndsWithin g p k (n - x) (world_after_turn g w p)) (sym paid) (next e (world_after_turn g w p) (record { law = t.law; here = t.here; same = λ q n. t.others q n ∙ lone.same q n }) t.local))
 
   -- the announcement is stored

@@ -9,7 +9,7 @@ use Rattle.amo_sets.proofs.Tables.{numbered-table, numbered_past}
 use Rattle.amo_kk.specs.Givens.{IsWorker}
 use Rattle.amo_kk.specs.Record.{can_leave, empty_record, wants_nothing}
 use Rattle.amo_kk.specs.Step.{want, record_after, record_after_leave, shown, events_of}
-use Rattle.amo_kk.specs.World.{nobody, process, loaded_value, process_after, world_with, world_after_step, world_after_turn, world_after_leave, world_after_move, world_after_moves, worker_of, is_halt, has_halt, first_process, opening_world}
+use Rattle.amo_kk.specs.World.{nobody, process, loaded_value, process_after, world_with, world_after_step, world_after_turn, world_after_leave, world_after_move, world_after_moves, worker_of, is_halt, has_halt, first_process, opening_world, world_of}
 use Rattle.amo_kk.specs.Lawful.{IsLawful}
 use Rattle.amo_kk.specs.declared.givens.Givens.{Givens}
 use Rattle.amo_kk.specs.declared.phase.Want.{Want}
@@ -181,5 +181,5 @@ moves_gone g w (m ∷ ms) none all =
 opening_gone : (g : Givens) → AreGoneIfIdle (opening_world g)
 opening_gone g q = opening_each g (λ (a : Process). a.gone ≡ wants_nothing a.local.phase) refl (λ p. refl) q
 
-pub gone_is : (g : Givens) (ms : List Move) → has_halt ms ≡ false → AreGoneIfIdle (world_after_moves g (opening_world g) ms)
+pub gone_is : (g : Givens) (ms : List Move) → has_halt ms ≡ false → AreGoneIfIdle (world_of g ms)
 gone_is g ms none = moves_gone g (opening_world g) ms none (opening_gone g)

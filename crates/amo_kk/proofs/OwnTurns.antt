@@ -2,27 +2,55 @@
 use Rattle.std.proofs.Common.{◌≡◌, ◌≢◌, ℕ, zero, suc, ◌+◌, ◌-◌, ◌≤◌, Bool, false, length, refl, sym, ap, ◌∙◌, arith}
 use Rattle.std.specs.Prelude.{if◌then◌else◌}
 use Rattle.std.proofs.lemmas.Bool.{true≢false, false_from_ne_true}
-use Rattle.amo_kk.specs.Givens.{AreGivens, IsJob, IsWorker, IsOther, next_other, others_before}
+use Rattle.amo_kk.specs.Givens.{IsJob, IsWorker, IsOther, next_other, others_before}
 use Rattle.amo_kk.specs.Record.{is_over, wants_nothing}
 use Rattle.amo_kk.specs.Step.{want_in, want, record_after}
-use Rattle.amo_kk.specs.World.{nobody, process, loaded_value, process_after, world_after_step, world_after_turn}
+use Rattle.amo_kk.specs.World.{process, loaded_value, process_after, world_after_turn}
 use Rattle.amo_kk.specs.Lawful.{IsLawful}
 use Rattle.amo_kk.specs.Alone.{want_at, stores_announcement, turns_that}
 use Rattle.amo_kk.specs.declared.givens.Givens.{Givens}
 use Rattle.amo_kk.specs.declared.phase.Phase.{Phase}
-use Rattle.amo_kk.specs.declared.phase.Phase.TheVariants.{Announcing, Trying, Reading, Claiming, Holding, Over, Left}
+use Rattle.amo_kk.specs.declared.phase.Phase.TheVariants.{Announcing, Trying, Reading, Holding}
 use Rattle.amo_kk.specs.declared.model.Record.{Record}
 use Rattle.amo_kk.specs.declared.model.Process.{Process}
 use Rattle.amo_kk.specs.declared.model.World.{World}
-use Rattle.amo_sets.proofs.Numbers.{numbered-put_other}
+use Rattle.amo_kk.specs.declared.event.Move.TheVariants.{Turn}
 use Rattle.amo_kk.proofs.Choice.{after_rests}
 use Rattle.amo_kk.proofs.Kept.{others_room, others_next}
-use Rattle.amo_kk.proofs.Worlds.{turn_lawful, here_is_worker, put_here}
-use Rattle.amo_kk.proofs.Runs.{stored_local, stored_gone}
+use Rattle.amo_kk.proofs.Moves.{turned_process, turned_local, move_other}
+use Rattle.amo_kk.proofs.Runs.{stored_gone}
+use Rattle.amo_kk.proofs.Worlds.{turn_lawful, here_is_worker}
 
 -- the record of p after its turn
 abbrev pub next_record : Givens → World → ℕ → Record
 next_record g w p = let r = (process w p).local in record_after g p (loaded_value w (want r)) r
+
+-- whoever isn't gone wants a load or a store
+pub wants_some : (g : Givens) (w : World) (p : ℕ) → IsLawful g w → IsWorker g p → (process w p).gone ≡ false → wants_nothing (process w p).local.phase ≡ false
+wants_some g w p law o here = false_from_ne_true _ (λ h. true≢false (sym ((law.lawful.sound p o).gone h) ∙ here))
+
+-- v is w after a turn of p, which wasn't gone
+pub record HasTurned (g : Givens) (w : World) (p : ℕ) (v : World) : Type 0 where
+  pub worker : IsWorker g p
+  pub law : IsLawful g v
+  pub now : process v p ≡ process_after (want (process w p).local) (process w p) (next_record g w p)
+  pub local : (process v p).local ≡ next_record g w p
+  pub gone : (process v p).gone ≡ is_over (next_record g w p).phase
+  pub others : (q : ℕ) → q ≢ p → process v q ≡ process w q
+
+pub has_turned : (g : Givens) (w : World) (p : ℕ) → IsLawful g w → (process w p).gone ≡ false → HasTurned g w p (world_after_turn g w p)
+has_turned g w p law here =
+    let o = here_is_worker g w p law.size here in
+    let r = (process w p).local in
+    let now_p = turned_process g w p law here in
+    record {
+      worker = o;
+      law = turn_lawful g w p g.limits law;
+      now = now_p;
+      local = turned_local g w p law here;
+      gone = ap (λ (y : Process). y.gone) now_p ∙ stored_gone (want r) (process w p) (next_record g w p) ∙ after_rests g p (loaded_value w (want r)) r (wants_some g w p law o here);
+      others = λ q n. move_other g w (Turn p) q n;
+    }
 
 -- v is w after a turn of p: p goes on with its next record, and the others are as they were
 pub record IsTurned (g : Givens) (w : World) (p : ℕ) (v : World) : Type 0 where
@@ -31,36 +59,9 @@ pub record IsTurned (g : Givens) (w : World) (p : ℕ) (v : World) : Type 0 wher
   pub local : (process v p).local ≡ next_record g w p
   pub others : (q : ℕ) → q ≢ p → process v q ≡ process w q
 
--- whoever isn't gone wants a load or a store
-pub wants_some : (g : Givens) (w : World) (p : ℕ) → IsLawful g w → IsWorker g p → (process w p).gone ≡ false → wants_nothing (process w p).local.phase ≡ false
-wants_some g w p law o here = false_from_ne_true _ (λ h. true≢false (sym ((law.lawful.sound p o).gone h) ∙ here))
-
-pub own_turn : (g : Givens) (w : World) (p : ℕ) → AreGivens g → IsLawful g w → (process w p).gone ≡ false → is_over (next_record g w p).phase ≡ false → IsTurned g w p (world_after_turn g w p)
-own_turn g w p ok law here goes_on =
-    record {
-      law = turn_lawful g w p ok law;
-      here = ap (λ (y : Process). y.gone) now_p ∙ stored_gone (want r) (process w p) x ∙ after_rests g p (loaded_value w (want r)) r (wants_some g w p law o here) ∙ goes_on;
-      local = ap (λ (y : Process). y.local) now_p ∙ stored_local (want r) (process w p) x;
-      others = λ q n. ap (λ v. process v q) is_turned ∙ numbered-put_other nobody a w.processes p q n;
-    }
-  where
-    o : IsWorker g p
-    o = here_is_worker g w p law.size here
-
-    r : Record
-    r = (process w p).local
-
-    x : Record
-    x = next_record g w p
-
-    a : Process
-    a = process_after (want r) (process w p) x
-
-    is_turned : world_after_turn g w p ≡ world_after_step g w p (process w p)
-    is_turned = ap (λ b. if b then w else world_after_step g w p (process w p)) here
-
-    now_p : process (world_after_turn g w p) p ≡ a
-    now_p = ap (λ v. process v p) is_turned ∙ put_here g w p a law.size o
+pub own_turn : (g : Givens) (w : World) (p : ℕ) → IsLawful g w → (process w p).gone ≡ false → is_over (next_record g w p).phase ≡ false → IsTurned g w p (world_after_turn g w p)
+own_turn g w p law here goes_on =
+    let turned = has_turned g w p law here in record { law = turned.law; here = turned.gone ∙ goes_on; local = turned.local; others = turned.others }
 
 -- the first turn apart
 pub turns_that-suc : (test : ℕ → Bool) (i : ℕ) → turns_that test (suc i) ≡ (if test 0 then 1 else 0) + turns_that (λ k. test (suc k)) i
@@ -74,21 +75,11 @@ stored w p = if stores_announcement (want (process w p).local) then 1 else 0
 -- how many announcements a turn in this phase stores
 abbrev pub stored_in : Phase → ℕ
 stored_in (Announcing j) = 1
-stored_in (Trying j q) = 0
-stored_in (Reading j q) = 0
-stored_in (Claiming j) = 0
-stored_in (Holding j) = 0
-stored_in Over = 0
-stored_in Left = 0
+stored_in phase = 0
 
 pub stored_in_want : (r : Record) (phase : Phase) → (if stores_announcement (want_in r phase) then 1 else 0) ≡ stored_in phase
 stored_in_want r (Announcing j) = refl
-stored_in_want r (Trying j q) = refl
-stored_in_want r (Reading j q) = refl
-stored_in_want r (Claiming j) = refl
-stored_in_want r (Holding j) = refl
-stored_in_want r Over = refl
-stored_in_want r Left = refl
+stored_in_want r phase = refl
 
 -- how many announcements the turns 0..i of p store
 abbrev pub stored_within : Givens → World → ℕ → ℕ → ℕ
@@ -97,12 +88,8 @@ stored_within g w p i = turns_that (λ k. stores_announcement (want_at g w p k))
 -- how many attempts are still to begin from this phase, where the attempt passes
 abbrev pub to_begin : Phase → ℕ
 to_begin (Announcing j) = 1
-to_begin (Trying j q) = 0
-to_begin (Reading j q) = 0
-to_begin (Claiming j) = 0
 to_begin (Holding j) = 1
-to_begin Over = 0
-to_begin Left = 0
+to_begin phase = 0
 
 -- how many of the others are not before q
 abbrev pub left_from : Givens → ℕ → ℕ → ℕ

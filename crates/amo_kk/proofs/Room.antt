@@ -14,7 +14,7 @@ use Rattle.amo_kk.specs.declared.event.Event.{Event}
 use Rattle.amo_kk.specs.declared.event.Event.TheVariants.{Claimed, Done, Ended, Halted, Left}
 use Rattle.amo_sets.proofs.Numbers.{numbered-put_same, numbered-put_other, length-put, length-table, count_le_all}
 use Rattle.amo_sets.proofs.Tally.{count_gain}
-use Rattle.amo_kk.proofs.Worlds.{numbered-table_same}
+use Rattle.amo_sets.proofs.Tables.{numbered-table_same}
 use Rattle.amo_sets.proofs.Removed.{has-without_other, has-without_same}
 use Rattle.amo_kk.proofs.Claims.{here_parts, claim_parts, done_parts}
 
@@ -64,13 +64,9 @@ fewer g s (Claimed p j) z h =
     within_high : (n k : ℕ) → is_within n k ≡ true → k ≤ n
     within_high n k h = leb-true k n (and_parts (nat_le 1 k) (nat_le k n) h).1
 fewer g s (Done p j) z h =
-    let parts = done_parts g s p j h in
-    let size = z.hands in
-    let low = parts.0.low in
-    let high = parts.0.high in
-    let job = parts.0.job in
-    let hands = count_gain g.workers (λ q. not (numbered 0 (put s.in_hand p 0) q == 0)) (λ q. not (has_in_hand s q 0)) p low high
-    (ap (λ x. not (x == 0)) (numbered-put_same 0 0 s.in_hand p low (omega arith))) (ap (λ x. not (x == 0)) parts.1 ∙ ap not (ne_eqb j 0 (λ e. omega arith))) (λ q n. ap (λ x. not (x == 0)) (sym (numbered-put_other 0 0 s.in_hand p q n))) in
+    let (at, held) = done_parts g s p j h in
+    let hands = count_gain g.workers (λ q. not (numbered 0 (put s.in_hand p 0) q == 0)) (λ q. not (has_in_hand s q 0)) p at.low at.high
+    (ap (λ x. not (x == 0)) (numbered-put_same 0 0 s.in_hand p at.low (omega (arith, at.high, z.hands)))) (ap (λ x. not (x == 0)) held ∙ ap not (ne_eqb j 0 (λ e. omega (arith, at.job)))) (λ q n. ap (λ x. not (x == 0)) (sym (numbered-put_other 0 0 s.in_hand p q n))) in
     omega arith
 fewer g s (Ended p) z h = let one = goes g s p z (and_parts (is_here g s p) _ h).0 in omega arith
 fewer g s (Halted p) z h = let one = goes g s p z h in omega arith

@@ -12,14 +12,14 @@ use Rattle.amo_kk.specs.Run.{object_after_all, IsRun}
 use Rattle.amo_kk.specs.Record.{empty_record, is_open, is_over, wants_nothing, can_leave, job_in_hand}
 use Rattle.amo_kk.specs.Choice.{record_after_choice, record_after_check, first_record}
 use Rattle.amo_kk.specs.Step.{want, with_announced, record_at_row, record_at_announcement, record_after_phase, record_after, record_after_leave, shown, events_of, ended_if_over}
-use Rattle.amo_kk.specs.World.{nobody, process, loaded_value, process_after, world_with, world_after_step, world_after_turn, world_after_halt, world_after_leave, world_after_move, world_after_moves, first_process, opening_world}
+use Rattle.amo_kk.specs.World.{nobody, process, loaded_value, process_after, world_with, world_after_step, world_after_turn, world_after_halt, world_after_leave, world_after_move, world_after_moves, first_process, opening_world, world_of}
 use Rattle.amo_kk.specs.Lawful.{IsSoundProcess, AreLawful, IsLawful, jobs_of, Agrees, object_of, HasRun, GoesOn}
 use Rattle.amo_kk.specs.declared.givens.Givens.{Givens}
 use Rattle.amo_kk.specs.declared.phase.Phase.{Phase}
-use Rattle.amo_kk.specs.declared.phase.Phase.TheVariants.{Announcing, Trying, Reading, Claiming, Holding, Over, Left}
+use Rattle.amo_kk.specs.declared.phase.Phase.TheVariants.{Announcing, Trying, Reading, Claiming, Holding}
 use Rattle.amo_kk.specs.declared.model.Record.{Record}
 use Rattle.amo_kk.specs.declared.phase.Want.{Want}
-use Rattle.amo_kk.specs.declared.phase.Want.TheVariants.{StoreNext, LoadNext, LoadDone, StoreClaim, StoreDone, Nothing}
+use Rattle.amo_kk.specs.declared.phase.Want.TheVariants.{StoreNext}
 use Rattle.amo_kk.specs.declared.model.Process.{Process}
 use Rattle.amo_kk.specs.declared.model.World.{World}
 use Rattle.amo_kk.specs.declared.event.Move.{Move}
@@ -31,8 +31,8 @@ use Rattle.amo_kk.specs.declared.event.Shown.TheVariants.{Quiet, Done as DoneSho
 use Rattle.amo_kk.proofs.Choice.{after_rests, choice_cases, check_cases, to_row_cases, to_announcement_cases}
 use Rattle.amo_kk.proofs.Kept.{IsKept}
 use Rattle.amo_sets.proofs.Numbers.{has_push, has-get_or, get_or-has, count_true, count_le_all, numbered-put_other, length-table}
-use Rattle.amo_sets.proofs.Tables.{get_or-table, numbered-table}
-use Rattle.amo_kk.proofs.Worlds.{here_is_worker, put_here, turn_lawful, move_lawful, leaves_empty, opening_lawful, numbered-table_same, turned_kept}
+use Rattle.amo_sets.proofs.Tables.{get_or-table, numbered-table, numbered-table_same}
+use Rattle.amo_kk.proofs.Worlds.{here_is_worker, put_here, turn_lawful, move_lawful, leaves_empty, opening_lawful, turned_kept}
 use Rattle.amo_kk.proofs.Ends.{over_few}
 use Rattle.amo_kk.proofs.Steps.{enough, is_here_now, agrees_claim, agrees_done, agrees_gone, agrees_same}
 
@@ -44,13 +44,9 @@ pub record Did (r x : Record) (claims dones : List ℕ) (held : ℕ) : Type 0 wh
 
 -- and so the step of each phase
 abbrev pub HasDone : Record → Record → Phase → Type 0
-HasDone r x (Announcing j) = Did r x [] [] 0
-HasDone r x (Trying j q) = Did r x [] [] 0
-HasDone r x (Reading j q) = Did r x [] [] 0
 HasDone r x (Claiming j) = Did r x (j ∷ []) [] j
 HasDone r x (Holding j) = Did r x [] (j ∷ []) 0
-HasDone r x Over = Did r x [] [] 0
-HasDone r x Left = Did r x [] [] 0
+HasDone r x phase = Did r x [] [] 0
 
 pub has_done : (g : Givens) (p v : ℕ) (r : Record) (phase : Phase) → r.phase ≡ phase → HasDone r (record_after_phase g p v r phase) phase
 has_done g p v r phase is = go phase is
@@ -85,35 +81,22 @@ has_done g p v r phase is = go phase is
     go (Holding j) is = choice_cases g p (record r { dones = r.dones ++ j ∷ []; known = with_number j r.known }) (λ y. Did r y [] (j ∷ []) 0)
         (λ _. record { claimed = sym (append-nil r.claimed); done = refl; held_now = refl })
         (λ _. record { claimed = sym (append-nil r.claimed); done = refl; held_now = refl })
-    go Over is = same r refl refl (ap job_in_hand is)
-    go Left is = same r refl refl (ap job_in_hand is)
+    go phase is = same r refl refl (ap job_in_hand is)
 
 pub stored_local : (x : Want) (a : Process) (r : Record) → (process_after x a r).local ≡ r
 stored_local (StoreNext j) a r = refl
-stored_local (LoadNext q) a r = refl
-stored_local (LoadDone q k) a r = refl
-stored_local (StoreClaim c j) a r = refl
-stored_local (StoreDone k j) a r = refl
-stored_local Nothing a r = refl
+stored_local want a r = refl
 
 pub stored_gone : (x : Want) (a : Process) (r : Record) → (process_after x a r).gone ≡ wants_nothing r.phase
 stored_gone (StoreNext j) a r = refl
-stored_gone (LoadNext q) a r = refl
-stored_gone (LoadDone q k) a r = refl
-stored_gone (StoreClaim c j) a r = refl
-stored_gone (StoreDone k j) a r = refl
-stored_gone Nothing a r = refl
+stored_gone want a r = refl
 
 -- what a step shows, in two parts: its claim or performance, and the end of the worker
 
 abbrev claimed_or_done : ℕ → Phase → List Event
-claimed_or_done p (Announcing j) = []
-claimed_or_done p (Trying j q) = []
-claimed_or_done p (Reading j q) = []
 claimed_or_done p (Claiming j) = Claimed p j ∷ []
 claimed_or_done p (Holding j) = Done p j ∷ []
-claimed_or_done p Over = []
-claimed_or_done p Left = []
+claimed_or_done p phase = []
 
 shows : (g : Givens) (p v : ℕ) (r : Record) → wants_nothing r.phase ≡ false → events_of p (shown r.phase (record_after g p v r).phase) ≡ claimed_or_done p r.phase ++ ended_if_over p (record_after g p v r).phase
 shows g p v r wants = go r.phase refl
@@ -132,8 +115,7 @@ shows g p v r wants = go r.phase refl
     go (Reading j q) is = subst (λ x. events_of p (shown x (record_after_phase g p v r x).phase) ≡ claimed_or_done p x ++ ended_if_over p (record_after_phase g p v r x).phase) (sym is) (quiet (is_over (record_after_phase g p v r (Reading j q)).phase))
     go (Claiming j) is = subst (λ x. events_of p (shown x (record_after_phase g p v r x).phase) ≡ claimed_or_done p x ++ ended_if_over p (record_after_phase g p v r x).phase) (sym is) refl
     go (Holding j) is = subst (λ x. events_of p (shown x (record_after_phase g p v r x).phase) ≡ claimed_or_done p x ++ ended_if_over p (record_after_phase g p v r x).phase) (sym is) (done j (is_over (record_after_phase g p v r (Holding j)).phase))
-    go Over is = absurd (true≢false (sym (ap wants_nothing is) ∙ wants))
-    go Left is = absurd (true≢false (sym (ap wants_nothing is) ∙ wants))
+    go phase is = absurd (true≢false (sym (ap wants_nothing is) ∙ wants))
 
 -- runs one after the other
 object_after_all-append : (s : Object) (es fs : List Event) → object_after_all s (es ++ fs) ≡ object_after_all (object_after_all s es) fs
@@ -168,9 +150,6 @@ module _ (g : Givens) (ok : AreGivens g) (at : ℕ → Process) (law : AreLawful
           (ap (λ (y : Record). y.claimed) is ∙ d.claimed ∙ append-nil _) (ap (λ (y : Record). y.dones) is ∙ d.done ∙ append-nil _) (ap (λ (y : Record). job_in_hand y.phase) is ∙ d.held_now ∙ sym e) (stays ∙ sym here)
 
       go : (phase : Phase) → (at p).local.phase ≡ phase → HasDone (at p).local x phase → Goes g now s (claimed_or_done p phase)
-      go (Announcing j) e d = record { run = tt; agrees = quiet d (ap job_in_hand e) }
-      go (Trying j q) e d = record { run = tt; agrees = quiet d (ap job_in_hand e) }
-      go (Reading j q) e d = record { run = tt; agrees = quiet d (ap job_in_hand e) }
       go (Claiming j) e d =
           let stands : IsJob g j × (has (at p).local.known j ≡ false) × (has (at p).local.tried j ≡ false) = rw e at (law.sound p o).local.stands in
           let claimed : b.local.claimed ≡ (at p).local.claimed ++ j ∷ [] = ap (λ (y : Record). y.claimed) same ∙ d.claimed in
@@ -186,8 +165,7 @@ module _ (g : Givens) (ok : AreGivens g) (at : ℕ → Process) (law : AreLawful
           let step = agrees_done g at s agrees p o here a now is_now others j stands.0 (ap job_in_hand e)
           (ap (λ (y : Record). y.claimed) is ∙ d.claimed ∙ append-nil _) (ap (λ (y : Record). y.dones) is ∙ d.done) (ap (λ (y : Record). job_in_hand y.phase) is ∙ d.held_now) stays in
           record { run = (step.0, tt); agrees = step.1 }
-      go Over e d = record { run = tt; agrees = quiet d (ap job_in_hand e) }
-      go Left e d = record { run = tt; agrees = quiet d (ap job_in_hand e) }
+      go phase e d = record { run = tt; agrees = quiet d (ap job_in_hand e) }
 
 -- the end of a worker, where it is over
 pub ending_goes : (g : Givens) (at : ℕ → Process) (s : Object) (p : ℕ) (a : Process) (now : ℕ → Process) → AreGivens g → AreLawful g now → IsWorker g p
@@ -209,13 +187,8 @@ ending_goes g at s p a now ok law o agrees here was gone is_now others = go (is_
     }
       where
         empty : (phase : Phase) → is_over phase ≡ true → job_in_hand phase ≡ 0
-        empty (Announcing j) h = refl
-        empty (Trying j q) h = refl
-        empty (Reading j q) h = refl
-        empty (Claiming j) h = refl
         empty (Holding j) h = absurd (true≢false (sym h))
-        empty Over h = refl
-        empty Left h = refl
+        empty phase h = refl
 
         sound : IsSoundProcess g p a
         sound = subst (λ x. IsSoundProcess g p x) is_now (law.sound p o)
@@ -232,12 +205,7 @@ ending_goes g at s p a now ok law o agrees here was gone is_now others = go (is_
 
 counted : (r x : Record) (n : ℕ) (phase : Phase) → HasDone r x phase → HasDone r (record x { steps = n }) phase
 counted r x n (Announcing j) d = record { claimed = d.claimed; done = d.done; held_now = d.held_now }
-counted r x n (Trying j q) d = record { claimed = d.claimed; done = d.done; held_now = d.held_now }
-counted r x n (Reading j q) d = record { claimed = d.claimed; done = d.done; held_now = d.held_now }
-counted r x n (Claiming j) d = record { claimed = d.claimed; done = d.done; held_now = d.held_now }
-counted r x n (Holding j) d = record { claimed = d.claimed; done = d.done; held_now = d.held_now }
-counted r x n Over d = record { claimed = d.claimed; done = d.done; held_now = d.held_now }
-counted r x n Left d = record { claimed = d.claimed; done = d.done; held_now = d.held_now }
+counted r x n phase d = record { claimed = d.claimed; done = d.done; held_now = d.held_now }
 
 -- each move goes on from any state that agrees with the world
 
@@ -504,5 +472,5 @@ pub worlds_run : (g : Givens) (w : World) (ms : List Move) → AreGivens g → I
 worlds_run g w [] ok law run = run
 worlds_run g w (m ∷ ms) ok law run = worlds_run g (world_after_move g w m) ms ok (move_lawful g w m ok law) (move_runs g w m ok law run)
 
-pub always_runs : (g : Givens) (ms : List Move) → AreGivens g → HasRun g (world_after_moves g (opening_world g) ms)
+pub always_runs : (g : Givens) (ms : List Move) → AreGivens g → HasRun g (world_of g ms)
 always_runs g ms ok = worlds_run g (opening_world g) ms ok (opening_lawful g ok) (opening_runs g ok)

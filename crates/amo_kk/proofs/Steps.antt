@@ -39,7 +39,7 @@ jobs_of-push (x ∷ xs) p j q = go (nat_eq x.0 q) (nat_eq p q) (jobs_of-push xs 
 abbrev pub all_jobs : List (ℕ × ℕ) → List ℕ
 all_jobs xs = map (λ (x : ℕ × ℕ). x.1) xs
 
-has_all : (xs : List (ℕ × ℕ)) (q j : ℕ) → has (jobs_of xs q) j ≡ true → has (all_jobs xs) j ≡ true
+pub has_all : (xs : List (ℕ × ℕ)) (q j : ℕ) → has (jobs_of xs q) j ≡ true → has (all_jobs xs) j ≡ true
 has_all [] q j h = h
 has_all (x ∷ xs) q j h = go (nat_eq x.0 q) (has_all xs q j) h
   where
@@ -77,10 +77,48 @@ within_is n k l h = and_from _ _ (le-leb 1 k l) (le-leb k n h)
 here_is : (g : Givens) (s : Object) (p : ℕ) → IsWorker g p → numbered true s.gone p ≡ false → is_here g s p ≡ true
 here_is g s p o h = and_from _ _ (within_is g.workers p o.low o.high) (ap not h)
 
-module _ (g : Givens) (at : ℕ → Process) (s : Object) (agrees : Agrees g at s) (p : ℕ) (o : IsWorker g p) (here : (at p).gone ≡ false) (a : Process) (now : ℕ → Process) (is_now : now p ≡ a) (others : (q : ℕ) → q ≢ p → now q ≡ at q) where
+-- p becomes the process a
+module _ (g : Givens) (at : ℕ → Process) (p : ℕ) (o : IsWorker g p) (a : Process) (now : ℕ → Process) (is_now : now p ≡ a) (others : (q : ℕ) → q ≢ p → now q ≡ at q) where
   -- what holds of the new process at p and of the old ones elsewhere
-  each : (P : ℕ → Process → Type 0) → P p a → ((q : ℕ) → q ≢ p → P q (at q)) → (q : ℕ) → P q (now q)
+  pub each : (P : ℕ → Process → Type 0) → P p a → ((q : ℕ) → q ≢ p → P q (at q)) → (q : ℕ) → P q (now q)
   each P mine theirs q = ⊎_elim (λ (e : q ≡ p). subst (λ x. P x (now x)) (sym e) (subst (λ x. P p x) (sym is_now) mine)) (λ n. subst (λ x. P q x) (sym (others q n)) (theirs q n)) (cases_eq q p)
+
+  -- where it has claimed what p had, the same jobs are unclaimed
+  unclaimed_as_before : a.local.claimed ≡ (at p).local.claimed → (i : ℕ) → ((q : ℕ) → IsWorker g q → has (now q).local.claimed i ≡ false) → (q : ℕ) → IsWorker g q → has (at q).local.claimed i ≡ false
+  unclaimed_as_before claims i all q w = ⊎_elim
+      (λ (e : q ≡ p). subst (λ x. has (at x).local.claimed i ≡ false) (sym e) (sym (ap (λ (x : Process). has x.local.claimed i) is_now ∙ ap (λ l. has l i) claims) ∙ all p o))
+      (λ m. sym (ap (λ (x : Process). has x.local.claimed i) (others q m)) ∙ all q w)
+      (cases_eq q p)
+
+  unclaimed_now : a.local.claimed ≡ (at p).local.claimed → (i : ℕ) → ((q : ℕ) → IsWorker g q → has (at q).local.claimed i ≡ false) → (q : ℕ) → IsWorker g q → has (now q).local.claimed i ≡ false
+  unclaimed_now claims i was = each (λ q x. IsWorker g q → has x.local.claimed i ≡ false) (λ w. ap (λ l. has l i) claims ∙ was p w) (λ q m w. was q w)
+
+  -- the same workers, but for who is gone
+  pub agrees_but_gone : (s : Object) → Agrees g at s → a.local.claimed ≡ (at p).local.claimed → a.local.dones ≡ (at p).local.dones → job_in_hand a.local.phase ≡ job_in_hand (at p).local.phase
+      → (gone : List Bool) → length gone ≡ g.workers → ((q : ℕ) → IsWorker g q → numbered true gone q ≡ (now q).gone) → Agrees g now (record s { gone = gone })
+  agrees_but_gone s agrees claims dones held gone size is =
+      record {
+        unclaimed = λ i is_job all. agrees.unclaimed i is_job (unclaimed_as_before claims i all);
+        only_unclaimed = λ i h. let was = agrees.only_unclaimed i h in (was.0, unclaimed_now claims i was.1);
+        in_hand_size = agrees.in_hand_size;
+        in_hand = each (λ q x. IsWorker g q → numbered 0 s.in_hand q ≡ job_in_hand x.local.phase) (λ w. agrees.in_hand p w ∙ sym held) (λ q m w. agrees.in_hand q w);
+        performed = each (λ q x. jobs_of s.performed q ≡ x.local.dones) (agrees.performed p ∙ sym dones) (λ q m. agrees.performed q);
+        gone_size = size;
+        gone = is;
+      }
+
+  -- p is gone now, or isn't
+  pub agrees_put_gone : (s : Object) → Agrees g at s → a.local.claimed ≡ (at p).local.claimed → a.local.dones ≡ (at p).local.dones → job_in_hand a.local.phase ≡ job_in_hand (at p).local.phase
+      → (b : Bool) → a.gone ≡ b → Agrees g now (record s { gone = put s.gone p b })
+  agrees_put_gone s agrees claims dones held b leaves =
+      agrees_but_gone s agrees claims dones held (put s.gone p b) (length-put b s.gone p ∙ agrees.gone_size)
+      (each (λ q x. IsWorker g q → numbered true (put s.gone p b) q ≡ x.gone)
+      (λ w. numbered-put_same true b s.gone p o.low (let l = agrees.gone_size in let h = o.high in omega arith) ∙ sym leaves)
+      (λ q m w. numbered-put_other true b s.gone p q m ∙ agrees.gone q w))
+
+module _ (g : Givens) (at : ℕ → Process) (s : Object) (agrees : Agrees g at s) (p : ℕ) (o : IsWorker g p) (here : (at p).gone ≡ false) (a : Process) (now : ℕ → Process) (is_now : now p ≡ a) (others : (q : ℕ) → q ≢ p → now q ≡ at q) where
+  elsewhere : (P : ℕ → Process → Type 0) → P p a → ((q : ℕ) → q ≢ p → P q (at q)) → (q : ℕ) → P q (now q)
+  elsewhere = each g at p o a now is_now others
 
   pub is_here_now : is_here g s p ≡ true
   is_here_now = here_is g s p o (agrees.gone p o ∙ here)
@@ -101,14 +139,14 @@ module _ (g : Givens) (at : ℕ → Process) (s : Object) (agrees : Agrees g at 
       only_unclaimed = λ i h.
           let n : j ≢ i = λ e. true≢false (sym h ∙ subst (λ x. has (without_number j s.unclaimed) x ≡ false) e (has-without_same j s.unclaimed)) in
           let was = agrees.only_unclaimed i (sym (has-without_other j s.unclaimed i n) ∙ h) in
-          (was.0, each (λ q x. IsWorker g q → has x.local.claimed i ≡ false) (λ w. ap (λ l. has l i) claims ∙ has_push_none (at p).local.claimed j i n (was.1 p w)) (λ q m w. was.1 q w));
+          (was.0, elsewhere (λ q x. IsWorker g q → has x.local.claimed i ≡ false) (λ w. ap (λ l. has l i) claims ∙ has_push_none (at p).local.claimed j i n (was.1 p w)) (λ q m w. was.1 q w));
       in_hand_size = length-put j s.in_hand p ∙ agrees.in_hand_size;
-      in_hand = each (λ q x. IsWorker g q → numbered 0 (put s.in_hand p j) q ≡ job_in_hand x.local.phase)
+      in_hand = elsewhere (λ q x. IsWorker g q → numbered 0 (put s.in_hand p j) q ≡ job_in_hand x.local.phase)
           (λ w. numbered-put_same 0 j s.in_hand p o.low (let l = agrees.in_hand_size in let h = o.high in omega arith) ∙ sym holds_it)
           (λ q m w. numbered-put_other 0 j s.in_hand p q m ∙ agrees.in_hand q w);
-      performed = each (λ q x. jobs_of s.performed q ≡ x.local.dones) (agrees.performed p ∙ sym dones) (λ q m. agrees.performed q);
+      performed = elsewhere (λ q x. jobs_of s.performed q ≡ x.local.dones) (agrees.performed p ∙ sym dones) (λ q m. agrees.performed q);
       gone_size = agrees.gone_size;
-      gone = each (λ q x. IsWorker g q → numbered true s.gone q ≡ x.gone) (λ w. agrees.gone p w ∙ here ∙ sym stays) (λ q m w. agrees.gone q w);
+      gone = elsewhere (λ q x. IsWorker g q → numbered true s.gone q ≡ x.gone) (λ w. agrees.gone p w ∙ here ∙ sym stays) (λ q m w. agrees.gone q w);
     },
   )
 
@@ -118,54 +156,28 @@ module _ (g : Givens) (at : ℕ → Process) (s : Object) (agrees : Agrees g at 
   agrees_done j job held claims dones empty stays = (
     and_from _ _ is_here_now (and_from _ _ (within_is g.jobs j job.low job.high) (eq-eqb _ _ (agrees.in_hand p o ∙ held))),
     record {
-      unclaimed = λ i is_job all. agrees.unclaimed i is_job (λ q w. ⊎_elim
-          (λ (e : q ≡ p). subst (λ x. has (at x).local.claimed i ≡ false) (sym e) (sym (ap (λ (x : Process). has x.local.claimed i) is_now ∙ ap (λ l. has l i) claims) ∙ all p o))
-          (λ m. sym (ap (λ (x : Process). has x.local.claimed i) (others q m)) ∙ all q w)
-          (cases_eq q p));
-      only_unclaimed = λ i h. let was = agrees.only_unclaimed i h in
-          (was.0, each (λ q x. IsWorker g q → has x.local.claimed i ≡ false) (λ w. ap (λ l. has l i) claims ∙ was.1 p w) (λ q m w. was.1 q w));
+      unclaimed = λ i is_job all. agrees.unclaimed i is_job (unclaimed_as_before g at p o a now is_now others claims i all);
+      only_unclaimed = λ i h. let was = agrees.only_unclaimed i h in (was.0, unclaimed_now g at p o a now is_now others claims i was.1);
       in_hand_size = length-put 0 s.in_hand p ∙ agrees.in_hand_size;
-      in_hand = each (λ q x. IsWorker g q → numbered 0 (put s.in_hand p 0) q ≡ job_in_hand x.local.phase)
+      in_hand = elsewhere (λ q x. IsWorker g q → numbered 0 (put s.in_hand p 0) q ≡ job_in_hand x.local.phase)
           (λ w. numbered-put_same 0 0 s.in_hand p o.low (let l = agrees.in_hand_size in let h = o.high in omega arith) ∙ sym empty)
           (λ q m w. numbered-put_other 0 0 s.in_hand p q m ∙ agrees.in_hand q w);
-      performed = each (λ q x. jobs_of (s.performed ++ (p, j) ∷ []) q ≡ x.local.dones)
+      performed = elsewhere (λ q x. jobs_of (s.performed ++ (p, j) ∷ []) q ≡ x.local.dones)
           (jobs_of-push s.performed p j p ∙ ap (λ b. if b then jobs_of s.performed p ++ j ∷ [] else jobs_of s.performed p) (eq-eqb p p refl) ∙ ap (λ l. l ++ j ∷ []) (agrees.performed p) ∙ sym dones)
           (λ q m. jobs_of-push s.performed p j q ∙ ap (λ b. if b then jobs_of s.performed q ++ j ∷ [] else jobs_of s.performed q) (ne_eqb p q (λ e. m (sym e))) ∙ agrees.performed q);
       gone_size = agrees.gone_size;
-      gone = each (λ q x. IsWorker g q → numbered true s.gone q ≡ x.gone) (λ w. agrees.gone p w ∙ here ∙ sym stays) (λ q m w. agrees.gone q w);
+      gone = elsewhere (λ q x. IsWorker g q → numbered true s.gone q ≡ x.gone) (λ w. agrees.gone p w ∙ here ∙ sym stays) (λ q m w. agrees.gone q w);
     },
   )
-
-  -- the same workers, but for who is gone
-  agrees_but_gone : a.local.claimed ≡ (at p).local.claimed → a.local.dones ≡ (at p).local.dones → job_in_hand a.local.phase ≡ job_in_hand (at p).local.phase
-      → (gone : List Bool) → length gone ≡ g.workers → ((q : ℕ) → IsWorker g q → numbered true gone q ≡ (now q).gone) → Agrees g now (record s { gone = gone })
-  agrees_but_gone claims dones held gone size is =
-      record {
-        unclaimed = λ i is_job all. agrees.unclaimed i is_job (λ q w. ⊎_elim
-            (λ (e : q ≡ p). subst (λ x. has (at x).local.claimed i ≡ false) (sym e) (sym (ap (λ (x : Process). has x.local.claimed i) is_now ∙ ap (λ l. has l i) claims) ∙ all p o))
-            (λ m. sym (ap (λ (x : Process). has x.local.claimed i) (others q m)) ∙ all q w)
-            (cases_eq q p));
-        only_unclaimed = λ i h. let was = agrees.only_unclaimed i h in
-            (was.0, each (λ q x. IsWorker g q → has x.local.claimed i ≡ false) (λ w. ap (λ l. has l i) claims ∙ was.1 p w) (λ q m w. was.1 q w));
-        in_hand_size = agrees.in_hand_size;
-        in_hand = each (λ q x. IsWorker g q → numbered 0 s.in_hand q ≡ job_in_hand x.local.phase) (λ w. agrees.in_hand p w ∙ sym held) (λ q m w. agrees.in_hand q w);
-        performed = each (λ q x. jobs_of s.performed q ≡ x.local.dones) (agrees.performed p ∙ sym dones) (λ q m. agrees.performed q);
-        gone_size = size;
-        gone = is;
-      }
 
   -- p is gone now
   pub agrees_gone : a.local.claimed ≡ (at p).local.claimed → a.local.dones ≡ (at p).local.dones → job_in_hand a.local.phase ≡ job_in_hand (at p).local.phase → a.gone ≡ true
       → Agrees g now (record s { gone = put s.gone p true })
-  agrees_gone claims dones held leaves =
-      agrees_but_gone claims dones held (put s.gone p true) (length-put true s.gone p ∙ agrees.gone_size)
-      (each (λ q x. IsWorker g q → numbered true (put s.gone p true) q ≡ x.gone)
-      (λ w. numbered-put_same true true s.gone p o.low (let l = agrees.gone_size in let h = o.high in omega arith) ∙ sym leaves)
-      (λ q m w. numbered-put_other true true s.gone p q m ∙ agrees.gone q w))
+  agrees_gone claims dones held leaves = agrees_put_gone g at p o a now is_now others s agrees claims dones held true leaves
 
   -- the same workers are gone
   pub agrees_same : a.local.claimed ≡ (at p).local.claimed → a.local.dones ≡ (at p).local.dones → job_in_hand a.local.phase ≡ job_in_hand (at p).local.phase → a.gone ≡ (at p).gone
       → Agrees g now s
   agrees_same claims dones held stays =
-      agrees_but_gone claims dones held s.gone agrees.gone_size
-      (each (λ q x. IsWorker g q → numbered true s.gone q ≡ x.gone) (λ w. agrees.gone p w ∙ sym stays) (λ q m w. agrees.gone q w))
+      agrees_but_gone g at p o a now is_now others s agrees claims dones held s.gone agrees.gone_size
+      (elsewhere (λ q x. IsWorker g q → numbered true s.gone q ≡ x.gone) (λ w. agrees.gone p w ∙ sym stays) (λ q m w. agrees.gone q w))

@@ -13,7 +13,7 @@ use Rattle.amo_kk.specs.declared.givens.Givens.{Givens}
 use Rattle.amo_kk.specs.declared.phase.Phase.{Phase}
 use Rattle.amo_kk.specs.declared.phase.Phase.TheVariants.{Announcing, Trying, Reading, Claiming, Holding, Over, Left}
 use Rattle.amo_kk.specs.declared.phase.Want.{Want}
-use Rattle.amo_kk.specs.declared.phase.Want.TheVariants.{StoreNext, LoadNext, LoadDone, StoreClaim, StoreDone, Nothing}
+use Rattle.amo_kk.specs.declared.phase.Want.TheVariants.{LoadNext, LoadDone, StoreClaim, Nothing}
 use Rattle.amo_kk.specs.declared.model.Record.{Record}
 use Rattle.amo_kk.proofs.Fit.{claims_fit}
 use Rattle.amo_kk.proofs.Holding.{claim_room}
@@ -31,118 +31,69 @@ want_fits g p r ok o fit = go r.phase refl fit.stands
         let claims : r.claimed ≡ r.dones ++ jobs_in_hand (Holding j) = fit.claims ∙ ap (λ x. r.dones ++ jobs_in_hand x) is in
         let size : length r.claimed ≡ length r.dones + 1 = ap length claims ∙ length_push r.dones j in
         (stands.0, omega arith, omega (arith, few, size))
-    go Over is stands = tt
-    go Left is stands = tt
+    go phase is stands = tt
 
 -- what is wanted, by cases
 
 -- a claim is wanted
 abbrev pub is_claim : Want → Bool
-is_claim (StoreNext j) = false
-is_claim (LoadNext q) = false
-is_claim (LoadDone q k) = false
 is_claim (StoreClaim c j) = true
-is_claim (StoreDone k j) = false
-is_claim Nothing = false
+is_claim want = false
 
 -- nothing is wanted
 abbrev pub is_nothing : Want → Bool
-is_nothing (StoreNext j) = false
-is_nothing (LoadNext q) = false
-is_nothing (LoadDone q k) = false
-is_nothing (StoreClaim c j) = false
-is_nothing (StoreDone k j) = false
 is_nothing Nothing = true
+is_nothing want = false
 
 -- the job of the claim, or 0
 abbrev claimed_job : Want → ℕ
-claimed_job (StoreNext j) = 0
-claimed_job (LoadNext q) = 0
-claimed_job (LoadDone q k) = 0
 claimed_job (StoreClaim c j) = j
-claimed_job (StoreDone k j) = 0
-claimed_job Nothing = 0
+claimed_job want = 0
 
 -- a claim is wanted just by who is about to claim
 pub claiming_is : (r : Record) (phase : Phase) → is_claiming phase ≡ is_claim (want_in r phase)
 claiming_is r (Announcing j) = refl
-claiming_is r (Trying j q) = refl
-claiming_is r (Reading j q) = refl
-claiming_is r (Claiming j) = refl
-claiming_is r (Holding j) = refl
-claiming_is r Over = refl
-claiming_is r Left = refl
+claiming_is r phase = refl
 
 -- nothing is wanted just by who has ended or left
 pub nothing_is : (r : Record) (phase : Phase) → wants_nothing phase ≡ is_nothing (want_in r phase)
 nothing_is r (Announcing j) = refl
-nothing_is r (Trying j q) = refl
-nothing_is r (Reading j q) = refl
-nothing_is r (Claiming j) = refl
-nothing_is r (Holding j) = refl
-nothing_is r Over = refl
-nothing_is r Left = refl
+nothing_is r phase = refl
 
 -- who wants to claim j is about to claim j
 pub claiming_job : (r : Record) (phase : Phase) (c j : ℕ) → want_in r phase ≡ StoreClaim c j → phase ≡ Claiming j
-claiming_job r (Announcing i) c j e = absurd (true≢false (sym (ap is_claim e)))
-claiming_job r (Trying i q) c j e = absurd (true≢false (sym (ap is_claim e)))
-claiming_job r (Reading i q) c j e = absurd (true≢false (sym (ap is_claim e)))
 claiming_job r (Claiming i) c j e = ap Claiming (ap claimed_job e)
-claiming_job r (Holding i) c j e = absurd (true≢false (sym (ap is_claim e)))
-claiming_job r Over c j e = absurd (true≢false (sym (ap is_claim e)))
-claiming_job r Left c j e = absurd (true≢false (sym (ap is_claim e)))
+claiming_job r phase c j e = absurd (true≢false (sym (ap is_claim e)))
 
 -- whoever may leave wants something
 pub leave_goes : (phase : Phase) → can_leave phase ≡ true → wants_nothing phase ≡ false
-leave_goes (Announcing j) h = refl
-leave_goes (Trying j q) h = refl
-leave_goes (Reading j q) h = refl
-leave_goes (Claiming j) h = refl
 leave_goes (Holding j) h = absurd (true≢false (sym h))
 leave_goes Over h = absurd (true≢false (sym h))
 leave_goes Left h = absurd (true≢false (sym h))
+leave_goes phase h = refl
 
 -- a load writes nothing
 pub load_writes : (g : Givens) (p : ℕ) (x : Want) (words : List ℕ) → is_load x ≡ true → words_after g p x words ≡ words
-load_writes g p (StoreNext j) words h = absurd (true≢false (sym h))
 load_writes g p (LoadNext q) words h = refl
 load_writes g p (LoadDone q k) words h = refl
-load_writes g p (StoreClaim c j) words h = absurd (true≢false (sym h))
-load_writes g p (StoreDone k j) words h = absurd (true≢false (sym h))
-load_writes g p Nothing words h = absurd (true≢false (sym h))
+load_writes g p want words h = absurd (true≢false (sym h))
 
 -- a load claims nothing
 pub load_quiet : (x : Want) → is_load x ≡ true → is_claim x ≡ false
-load_quiet (StoreNext j) h = refl
-load_quiet (LoadNext q) h = refl
-load_quiet (LoadDone q k) h = refl
 load_quiet (StoreClaim c j) h = absurd (true≢false (sym h))
-load_quiet (StoreDone k j) h = refl
-load_quiet Nothing h = refl
+load_quiet want h = refl
 
 -- a load and a store are something
 pub load_goes : (x : Want) → is_load x ≡ true → is_nothing x ≡ false
-load_goes (StoreNext j) h = refl
-load_goes (LoadNext q) h = refl
-load_goes (LoadDone q k) h = refl
-load_goes (StoreClaim c j) h = refl
-load_goes (StoreDone k j) h = refl
 load_goes Nothing h = absurd (true≢false (sym h))
+load_goes want h = refl
 
 pub store_goes : (x : Want) → is_store x ≡ true → is_nothing x ≡ false
-store_goes (StoreNext j) h = refl
-store_goes (LoadNext q) h = refl
-store_goes (LoadDone q k) h = refl
-store_goes (StoreClaim c j) h = refl
-store_goes (StoreDone k j) h = refl
 store_goes Nothing h = absurd (true≢false (sym h))
+store_goes want h = refl
 
 -- a store is no load
 pub store_loads : (x : Want) → is_store x ≡ true → is_load x ≡ false
-store_loads (StoreNext j) h = refl
 store_loads (LoadNext q) h = absurd (true≢false (sym h))
 store_loads (LoadDone q k) h = absurd (true≢false (sym h))
-store_loads (StoreClaim c j) h = refl
-store_loads (StoreDone k j) h = refl
-store_loads Nothing h = refl
+store_loads want h = refl

@@ -13,7 +13,7 @@ use Rattle.std.specs.Prelude.{if◌then◌else◌}
 use Rattle.amo_kk.proofs.Worlds.{here_is_worker}
 use Rattle.amo_kk.specs.declared.givens.Givens.{Givens}
 use Rattle.amo_kk.specs.declared.phase.Phase.{Phase}
-use Rattle.amo_kk.specs.declared.phase.Phase.TheVariants.{Announcing, Trying, Reading, Claiming, Holding, Over, Left}
+use Rattle.amo_kk.specs.declared.phase.Phase.TheVariants.{Announcing, Trying, Reading, Claiming, Holding}
 use Rattle.amo_kk.specs.declared.model.Record.{Record}
 use Rattle.amo_kk.specs.declared.model.World.{World}
 use Rattle.amo_kk.specs.declared.event.Event.TheVariants.{Left as LeftEvent}
@@ -158,12 +158,9 @@ module _ (g : Givens) (w : World) (law : IsLawful g w) (p : ℕ) (o : IsWorker g
 
       go : (phase : Phase) → words_of (put w.processes p (process_after (want_in (process w p).local phase) (process w p) x)) ≡ words_after g p (want_in (process w p).local phase) (words_of w.processes)
       go (Announcing j) = sym (write_next g w.processes nobody law.size p j _ o.low o.high refl refl refl)
-      go (Trying j q) = keep_words g w.processes nobody law.size p _ o.low refl refl refl
-      go (Reading j q) = keep_words g w.processes nobody law.size p _ o.low refl refl refl
       go (Claiming j) = sym (write_claim g w.processes nobody law.size p (length (process w p).local.claimed + 1) _ o.low o.high refl refl refl)
       go (Holding j) = sym (write_done g w.processes nobody law.size p (length (process w p).local.dones + 1) j _ even o.low o.high (omega arith) (let r = row_room g (process w) law.lawful p o in omega arith) refl refl refl)
-      go Over = keep_words g w.processes nobody law.size p _ o.low refl refl refl
-      go Left = keep_words g w.processes nobody law.size p _ o.low refl refl refl
+      go phase = keep_words g w.processes nobody law.size p _ o.low refl refl refl
 
   -- leaving is one write too
   pub leave_stores : words_of (world_with w p (process_after (StoreNext 0) (process w p) (record_after_leave (process w p).local)) (LeftEvent p ∷ [])).processes ≡ words_after g p (StoreNext 0) (words_of w.processes)
@@ -190,13 +187,9 @@ module _ (g : Givens) (w : World) (law : IsLawful g w) (p : ℕ) (o : IsWorker g
       r = (process w p).local
 
       go : (phase : Phase) → r.phase ≡ phase → loaded_value w (want_in r r.phase) ≡ get_or (words_of w.processes) (loaded_word g (want_in r r.phase)) 0
-      go (Announcing j) is = subst (λ x. loaded_value w (want_in r x) ≡ get_or (words_of w.processes) (loaded_word g (want_in r x)) 0) (sym is) refl
       go (Trying j q) is = turn_loads_next j q is ∙ sym (ap (λ x. get_or (words_of w.processes) (loaded_word g (want_in r x)) 0) is)
       go (Reading j q) is = turn_loads_done j q is ∙ sym (ap (λ x. get_or (words_of w.processes) (loaded_word g (want_in r x)) 0) is)
-      go (Claiming j) is = subst (λ x. loaded_value w (want_in r x) ≡ get_or (words_of w.processes) (loaded_word g (want_in r x)) 0) (sym is) refl
-      go (Holding j) is = subst (λ x. loaded_value w (want_in r x) ≡ get_or (words_of w.processes) (loaded_word g (want_in r x)) 0) (sym is) refl
-      go Over is = subst (λ x. loaded_value w (want_in r x) ≡ get_or (words_of w.processes) (loaded_word g (want_in r x)) 0) (sym is) refl
-      go Left is = subst (λ x. loaded_value w (want_in r x) ≡ get_or (words_of w.processes) (loaded_word g (want_in r x)) 0) (sym is) refl
+      go phase is = subst (λ x. loaded_value w (want_in r x) ≡ get_or (words_of w.processes) (loaded_word g (want_in r x)) 0) (sym is) refl
 
 pub turn_writes : (g : Givens) (w : World) (law : IsLawful g w) (p : ℕ) → (process w p).gone ≡ false → words_of (world_after_turn g w p).processes ≡ words_after g p (want (process w p).local) (words_of w.processes)
 turn_writes g w law p here = ap (λ b. words_of (if b then w else world_after_step g w p (process w p)).processes) here ∙ turn_stores g w law p (here_is_worker g w p law.size here)

@@ -1,5 +1,5 @@
 -- Worked schedules, first choices, judged lists, ranks and places of words: the definitions give these values.
-use Rattle.std.proofs.Common.{◌≡◌, ℕ, List, [], ◌∷◌, ◌++◌, refl, replicate, Bool, true, false, not, ◌&&◌, length}
+use Rattle.std.proofs.Common.{◌≡◌, ℕ, List, [], ◌∷◌, ◌++◌, refl, replicate, Bool, true, false, not, ◌&&◌, length, map}
 use Rattle.std.specs.Prelude.{Some, None}
 use Rattle.amo_sets.specs.Sets.{has}
 use Rattle.amo_sets.specs.Rank.{count, number_of_rank}
@@ -8,7 +8,7 @@ use Rattle.amo_kk.specs.Givens.{bound}
 use Rattle.amo_kk.specs.Object.{first_object}
 use Rattle.amo_kk.specs.Run.{object_after_all, first_bad}
 use Rattle.amo_kk.specs.Choice.{first_record}
-use Rattle.amo_kk.specs.World.{process, world_after_halt, world_after_leave, world_after_moves, opening_world}
+use Rattle.amo_kk.specs.World.{process, world_after_halt, world_after_leave, opening_world, world_of}
 use Rattle.amo_kk.specs.Words.{words_of, done_word}
 use Rattle.amo_kk.specs.Answer.{turn_shown, leave_answer}
 use Rattle.amo_kk.specs.Alone.{claims_or_ends, world_after_turns, want_at, value_at, reads_announcement, reads_zero, reads_entry, turns_that, attempt_at, turns_of_attempt}
@@ -40,9 +40,6 @@ five_jobs = givens 5 2 2 refl
 abbrev turns : ℕ → ℕ → List Move
 turns p k = replicate k (Turn p)
 
-abbrev world_of : Givens → List Move → World
-world_of g ms = world_after_moves g (opening_world g) ms
-
 abbrev history_of : Givens → List Move → List Event
 history_of g ms = (world_of g ms).history
 
@@ -54,6 +51,11 @@ unclaimed_of g ms = (object_after_all (first_object g) (history_of g ms)).unclai
 
 abbrev performed_of : Givens → List Move → ℕ
 performed_of g ms = length (object_after_all (first_object g) (history_of g ms)).performed
+
+-- what moves come to: their history, the unclaimed jobs, how many are performed, and how many steps workers 1 and 2 have had
+abbrev ComesTo : Givens → List Move → List Event → List ℕ → (performed one two : ℕ) → Type 0
+ComesTo g ms history unclaimed performed one two =
+    (history_of g ms ≡ history) × (unclaimed_of g ms ≡ unclaimed) × (performed_of g ms ≡ performed) × (steps_of g ms 1 ≡ one) × (steps_of g ms 2 ≡ two)
 
 -- Without jobs, and with a threshold above the number of jobs, all have ended at birth.
 
@@ -77,119 +79,62 @@ high_threshold_unclaimed = refl
 abbrev rotation : List Move
 rotation = Turn 1 ∷ Turn 2 ∷ Turn 1 ∷ Turn 2 ∷ Turn 1 ∷ Turn 2 ∷ Turn 1 ∷ Turn 2 ∷ Turn 1 ∷ Turn 2 ∷ []
 
-rotation_history : history_of two_jobs rotation ≡ Claimed 1 1 ∷ Claimed 2 2 ∷ Done 1 1 ∷ Ended 1 ∷ Done 2 2 ∷ Ended 2 ∷ []
-rotation_history = refl
-
-rotation_performed : performed_of two_jobs rotation ≡ 2
-rotation_performed = refl
-
-rotation_turns_of_1 : steps_of two_jobs rotation 1 ≡ 5
-rotation_turns_of_1 = refl
-
-rotation_turns_of_2 : steps_of two_jobs rotation 2 ≡ 5
-rotation_turns_of_2 = refl
+rotation_comes : ComesTo two_jobs rotation (Claimed 1 1 ∷ Claimed 2 2 ∷ Done 1 1 ∷ Ended 1 ∷ Done 2 2 ∷ Ended 2 ∷ []) [] 2 5 5
+rotation_comes = (refl, refl, refl, refl, refl)
 
 -- Both announce job 2, and each sees it.
 
 abbrev collision : List Move
 collision = turns 1 5 ++ Turn 1 ∷ Turn 2 ∷ turns 1 2 ++ turns 2 3
 
-collision_history : history_of three_jobs collision ≡ Claimed 1 1 ∷ Done 1 1 ∷ Ended 1 ∷ Ended 2 ∷ []
-collision_history = refl
-
-collision_performed : performed_of three_jobs collision ≡ 1
-collision_performed = refl
+collision_comes : ComesTo three_jobs collision (Claimed 1 1 ∷ Done 1 1 ∷ Ended 1 ∷ Ended 2 ∷ []) (2 ∷ 3 ∷ []) 1 8 4
+collision_comes = (refl, refl, refl, refl, refl)
 
 collision_bound : bound three_jobs ≡ 1
 collision_bound = refl
-
-collision_turns_of_1 : steps_of three_jobs collision 1 ≡ 8
-collision_turns_of_1 = refl
-
-collision_turns_of_2 : steps_of three_jobs collision 2 ≡ 4
-collision_turns_of_2 = refl
-
-collision_unclaimed : unclaimed_of three_jobs collision ≡ 2 ∷ 3 ∷ []
-collision_unclaimed = refl
 
 -- Worker 2 is stopped after it has announced job 3.
 
 abbrev stop : List Move
 stop = Turn 2 ∷ Halt 2 ∷ turns 1 15
 
-stop_history : history_of five_jobs stop ≡ Halted 2 ∷ Claimed 1 1 ∷ Done 1 1 ∷ Claimed 1 2 ∷ Done 1 2 ∷ Claimed 1 4 ∷ Done 1 4 ∷ Ended 1 ∷ []
-stop_history = refl
-
-stop_performed : performed_of five_jobs stop ≡ 3
-stop_performed = refl
+stop_comes : ComesTo five_jobs stop (Halted 2 ∷ Claimed 1 1 ∷ Done 1 1 ∷ Claimed 1 2 ∷ Done 1 2 ∷ Claimed 1 4 ∷ Done 1 4 ∷ Ended 1 ∷ []) (3 ∷ 5 ∷ []) 3 15 1
+stop_comes = (refl, refl, refl, refl, refl)
 
 stop_bound : bound five_jobs ≡ 3
 stop_bound = refl
-
-stop_unclaimed : unclaimed_of five_jobs stop ≡ 3 ∷ 5 ∷ []
-stop_unclaimed = refl
 
 -- Worker 2 comes late, and ends with nothing.
 
 abbrev late : List Move
 late = turns 1 16 ++ turns 2 6 ++ turns 1 4
 
-late_history : history_of five_jobs late ≡ Claimed 1 1 ∷ Done 1 1 ∷ Claimed 1 2 ∷ Done 1 2 ∷ Claimed 1 3 ∷ Done 1 3 ∷ Ended 2 ∷ Claimed 1 4 ∷ Done 1 4 ∷ Ended 1 ∷ []
-late_history = refl
-
-late_performed : performed_of five_jobs late ≡ 4
-late_performed = refl
-
-late_turns_of_1 : steps_of five_jobs late 1 ≡ 20
-late_turns_of_1 = refl
-
-late_turns_of_2 : steps_of five_jobs late 2 ≡ 6
-late_turns_of_2 = refl
+late_comes : ComesTo five_jobs late (Claimed 1 1 ∷ Done 1 1 ∷ Claimed 1 2 ∷ Done 1 2 ∷ Claimed 1 3 ∷ Done 1 3 ∷ Ended 2 ∷ Claimed 1 4 ∷ Done 1 4 ∷ Ended 1 ∷ []) (5 ∷ []) 4 20 6
+late_comes = (refl, refl, refl, refl, refl)
 
 -- A worker that looks at announcements alone would claim 3 again in the last move.
 
 abbrev known_done : List Move
 known_done = turns 1 13 ++ Turn 2 ∷ turns 1 3 ++ turns 2 6
 
-known_done_history : history_of five_jobs known_done ≡ Claimed 1 1 ∷ Done 1 1 ∷ Claimed 1 2 ∷ Done 1 2 ∷ Claimed 1 3 ∷ Done 1 3 ∷ Ended 2 ∷ []
-known_done_history = refl
-
-known_done_turns_of_1 : steps_of five_jobs known_done 1 ≡ 16
-known_done_turns_of_1 = refl
-
-known_done_turns_of_2 : steps_of five_jobs known_done 2 ≡ 6
-known_done_turns_of_2 = refl
+known_done_comes : ComesTo five_jobs known_done (Claimed 1 1 ∷ Done 1 1 ∷ Claimed 1 2 ∷ Done 1 2 ∷ Claimed 1 3 ∷ Done 1 3 ∷ Ended 2 ∷ []) (4 ∷ 5 ∷ []) 3 16 6
+known_done_comes = (refl, refl, refl, refl, refl)
 
 -- A worker 2 that reads rows before announcements would claim 3 again in its sixth turn.
 
 abbrev rows_last : List Move
 rows_last = turns 1 13 ++ turns 2 4 ++ turns 1 3 ++ turns 2 7 ++ turns 1 5
 
-rows_last_history : history_of five_jobs rows_last ≡ Claimed 1 1 ∷ Done 1 1 ∷ Claimed 1 2 ∷ Done 1 2 ∷ Claimed 1 3 ∷ Done 1 3 ∷ Claimed 2 5 ∷ Done 2 5 ∷ Ended 2 ∷ Claimed 1 4 ∷ Done 1 4 ∷ Ended 1 ∷ []
-rows_last_history = refl
-
-rows_last_turns_of_1 : steps_of five_jobs rows_last 1 ≡ 21
-rows_last_turns_of_1 = refl
-
-rows_last_turns_of_2 : steps_of five_jobs rows_last 2 ≡ 11
-rows_last_turns_of_2 = refl
-
-rows_last_performed : performed_of five_jobs rows_last ≡ 5
-rows_last_performed = refl
+rows_last_comes : ComesTo five_jobs rows_last (Claimed 1 1 ∷ Done 1 1 ∷ Claimed 1 2 ∷ Done 1 2 ∷ Claimed 1 3 ∷ Done 1 3 ∷ Claimed 2 5 ∷ Done 2 5 ∷ Ended 2 ∷ Claimed 1 4 ∷ Done 1 4 ∷ Ended 1 ∷ []) [] 5 21 11
+rows_last_comes = (refl, refl, refl, refl, refl)
 
 -- Worker 1 is stopped with job 1 in its hand.
 
 abbrev in_hand : List Move
 in_hand = turns 1 4 ++ Halt 1 ∷ turns 2 15
 
-in_hand_history : history_of five_jobs in_hand ≡ Claimed 1 1 ∷ Halted 1 ∷ Claimed 2 3 ∷ Done 2 3 ∷ Claimed 2 4 ∷ Done 2 4 ∷ Claimed 2 5 ∷ Done 2 5 ∷ Ended 2 ∷ []
-in_hand_history = refl
-
-in_hand_performed : performed_of five_jobs in_hand ≡ 3
-in_hand_performed = refl
-
-in_hand_unclaimed : unclaimed_of five_jobs in_hand ≡ 2 ∷ []
-in_hand_unclaimed = refl
+in_hand_comes : ComesTo five_jobs in_hand (Claimed 1 1 ∷ Halted 1 ∷ Claimed 2 3 ∷ Done 2 3 ∷ Claimed 2 4 ∷ Done 2 4 ∷ Claimed 2 5 ∷ Done 2 5 ∷ Ended 2 ∷ []) (2 ∷ []) 3 4 15
+in_hand_comes = (refl, refl, refl, refl, refl)
 
 -- Whoever is stopped stays stopped.
 
@@ -201,20 +146,8 @@ stopped_twice = refl
 abbrev leaving : List Move
 leaving = Turn 2 ∷ Leave 2 ∷ turns 1 20
 
-leaving_history : history_of five_jobs leaving ≡ Left 2 ∷ Claimed 1 1 ∷ Done 1 1 ∷ Claimed 1 2 ∷ Done 1 2 ∷ Claimed 1 3 ∷ Done 1 3 ∷ Claimed 1 4 ∷ Done 1 4 ∷ Ended 1 ∷ []
-leaving_history = refl
-
-leaving_turns_of_1 : steps_of five_jobs leaving 1 ≡ 20
-leaving_turns_of_1 = refl
-
-leaving_turns_of_2 : steps_of five_jobs leaving 2 ≡ 2
-leaving_turns_of_2 = refl
-
-leaving_performed : performed_of five_jobs leaving ≡ 4
-leaving_performed = refl
-
-leaving_unclaimed : unclaimed_of five_jobs leaving ≡ 5 ∷ []
-leaving_unclaimed = refl
+leaving_comes : ComesTo five_jobs leaving (Left 2 ∷ Claimed 1 1 ∷ Done 1 1 ∷ Claimed 1 2 ∷ Done 1 2 ∷ Claimed 1 3 ∷ Done 1 3 ∷ Claimed 1 4 ∷ Done 1 4 ∷ Ended 1 ∷ []) (5 ∷ []) 4 20 2
+leaving_comes = (refl, refl, refl, refl, refl)
 
 left_twice : history_of five_jobs (Leave 1 ∷ Leave 1 ∷ Turn 1 ∷ Halt 1 ∷ []) ≡ Left 1 ∷ []
 left_twice = refl
@@ -275,26 +208,11 @@ beta_high = refl
 abbrev first_phase : Givens → ℕ → Phase
 first_phase g p = (first_record g p).phase
 
-spread_1 : first_phase (givens 100 4 4 refl) 1 ≡ Announcing 1
-spread_1 = refl
+spread : map (first_phase (givens 100 4 4 refl)) (1 ∷ 2 ∷ 3 ∷ 4 ∷ []) ≡ Announcing 1 ∷ Announcing 25 ∷ Announcing 49 ∷ Announcing 73 ∷ []
+spread = refl
 
-spread_2 : first_phase (givens 100 4 4 refl) 2 ≡ Announcing 25
-spread_2 = refl
-
-spread_3 : first_phase (givens 100 4 4 refl) 3 ≡ Announcing 49
-spread_3 = refl
-
-spread_4 : first_phase (givens 100 4 4 refl) 4 ≡ Announcing 73
-spread_4 = refl
-
-crowded_1 : first_phase (givens 4 3 3 refl) 1 ≡ Announcing 1
-crowded_1 = refl
-
-crowded_2 : first_phase (givens 4 3 3 refl) 2 ≡ Announcing 2
-crowded_2 = refl
-
-crowded_3 : first_phase (givens 4 3 3 refl) 3 ≡ Announcing 3
-crowded_3 = refl
+crowded : map (first_phase (givens 4 3 3 refl)) (1 ∷ 2 ∷ 3 ∷ []) ≡ Announcing 1 ∷ Announcing 2 ∷ Announcing 3 ∷ []
+crowded = refl
 
 -- Lists that are judged: 0, or the place of the first event that is no step.
 
@@ -388,20 +306,8 @@ passes k = has (2 ∷ 4 ∷ 5 ∷ 7 ∷ []) k && not (has (4 ∷ 9 ∷ []) k)
 ranked_count : count 9 passes ≡ 3
 ranked_count = refl
 
-rank_0 : number_of_rank 9 passes 0 ≡ 0
-rank_0 = refl
-
-rank_1 : number_of_rank 9 passes 1 ≡ 2
-rank_1 = refl
-
-rank_2 : number_of_rank 9 passes 2 ≡ 5
-rank_2 = refl
-
-rank_3 : number_of_rank 9 passes 3 ≡ 7
-rank_3 = refl
-
-rank_4 : number_of_rank 9 passes 4 ≡ 0
-rank_4 = refl
+ranks : map (number_of_rank 9 passes) (0 ∷ 1 ∷ 2 ∷ 3 ∷ 4 ∷ []) ≡ 0 ∷ 2 ∷ 5 ∷ 7 ∷ 0 ∷ []
+ranks = refl
 
 -- Places of words: the last of the largest table, and the row of worker 2 in a small one.
 

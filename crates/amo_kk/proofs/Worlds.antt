@@ -9,27 +9,24 @@ use Rattle.amo_kk.specs.Givens.{AreGivens, IsWorker}
 use Rattle.amo_kk.specs.Record.{empty_record, wants_nothing, can_leave, jobs_in_hand, IsPast}
 use Rattle.amo_kk.specs.Choice.{chosen_job, first_record}
 use Rattle.amo_kk.specs.Step.{want, record_after, record_after_leave}
-use Rattle.amo_kk.specs.World.{nobody, process, loaded_value, process_after, world_with, world_after_step, world_after_turn, world_after_halt, world_after_leave, world_after_move, world_after_moves, first_process, opening_world}
-use Rattle.amo_kk.specs.Lawful.{Announces, FitsPhase, IsSoundProcess, IsSoundTowards, IsLawful}
+use Rattle.amo_kk.specs.World.{nobody, process, loaded_value, process_after, world_with, world_after_step, world_after_turn, world_after_halt, world_after_leave, world_after_move, world_after_moves, first_process, opening_world, world_of}
+use Rattle.amo_kk.specs.Lawful.{Announces, IsSoundRecord, IsSoundProcess, IsSoundTowards, IsLawful}
 use Rattle.amo_kk.specs.declared.givens.Givens.{Givens}
 use Rattle.amo_kk.specs.declared.phase.Phase.{Phase}
-use Rattle.amo_kk.specs.declared.phase.Phase.TheVariants.{Announcing, Trying, Reading, Claiming, Holding, Over, Left}
+use Rattle.amo_kk.specs.declared.phase.Phase.TheVariants.{Announcing, Holding, Over}
 use Rattle.amo_kk.specs.declared.model.Record.{Record}
 use Rattle.amo_kk.specs.declared.phase.Want.{Want}
-use Rattle.amo_kk.specs.declared.phase.Want.TheVariants.{StoreNext, LoadNext, LoadDone, StoreClaim, StoreDone, Nothing}
+use Rattle.amo_kk.specs.declared.phase.Want.TheVariants.{StoreNext, LoadNext, LoadDone}
 use Rattle.amo_kk.specs.declared.model.Process.{Process}
 use Rattle.amo_kk.specs.declared.model.World.{World}
 use Rattle.amo_kk.specs.declared.event.Event.TheVariants.{Halted, Left as LeftEvent}
 use Rattle.amo_kk.specs.declared.event.Move.{Move}
 use Rattle.amo_kk.specs.declared.event.Move.TheVariants.{Turn, Halt, Leave}
 use Rattle.amo_sets.proofs.Numbers.{numbered-put_same, numbered-put_other, length-put, length-table}
-use Rattle.amo_sets.proofs.Tables.{get_or-table, numbered-table}
-use Rattle.amo_kk.proofs.Choice.{chosen_is_job, choice_cases}
+use Rattle.amo_sets.proofs.Tables.{numbered-table, numbered-table_same}
+use Rattle.amo_kk.proofs.Choice.{choice_cases}
+use Rattle.amo_kk.proofs.Fit.{first_fit}
 use Rattle.amo_kk.proofs.Kept.{IsKept, Hears, turns, stops, leaves, lawful_put}
-
-pub numbered-table_same : {X : Type 0} (d : X) (n p : ℕ) → numbered d (table n (λ _. d)) p ≡ d
-numbered-table_same d n zero = refl
-numbered-table_same d n (suc k) = ⊎_elim (λ (l : k < n). get_or-table d (λ _. d) n k l) (λ (l : n ≤ k). get_or_past (table n (λ _. d)) k d (let e = length-table (λ _. d) n in omega arith)) (cases_lt k n)
 
 zeros : (n k : ℕ) → get_or {A = ℕ} (replicate n 0) k 0 ≡ 0
 zeros n k = ⊎_elim (λ (l : k < n). get_or-replicate n k 0 0 l) (λ (l : n ≤ k). get_or_past (replicate n 0) k 0 (let e : length (replicate {A = ℕ} n 0) ≡ n = length-replicate n 0 in omega arith)) (cases_lt k n)
@@ -43,12 +40,9 @@ here_is_worker g w (suc k) size h = ⊎_elim
     (cases_lt k (length w.processes))
 
 pub hears : (w : World) (x : Want) → Hears (process w) x (loaded_value w x)
-hears w (StoreNext j) = tt
 hears w (LoadNext q) = refl
 hears w (LoadDone q k) = refl
-hears w (StoreClaim c j) = tt
-hears w (StoreDone k j) = tt
-hears w Nothing = tt
+hears w want = tt
 
 -- a process that takes the place of another
 pub put_here : (g : Givens) (w : World) (p : ℕ) (a : Process) → length w.processes ≡ g.workers → IsWorker g p → numbered nobody (put w.processes p a) p ≡ a
@@ -88,13 +82,8 @@ halt_lawful g w p law = go (process w p).gone refl
 
 -- who may leave has nothing in its hand
 pub leaves_empty : (phase : Phase) → can_leave phase ≡ true → jobs_in_hand phase ≡ []
-leaves_empty (Announcing j) h = refl
-leaves_empty (Trying j q) h = refl
-leaves_empty (Reading j q) h = refl
-leaves_empty (Claiming j) h = refl
 leaves_empty (Holding j) h = absurd (true≢false (sym h))
-leaves_empty Over h = refl
-leaves_empty Left h = refl
+leaves_empty phase h = refl
 
 pub leave_lawful : (g : Givens) (w : World) (p : ℕ) → IsLawful g w → IsLawful g (world_after_leave w p)
 leave_lawful g w p law = go (process w p).gone (can_leave (process w p).local.phase) refl refl
@@ -124,26 +113,16 @@ record IsFirst (g : Givens) (p : ℕ) (r : Record) : Type 0 where
   nothing : (j : ℕ) → has r.known j ≡ false
 
 first_is : (g : Givens) (p : ℕ) → AreGivens g → IsWorker g p → IsFirst g p (first_record g p)
-first_is g p ok o = choice_cases g p (empty_record g) (λ r. IsFirst g p r) (λ few. one Over refl tt few (λ q j c. c)) (λ many. one (Announcing (chosen_job g p (empty_record g))) refl tt (chosen_is_job g p (empty_record g) o ok.beta_low ok.some many, refl) (λ q j c. c))
+first_is g p ok o = choice_cases g p (empty_record g) (λ r. IsSoundRecord g p r → IsFirst g p r) (λ few. one Over tt (λ q j c. c)) (λ many. one (Announcing (chosen_job g p (empty_record g))) tt (λ q j c. c)) (first_fit g ok p o)
   where
     zero_front : (q : ℕ) → numbered {X = ℕ} 0 (table g.workers (λ _. 0)) q ≡ 0
     zero_front q = numbered-table_same 0 g.workers q
 
-    one : (phase : Phase) → jobs_in_hand phase ≡ [] → Announces phase 0 → FitsPhase g p (record (empty_record g) { phase = phase }) phase → ((q j : ℕ) → IsPast phase q j → ⊥) → IsFirst g p (record (empty_record g) { phase = phase })
-    one phase empty announces stands fresh =
+    one : (phase : Phase) → Announces phase 0 → ((q j : ℕ) → IsPast phase q j → ⊥) → IsSoundRecord g p (record (empty_record g) { phase = phase }) → IsFirst g p (record (empty_record g) { phase = phase })
+    one phase announces fresh sound =
         record {
           sound = record {
-            local = record {
-              claims = sym empty;
-              distinct = tt;
-              jobs = λ j h. absurd (true≢false (sym h));
-              own = λ j h. h;
-              tried_few = ok.some;
-              tried_jobs = λ j h. absurd (true≢false (sym h));
-              fronts = length-table (λ _. 0) g.workers;
-              front = λ q. let z = zero_front q in omega arith;
-              stands = stands;
-            };
+            local = sound;
             announces = announces;
             next = omega arith;
             claim = refl;
@@ -174,5 +153,5 @@ opening_lawful g ok =
     at : (p : ℕ) → IsWorker g p → process (opening_world g) p ≡ first_process g p
     at p o = numbered-table nobody (first_process g) g.workers p o.low o.high
 
-pub always_lawful : (g : Givens) (ms : List Move) → AreGivens g → IsLawful g (world_after_moves g (opening_world g) ms)
+pub always_lawful : (g : Givens) (ms : List Move) → AreGivens g → IsLawful g (world_of g ms)
 always_lawful g ms ok = worlds_lawful g (opening_world g) ms ok (opening_lawful g ok)

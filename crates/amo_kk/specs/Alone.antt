@@ -5,9 +5,9 @@ use Rattle.amo_kk.specs.Step.{want, is_load, record_after}
 use Rattle.amo_kk.specs.World.{process, loaded_value, world_after_moves}
 use Rattle.amo_kk.specs.declared.givens.Givens.{Givens}
 use Rattle.amo_kk.specs.declared.phase.Phase.{Phase}
-use Rattle.amo_kk.specs.declared.phase.Phase.TheVariants.{Announcing, Trying, Reading, Claiming, Holding, Over, Left}
+use Rattle.amo_kk.specs.declared.phase.Phase.TheVariants.{Trying, Reading, Claiming}
 use Rattle.amo_kk.specs.declared.phase.Want.{Want}
-use Rattle.amo_kk.specs.declared.phase.Want.TheVariants.{StoreNext, LoadNext, LoadDone, StoreClaim, StoreDone, Nothing}
+use Rattle.amo_kk.specs.declared.phase.Want.TheVariants.{StoreNext, LoadNext, LoadDone}
 use Rattle.amo_kk.specs.declared.event.Move.TheVariants.{Turn}
 use Rattle.amo_kk.specs.declared.model.World.{World}
 
@@ -17,13 +17,8 @@ lone_bound g = 6 * g.workers + g.jobs
 
 -- the next event of a worker in this phase is a claim
 abbrev pub is_claiming : Phase → Bool
-is_claiming (Announcing j) = false
-is_claiming (Trying j q) = false
-is_claiming (Reading j q) = false
 is_claiming (Claiming j) = true
-is_claiming (Holding j) = false
-is_claiming Over = false
-is_claiming Left = false
+is_claiming phase = false
 
 -- the next turn of p claims a job or ends p
 abbrev pub claims_or_ends : Givens → World → ℕ → Bool
@@ -51,38 +46,22 @@ value_at g w p k = loaded_value (world_after_turns g w p k) (want_at g w p k)
 -- an announcement is stored, which begins an attempt
 abbrev pub stores_announcement : Want → Bool
 stores_announcement (StoreNext j) = true
-stores_announcement (LoadNext q) = false
-stores_announcement (LoadDone q k) = false
-stores_announcement (StoreClaim c j) = false
-stores_announcement (StoreDone k j) = false
-stores_announcement Nothing = false
+stores_announcement want = false
 
 -- an announcement is read
 abbrev pub reads_announcement : Want → Bool
-reads_announcement (StoreNext j) = false
 reads_announcement (LoadNext q) = true
-reads_announcement (LoadDone q k) = false
-reads_announcement (StoreClaim c j) = false
-reads_announcement (StoreDone k j) = false
-reads_announcement Nothing = false
+reads_announcement want = false
 
 -- the value v is read in a row, and is the 0 after its entries
 abbrev pub reads_zero : Want → ℕ → Bool
-reads_zero (StoreNext j) v = false
-reads_zero (LoadNext q) v = false
 reads_zero (LoadDone q k) v = v == 0
-reads_zero (StoreClaim c j) v = false
-reads_zero (StoreDone k j) v = false
-reads_zero Nothing v = false
+reads_zero want v = false
 
 -- the value v is read in the row of q as its entry at place e, so it isn't 0
 abbrev pub reads_entry : ℕ → ℕ → Want → ℕ → Bool
-reads_entry q e (StoreNext j) v = false
-reads_entry q e (LoadNext i) v = false
 reads_entry q e (LoadDone i k) v = (i == q) && ((k == e) && not (v == 0))
-reads_entry q e (StoreClaim c j) v = false
-reads_entry q e (StoreDone k j) v = false
-reads_entry q e Nothing v = false
+reads_entry q e want v = false
 
 -- how many of the turns 0..i pass the test
 abbrev pub turns_that : (ℕ → Bool) → ℕ → ℕ
@@ -91,13 +70,10 @@ turns_that test (suc i) = turns_that test i + (if test (suc i) then 1 else 0)
 
 -- the attempts that go on in this phase: one where its announcement is stored and its job isn't claimed yet
 abbrev pub attempts_going_on : Phase → ℕ
-attempts_going_on (Announcing j) = 0
 attempts_going_on (Trying j q) = 1
 attempts_going_on (Reading j q) = 1
 attempts_going_on (Claiming j) = 1
-attempts_going_on (Holding j) = 0
-attempts_going_on Over = 0
-attempts_going_on Left = 0
+attempts_going_on phase = 0
 
 -- The number of the attempt that the turn of p after k others is of: 1 where it goes on from w, or else is the first
 -- that begins, and one more with each announcement that is stored. A turn with number 0 is of none.

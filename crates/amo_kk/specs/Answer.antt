@@ -4,7 +4,7 @@ use Rattle.amo_kk.specs.Step.{want, record_after, shown}
 use Rattle.amo_kk.specs.World.{process, loaded_value}
 use Rattle.amo_kk.specs.declared.givens.Givens.{Givens}
 use Rattle.amo_kk.specs.declared.phase.Phase.{Phase}
-use Rattle.amo_kk.specs.declared.phase.Phase.TheVariants.{Announcing, Trying, Reading, Claiming, Holding, Over, Left as LeftPhase}
+use Rattle.amo_kk.specs.declared.phase.Phase.TheVariants.{Holding, Over, Left as LeftPhase}
 use Rattle.amo_kk.specs.declared.event.Shown.{Shown}
 use Rattle.amo_kk.specs.declared.event.Leaving.{Leaving}
 use Rattle.amo_kk.specs.declared.event.Leaving.TheVariants.{Left as LeftNow, InHand, Gone}
@@ -16,13 +16,10 @@ turn_shown g w p = let r = (process w p).local in shown r.phase (record_after g 
 
 -- what becomes of a worker in this phase, which isn't gone, if it is asked to leave
 abbrev pub leaving : Phase → Leaving
-leaving (Announcing j) = LeftNow
-leaving (Trying j q) = LeftNow
-leaving (Reading j q) = LeftNow
-leaving (Claiming j) = LeftNow
 leaving (Holding j) = InHand j
 leaving Over = Gone
 leaving LeftPhase = Gone
+leaving phase = LeftNow
 
 -- what p answers if it is asked to leave: Gone where p is gone, whatever it has in its hand
 abbrev pub leave_answer : World → ℕ → Leaving

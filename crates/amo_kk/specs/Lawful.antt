@@ -19,13 +19,11 @@ use Rattle.amo_kk.specs.declared.model.Object.{Object}
 
 -- the announcement is the job of the attempt, once it was stored
 abbrev pub Announces : Phase → ℕ → Type 0
-Announces (Announcing j) next = ⊤
 Announces (Trying j q) next = next ≡ j
 Announces (Reading j q) next = next ≡ j
 Announces (Claiming j) next = next ≡ j
 Announces (Holding j) next = next ≡ j
-Announces Over next = ⊤
-Announces Left next = ⊤
+Announces phase next = ⊤
 
 -- what the phase of worker p says of its job, of the other worker, and of the sets of the record
 abbrev pub FitsPhase : Givens → ℕ → Record → Phase → Type 0

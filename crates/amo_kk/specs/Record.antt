@@ -4,7 +4,7 @@ use Rattle.amo_sets.specs.Lists.{numbered, table}
 use Rattle.amo_sets.specs.Sets.{has}
 use Rattle.amo_kk.specs.declared.givens.Givens.{Givens}
 use Rattle.amo_kk.specs.declared.phase.Phase.{Phase}
-use Rattle.amo_kk.specs.declared.phase.Phase.TheVariants.{Announcing, Trying, Reading, Claiming, Holding, Over, Left}
+use Rattle.amo_kk.specs.declared.phase.Phase.TheVariants.{Trying, Reading, Claiming, Holding, Over, Left}
 use Rattle.amo_kk.specs.declared.model.Record.{Record}
 
 -- the record with nothing in it; its phase is still to be chosen
@@ -21,43 +21,26 @@ is_open r j = not (has r.known j) && not (has r.tried j)
 
 -- the worker has ended by its own choice
 abbrev pub is_over : Phase → Bool
-is_over (Announcing j) = false
-is_over (Trying j q) = false
-is_over (Reading j q) = false
-is_over (Claiming j) = false
-is_over (Holding j) = false
 is_over Over = true
-is_over Left = false
+is_over phase = false
 
 -- the worker takes no step of its own any more: it has ended, or left
 abbrev pub wants_nothing : Phase → Bool
-wants_nothing (Announcing j) = false
-wants_nothing (Trying j q) = false
-wants_nothing (Reading j q) = false
-wants_nothing (Claiming j) = false
-wants_nothing (Holding j) = false
 wants_nothing Over = true
 wants_nothing Left = true
+wants_nothing phase = false
 
 -- the worker may leave: it goes on, and has nothing in its hand
 abbrev pub can_leave : Phase → Bool
-can_leave (Announcing j) = true
-can_leave (Trying j q) = true
-can_leave (Reading j q) = true
-can_leave (Claiming j) = true
 can_leave (Holding j) = false
 can_leave Over = false
 can_leave Left = false
+can_leave phase = true
 
 -- the job in its hand, as a list of one job or none
 abbrev pub jobs_in_hand : Phase → List ℕ
-jobs_in_hand (Announcing j) = []
-jobs_in_hand (Trying j q) = []
-jobs_in_hand (Reading j q) = []
-jobs_in_hand (Claiming j) = []
 jobs_in_hand (Holding j) = j ∷ []
-jobs_in_hand Over = []
-jobs_in_hand Left = []
+jobs_in_hand phase = []
 
 -- the same, or 0 where there is none
 abbrev pub job_in_hand : Phase → ℕ
@@ -65,23 +48,18 @@ job_in_hand phase = numbered 0 (jobs_in_hand phase) 1
 
 -- in an attempt on j, the announcement of q was read
 abbrev pub IsPast : Phase → ℕ → ℕ → Type 0
-IsPast (Announcing i) q j = ⊥
 IsPast (Trying i next) q j = (i ≡ j) × (q < next)
 IsPast (Reading i next) q j = i ≡ j
 IsPast (Claiming i) q j = i ≡ j
 IsPast (Holding i) q j = i ≡ j
-IsPast Over q j = ⊥
-IsPast Left q j = ⊥
+IsPast phase q j = ⊥
 
 -- in this attempt the row of q was read up to a zero
 abbrev pub IsThrough : Phase → ℕ → Type 0
-IsThrough (Announcing i) q = ⊥
-IsThrough (Trying i next) q = ⊥
 IsThrough (Reading i next) q = q < next
 IsThrough (Claiming i) q = ⊤
 IsThrough (Holding i) q = ⊤
-IsThrough Over q = ⊥
-IsThrough Left q = ⊥
+IsThrough phase q = ⊥
 
 -- clear of q on j: past q in an attempt on j, and j was not seen announced
 abbrev pub IsClear : Record → ℕ → ℕ → Type 0

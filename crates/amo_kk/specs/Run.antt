@@ -3,7 +3,7 @@ use Rattle.std.specs.Prelude.{◌≡◌, ℕ, suc, ◌+◌, Bool, true, false, �
 use Rattle.amo_kk.specs.Object.{is_step, object_after}
 use Rattle.amo_kk.specs.declared.givens.Givens.{Givens}
 use Rattle.amo_kk.specs.declared.event.Event.{Event}
-use Rattle.amo_kk.specs.declared.event.Event.TheVariants.{Claimed, Done, Ended, Halted, Left}
+use Rattle.amo_kk.specs.declared.event.Event.TheVariants.{Claimed, Done}
 use Rattle.amo_kk.specs.declared.model.Object.{Object}
 
 -- the state after all these events, in their order
@@ -38,25 +38,16 @@ pub record IsFirstBad (g : Givens) (s : Object) (events : List Event) (i : ℕ) 
 abbrev pub claimed_jobs : List Event → List ℕ
 claimed_jobs [] = []
 claimed_jobs (Claimed p j ∷ es) = j ∷ claimed_jobs es
-claimed_jobs (Done p j ∷ es) = claimed_jobs es
-claimed_jobs (Ended p ∷ es) = claimed_jobs es
-claimed_jobs (Halted p ∷ es) = claimed_jobs es
-claimed_jobs (Left p ∷ es) = claimed_jobs es
+claimed_jobs (e ∷ es) = claimed_jobs es
 
 -- the jobs that were done, in their order
 abbrev pub done_jobs : List Event → List ℕ
 done_jobs [] = []
-done_jobs (Claimed p j ∷ es) = done_jobs es
 done_jobs (Done p j ∷ es) = j ∷ done_jobs es
-done_jobs (Ended p ∷ es) = done_jobs es
-done_jobs (Halted p ∷ es) = done_jobs es
-done_jobs (Left p ∷ es) = done_jobs es
+done_jobs (e ∷ es) = done_jobs es
 
 -- whether worker p has claimed j
 abbrev pub has_claimed : List Event → ℕ → ℕ → Bool
 has_claimed [] p j = false
 has_claimed (Claimed q i ∷ es) p j = ((q == p) && (i == j)) || has_claimed es p j
-has_claimed (Done q i ∷ es) p j = has_claimed es p j
-has_claimed (Ended q ∷ es) p j = has_claimed es p j
-has_claimed (Halted q ∷ es) p j = has_claimed es p j
-has_claimed (Left q ∷ es) p j = has_claimed es p j
+has_claimed (e ∷ es) p j = has_claimed es p j

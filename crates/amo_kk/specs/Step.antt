@@ -32,21 +32,16 @@ want r = want_in r r.phase
 
 -- whether a load is wanted
 abbrev pub is_load : Want → Bool
-is_load (StoreNext j) = false
 is_load (LoadNext q) = true
 is_load (LoadDone q k) = true
-is_load (StoreClaim c j) = false
-is_load (StoreDone k j) = false
-is_load Nothing = false
+is_load want = false
 
 -- whether a store is wanted
 abbrev pub is_store : Want → Bool
 is_store (StoreNext j) = true
-is_store (LoadNext q) = false
-is_store (LoadDone q k) = false
 is_store (StoreClaim c j) = true
 is_store (StoreDone k j) = true
-is_store Nothing = false
+is_store want = false
 
 -- the set tried with the announced job v, where 0 announces nothing
 abbrev pub with_announced : ℕ → List ℕ → List ℕ
@@ -84,13 +79,11 @@ record_after_leave r = record r { phase = Left; steps = min (r.steps + 1) (2 ^ 6
 
 -- what a step shows to its caller, by the phases before and after it
 abbrev pub shown : Phase → Phase → Shown
-shown (Announcing j) after = if is_over after then Ended else Quiet
-shown (Trying j q) after = if is_over after then Ended else Quiet
-shown (Reading j q) after = if is_over after then Ended else Quiet
 shown (Claiming j) after = Claimed j
 shown (Holding j) after = if is_over after then DoneEnded j else Done j
 shown Over after = Quiet
 shown Left after = Quiet
+shown phase after = if is_over after then Ended else Quiet
 
 -- the events of worker p that this adds to the history
 abbrev pub events_of : ℕ → Shown → List Event
@@ -107,9 +100,6 @@ ended_if_over p phase = if is_over phase then EndedEvent p ∷ [] else []
 
 -- v may be what the wanted load gives: a job or 0, and 0 in the last place of a row
 abbrev pub MayLoad : Givens → ℕ → Want → Type 0
-MayLoad g v (StoreNext j) = ⊤
 MayLoad g v (LoadNext q) = v ≤ g.jobs
 MayLoad g v (LoadDone q k) = (v ≤ g.jobs) × (k ≡ g.jobs + 1 → v ≡ 0)
-MayLoad g v (StoreClaim c j) = ⊤
-MayLoad g v (StoreDone k j) = ⊤
-MayLoad g v Nothing = ⊤
+MayLoad g v want = ⊤

@@ -4,11 +4,15 @@ use Rattle.std.specs.List.{flat_map}
 use Rattle.amo_kk.specs.declared.givens.Givens.{Givens}
 use Rattle.amo_kk.specs.declared.model.Process.{Process}
 use Rattle.amo_kk.specs.declared.phase.Want.{Want}
-use Rattle.amo_kk.specs.declared.phase.Want.TheVariants.{StoreNext, LoadNext, LoadDone, StoreClaim, StoreDone, Nothing}
+use Rattle.amo_kk.specs.declared.phase.Want.TheVariants.{StoreNext, LoadNext, LoadDone, StoreClaim, StoreDone}
 
 -- the words of these workers; the book word is 0
 abbrev pub words_of : List Process → List ℕ
 words_of all = 0 ∷ map (λ (a : Process). a.next) all ++ (map (λ (a : Process). a.claim) all ++ flat_map (λ (a : Process). a.row) all)
+
+-- how many words there are: the book word, and for each worker its announcement, its count of claims and its row
+abbrev pub word_count : Givens → ℕ
+word_count g = g.workers * (g.jobs + 3) + 1
 
 -- the place of the announcement of p
 abbrev pub next_word : ℕ → ℕ
@@ -24,18 +28,13 @@ done_word g p k = 2 * g.workers + (p - 1) * (g.jobs + 1) + k
 
 -- the place of the word that is loaded, or 0 where none is
 abbrev pub loaded_word : Givens → Want → ℕ
-loaded_word g (StoreNext j) = 0
 loaded_word g (LoadNext q) = next_word q
 loaded_word g (LoadDone q k) = done_word g q k
-loaded_word g (StoreClaim c j) = 0
-loaded_word g (StoreDone k j) = 0
-loaded_word g Nothing = 0
+loaded_word g want = 0
 
 -- the words after the store of worker p
 abbrev pub words_after : Givens → ℕ → Want → List ℕ → List ℕ
 words_after g p (StoreNext j) words = set words (next_word p) j
-words_after g p (LoadNext q) words = words
-words_after g p (LoadDone q k) words = words
 words_after g p (StoreClaim c j) words = set words (claim_word g p) c
 words_after g p (StoreDone k j) words = set words (done_word g p k) j
-words_after g p Nothing words = words
+words_after g p want words = words

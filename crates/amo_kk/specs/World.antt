@@ -1,5 +1,5 @@
 -- All workers with their words, and the history, one move at a time.
-use Rattle.std.specs.Prelude.{ℕ, ◌+◌, Bool, true, false, ◌&&◌, ◌||◌, List, [], ◌∷◌, ◌++◌, length, replicate, nat_lt, if◌then◌else◌}
+use Rattle.std.specs.Prelude.{ℕ, zero, suc, ◌+◌, Bool, true, false, ◌&&◌, ◌||◌, List, [], ◌∷◌, ◌++◌, length, replicate, nat_lt, if◌then◌else◌}
 use Rattle.std.specs.List.{sum_by}
 use Rattle.amo_sets.specs.Lists.{numbered, put, table}
 use Rattle.amo_kk.specs.Object.{is_within}
@@ -10,7 +10,7 @@ use Rattle.amo_kk.specs.declared.givens.Givens.{Givens}
 use Rattle.amo_kk.specs.declared.phase.Phase.TheVariants.{Over}
 use Rattle.amo_kk.specs.declared.model.Record.{Record}
 use Rattle.amo_kk.specs.declared.phase.Want.{Want}
-use Rattle.amo_kk.specs.declared.phase.Want.TheVariants.{StoreNext, LoadNext, LoadDone, StoreClaim, StoreDone, Nothing}
+use Rattle.amo_kk.specs.declared.phase.Want.TheVariants.{StoreNext, LoadNext, LoadDone, StoreClaim, StoreDone}
 use Rattle.amo_kk.specs.declared.model.Process.{Process}
 use Rattle.amo_kk.specs.declared.event.Event.{Event}
 use Rattle.amo_kk.specs.declared.event.Event.TheVariants.{Ended, Halted, Left}
@@ -39,21 +39,16 @@ done_count w = sum_by (λ (a : Process). length a.local.dones) w.processes
 
 -- the value that the wanted load gives
 abbrev pub loaded_value : World → Want → ℕ
-loaded_value w (StoreNext j) = 0
 loaded_value w (LoadNext q) = (process w q).next
 loaded_value w (LoadDone q k) = numbered 0 (process w q).row k
-loaded_value w (StoreClaim c j) = 0
-loaded_value w (StoreDone k j) = 0
-loaded_value w Nothing = 0
+loaded_value w want = 0
 
 -- the process a after a step with this load or store, r being its record after it: it is gone where it wants nothing
 abbrev pub process_after : Want → Process → Record → Process
 process_after (StoreNext j) a r = record a { local = r; next = j; gone = wants_nothing r.phase }
-process_after (LoadNext q) a r = record a { local = r; gone = wants_nothing r.phase }
-process_after (LoadDone q k) a r = record a { local = r; gone = wants_nothing r.phase }
 process_after (StoreClaim c j) a r = record a { local = r; claim = c; gone = wants_nothing r.phase }
 process_after (StoreDone k j) a r = record a { local = r; row = put a.row k j; gone = wants_nothing r.phase }
-process_after Nothing a r = record a { local = r; gone = wants_nothing r.phase }
+process_after want a r = record a { local = r; gone = wants_nothing r.phase }
 
 -- the world with a as worker p, and with these events more in its history
 abbrev pub world_with : World → ℕ → Process → List Event → World
@@ -96,9 +91,8 @@ worker_of (Leave p) = p
 
 -- the move is a stop
 abbrev pub is_halt : Move → Bool
-is_halt (Turn p) = false
 is_halt (Halt p) = true
-is_halt (Leave p) = false
+is_halt m = false
 
 -- one of these moves is a stop
 abbrev pub has_halt : List Move → Bool
@@ -128,3 +122,16 @@ opening_world g =
       processes = table g.workers (first_process g);
       history = if nat_lt g.jobs g.beta then table g.workers (λ p. Ended p) else [];
     }
+
+-- the world after these moves, from the opening world
+abbrev pub world_of : Givens → List Move → World
+world_of g ms = world_after_moves g (opening_world g) ms
+
+-- a round is a turn of each worker, in the order of their numbers
+abbrev pub round : ℕ → List Move
+round workers = table workers (λ p. Turn p)
+
+-- so many rounds
+abbrev pub rounds : ℕ → ℕ → List Move
+rounds workers zero = []
+rounds workers (suc n) = rounds workers n ++ round workers

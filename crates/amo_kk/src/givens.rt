@@ -2,6 +2,7 @@
 ghost use Rattle.std.specs.Prelude.{◌≡◌};
 ghost use Rattle.amo_kk.specs.Limits.{AreWithinLimits};
 
+use super::limits::{MAX_BETA, MAX_JOBS, MAX_WORKERS};
 use thiserror::Error;
 
 /// Why three numbers are no givens: the first limit, in this order, that they break.
@@ -45,19 +46,19 @@ impl Givens {
     pub fn try_new(jobs: u64, workers: u64, beta: u64) -> Result<Givens, GivensFault>
         ensures { result ≡ givens_of jobs workers beta }
     {
-        if jobs > 4096 {
+        if jobs > MAX_JOBS as u64 {
             return Err(GivensFault::TooManyJobs);
         }
         if workers == 0 {
             return Err(GivensFault::NoWorkers);
         }
-        if workers > 16 {
+        if workers > MAX_WORKERS as u64 {
             return Err(GivensFault::TooManyWorkers);
         }
         if beta < workers {
             return Err(GivensFault::BetaLow);
         }
-        if beta > 65535 {
+        if beta > MAX_BETA as u64 {
             return Err(GivensFault::BetaHigh);
         }
         Ok(Givens {

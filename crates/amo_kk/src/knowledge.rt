@@ -6,7 +6,7 @@ ghost use Rattle.amo_sets.specs.Sets.{has, with_number};
 ghost use Rattle.amo_kk.specs.Givens.{IsJob, IsWorker};
 ghost use Rattle.amo_kk.specs.Choice.{chosen_rank, record_after_choice, record_after_check};
 ghost use Rattle.amo_kk.specs.Step.{with_announced, record_at_row, record_at_announcement};
-ghost use Rattle.amo_kk.specs.declared.model.Record.{Record};
+ghost use Rattle.amo_kk.specs.Knowledge.{LeadsTo};
 
 use super::givens::Givens;
 use super::phase::{Phase, next_other};
@@ -128,8 +128,7 @@ impl Knowledge {
     pub fn choose(&mut self, givens: Givens, p: u32) -> Phase
         requires worker { IsWorker givens p }
         requires range { self.old.range ≡ givens.jobs }
-        ensures choice { (r : Record) → r.known ≡ self.old.known → r.tried ≡ self.old.tried
-            → record_after_choice givens p r ≡ record r { phase = result; tried = self.new.tried } }
+        ensures choice { LeadsTo self.old (record_after_choice givens p) result self.new.tried }
         ensures stays { self.new ≡ record self.old { tried = self.new.tried } }
     {
         if self.open_count < givens.beta {
@@ -148,8 +147,7 @@ impl Knowledge {
         requires worker { IsWorker givens p }
         requires job { IsJob givens j }
         requires range { self.old.range ≡ givens.jobs }
-        ensures check { (r : Record) → r.known ≡ self.old.known → r.tried ≡ self.old.tried
-            → record_after_check givens p j r ≡ record r { phase = result; tried = self.new.tried } }
+        ensures check { LeadsTo self.old (record_after_check givens p j) result self.new.tried }
         ensures stays { self.new ≡ record self.old { tried = self.new.tried } }
     {
         if self.knows(j) || self.tried(j) {
@@ -163,8 +161,7 @@ impl Knowledge {
         requires worker { IsWorker givens p }
         requires job { IsJob givens j }
         requires range { self.old.range ≡ givens.jobs }
-        ensures row { (r : Record) → r.known ≡ self.old.known → r.tried ≡ self.old.tried
-            → record_at_row givens p j q r ≡ record r { phase = result; tried = self.new.tried } }
+        ensures row { LeadsTo self.old (record_at_row givens p j q) result self.new.tried }
         ensures stays { self.new ≡ record self.old { tried = self.new.tried } }
     {
         if q > givens.workers {
@@ -178,8 +175,7 @@ impl Knowledge {
         requires worker { IsWorker givens p }
         requires job { IsJob givens j }
         requires range { self.old.range ≡ givens.jobs }
-        ensures announcement { (r : Record) → r.known ≡ self.old.known → r.tried ≡ self.old.tried
-            → record_at_announcement givens p j q r ≡ record r { phase = result; tried = self.new.tried } }
+        ensures announcement { LeadsTo self.old (record_at_announcement givens p j q) result self.new.tried }
         ensures stays { self.new ≡ record self.old { tried = self.new.tried } }
     {
         if q > givens.workers {

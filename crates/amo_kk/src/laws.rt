@@ -18,7 +18,7 @@ ghost use Rattle.amo_kk.specs.Run.{IsRun, first_bad, IsFirstBad, claimed_jobs, d
 ghost use Rattle.amo_kk.specs.Record.{can_leave, is_free, is_open, is_over, wants_nothing, jobs_in_hand};
 ghost use Rattle.amo_kk.specs.Choice.{chosen_rank, chosen_job, first_record};
 ghost use Rattle.amo_kk.specs.Step.{want, events_of};
-ghost use Rattle.amo_kk.specs.World.{process, loaded_value, world_after_turn, world_after_leave, world_after_move, world_after_moves, has_halt, done_count, opening_world};
+ghost use Rattle.amo_kk.specs.World.{process, loaded_value, world_after_turn, world_after_leave, world_after_move, has_halt, done_count, world_of};
 ghost use Rattle.amo_kk.specs.Words.{words_of, loaded_word, words_after};
 ghost use Rattle.amo_kk.specs.Answer.{turn_shown, leave_answer};
 ghost use Rattle.amo_kk.specs.Alone.{lone_bound, IsFirstToClaimOrEnd, FitsThreeAttempts};
@@ -37,11 +37,11 @@ ghost use Rattle.amo_kk.specs.declared.phase.Phase.TheVariants.{Announcing, Hold
 /// The headline. For all givens and every list of turns, stops and leavings: the world is lawful, its history is
 /// a run of the one sequential object, and the state that the run leaves agrees with the world.
 pub fn history_is_a_run()
-    ensures lawful { (g : Givens) (moves : List Move) → IsLawful g (world_after_moves g (opening_world g) moves) }
+    ensures lawful { (g : Givens) (moves : List Move) → IsLawful g (world_of g moves) }
     ensures run { (g : Givens) (moves : List Move)
-        → IsRun g (first_object g) (world_after_moves g (opening_world g) moves).history }
+        → IsRun g (first_object g) (world_of g moves).history }
     ensures agrees { (g : Givens) (moves : List Move)
-        → Agrees g (process (world_after_moves g (opening_world g) moves)) (object_of g (world_after_moves g (opening_world g) moves)) }
+        → Agrees g (process (world_of g moves)) (object_of g (world_of g moves)) }
 {}
 
 /// The step of the headline. Each turn, stop and leaving leads from a lawful world to a lawful world. And the run goes
@@ -157,6 +157,6 @@ pub fn claims_are_apart()
 /// Where nobody was stopped, gone are just the workers that want nothing any more: those that have ended or left.
 pub fn gone_without_stops()
     ensures { (g : Givens) (moves : List Move) (p : ℕ) → has_halt moves ≡ false
-        → (process (world_after_moves g (opening_world g) moves) p).gone
-        ≡ wants_nothing (process (world_after_moves g (opening_world g) moves) p).local.phase }
+        → (process (world_of g moves) p).gone
+        ≡ wants_nothing (process (world_of g moves) p).local.phase }
 {}

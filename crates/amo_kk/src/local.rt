@@ -40,34 +40,17 @@ pub struct Local {
 
 impl Model for Local {
     ghost use Rattle.std.specs.Vec.{vec_capacity};
-    ghost use Rattle.amo_kk.specs.Machine.{LocalView, IsHeld};
+    ghost use Rattle.amo_kk.specs.Machine.{LocalView, record_of, IsHeld};
 
     ghost Value = { LocalView };
 
     ghost view = { λ l. record {
       givens = l.givens;
       number = l.number;
-      state = record {
-        phase = l.phase;
-        known = l.knowledge.known;
-        tried = l.knowledge.tried;
-        fronts = l.fronts.items;
-        claimed = l.claims.items;
-        dones = l.dones.items;
-        steps = l.steps;
-      };
+      state = record_of l.phase l.knowledge l.fronts.items l.claims.items l.dones.items l.steps;
     } };
 
-    ghost invariant = { λ l. IsHeld l.givens l.number
-        record {
-          phase = l.phase;
-          known = l.knowledge.known;
-          tried = l.knowledge.tried;
-          fronts = l.fronts.items;
-          claimed = l.claims.items;
-          dones = l.dones.items;
-          steps = l.steps;
-        }
+    ghost invariant = { λ l. IsHeld l.givens l.number (record_of l.phase l.knowledge l.fronts.items l.claims.items l.dones.items l.steps)
         l.knowledge.range (vec_capacity l.fronts) (vec_capacity l.claims) (vec_capacity l.dones) };
 }
 
@@ -77,21 +60,11 @@ impl Local {
         requires worker { IsWorker givens p }
         ensures { IfOk result (λ l. l ≡ record { givens = givens; number = p; state = first_record givens p }) }
     {
-        let mut knowledge = Knowledge::new(alloc, givens.jobs)?;
+        let knowledge = Knowledge::new(alloc, givens.jobs)?;
         let fronts = filled(alloc, givens.workers as usize, 0u32)?;
         let claims = Vec::with_capacity(alloc, givens.jobs as usize)?;
         let dones = Vec::with_capacity(alloc, givens.jobs as usize)?;
-        let phase = knowledge.choose(givens, p);
-        Ok(Local {
-            givens,
-            number: p,
-            phase,
-            knowledge,
-            fronts,
-            claims,
-            dones,
-            steps: 0,
-        })
+        Ok(Local::rested(givens, p, knowledge, fronts, claims, dones))
     }
 
     /// The givens that it was made with.
@@ -263,30 +236,14 @@ impl Local {
     pub fn ended(&self) -> bool
         ensures { result ≡ is_over self.now.state.phase }
     {
-        match self.phase {
-            Phase::Over => true,
-            Phase::Announcing(_)
-            | Phase::Trying(_, _)
-            | Phase::Reading(_, _)
-            | Phase::Claiming(_)
-            | Phase::Holding(_)
-            | Phase::Left => false,
-        }
+        self.phase.is_over()
     }
 
     /// Whether the worker has left.
     pub fn has_left(&self) -> bool
         ensures { result ≡ true ↔ self.now.state.phase ≡ Phase.Left }
     {
-        match self.phase {
-            Phase::Left => true,
-            Phase::Announcing(_)
-            | Phase::Trying(_, _)
-            | Phase::Reading(_, _)
-            | Phase::Claiming(_)
-            | Phase::Holding(_)
-            | Phase::Over => false,
-        }
+        matches!(self.phase, Phase::Left)
     }
 
     /// Whether the worker knows that j is done.
@@ -370,7 +327,7 @@ fn add_within(list: &mut Vec<u32>, job: u32)
 fn shown(before: Phase, after: Phase) -> Shown
     ensures { result ≡ shown before after }
 {
-    let ended = matches!(after, Phase::Over);
+    let ended = after.is_over();
     match before {
         Phase::Announcing(_) | Phase::Trying(_, _) | Phase::Reading(_, _) if ended => Shown::Ended,
         Phase::Announcing(_) | Phase::Trying(_, _) | Phase::Reading(_, _) => Shown::Quiet,

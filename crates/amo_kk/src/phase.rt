@@ -24,21 +24,21 @@ pub enum Phase {
 }
 
 impl Phase {
-    ghost use Rattle.amo_kk.specs.Record.{wants_nothing};
+    ghost use Rattle.amo_kk.specs.Record.{is_over, wants_nothing};
     ghost use Rattle.amo_kk.specs.Answer.{leaving};
+
+    /// Whether a worker in this phase has ended by its own choice.
+    pub fn is_over(self) -> bool
+        ensures { result ≡ is_over self }
+    {
+        matches!(self, Phase::Over)
+    }
 
     /// Whether a worker in this phase takes no step of its own any more: it has ended, or left.
     pub fn wants_nothing(self) -> bool
         ensures { result ≡ wants_nothing self }
     {
-        match self {
-            Phase::Announcing(_)
-            | Phase::Trying(_, _)
-            | Phase::Reading(_, _)
-            | Phase::Claiming(_)
-            | Phase::Holding(_) => false,
-            Phase::Over | Phase::Left => true,
-        }
+        matches!(self, Phase::Over | Phase::Left)
     }
 
     /// What becomes of a worker in this phase, which isn't gone, if it is asked to leave.

@@ -1,5 +1,9 @@
 //! Worked values of the givens and of the local machine.
-use amo_kk::{Givens, GivensFault, Local, NoSuchWords, Phase, Shown, Want};
+use amo_kk::layout::{claim_word, done_word, next_word, word_count};
+use amo_kk::{
+    Givens, GivensFault, Local, MAX_BETA, MAX_JOBS, MAX_WORKERS, Move, NoSuchWords, Phase, Shown,
+    Want,
+};
 use std::alloc::{AllocError, Global};
 use std::process::Abort;
 use std::test::Fail;
@@ -19,6 +23,52 @@ fn givens_are_refused_in_their_order(rt: HostRuntime) {
             Givens::try_new(jobs, workers, beta) == Err(fault),
             "{jobs} {workers} {beta}"
         );
+    }
+}
+
+#[test]
+fn the_limits_are_those_of_givens(rt: HostRuntime) {
+    let (jobs, workers, beta) = (MAX_JOBS as u64, MAX_WORKERS as u64, MAX_BETA as u64);
+    let most = Givens::try_new(jobs, workers, beta);
+    assert!(rt; most.is_ok());
+    let cases = [
+        ((jobs + 1, workers, beta), GivensFault::TooManyJobs),
+        ((jobs, workers + 1, beta), GivensFault::TooManyWorkers),
+        ((jobs, workers, beta + 1), GivensFault::BetaHigh),
+    ];
+    for ((jobs, workers, beta), fault) in cases {
+        assert!(rt;
+            Givens::try_new(jobs, workers, beta) == Err(fault),
+            "{jobs} {workers} {beta}"
+        );
+    }
+}
+
+/// The places of the last announcement, count of claims and entry of a row, and how many words there are.
+fn last_places(givens: Givens) -> (usize, usize, usize, usize) {
+    let last = givens.workers();
+    (
+        next_word(last),
+        claim_word(givens, last),
+        done_word(givens, last, givens.jobs() + 1),
+        word_count(givens),
+    )
+}
+
+#[test]
+fn words_stand_in_their_places(rt: HostRuntime) -> Result<(), Fail> {
+    let small = Givens::try_new(5, 2, 2)?;
+    assert!(rt; last_places(small) == (2, 4, 16, 17));
+    assert!(rt; small.workers() == 2 && small.jobs() == 5 && done_word(small, 2, 1) == 11);
+    let large = Givens::try_new(4096, 16, 16)?;
+    assert!(rt; last_places(large) == (16, 32, 65584, 65585));
+    Ok(())
+}
+
+#[test]
+fn each_move_has_its_worker(rt: HostRuntime) {
+    for one in [Move::Turn(3), Move::Halt(3), Move::Leave(3)] {
+        assert_eq!(rt; one.worker(), 3);
     }
 }
 

@@ -1,18 +1,15 @@
 -- Closing wins: what an entry or a journal more opens among all the journals, and what it doesn't.
-use Rattle.std.proofs.Common.{◌≡◌, ◌≢◌, ℕ, zero, suc, ◌+◌, Bool, true, false, cond, ◌&&◌, ◌||◌, List, [], ◌∷◌, ◌++◌, length, Option, Some, None, refl, sym, ap, subst, ◌∙◌, arith, append_assoc}
-use Rattle.std.specs.Prelude.{not, ◌==◌, is_none, option_and_then, option_map}
+use Rattle.std.proofs.Common.{◌≡◌, ℕ, ◌+◌, Bool, true, false, ◌||◌, List, [], ◌∷◌, ◌++◌, length, Option, Some, None, refl, sym, ap, ◌∙◌, arith, append_assoc}
+use Rattle.std.specs.Prelude.{not, option_and_then}
 use Rattle.std.specs.List.{AllByRecursion}
-use Rattle.std.proofs.lemmas.Bool.{and_parts}
-use Rattle.std.proofs.lemmas.Bool.Decides.{nat_tests}
-use Rattle.amo_ledger.specs.declared.entry.Answer.{Answer}
 use Rattle.amo_ledger.specs.declared.entry.Entry.{Entry}
-use Rattle.amo_ledger.specs.declared.entry.Entry.TheVariants.{Intent, Answer as Answered}
+use Rattle.amo_ledger.specs.declared.entry.Entry.TheVariants.{Intent}
 use Rattle.amo_ledger.specs.declared.finding.Finding.{Finding}
 use Rattle.amo_ledger.specs.declared.journal.Attempt.{Attempt}
 use Rattle.amo_ledger.specs.Findings.{is_undone}
-use Rattle.amo_ledger.specs.Journals.{answered, answered_to, is_line, noted, journal_from, journal_of}
-use Rattle.amo_ledger.specs.Open.{opens, reopens, closes, any_closes, closed_by, is_open, OpensNone, OpensNot, IsAnswer, serial_of, IsAtIndex, IsOfLine, NoneOpens, HasIntent}
-use Rattle.amo_ledger.proofs.OpenLaws.{noted_opens_none, noted_closes_none, noted_opens_own, intent_closes, answers_close_none}
+use Rattle.amo_ledger.specs.Journals.{noted, journal_from, journal_of}
+use Rattle.amo_ledger.specs.Open.{opens, any_closes, closed_by, is_open, OpensNone, OpensNot, IsAnswer, serial_of, IsOfLine, NoneOpens, HasIntent}
+use Rattle.amo_ledger.proofs.OpenLaws.{noted_opens_none, noted_opens_own, intent_closes, answers_close_none}
 
 module _ (count : ℕ) (findings : List Finding) (line : ℕ) where
   abbrev shut : ℕ → List (List Attempt) → Bool

@@ -1,12 +1,11 @@
 -- What is printed of an entry is read as it, and what is read was printed so.
 use Rattle.std.proofs.Common.{◌≡◌, inl, inr, ℕ, ◌^◌, ◌<◌, Bool, true, false, cond, List, ◌∷◌, ◌++◌, Option, Some, None, refl, sym, ap, subst, ◌∙◌, arith}
-use Rattle.std.specs.Prelude.{nat_lt, not, ◌==◌, codes, option_and_then, IfSome, IfNone}
+use Rattle.std.specs.Prelude.{nat_lt, codes, option_and_then, IfSome, IfNone}
 use Rattle.std.specs.Fmt.{decimal}
-use Rattle.std.specs.List.{list_all}
 use Rattle.std.specs.Str.{bytes_eq, IsAscii, IsUtf8}
 use Rattle.std.proofs.lemmas.Bool.Decides.{nat_tests}
 use Rattle.std.proofs.lemmas.Fmt.{IsAscii-decimal}
-use Rattle.std.proofs.lemmas.Str.{IsUtf8-from_ascii, IsAscii-append}
+use Rattle.std.proofs.lemmas.Str.{IsAscii-append}
 use Rattle.std.proofs.lemmas.Slice.Eq.{bytes_eq-Decides}
 use Rattle.amo_ledger.specs.declared.entry.Answer.{Answer}
 use Rattle.amo_ledger.specs.declared.entry.Answer.TheVariants.{Done, Doubt, Unbegun, Untouched}
@@ -15,7 +14,8 @@ use Rattle.amo_ledger.specs.declared.entry.Entry.TheVariants.{Intent, Answer as 
 use Rattle.amo_ledger.specs.Numbers.{number_in, has_blank, first_word, other_words, two_in, three_in}
 use Rattle.amo_ledger.specs.Entries.{text_of, text_of_answer, Fits, FitsAnswer, code_in, answer_of_word, entry_of_word, entry_in}
 use Rattle.amo_ledger.proofs.NumberTexts.{reads_printed, printed_of_read}
-use Rattle.amo_ledger.proofs.Words.{lacks_by_test, AreWords, words, split, two_reads, three_reads, and_then_some, blank_and, two_printed, three_printed, either_way, ascii_by_test, two_ascii, three_ascii}
+use Rattle.amo_ledger.proofs.Readings.{found_by, no_text_by, none_by}
+use Rattle.amo_ledger.proofs.Words.{word_reads, printed_by, two_reads, three_reads, and_then_some, blank_and, two_printed, three_printed, either_way, ascii_by_test, two_ascii, three_ascii}
 
 -- codes
 
@@ -37,12 +37,6 @@ code_printed n c h = by_test (nat_lt 255 n) refl h
 
 -- what is printed is read
 
-word_reads : (w r : List ℕ) → list_all (λ b. not (b == 32)) w ≡ true → entry_in (w ++ 32 ∷ r) ≡ entry_of_word w r
-word_reads w r lacks =
-    let text = w ++ 32 ∷ r in
-    let p : AreWords text w r = words w r (lacks_by_test 32 w lacks) in
-    ap (λ t. cond t (entry_of_word (first_word text) (other_words text)) None) p.blank ∙ ap (λ f. entry_of_word f (other_words text)) p.first ∙ ap (entry_of_word w) p.rest
-
 -- the parts of what is read, each by what it is read of
 abbrev done_of : ℕ × ℕ × ℕ → Option (ℕ × Answer)
 done_of n = option_and_then (λ code. Some (n.0, Done code n.2)) (code_in n.1)
@@ -55,18 +49,18 @@ entry_of o = option_and_then (λ (n : ℕ × Answer). Some (Answered n.0 n.1)) o
 
 answer_reads : (s : ℕ) (a : Answer) → FitsAnswer s a → entry_in (text_of_answer s a) ≡ Some (Answered s a)
 answer_reads s (Done c t) f =
-    word_reads (codes "done") (decimal s ++ 32 ∷ (decimal c ++ 32 ∷ decimal t)) refl
+    word_reads entry_of_word (codes "done") (decimal s ++ 32 ∷ (decimal c ++ 32 ∷ decimal t)) refl
     ∙ ap (λ o. entry_of (option_and_then done_of o)) (three_reads s c t f.0 (omega (arith, f.1)) f.2)
     ∙ ap (λ o. entry_of (option_and_then (λ (code : ℕ). Some (s, Done code t)) o)) (code_reads c f.1)
-answer_reads s Doubt f = word_reads (codes "doubt") (decimal s) refl ∙ ap (λ o. entry_of (option_and_then (λ (n : ℕ). Some (n, Doubt)) o)) (reads_printed s f)
-answer_reads s Unbegun f = word_reads (codes "unbegun") (decimal s) refl ∙ ap (λ o. entry_of (option_and_then (λ (n : ℕ). Some (n, Unbegun)) o)) (reads_printed s f)
+answer_reads s Doubt f = word_reads entry_of_word (codes "doubt") (decimal s) refl ∙ ap (λ o. entry_of (option_and_then (λ (n : ℕ). Some (n, Doubt)) o)) (reads_printed s f)
+answer_reads s Unbegun f = word_reads entry_of_word (codes "unbegun") (decimal s) refl ∙ ap (λ o. entry_of (option_and_then (λ (n : ℕ). Some (n, Unbegun)) o)) (reads_printed s f)
 answer_reads s (Untouched c) f =
-    word_reads (codes "untouched") (decimal s ++ 32 ∷ decimal c) refl
+    word_reads entry_of_word (codes "untouched") (decimal s ++ 32 ∷ decimal c) refl
     ∙ ap (λ o. entry_of (option_and_then untouched_of o)) (two_reads s c f.0 (omega (arith, f.1)))
     ∙ ap (λ o. entry_of (option_and_then (λ (code : ℕ). Some (s, Untouched code)) o)) (code_reads c f.1)
 
 pub entry_reads : (e : Entry) → Fits e → entry_in (text_of e) ≡ Some e
-entry_reads (Intent s l t) f = word_reads (codes "intent") (decimal s ++ 32 ∷ (decimal l ++ 32 ∷ decimal t)) refl ∙ ap (option_and_then (λ n. Some (Intent n.0 n.1 n.2))) (three_reads s l t f.0 f.1 f.2)
+entry_reads (Intent s l t) f = word_reads entry_of_word (codes "intent") (decimal s ++ 32 ∷ (decimal l ++ 32 ∷ decimal t)) refl ∙ ap (option_and_then (λ n. Some (Intent n.0 n.1 n.2))) (three_reads s l t f.0 f.1 f.2)
 entry_reads (Answered s a) f = answer_reads s a f
 
 -- what is read was printed so
@@ -141,21 +135,13 @@ word_printed w r e h = elim (either_way (bytes_eq w (codes "intent")) _ _ (Some 
 ]
 
 pub entry_printed : (text : List ℕ) (e : Entry) → entry_in text ≡ Some e → (text_of e ≡ text) × Fits e
-entry_printed text e h =
-    let (blank, read) = blank_and (has_blank text) _ e h in
-    let p = word_printed (first_word text) (other_words text) e read in
-    (p.0 ∙ sym (split text blank), p.1)
+entry_printed = printed_by text_of Fits entry_of_word word_printed
 
 pub found : (text : List ℕ) (r : Option Entry) → r ≡ entry_in text → IfSome r (λ e. text_of e ≡ text)
-found text None is = tt
-found text (Some e) is = (entry_printed text e (sym is)).0
+found = found_by text_of Fits entry_in entry_printed
 
 pub no_entry : (text : List ℕ) (r : Option Entry) → r ≡ entry_in text → IfNone r ((e : Entry) → Fits e → text_of e ≡ text → ⊥)
-no_entry text (Some e) is = tt
-no_entry text None is = λ e f printed. absurd (none_some (is ∙ ap entry_in (sym printed) ∙ entry_reads e f))
-  where
-    none_some : {A : Type 0} {x : A} → None ≡ Some x → ⊥
-    none_some e = cc
+no_entry = none_by text_of Fits entry_in entry_reads
 
 ascii_answer : (s : ℕ) (a : Answer) → FitsAnswer s a → IsAscii (text_of_answer s a)
 ascii_answer s (Done c t) f = IsAscii-append (codes "done ") (decimal s ++ 32 ∷ (decimal c ++ 32 ∷ decimal t)) (ascii_by_test (codes "done ") refl) (three_ascii s c t f.0 (omega (arith, f.1)) f.2)
@@ -169,10 +155,4 @@ ascii (Answered s a) f = ascii_answer s a f
 
 -- what is no text is no entry
 pub no_text : (bytes : List ℕ) → ¬ (IsUtf8 bytes) → None ≡ entry_in bytes
-no_text bytes never = by_case (entry_in bytes) refl
-  where
-    by_case : (o : Option Entry) → entry_in bytes ≡ o → None ≡ o
-    by_case None is = refl
-    by_case (Some e) is =
-        let p = entry_printed bytes e is in
-        absurd (never (IsUtf8-from_ascii bytes (subst IsAscii p.0 (ascii e p.1))))
+no_text = no_text_by text_of Fits entry_in entry_printed ascii

@@ -9,6 +9,7 @@ pub mod OpenLaws
 pub mod OpenLines
 pub mod OpenMeaning
 pub mod Puts
+pub mod Readings
 pub mod RecordTexts
 pub mod Records
 pub mod Seats

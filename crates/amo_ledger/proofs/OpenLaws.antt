@@ -1,5 +1,5 @@
 -- What an entry more opens in its own journal, and what it doesn't.
-use Rattle.std.proofs.Common.{◌≡◌, ◌≢◌, ℕ, zero, suc, ◌+◌, Bool, true, false, cond, ◌&&◌, ◌||◌, List, [], ◌∷◌, ◌++◌, length, Option, Some, None, refl, sym, ap, subst, ◌∙◌, arith, append_assoc}
+use Rattle.std.proofs.Common.{◌≡◌, ◌≢◌, ℕ, zero, suc, ◌+◌, Bool, true, false, cond, ◌&&◌, ◌||◌, List, [], ◌∷◌, ◌++◌, length, Option, Some, None, refl, sym, ap, subst, ◌∙◌, arith}
 use Rattle.std.specs.Prelude.{not, ◌==◌, is_none, option_and_then, option_map}
 use Rattle.std.specs.List.{AllByRecursion}
 use Rattle.std.proofs.lemmas.Bool.{and_parts}
@@ -10,8 +10,8 @@ use Rattle.amo_ledger.specs.declared.entry.Entry.TheVariants.{Intent, Answer as 
 use Rattle.amo_ledger.specs.declared.finding.Finding.{Finding}
 use Rattle.amo_ledger.specs.declared.journal.Attempt.{Attempt}
 use Rattle.amo_ledger.specs.Findings.{is_undone}
-use Rattle.amo_ledger.specs.Journals.{answered, answered_to, is_line, noted, journal_from, journal_of}
-use Rattle.amo_ledger.specs.Open.{opens, reopens, closes, any_closes, closed_by, is_open, OpensNone, OpensNot, IsAnswer, serial_of, IsAtIndex, IsOfLine, NoneOpens, HasIntent}
+use Rattle.amo_ledger.specs.Journals.{answered, answered_to, is_line, noted, journal_from}
+use Rattle.amo_ledger.specs.Open.{opens, reopens, closes, any_closes, OpensNone, OpensNot, IsAnswer, serial_of, IsAtIndex, IsOfLine, NoneOpens}
 use Rattle.amo_ledger.proofs.Words.{equal}
 
 is_equal : (a b : ℕ) → (a == b) ≡ true → a ≡ b

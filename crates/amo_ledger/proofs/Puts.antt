@@ -51,15 +51,9 @@ one_line_of_finding f fits =
 
 -- what a file says, whatever its texts are read as
 
-pub says_one_more : {A : Type 0} (read : List ℕ → Option A) (old new text : List ℕ) (xs : List A) (x : A)
-    → read text ≡ Some x → read_all read (texts_in old) ≡ Some xs → texts_in new ≡ texts_in old ++ text ∷ [] → read_all read (texts_in new) ≡ Some (xs ++ x ∷ [])
-says_one_more read old new text xs x is are put = ap (read_all read) put ∙ one_more read (texts_in old) xs text x are is
-
-pub before_or_after : {A : Type 0} (read : List ℕ → Option A) (old text : List ℕ) (xs : List A) (x : A)
-    → read text ≡ Some x → read_all read (texts_in old) ≡ Some xs → (c : List ℕ) → IsBeforeOrAfter (texts_in old) text c
-    → (read_all read (texts_in c) ≡ Some xs) ⊎ (read_all read (texts_in c) ≡ Some (xs ++ x ∷ []))
-before_or_after read old text xs x is are c at =
-    ⊎_elim (λ before. inl (ap (read_all read) before ∙ are)) (λ after. inr (says_one_more read old c text xs x is are after)) at
+pub on_ok : {T E : Type 0} {P Q : Type 0} (r : Result T E) → OnOk r P → (P → Q) → OnOk r Q
+on_ok (Ok x) p follows = follows p
+on_ok (Err e) p follows = tt
 
 -- what a crash leaves has what follows from what it has
 pub leaves : {D : Type 0} (moment : D → ℕ) (left_since : D → ℕ → List ℕ → Type 0) (old new : D) (P Q : List ℕ → Type 0) → LeavesOnly moment left_since old new P → ((c : List ℕ) → P c → Q c) → LeavesOnly moment left_since old new Q
@@ -67,6 +61,33 @@ leaves moment left_since old new P Q l follows = record {
   later = l.later;
   each = λ c left. follows c (l.each c left);
   before = λ t c le left. ⊎_elim (λ past. inl past) (λ p. inr (follows c p)) (l.before t c le left);
+}
+
+says_one_more : {A : Type 0} (read : List ℕ → Option A) (old new text : List ℕ) (xs : List A) (x : A)
+    → read text ≡ Some x → read_all read (texts_in old) ≡ Some xs → texts_in new ≡ texts_in old ++ text ∷ [] → read_all read (texts_in new) ≡ Some (xs ++ x ∷ [])
+says_one_more read old new text xs x is are put = ap (read_all read) put ∙ one_more read (texts_in old) xs text x are is
+
+before_or_after : {A : Type 0} (read : List ℕ → Option A) (old text : List ℕ) (xs : List A) (x : A)
+    → read text ≡ Some x → read_all read (texts_in old) ≡ Some xs → (c : List ℕ) → IsBeforeOrAfter (texts_in old) text c
+    → (read_all read (texts_in c) ≡ Some xs) ⊎ (read_all read (texts_in c) ≡ Some (xs ++ x ∷ []))
+before_or_after read old text xs x is are c at =
+    ⊎_elim (λ before. inl (ap (read_all read) before ∙ are)) (λ after. inr (says_one_more read old c text xs x is are after)) at
+
+-- what a put of one text comes to, for who reads the texts so
+pub record PutsOne {A D T E : Type 0} (read_as : List ℕ → Option A) (moment : D → ℕ) (left_since : D → ℕ → List ℕ → Type 0) (seen : D → List ℕ) (old new : D) (result : Result T E) (x : A) : Type 0 where
+  pub acknowledged : (xs : List A) → read_all read_as (texts_in (seen old)) ≡ Some xs → OnOk result (read_all read_as (texts_in (seen new)) ≡ Some (xs ++ x ∷ []))
+  pub any_moment : (xs : List A) → read_all read_as (texts_in (seen old)) ≡ Some xs
+      → LeavesOnly moment left_since old new (λ c. (read_all read_as (texts_in c) ≡ Some xs) ⊎ (read_all read_as (texts_in c) ≡ Some (xs ++ x ∷ [])))
+  pub read : (xs : List A) → read_all read_as (texts_in (seen old)) ≡ Some xs
+      → (read_all read_as (texts_in (seen new)) ≡ Some xs) ⊎ (read_all read_as (texts_in (seen new)) ≡ Some (xs ++ x ∷ []))
+
+pub puts_one : {A D T E : Type 0} (read_as : List ℕ → Option A) (moment : D → ℕ) (left_since : D → ℕ → List ℕ → Type 0) (seen : D → List ℕ) (old new : D) (result : Result T E) (text : List ℕ) (x : A)
+    → read_as text ≡ Some x → OnOk result (texts_in (seen new) ≡ texts_in (seen old) ++ text ∷ []) → LeavesOnly moment left_since old new (IsBeforeOrAfter (texts_in (seen old)) text)
+    → IsBeforeOrAfter (texts_in (seen old)) text (seen new) → PutsOne read_as moment left_since seen old new result x
+puts_one read_as moment left_since seen old new result text x is put run now = record {
+  acknowledged = λ xs are. on_ok result put (says_one_more read_as (seen old) (seen new) text xs x is are);
+  any_moment = λ xs are. leaves moment left_since old new (IsBeforeOrAfter (texts_in (seen old)) text) _ run (before_or_after read_as (seen old) text xs x is are);
+  read = λ xs are. before_or_after read_as (seen old) text xs x is are (seen new) now;
 }
 
 -- where nothing was done, only what might have been left before
@@ -90,10 +111,6 @@ pub law_put : (count : ℕ) (findings : List Finding) (line : ℕ) (before after
     → is_undone findings (length before + 1) s ≡ false → (c : List ℕ) → entries_of c ≡ Some (entries ++ Intent s line t ∷ []) → IsClosedIn count findings before after line c
 law_put count findings line before after s t entries f c stands read es reads h =
     closed_with count findings line before after s read (entries, t, [], same_some read (entries ++ Intent s line t ∷ []) (sym reads ∙ stands), tt) f es h
-
-pub on_ok : {T E : Type 0} {P Q : Type 0} (r : Result T E) → OnOk r P → (P → Q) → OnOk r Q
-on_ok (Ok x) p follows = follows p
-on_ok (Err e) p follows = tt
 
 pub on_ok_both : {T E : Type 0} {P Q R : Type 0} (r : Result T E) → OnOk r P → OnOk r Q → (P → Q → R) → OnOk r R
 on_ok_both (Ok x) p q follows = follows p q

@@ -3,7 +3,7 @@ use Rattle.std.proofs.Common.{◌≡◌, ◌⊎◌, inl, inr, ⊎_elim, ℕ, ◌
 use Rattle.std.specs.Prelude.{nat_le}
 use Rattle.std.proofs.lemmas.Bool.{and_from, and_parts}
 use Rattle.std.proofs.lemmas.Bool.Decides.{nat_tests}
-use Rattle.amo_ledger.specs.Rounds.{place_of, seat_of}
+use Rattle.amo_ledger.specs.Rounds.{turn_of, seat_of}
 use Rattle.amo_ledger.proofs.Words.{blank_and}
 
 at_most : (a b : ℕ) → nat_le a b ≡ true → a ≤ b
@@ -16,13 +16,13 @@ more_than : (a b : ℕ) → nat_le a b ≡ false → b < a
 more_than a b t = grind (arith, nat_tests)
 
 -- where on the circle
-abbrev IsPlaced : ℕ → ℕ → ℕ → ℕ → Type 0
-IsPlaced worker first workers place = ((first ≤ worker) × (place + first ≡ worker + 1)) ⊎ ((worker < first) × (place + first ≡ worker + workers + 1))
+abbrev IsTurn : ℕ → ℕ → ℕ → ℕ → Type 0
+IsTurn worker first workers place = ((first ≤ worker) × (place + first ≡ worker + 1)) ⊎ ((worker < first) × (place + first ≡ worker + workers + 1))
 
-placed : (worker first workers : ℕ) → first ≤ workers → IsPlaced worker first workers (place_of worker first workers)
+placed : (worker first workers : ℕ) → first ≤ workers → IsTurn worker first workers (turn_of worker first workers)
 placed worker first workers le = by_test (nat_le first worker) refl
   where
-    by_test : (b : Bool) → nat_le first worker ≡ b → IsPlaced worker first workers (cond b ((worker - first) + 1) (((worker + workers) - first) + 1))
+    by_test : (b : Bool) → nat_le first worker ≡ b → IsTurn worker first workers (cond b ((worker - first) + 1) (((worker + workers) - first) + 1))
     by_test true t = let here = at_most first worker t in inl (here, omega (arith, here))
     by_test false t = let past = more_than first worker t in inr (past, omega (arith, past))
 
@@ -30,11 +30,11 @@ record IsSeat (worker first workers shared seat : ℕ) : Type 0 where
   pub from_1 : 1 ≤ worker
   pub there : worker ≤ workers
   pub shares : seat ≤ shared
-  pub is_placed : IsPlaced worker first workers seat
+  pub is_turn : IsTurn worker first workers seat
 
 seated : (worker first workers shared seat : ℕ) → first ≤ workers → seat_of worker first workers shared ≡ Some seat → IsSeat worker first workers shared seat
 seated worker first workers shared seat le h =
-    let place = place_of worker first workers in
+    let place = turn_of worker first workers in
     let (passes, some) = blank_and ((nat_le 1 worker && nat_le worker workers) && nat_le place shared) (Some place) seat h in
     let (inside, few) = and_parts (nat_le 1 worker && nat_le worker workers) (nat_le place shared) passes in
     let (from, there) = and_parts (nat_le 1 worker) (nat_le worker workers) inside in
@@ -44,12 +44,12 @@ seated worker first workers shared seat le h =
       from_1 = at_most 1 worker from;
       there = at_most worker workers there;
       shares = omega (arith, shares, is);
-      is_placed = ⊎_elim (λ here. inl (here.0, omega (arith, here.1, is))) (λ past. inr (past.0, omega (arith, past.1, is))) (placed worker first workers le);
+      is_turn = ⊎_elim (λ here. inl (here.0, omega (arith, here.1, is))) (λ past. inr (past.0, omega (arith, past.1, is))) (placed worker first workers le);
     }
 
-takes_seat : (worker first workers shared : ℕ) → 1 ≤ worker → worker ≤ workers → place_of worker first workers ≤ shared → seat_of worker first workers shared ≡ Some (place_of worker first workers)
+takes_seat : (worker first workers shared : ℕ) → 1 ≤ worker → worker ≤ workers → turn_of worker first workers ≤ shared → seat_of worker first workers shared ≡ Some (turn_of worker first workers)
 takes_seat worker first workers shared from there shares =
-    let place = place_of worker first workers in
+    let place = turn_of worker first workers in
     ap (λ b. cond b (Some place) None) (and_from (nat_le 1 worker && nat_le worker workers) (nat_le place shared) (and_from (nat_le 1 worker) (nat_le worker workers) (at_most_is 1 worker from) (at_most_is worker workers there)) (at_most_is place shared shares))
 
 pub one_each : (one other first workers shared seat : ℕ) → first ≤ workers → seat_of one first workers shared ≡ Some seat → seat_of other first workers shared ≡ Some seat → one ≡ other
@@ -57,25 +57,25 @@ one_each one other first workers shared seat le h k =
     let a : IsSeat one first workers shared seat = seated one first workers shared seat le h in
     let b : IsSeat other first workers shared seat = seated other first workers shared seat le k in
     ⊎_elim
-    (λ x. ⊎_elim (λ y. omega (arith, x.1, y.1)) (λ y. absurd (omega (arith, a.there, b.from_1, x.1, y.1))) b.is_placed)
-    (λ x. ⊎_elim (λ y. absurd (omega (arith, b.there, a.from_1, x.1, y.1))) (λ y. omega (arith, x.1, y.1)) b.is_placed)
-    a.is_placed
+    (λ x. ⊎_elim (λ y. omega (arith, x.1, y.1)) (λ y. absurd (omega (arith, a.there, b.from_1, x.1, y.1))) b.is_turn)
+    (λ x. ⊎_elim (λ y. absurd (omega (arith, b.there, a.from_1, x.1, y.1))) (λ y. omega (arith, x.1, y.1)) b.is_turn)
+    a.is_turn
 
 pub in_range : (worker first workers shared seat : ℕ) → first ≤ workers → seat_of worker first workers shared ≡ Some seat → (1 ≤ seat) × (seat ≤ shared) × (worker ≤ workers)
 in_range worker first workers shared seat le h =
     let a : IsSeat worker first workers shared seat = seated worker first workers shared seat le h in
-    (⊎_elim (λ x. omega (arith, x.0, x.1)) (λ x. omega (arith, le, a.from_1, x.1)) a.is_placed, a.shares, a.there)
+    (⊎_elim (λ x. omega (arith, x.0, x.1)) (λ x. omega (arith, le, a.from_1, x.1)) a.is_turn, a.shares, a.there)
 
 pub first_seat : (first workers shared : ℕ) → 1 ≤ first → first ≤ workers → 1 ≤ shared → seat_of first first workers shared ≡ Some 1
 first_seat first workers shared from there some =
-    let one : place_of first first workers ≡ 1 = ap (λ b. cond b ((first - first) + 1) (((first + workers) - first) + 1)) (at_most_is first first (omega arith)) ∙ omega arith in
+    let one : turn_of first first workers ≡ 1 = ap (λ b. cond b ((first - first) + 1) (((first + workers) - first) + 1)) (at_most_is first first (omega arith)) ∙ omega arith in
     takes_seat first first workers shared from there (omega (arith, one, some)) ∙ ap Some one
 
 -- whose seat it is
-holder : (first workers shared seat : ℕ) → 1 ≤ first → first ≤ workers → 1 ≤ seat → seat ≤ workers → (worker : ℕ) × (1 ≤ worker) × (worker ≤ workers) × (place_of worker first workers ≡ seat)
+holder : (first workers shared seat : ℕ) → 1 ≤ first → first ≤ workers → 1 ≤ seat → seat ≤ workers → (worker : ℕ) × (1 ≤ worker) × (worker ≤ workers) × (turn_of worker first workers ≡ seat)
 holder first workers shared seat from there one few = by_test (nat_le (seat + first) (workers + 1)) refl
   where
-    by_test : (b : Bool) → nat_le (seat + first) (workers + 1) ≡ b → (worker : ℕ) × (1 ≤ worker) × (worker ≤ workers) × (place_of worker first workers ≡ seat)
+    by_test : (b : Bool) → nat_le (seat + first) (workers + 1) ≡ b → (worker : ℕ) × (1 ≤ worker) × (worker ≤ workers) × (turn_of worker first workers ≡ seat)
     by_test true t =
         let inside = at_most (seat + first) (workers + 1) t in (
           (seat + first) - 1,

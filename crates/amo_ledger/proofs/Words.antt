@@ -4,17 +4,19 @@ use Rattle.std.specs.Prelude.{nat_lt, not, ◌==◌, option_and_then}
 use Rattle.std.specs.Char.{digit_value}
 use Rattle.std.specs.Fmt.{decimal}
 use Rattle.std.specs.List.{AllByRecursion, position_or_len, list_all}
-use Rattle.std.specs.Str.{IsAscii, IsUtf8}
+use Rattle.std.specs.Str.{bytes_eq, IsAscii, IsUtf8}
 use Rattle.std.specs.Str.Parse.{AllDigits}
 use Rattle.std.proofs.lemmas.Bool.{and_parts}
 use Rattle.std.proofs.lemmas.Bool.Decides.{nat_tests}
 use Rattle.std.proofs.lemmas.Fmt.{decimal_is_IsNumeral, IsAscii-decimal}
 use Rattle.std.proofs.lemmas.List.{take_at, drop_at}
 use Rattle.std.proofs.lemmas.List.Sums.{split_at_first, passes_at_first}
-use Rattle.std.proofs.lemmas.Str.{IsAscii-append, IsUtf8-from_ascii}
+use Rattle.std.proofs.lemmas.Slice.Eq.{bytes_eq-Decides}
+use Rattle.std.proofs.lemmas.Str.{IsAscii-append}
 use Rattle.std.proofs.lemmas.Str.Ascii.{IsAscii-nil, IsAscii-cons}
 use Rattle.amo_ledger.specs.Numbers.{number_in, has_blank, first_word, other_words, two_in, three_in}
 use Rattle.amo_ledger.proofs.NumberTexts.{reads_printed, printed_of_read}
+use Rattle.amo_ledger.proofs.Readings.{no_text_by, none_some, some_is}
 
 pub equal : (a b : ℕ) → a ≡ b → (a == b) ≡ true
 equal a b is = grind (arith, nat_tests)
@@ -72,6 +74,14 @@ words w r lacks =
     less_is : (a b : ℕ) → a < b → nat_lt a b ≡ true
     less_is a b h = grind (arith, nat_tests)
 
+-- so what is read of its parts is read of these
+pub word_reads : {A : Type 0} (read : List ℕ → List ℕ → Option A) (w r : List ℕ) → list_all (λ b. not (b == 32)) w ≡ true
+    → cond (has_blank (w ++ 32 ∷ r)) (read (first_word (w ++ 32 ∷ r)) (other_words (w ++ 32 ∷ r))) None ≡ read w r
+word_reads read w r lacks =
+    let text = w ++ 32 ∷ r in
+    let p : AreWords text w r = words w r (lacks_by_test 32 w lacks) in
+    ap (λ t. cond t (read (first_word text) (other_words text)) None) p.blank ∙ ap (λ f. read f (other_words text)) p.first ∙ ap (read w) p.rest
+
 -- a text with a blank is its first word, a blank and the other words
 pub split : (text : List ℕ) → has_blank text ≡ true → text ≡ first_word text ++ 32 ∷ other_words text
 split text h =
@@ -84,6 +94,18 @@ split text h =
 
     is_equal : (a b : ℕ) → (a == b) ≡ true → a ≡ b
     is_equal a b h = grind (arith, nat_tests)
+
+pub blank_and : {A : Type 0} (b : Bool) (o : Option A) (y : A) → cond b o None ≡ Some y → (b ≡ true) × (o ≡ Some y)
+blank_and true o y h = (refl, h)
+blank_and false o y h = absurd (cc)
+
+-- what is read of its parts was printed so, where what is read of two words was
+pub printed_by : {A : Type 0} (say : A → List ℕ) (Fits : A → Type 0) (read : List ℕ → List ℕ → Option A) → ((w r : List ℕ) (x : A) → read w r ≡ Some x → (say x ≡ w ++ 32 ∷ r) × Fits x)
+    → (text : List ℕ) (x : A) → cond (has_blank text) (read (first_word text) (other_words text)) None ≡ Some x → (say x ≡ text) × Fits x
+printed_by say Fits read printed text x h =
+    let (blank, found) = blank_and (has_blank text) _ x h in
+    let p = printed (first_word text) (other_words text) x found in
+    (p.0 ∙ sym (split text blank), p.1)
 
 -- what is printed is read
 
@@ -116,10 +138,6 @@ pub and_then_some : {A B : Type 0} (f : A → Option B) (o : Option A) (y : B) �
 and_then_some f None y h = absurd (cc)
 and_then_some f (Some x) y h = (x, refl, h)
 
-pub blank_and : {A : Type 0} (b : Bool) (o : Option A) (y : A) → cond b o None ≡ Some y → (b ≡ true) × (o ≡ Some y)
-blank_and true o y h = (refl, h)
-blank_and false o y h = absurd (cc)
-
 pub two_printed : (text : List ℕ) (ab : ℕ × ℕ) → two_in text ≡ Some ab → (decimal ab.0 ++ 32 ∷ decimal ab.1 ≡ text) × (ab.0 < 2 ^ 64) × (ab.1 < 2 ^ 64)
 two_printed text ab h =
     let (blank, read) = blank_and (has_blank text) _ ab h in
@@ -146,6 +164,16 @@ pub either_way : {A : Type 0} (b : Bool) (x y z : A) → cond b x y ≡ z → ((
 either_way true x y z h = inl (refl, h)
 either_way false x y z h = inr (refl, h)
 
+-- the word of one of two
+pub either_word : {A : Type 0} (w a b : List ℕ) (x y z : A) → cond (bytes_eq w a) (Some x) (cond (bytes_eq w b) (Some y) None) ≡ Some z → ((w ≡ a) × (x ≡ z)) ⊎ ((w ≡ b) × (y ≡ z))
+either_word w a b x y z h = elim (either_way (bytes_eq w a) _ _ (Some z) h) [
+  | inl t ↦ inl ((bytes_eq-Decides w a).0 t.0, some_is t.1)
+  | inr f ↦ elim (either_way (bytes_eq w b) _ _ (Some z) f.1) [
+    | inl t ↦ inr ((bytes_eq-Decides w b).0 t.0, some_is t.1)
+    | inr n ↦ absurd (none_some n.1)
+  ]
+]
+
 -- what is printed is text
 pub ascii_by_test : (text : List ℕ) → list_all (λ b. nat_lt b 128) text ≡ true → IsAscii text
 ascii_by_test [] h = IsAscii-nil
@@ -164,22 +192,12 @@ three_ascii a b c fa fb fc = IsAscii-append (decimal a) (32 ∷ (decimal b ++ 32
 
 -- what is no text says no number
 pub number_no_text : (bytes : List ℕ) → ¬ (IsUtf8 bytes) → None ≡ number_in bytes
-number_no_text bytes never = by_case (number_in bytes) refl
-  where
-    by_case : (o : Option ℕ) → number_in bytes ≡ o → None ≡ o
-    by_case None is = refl
-    by_case (Some n) is = let p = printed_of_read bytes n is in absurd (never (IsUtf8-from_ascii bytes (subst IsAscii p.0 (IsAscii-decimal n p.1))))
+number_no_text = no_text_by decimal (λ n. n < 2 ^ 64) number_in printed_of_read IsAscii-decimal
 
 pub two_no_text : (bytes : List ℕ) → ¬ (IsUtf8 bytes) → None ≡ two_in bytes
-two_no_text bytes never = by_case (two_in bytes) refl
-  where
-    by_case : (o : Option (ℕ × ℕ)) → two_in bytes ≡ o → None ≡ o
-    by_case None is = refl
-    by_case (Some n) is = let p = two_printed bytes n is in absurd (never (IsUtf8-from_ascii bytes (subst IsAscii p.0 (two_ascii n.0 n.1 p.1 p.2))))
+two_no_text = no_text_by (λ (n : ℕ × ℕ). decimal n.0 ++ 32 ∷ decimal n.1) (λ n. (n.0 < 2 ^ 64) × (n.1 < 2 ^ 64)) two_in (λ text n is. let p = two_printed text n is in (p.0, (p.1, p.2)))
+    (λ n fits. two_ascii n.0 n.1 fits.0 fits.1)
 
 pub three_no_text : (bytes : List ℕ) → ¬ (IsUtf8 bytes) → None ≡ three_in bytes
-three_no_text bytes never = by_case (three_in bytes) refl
-  where
-    by_case : (o : Option (ℕ × ℕ × ℕ)) → three_in bytes ≡ o → None ≡ o
-    by_case None is = refl
-    by_case (Some n) is = let p = three_printed bytes n is in absurd (never (IsUtf8-from_ascii bytes (subst IsAscii p.0 (three_ascii n.0 n.1 n.2 p.1 p.2 p.3))))
+three_no_text = no_text_by (λ (n : ℕ × ℕ × ℕ). decimal n.0 ++ 32 ∷ (decimal n.1 ++ 32 ∷ decimal n.2)) (λ n. (n.0 < 2 ^ 64) × (n.1 < 2 ^ 64) × (n.2 < 2 ^ 64)) three_in
+    (λ text n is. let p = three_printed text n is in (p.0, (p.1, p.2, p.3))) (λ n fits. three_ascii n.0 n.1 n.2 fits.0 fits.1 fits.2)

@@ -28,12 +28,16 @@ first_word text = before_first (λ b. b == 32) text
 abbrev pub other_words : List ℕ → List ℕ
 other_words text = after_first (λ b. b == 32) text
 
--- two numbers, one blank between them
-abbrev pub two_in : List ℕ → Option (ℕ × ℕ)
-two_in text =
+-- two things, one blank between them
+abbrev pub both_in : {A B : Type 0} → (List ℕ → Option A) → (List ℕ → Option B) → List ℕ → Option (A × B)
+both_in first other text =
     if has_blank text
-    then option_and_then (λ a. option_and_then (λ b. Some (a, b)) (number_in (other_words text))) (number_in (first_word text))
+    then option_and_then (λ a. option_and_then (λ b. Some (a, b)) (other (other_words text))) (first (first_word text))
     else None
+
+-- two numbers
+abbrev pub two_in : List ℕ → Option (ℕ × ℕ)
+two_in text = both_in number_in number_in text
 
 -- three numbers, one blank between each two
 abbrev pub three_in : List ℕ → Option (ℕ × ℕ × ℕ)

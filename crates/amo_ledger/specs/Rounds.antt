@@ -18,11 +18,11 @@ threshold jobs shared beta = if nat_lt 1 shared && nat_le (2 * (beta + shared - 
 abbrev pub givens_of : ℕ → ℕ → ℕ → Givens
 givens_of jobs workers beta = record { jobs = jobs; workers = shared_by jobs workers; beta = threshold jobs (shared_by jobs workers) beta }
 
--- the place of a worker among 1..workers, counted round the circle from the first
-abbrev pub place_of : ℕ → ℕ → ℕ → ℕ
-place_of worker first workers = if nat_le first worker then (worker - first) + 1 else ((worker + workers) - first) + 1
+-- how many of the workers 1..workers the circle has from the first to this one, both with it
+abbrev pub turn_of : ℕ → ℕ → ℕ → ℕ
+turn_of worker first workers = if nat_le first worker then (worker - first) + 1 else ((worker + workers) - first) + 1
 
 -- as which number a worker acts in a round that so many share
 abbrev pub seat_of : ℕ → ℕ → ℕ → ℕ → Option ℕ
 seat_of worker first workers shared =
-    if (nat_le 1 worker && nat_le worker workers) && nat_le (place_of worker first workers) shared then Some (place_of worker first workers) else None
+    if (nat_le 1 worker && nat_le worker workers) && nat_le (turn_of worker first workers) shared then Some (turn_of worker first workers) else None

@@ -116,8 +116,8 @@ fn answer_of_word(word: &str, rest: &str) -> Option<(u64, Answer)>
     }
 }
 
-/// The number as the code of a command.
-fn code_of(number: u64) -> Option<u8>
+/// The number as the code of a command. None above 255 is one.
+pub fn code_of(number: u64) -> Option<u8>
     ensures { result ≡ code_in number }
 {
     if number > 255 {

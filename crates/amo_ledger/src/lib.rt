@@ -13,7 +13,7 @@ mod put;
 mod record;
 mod round;
 
-pub use entry::{Answer, Entry};
+pub use entry::{Answer, Entry, code_of};
 pub use fault::Fault;
 pub use finding::{Finding, Verdict, first_misplaced, is_undone, read_findings};
 pub use journal::{Attempt, journal_of, note, pending, read_entries};

@@ -1,6 +1,6 @@
 //! The givens of a round, and who acts as which of its workers.
 ghost use Rattle.std.specs.Prelude.{◌≡◌, ◌+◌, ◌*◌, ◌<◌, ◌≤◌, ◌^◌};
-ghost use Rattle.amo_ledger.specs.Rounds.{bound_of, givens_of, place_of, seat_of, threshold};
+ghost use Rattle.amo_ledger.specs.Rounds.{bound_of, givens_of, turn_of, seat_of, threshold};
 
 /// With what a round is begun: so many jobs, the workers that share them, and the threshold at which a worker stops.
 #[derive(Clone, Copy, Debug, PartialEq, Eq)]
@@ -55,19 +55,19 @@ pub fn seat_of(worker: u64, first: u64, workers: u64, shared: u64) -> Option<u64
     if worker == 0 || worker > workers {
         return None;
     }
-    let place = place_of(worker, first, workers);
-    if place > shared {
+    let turn = turn_of(worker, first, workers);
+    if turn > shared {
         return None;
     }
-    Some(place)
+    Some(turn)
 }
 
-/// The place of a worker, counted round the circle from the first.
-fn place_of(worker: u64, first: u64, workers: u64) -> u64
+/// How many workers the circle has from the first to this one, both with it.
+fn turn_of(worker: u64, first: u64, workers: u64) -> u64
     requires in_round { (1 ≤ worker) × (worker ≤ workers) }
     requires first_in_round { (1 ≤ first) × (first ≤ workers) }
     requires few { workers < 2 ^ 32 }
-    ensures { result ≡ place_of worker first workers }
+    ensures { result ≡ turn_of worker first workers }
 {
     if worker >= first {
         worker - first + 1

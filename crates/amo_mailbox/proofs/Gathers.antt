@@ -4,11 +4,11 @@ use Rattle.std.specs.List.{list_any}
 use Rattle.std.proofs.lemmas.List.Elements.{filter-append, All-append}
 use Rattle.std.proofs.lemmas.List.Folds.{list_any_at}
 use Rattle.std.proofs.lemmas.List.Sums.{sum_by-cons}
-use Rattle.amo_mailbox.specs.declared.hand.Output.{Output}
+use Rattle.amo_mailbox.specs.declared.output.Output.{Output}
 use Rattle.std.proofs.lemmas.List.{get_or-map, length-map}
 use Rattle.crossbeam_queue.specs.Fifo.{Held}
-use Rattle.amo_mailbox.specs.declared.hand.Hand.{Hand}
-use Rattle.amo_mailbox.specs.declared.hand.Hand.TheVariants.{Gets}
+use Rattle.amo_mailbox.specs.declared.pass_state.PassState.{PassState}
+use Rattle.amo_mailbox.specs.declared.pass_state.PassState.TheVariants.{Gets}
 use Rattle.amo_mailbox.specs.Mailbox.{of, AreApart, AreWhole, AreWithin, Takes, Tells}
 
 -- the number is among them
@@ -81,14 +81,14 @@ module _ {Out : Type 0} where
   of_kept test p is (x ∷ xs) = of_kept_at test p is x (filter (λ (y : Output Out). test y.worker) xs) xs (of_kept test p is xs) (test x.worker) refl (eqb x.worker p) refl
 
   -- the queue was found empty: each of the workers' outputs was taken
-  pub told_whole : (v : Hand Out) (taken : List (Output Out)) (made : ℕ) (back : List (ℕ × List (Output Out))) → v ≡ Gets taken made back → Held 0 (Tells v) → AreWhole taken back × AreApart back
+  pub told_whole : (v : PassState Out) (taken : List (Output Out)) (made : ℕ) (back : List (ℕ × List (Output Out))) → v ≡ Gets taken made back → Held 0 (Tells v) → AreWhole taken back × AreApart back
   told_whole v taken made back is h =
-      let t : Tells (Gets taken made back) h.0 = subst (λ (u : Hand Out). Tells u h.0) is h.2 in
+      let t : Tells (Gets taken made back) h.0 = subst (λ (u : PassState Out). Tells u h.0) is h.2 in
       (subst (λ (l : List (Output Out)). AreWhole l back) (ap (λ l. taken ++ l) (empty_list h.0 h.1) ∙ append-nil taken) t.0, t.1)
 
-  pub took_within : (v : Hand Out) (x : Output Out) (w : Hand Out) (taken : List (Output Out)) (made : ℕ) (back : List (ℕ × List (Output Out))) → v ≡ Gets taken made back → Takes v x w
+  pub took_within : (v : PassState Out) (x : Output Out) (w : PassState Out) (taken : List (Output Out)) (made : ℕ) (back : List (ℕ × List (Output Out))) → v ≡ Gets taken made back → Takes v x w
       → (w ≡ Gets (taken ++ x ∷ []) made back) × AreWithin (taken ++ x ∷ []) back
-  took_within v x w taken made back is h = subst (λ (u : Hand Out). Takes u x w) is h
+  took_within v x w taken made back is h = subst (λ (u : PassState Out). Takes u x w) is h
 
   pub within_of_whole : (xs : List (Output Out)) (back : List (ℕ × List (Output Out))) → AreWhole xs back → AreWithin xs back
   within_of_whole xs back h k d lt = let e = ap length (h k d lt) in omega arith

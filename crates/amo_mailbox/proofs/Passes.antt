@@ -6,9 +6,9 @@ use mathlib.Core.Option.{some, some-ne-none, some-injective}
 use lib.ListN.{get_elem?}
 use Rattle.crossbeam_queue.specs.Fifo.{Pushes, Pops, Forks, Merges, Learns}
 use Rattle.crossbeam_queue.proofs.Lists.{at_set}
-use Rattle.amo_mailbox.specs.declared.hand.Output.{Output}
-use Rattle.amo_mailbox.specs.declared.hand.Hand.{Hand}
-use Rattle.amo_mailbox.specs.declared.hand.Hand.TheVariants.{Sends, Gets, Spent}
+use Rattle.amo_mailbox.specs.declared.output.Output.{Output}
+use Rattle.amo_mailbox.specs.declared.pass_state.PassState.{PassState}
+use Rattle.amo_mailbox.specs.declared.pass_state.PassState.TheVariants.{Sends, Gets, Spent}
 use Rattle.amo_mailbox.specs.Mailbox.{of, CameBack, AreWhole, AreWithin, Fits, Delivers, stays, goes, joined, Adds, Takes, Tells}
 use Rattle.amo_mailbox.proofs.Lists.{all_snoc, all_set}
 
@@ -35,7 +35,7 @@ module _ {Out : Type 0} where
   came_back_moved seat seat' all all' back same h k d lt = let e = h k d lt in let s = same (get_or back k d).0 e.0 in (s.0, e.1 ∙ sym s.1)
 
   -- what a pass knows stays so where neither its seats change nor what was put of its workers
-  fits_moved : (reader : ℕ) (seat seat' : ℕ → ℕ) (got all all' : List (Output Out)) (j : ℕ) (u : Hand Out)
+  fits_moved : (reader : ℕ) (seat seat' : ℕ → ℕ) (got all all' : List (Output Out)) (j : ℕ) (u : PassState Out)
       → ((q : ℕ) → seat q ≡ 0 → (seat' q ≡ 0) × (of q all' ≡ of q all)) → ((q : ℕ) → seat q ≡ j + 1 → (seat' q ≡ j + 1) × (of q all' ≡ of q all))
       → Fits reader seat got all j u → Fits reader seat' got all' j u
   fits_moved reader seat seat' got all all' j (Sends q put) empty mine h = let s = mine q h.0 in (s.0, h.1 ∙ sym s.1)
@@ -48,7 +48,7 @@ module _ {Out : Type 0} where
   )
   fits_moved reader seat seat' got all all' j Spent empty mine h = tt
 
-  only_one : (v u : Hand Out) (j : ℕ) → get_elem? (v ∷ []) j ≡ some u → (j ≡ 0) × (v ≡ u)
+  only_one : (v u : PassState Out) (j : ℕ) → get_elem? (v ∷ []) j ≡ some u → (j ≡ 0) × (v ≡ u)
   only_one v u zero e = (refl, some-injective v u e)
   only_one v u (suc j) e = absurd (some-ne-none u (sym e))
 
@@ -58,22 +58,22 @@ module _ {Out : Type 0} where
     seat = λ p. 0;
     got = [];
     each = λ j v e. let o = only_one (Gets [] 0 []) v j e in
-        subst (λ (y : ℕ × Hand Out). Fits 0 (λ p. 0) [] [] y.0 y.1) (λ k. (sym o.0 k, o.1 k)) (refl, refl, (λ p h. (refl, refl)), (λ k d lt. absurd (omega arith)), (λ i j d lt lt'. absurd (omega arith)));
+        subst (λ (y : ℕ × PassState Out). Fits 0 (λ p. 0) [] [] y.0 y.1) (λ k. (sym o.0 k, o.1 k)) (refl, refl, (λ p h. (refl, refl)), (λ k d lt. absurd (omega arith)), (λ i j d lt lt'. absurd (omega arith)));
   }
 
   sends_at : (n pass : ℕ) (x : Output Out) (put : List (Output Out)) → Pushes Delivers n pass (Sends x.worker put) x (Adds (Sends x.worker put) x)
   sends_at n pass x put items views room h at =
-      let w : Hand Out = Sends x.worker (put ++ x ∷ []) in
+      let w : PassState Out = Sends x.worker (put ++ x ∷ []) in
       let mine = h.each pass (Sends x.worker put) at in
       let all : List (Output Out) = (h.got ++ items) ++ x ∷ [] in
       let whole : all ≡ h.got ++ (items ++ x ∷ []) = append_assoc h.got items (x ∷ []) in
-      let F : ℕ → Hand Out → Type 0 = Fits h.reader h.seat h.got all in (
+      let F : ℕ → PassState Out → Type 0 = Fits h.reader h.seat h.got all in (
         w,
         record {
           reader = h.reader;
           seat = h.seat;
           got = h.got;
-          each = subst (λ (a : List (Output Out)). (j : ℕ) (u : Hand Out) → get_elem? (set views pass w) j ≡ some u → Fits h.reader h.seat h.got a j u) whole
+          each = subst (λ (a : List (Output Out)). (j : ℕ) (u : PassState Out) → get_elem? (set views pass w) j ≡ some u → Fits h.reader h.seat h.got a j u) whole
               (all_set F views pass w (mine.0, ap (λ l. l ++ x ∷ []) mine.1 ∙ sym (of_own x (h.got ++ items)))
               (λ j u other e.
               fits_moved h.reader h.seat h.seat h.got (h.got ++ items) all j u
@@ -85,8 +85,8 @@ module _ {Out : Type 0} where
       )
 
   -- an outlet's pass sends an output of its worker
-  pub sends : (n pass : ℕ) (v : Hand Out) (x : Output Out) (put : List (Output Out)) → v ≡ Sends x.worker put → Pushes Delivers n pass v x (Adds v x)
-  sends n pass v x put is = subst (λ (u : Hand Out). Pushes Delivers n pass u x (Adds u x)) (sym is) (sends_at n pass x put)
+  pub sends : (n pass : ℕ) (v : PassState Out) (x : Output Out) (put : List (Output Out)) → v ≡ Sends x.worker put → Pushes Delivers n pass v x (Adds v x)
+  sends n pass v x put is = subst (λ (u : PassState Out). Pushes Delivers n pass u x (Adds u x)) (sym is) (sends_at n pass x put)
 
   -- of each that came back there are at most as many in a beginning as it sent
   within : (seat : ℕ → ℕ) (xs ys : List (Output Out)) (back : List (ℕ × List (Output Out))) → CameBack seat (xs ++ ys) back → AreWithin xs back
@@ -99,13 +99,13 @@ module _ {Out : Type 0} where
   whole seat xs back h k d lt = sym (h k d lt).1
 
   -- what the inlet took says nothing of another's pass
-  not_reader : (reader : ℕ) (seat : ℕ → ℕ) (got got' all : List (Output Out)) (j : ℕ) (u : Hand Out) → j ≢ reader → Fits reader seat got all j u → Fits reader seat got' all j u
+  not_reader : (reader : ℕ) (seat : ℕ → ℕ) (got got' all : List (Output Out)) (j : ℕ) (u : PassState Out) → j ≢ reader → Fits reader seat got all j u → Fits reader seat got' all j u
   not_reader reader seat got got' all j (Sends q put) n h = h
   not_reader reader seat got got' all j (Gets taken made back) n h = absurd (n h.0)
   not_reader reader seat got got' all j Spent n h = tt
 
   -- a pass that is not the inlet's knows of the seats only its own
-  only_sends : (reader : ℕ) (seat seat' : ℕ → ℕ) (got all : List (Output Out)) (j : ℕ) (u : Hand Out) → j ≢ reader → ((q : ℕ) → seat q ≡ j + 1 → seat' q ≡ j + 1)
+  only_sends : (reader : ℕ) (seat seat' : ℕ → ℕ) (got all : List (Output Out)) (j : ℕ) (u : PassState Out) → j ≢ reader → ((q : ℕ) → seat q ≡ j + 1 → seat' q ≡ j + 1)
       → Fits reader seat got all j u → Fits reader seat' got all j u
   only_sends reader seat seat' got all j (Sends q put) n same h = (same q h.0, h.1)
   only_sends reader seat seat' got all j (Gets taken made back) n same h = absurd (n h.0)
@@ -115,11 +115,11 @@ module _ {Out : Type 0} where
   takes_at pass taken made back x items views h at =
       let mine = h.each pass (Gets taken made back) at in
       let got : List (Output Out) = h.got ++ x ∷ [] in
-      let w : Hand Out = Gets (taken ++ x ∷ []) made back in
+      let w : PassState Out = Gets (taken ++ x ∷ []) made back in
       let all : h.got ++ (x ∷ items) ≡ got ++ items = sym (append_assoc h.got (x ∷ []) items) in
       let is : got ≡ taken ++ x ∷ [] = ap (λ l. l ++ x ∷ []) (sym mine.1) in
       let b : CameBack h.seat (got ++ items) back = subst (λ (a : List (Output Out)). CameBack h.seat a back) all mine.3 in
-      let F : ℕ → Hand Out → Type 0 = Fits h.reader h.seat got (got ++ items) in (
+      let F : ℕ → PassState Out → Type 0 = Fits h.reader h.seat got (got ++ items) in (
         w,
         record {
           reader = h.reader;
@@ -133,10 +133,10 @@ module _ {Out : Type 0} where
       )
 
   -- the inlet's pass takes an output
-  pub takes : (pass : ℕ) (v : Hand Out) (taken : List (Output Out)) (made : ℕ) (back : List (ℕ × List (Output Out))) → v ≡ Gets taken made back → Pops Delivers pass v (Takes v)
-  takes pass v taken made back is = subst (λ (u : Hand Out). Pops Delivers pass u (Takes u)) (sym is) (takes_at pass taken made back)
+  pub takes : (pass : ℕ) (v : PassState Out) (taken : List (Output Out)) (made : ℕ) (back : List (ℕ × List (Output Out))) → v ≡ Gets taken made back → Pops Delivers pass v (Takes v)
+  takes pass v taken made back is = subst (λ (u : PassState Out). Pops Delivers pass u (Takes u)) (sym is) (takes_at pass taken made back)
 
-  pub learns : (pass : ℕ) (v : Hand Out) → Learns Delivers pass v (Tells v)
+  pub learns : (pass : ℕ) (v : PassState Out) → Learns Delivers pass v (Tells v)
   learns pass (Sends p put) items views h at = tt
   learns pass (Gets taken made back) items views h at =
       let mine = h.each pass (Gets taken made back) at in
@@ -144,9 +144,9 @@ module _ {Out : Type 0} where
   learns pass Spent items views h at = tt
 
   -- a new pass has a view that fits its place, and the old one a view that fits its own
-  fits_forked : (reader : ℕ) (seat : ℕ → ℕ) (got all : List (Output Out)) (views : List (Hand Out)) (pass : ℕ) (left right : Hand Out)
-      → Fits reader seat got all pass left → Fits reader seat got all (length views) right → ((j : ℕ) (u : Hand Out) → j ≢ pass → get_elem? views j ≡ some u → Fits reader seat got all j u)
-      → (j : ℕ) (u : Hand Out) → get_elem? (set views pass left ++ right ∷ []) j ≡ some u → Fits reader seat got all j u
+  fits_forked : (reader : ℕ) (seat : ℕ → ℕ) (got all : List (Output Out)) (views : List (PassState Out)) (pass : ℕ) (left right : PassState Out)
+      → Fits reader seat got all pass left → Fits reader seat got all (length views) right → ((j : ℕ) (u : PassState Out) → j ≢ pass → get_elem? views j ≡ some u → Fits reader seat got all j u)
+      → (j : ℕ) (u : PassState Out) → get_elem? (set views pass left ++ right ∷ []) j ≡ some u → Fits reader seat got all j u
   fits_forked reader seat got all views pass left right mine new others =
       all_snoc (Fits reader seat got all) (set views pass left) right (subst (λ (n : ℕ). Fits reader seat got all n right) (sym (length-set views pass left)) new)
       (all_set (Fits reader seat got all) views pass left mine others)
@@ -171,8 +171,8 @@ module _ {Out : Type 0} where
       }
 
   -- the inlet's pass makes an outlet's, of the next worker
-  pub makes : (pass : ℕ) (v : Hand Out) (taken : List (Output Out)) (made : ℕ) → v ≡ Gets taken made [] → Forks Delivers pass v (stays v) (goes v)
-  makes pass v taken made is = subst (λ (u : Hand Out). Forks Delivers pass u (stays u) (goes u)) (sym is) (makes_at pass taken made)
+  pub makes : (pass : ℕ) (v : PassState Out) (taken : List (Output Out)) (made : ℕ) → v ≡ Gets taken made [] → Forks Delivers pass v (stays v) (goes v)
+  makes pass v taken made is = subst (λ (u : PassState Out). Forks Delivers pass u (stays u) (goes u)) (sym is) (makes_at pass taken made)
 
   cuts_at : (pass p : ℕ) (put : List (Output Out)) → Forks Delivers pass (Sends p put) Spent (Sends p put)
   cuts_at pass p put items views h at =
@@ -191,8 +191,8 @@ module _ {Out : Type 0} where
       }
 
   -- all that an outlet's pass knows goes into a new one
-  pub cuts : (pass : ℕ) (v : Hand Out) (p : ℕ) (put : List (Output Out)) → v ≡ Sends p put → Forks Delivers pass v (stays v) (goes v)
-  cuts pass v p put is = subst (λ (u : Hand Out). Forks Delivers pass u (stays u) (goes u)) (sym is) (cuts_at pass p put)
+  pub cuts : (pass : ℕ) (v : PassState Out) (p : ℕ) (put : List (Output Out)) → v ≡ Sends p put → Forks Delivers pass v (stays v) (goes v)
+  cuts pass v p put is = subst (λ (u : PassState Out). Forks Delivers pass u (stays u) (goes u)) (sym is) (cuts_at pass p put)
 
   -- no outlet of a worker that is out came back
   still_new : (seat : ℕ → ℕ) (all : List (Output Out)) (p n : ℕ) → seat p ≡ n + 1 → (back : List (ℕ × List (Output Out))) → CameBack seat all back
@@ -202,7 +202,7 @@ module _ {Out : Type 0} where
   merges_at : (pass : ℕ) (taken : List (Output Out)) (made : ℕ) (back : List (ℕ × List (Output Out))) (other p : ℕ) (put : List (Output Out))
       → Merges Delivers pass (Gets taken made back) other (Sends p put) (Gets taken made (back ++ (p, put) ∷ [])) Spent
   merges_at pass taken made back other p put items views h at two at' =
-      let both : Hand Out = Gets taken made (back ++ (p, put) ∷ []) in
+      let both : PassState Out = Gets taken made (back ++ (p, put) ∷ []) in
       let mine = h.each pass (Gets taken made back) at in
       let was : get_elem? views other ≡ some (Sends p put) = ⊎_elim (λ x. absurd (two x.0)) (λ x. x.1) (at_set views pass other both (Sends p put) at') in
       let theirs = h.each other (Sends p put) was in
@@ -210,7 +210,7 @@ module _ {Out : Type 0} where
       let all : List (Output Out) = h.got ++ items in
       let empty : (q : ℕ) → h.seat q ≡ 0 → (seat q ≡ 0) × (of q all ≡ of q all) =
       λ q is. (seated_else p 0 h.seat q (λ same. let t = theirs.0 in let z : h.seat p ≡ 0 = ap h.seat (sym same) ∙ is in absurd (omega arith)) ∙ is, refl) in
-      let Now : ℕ → Hand Out → Type 0 = λ j u. j ≢ other → Fits h.reader seat h.got all j u in record {
+      let Now : ℕ → PassState Out → Type 0 = λ j u. j ≢ other → Fits h.reader seat h.got all j u in record {
         reader = h.reader;
         seat = seat;
         got = h.got;
@@ -230,7 +230,7 @@ module _ {Out : Type 0} where
       }
 
   -- the inlet's pass takes in an outlet's
-  pub merges : (pass : ℕ) (v : Hand Out) (other : ℕ) (w : Hand Out) (taken : List (Output Out)) (made : ℕ) (back : List (ℕ × List (Output Out))) (p : ℕ) (put : List (Output Out))
+  pub merges : (pass : ℕ) (v : PassState Out) (other : ℕ) (w : PassState Out) (taken : List (Output Out)) (made : ℕ) (back : List (ℕ × List (Output Out))) (p : ℕ) (put : List (Output Out))
       → v ≡ Gets taken made back → w ≡ Sends p put → Merges Delivers pass v other w (joined v w) Spent
   merges pass v other w taken made back p put is its =
-      subst (λ (u : Hand Out × Hand Out). Merges Delivers pass u.0 other u.1 (joined u.0 u.1) Spent) (λ i. (sym is i, sym its i)) (merges_at pass taken made back other p put)
+      subst (λ (u : PassState Out × PassState Out). Merges Delivers pass u.0 other u.1 (joined u.0 u.1) Spent) (λ i. (sym is i, sym its i)) (merges_at pass taken made back other p put)

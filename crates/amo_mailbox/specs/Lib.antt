@@ -1,3 +1,3 @@
 pub mod Ports
-pub mod Ends
+pub mod Endpoints
 pub mod Mailbox

@@ -2,9 +2,9 @@
 use Rattle.std.specs.Prelude.{◌≡◌, ◌≢◌, ℕ, ◌+◌, ◌<◌, ◌≤◌, ◌==◌, List, [], ◌∷◌, ◌++◌, filter, length, All, AllPairs}
 use mathlib.Core.Option.{some}
 use lib.ListN.{get_elem?}
-use Rattle.amo_mailbox.specs.declared.hand.Output.{Output}
-use Rattle.amo_mailbox.specs.declared.hand.Hand.{Hand}
-use Rattle.amo_mailbox.specs.declared.hand.Hand.TheVariants.{Sends, Gets, Spent}
+use Rattle.amo_mailbox.specs.declared.output.Output.{Output}
+use Rattle.amo_mailbox.specs.declared.pass_state.PassState.{PassState}
+use Rattle.amo_mailbox.specs.declared.pass_state.PassState.TheVariants.{Sends, Gets, Spent}
 
 module _ {Out : Type 0} where
   -- the outputs of a worker, in order
@@ -24,37 +24,37 @@ module _ {Out : Type 0} where
   AreWhole xs back = All (λ e. of e.0 xs ≡ e.1) back
 
   -- what a pass knows is so: seat p is 0 where no outlet of p is out, and else one more than the number of its pass. All outputs that were ever put are all
-  abbrev pub Fits : ℕ → (ℕ → ℕ) → List (Output Out) → List (Output Out) → ℕ → Hand Out → Type 0
+  abbrev pub Fits : ℕ → (ℕ → ℕ) → List (Output Out) → List (Output Out) → ℕ → PassState Out → Type 0
   Fits reader seat got all pass (Sends p put) = (seat p ≡ pass + 1) × (put ≡ of p all)
   Fits reader seat got all pass (Gets taken made back) =
       (pass ≡ reader) × (taken ≡ got) × ((p : ℕ) → made < p → (seat p ≡ 0) × (of p all ≡ [])) × CameBack seat all back × AreApart back
   Fits reader seat got all pass Spent = Unit {0}
 
   -- what the inlet took, and then what stands in the queue, is for each worker what its outlet sent, in order
-  pub record Delivers (items : List (Output Out)) (views : List (Hand Out)) : Type 0 where
+  pub record Delivers (items : List (Output Out)) (views : List (PassState Out)) : Type 0 where
     pub reader : ℕ
     pub seat : ℕ → ℕ
     pub got : List (Output Out)
-    pub each : (pass : ℕ) (v : Hand Out) → get_elem? views pass ≡ some v → Fits reader seat got (got ++ items) pass v
+    pub each : (pass : ℕ) (v : PassState Out) → get_elem? views pass ≡ some v → Fits reader seat got (got ++ items) pass v
 
   -- a pass is split: the inlet's makes an outlet of the next worker, an outlet's moves all that it knows
-  abbrev pub stays : Hand Out → Hand Out
+  abbrev pub stays : PassState Out → PassState Out
   stays (Sends p put) = Spent
   stays (Gets taken made back) = Gets taken (made + 1) back
   stays Spent = Spent
 
-  abbrev pub goes : Hand Out → Hand Out
+  abbrev pub goes : PassState Out → PassState Out
   goes (Sends p put) = Sends p put
   goes (Gets taken made back) = Sends (made + 1) []
   goes Spent = Spent
 
   -- the inlet's pass takes an outlet's in
-  abbrev pub joined : Hand Out → Hand Out → Hand Out
+  abbrev pub joined : PassState Out → PassState Out → PassState Out
   joined (Gets taken made back) (Sends p put) = Gets taken made (back ++ (p, put) ∷ [])
   joined v w = v
 
   -- an output was sent
-  abbrev pub Adds : Hand Out → Output Out → Hand Out → Type 0
+  abbrev pub Adds : PassState Out → Output Out → PassState Out → Type 0
   Adds (Sends p put) x w = w ≡ Sends p (put ++ x ∷ [])
   Adds (Gets taken made back) x w = ⊥
   Adds Spent x w = ⊥
@@ -64,29 +64,29 @@ module _ {Out : Type 0} where
   AreWithin xs back = All (λ e. length (of e.0 xs) ≤ length e.1) back
 
   -- an output was taken
-  abbrev pub Takes : Hand Out → Output Out → Hand Out → Type 0
+  abbrev pub Takes : PassState Out → Output Out → PassState Out → Type 0
   Takes (Gets taken made back) x w = (w ≡ Gets (taken ++ x ∷ []) made back) × AreWithin (taken ++ x ∷ []) back
   Takes (Sends p put) x w = ⊥
   Takes Spent x w = ⊥
 
   -- what the inlet learns of what the queue holds
-  abbrev pub Tells : Hand Out → List (Output Out) → Type 0
+  abbrev pub Tells : PassState Out → List (Output Out) → Type 0
   Tells (Gets taken made back) items = AreWhole (taken ++ items) back × AreApart back
   Tells (Sends p put) items = Unit {0}
   Tells Spent items = Unit {0}
 
   -- the parts of what an inlet's pass knows
-  abbrev pub taken_of : Hand Out → List (Output Out)
+  abbrev pub taken_of : PassState Out → List (Output Out)
   taken_of (Gets taken made back) = taken
   taken_of (Sends p put) = []
   taken_of Spent = []
 
-  abbrev pub made_of : Hand Out → ℕ
+  abbrev pub made_of : PassState Out → ℕ
   made_of (Gets taken made back) = made
   made_of (Sends p put) = 0
   made_of Spent = 0
 
-  abbrev pub back_of : Hand Out → List (ℕ × List (Output Out))
+  abbrev pub back_of : PassState Out → List (ℕ × List (Output Out))
   back_of (Gets taken made back) = back
   back_of (Sends p put) = []
   back_of Spent = []

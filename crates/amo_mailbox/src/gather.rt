@@ -2,14 +2,14 @@
 ghost use Rattle.std.specs.Prelude.{true, ◌≡◌, ◌+◌, ◌<◌, ◌≤◌, ◌==◌, [], ◌∷◌, ◌++◌, length, map, filter, flat_map, sum_by, All, vec_len, vec_capacity};
 ghost use Rattle.std.specs.List.{list_any};
 ghost use Rattle.crossbeam_queue.specs.Passes.{view, IsPassOf};
-ghost use Rattle.amo_mailbox.specs.declared.hand.Hand.TheVariants.{Gets};
+ghost use Rattle.amo_mailbox.specs.declared.pass_state.PassState.TheVariants.{Gets};
 ghost use Rattle.amo_mailbox.specs.Mailbox.{of, taken_of, made_of, back_of, AreWhole, AreApart};
-ghost use Rattle.amo_mailbox.specs.Ends.{IsOutletOf, IsInletOf, IsGets, given, told, has_worker, left_of, EndsWith, EndsByRisingWorker};
+ghost use Rattle.amo_mailbox.specs.Endpoints.{IsOutletOf, IsInletOf, IsGets, given, worker_and_sent, has_worker, worker_and_kept, EndsByRisingWorker};
 
-use crate::hand::Output;
 use crate::inlet::Inlet;
 use crate::outlet::Outlet;
-use crate::queue::{Moves, Port, Queue, Takes};
+use crate::output::Output;
+use crate::queue::{Passes, Port, Queue, Takes};
 use std::sync::Wait;
 
 /// Takes in what an outlet's pass knows.
@@ -18,11 +18,11 @@ fn bring<Out: Drop>(queue: &Queue<Out>, pass: &mut Port<Out>, outlet: &mut Outle
     requires view { IsGets (view pass.old) }
     requires belong { IsOutletOf queue.now outlet.old }
     ensures pass { IsPassOf queue.now.ring pass.new }
-    ensures view { view pass.new ≡ Gets (taken_of (view pass.old)) (made_of (view pass.old)) (back_of (view pass.old) ++ told outlet.old ∷ []) }
-    ensures left { left_of outlet.new ≡ left_of outlet.old }
+    ensures view { view pass.new ≡ Gets (taken_of (view pass.old)) (made_of (view pass.old)) (back_of (view pass.old) ++ worker_and_sent outlet.old ∷ []) }
+    ensures left { worker_and_kept outlet.new ≡ worker_and_kept outlet.old }
 {
-    let whole = queue.ring.another::<Moves>(&mut outlet.pass);
-    queue.ring.absorb::<Moves>(pass, whole);
+    let whole = queue.ring.another::<Passes>(&mut outlet.pass);
+    queue.ring.absorb::<Passes>(pass, whole);
 }
 
 /// Takes in what the outlets' passes know.
@@ -31,8 +31,8 @@ fn bring_back<Out: Drop>(queue: &Queue<Out>, pass: &mut Port<Out>, outlets: &mut
     requires view { view pass.old ≡ Gets (taken_of (view pass.old)) (made_of (view pass.old)) [] }
     requires belong { All (λ o. IsOutletOf queue.now o) outlets.old }
     ensures pass { IsPassOf queue.now.ring pass.new }
-    ensures view { view pass.new ≡ Gets (taken_of (view pass.old)) (made_of (view pass.old)) (map told outlets.old) }
-    ensures left { map left_of outlets.new ≡ map left_of outlets.old }
+    ensures view { view pass.new ≡ Gets (taken_of (view pass.old)) (made_of (view pass.old)) (map worker_and_sent outlets.old) }
+    ensures left { map worker_and_kept outlets.new ≡ map worker_and_kept outlets.old }
 {
     for outlet in outlets.iter_mut() {
         bring(queue, pass, outlet);
@@ -98,33 +98,6 @@ fn take_rest<Out: Drop, R: Wait>(
     unreachable!()
 }
 
-/// `Inlet::gather`, with the kept lists in the order of the outlets.
-fn gather_in<Out: Drop, R: Wait>(
-    rt: &R,
-    inlet: Inlet<Out>,
-    queue: Queue<Out>,
-    mut outlets: Vec<Outlet<Out>>,
-) -> Vec<Output<Out>>
-    requires inlet { IsInletOf queue inlet }
-    requires outlets { All (λ o. IsOutletOf queue o) outlets.items }
-    requires room { sum_by (λ o. o.put_count) outlets.items ≤ inlet.room }
-    ensures each { All (λ o. of o.worker result.items ≡ given o) outlets.items }
-    ensures only { All (λ x. has_worker outlets.items x.worker ≡ true) result.items }
-    ensures kept { EndsWith result.items (flat_map (λ o. o.kept) outlets.items) }
-{
-    let Inlet {
-        mut pass,
-        mut taken,
-        room: _,
-    } = inlet;
-    let row = outlets.as_mut_slice();
-    bring_back(&queue, &mut pass, row);
-    keep_only(&mut taken, row);
-    take_rest(rt, &queue, &mut pass, row, &mut taken);
-    append_kept(&mut taken, row);
-    taken
-}
-
 impl<Out: Drop> Inlet<Out> {
     /// Takes the rest, drops what is of no outlet handed in, and adds what the outlets kept, by rising worker: of each of
     /// these outlets just what it was given, in order, and nothing else. The queue and the outlets have to be the inlet's own,
@@ -142,7 +115,17 @@ impl<Out: Drop> Inlet<Out> {
         ensures only { All (λ x. has_worker outlets.items x.worker ≡ true) result.items }
         ensures kept { EndsByRisingWorker result.items outlets.items }
     {
+        let Inlet {
+            mut pass,
+            mut taken,
+            room: _,
+        } = self;
         outlets.sort_unstable_by_key(|o| o.worker);
-        gather_in(rt, self, queue, outlets)
+        let row = outlets.as_mut_slice();
+        bring_back(&queue, &mut pass, row);
+        keep_only(&mut taken, row);
+        take_rest(rt, &queue, &mut pass, row, &mut taken);
+        append_kept(&mut taken, row);
+        taken
     }
 }

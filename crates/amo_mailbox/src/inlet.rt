@@ -2,7 +2,7 @@
 ghost use Rattle.std.specs.Prelude.{◌≡◌, vec_capacity};
 ghost use Rattle.amo_mailbox.specs.Ports.{InletView};
 
-use crate::hand::Output;
+use crate::output::Output;
 use crate::queue::{Port, Queue, Takes};
 use std::marker::Model;
 use std::sync::Wait;
@@ -25,8 +25,8 @@ impl<Out> Model for Inlet<Out> {
 
 impl<Out> Inlet<Out> {
     ghost use Rattle.std.specs.Prelude.{◌≡◌, ◌+◌, ◌<◌, ◌≤◌, ◌⊎◌, [], ◌∷◌, ◌++◌, List, MatchBool, vec_len};
-    ghost use Rattle.amo_mailbox.specs.Ends.{IsInletOf};
-    ghost use Rattle.amo_mailbox.specs.declared.hand.Output.{Output};
+    ghost use Rattle.amo_mailbox.specs.Endpoints.{IsInletOf};
+    ghost use Rattle.amo_mailbox.specs.declared.output.Output.{Output};
 
     /// Takes the front of the queue, which has to be the inlet's own. False where as many were taken as there are jobs, or
     /// the queue was found empty. Takes no memory; may wait while another thread is in the queue.

@@ -5,14 +5,15 @@
 #![tactic(auto)]
 
 mod gather;
-mod hand;
 mod inlet;
 mod make;
 mod outlet;
+mod output;
+mod pass_state;
 mod queue;
 
-pub use hand::Output;
 pub use inlet::Inlet;
 pub use make::outlets;
 pub use outlet::Outlet;
+pub use output::Output;
 pub use queue::Queue;

@@ -1,11 +1,11 @@
 //! How a queue, its inlet and its outlets are made.
 ghost use Rattle.std.specs.Prelude.{◌≡◌, ◌+◌, ◌<◌, ◌≤◌, [], All, IfOk, map};
 ghost use Rattle.std.specs.List.{range_with_len};
-ghost use Rattle.amo_mailbox.specs.Ends.{IsNewInletOf, IsNewOutletOf, places};
+ghost use Rattle.amo_mailbox.specs.Endpoints.{IsNewInletOf, IsNewOutletOf, places};
 
 use crate::inlet::Inlet;
 use crate::outlet::Outlet;
-use crate::queue::{Moves, PLACES, Queue, Ring};
+use crate::queue::{PLACES, Passes, Queue, Ring};
 use amo_kk::Givens;
 use std::alloc::{AllocError, Global};
 
@@ -26,7 +26,7 @@ fn outlets_for<Out: Drop>(
     let queue = Queue { ring };
     for before in 0..workers {
         let kept = Vec::with_capacity(alloc, jobs as usize)?;
-        let port = queue.ring.another::<Moves>(&mut pass);
+        let port = queue.ring.another::<Passes>(&mut pass);
         outlets.push_reserved(Outlet::new(&queue, port, before + 1, kept, jobs));
     }
     let inlet = Inlet {

@@ -2,7 +2,7 @@
 ghost use Rattle.std.specs.Prelude.{◌≡◌, vec_capacity};
 ghost use Rattle.amo_mailbox.specs.Ports.{OutletView};
 
-use crate::hand::Output;
+use crate::output::Output;
 use crate::queue::{Port, Puts, Queue};
 use std::marker::Model;
 use std::sync::Wait;
@@ -27,11 +27,11 @@ impl<Out> Model for Outlet<Out> {
 
 impl<Out: Drop> Outlet<Out> {
     ghost use Rattle.crossbeam_queue.specs.Passes.{IsPassOf};
-    ghost use Rattle.amo_mailbox.specs.Ends.{IsNewOutletOf};
-    ghost use Rattle.amo_mailbox.specs.declared.hand.Hand.TheVariants.{Sends};
+    ghost use Rattle.amo_mailbox.specs.Endpoints.{IsNewOutletOf};
+    ghost use Rattle.amo_mailbox.specs.declared.pass_state.PassState.TheVariants.{Sends};
     ghost use Rattle.std.specs.Prelude.{vec_capacity, nat_lt, ◌≡◌, ◌+◌, ◌<◌, ◌≤◌, ◌⊎◌, [], ◌∷◌, ◌++◌};
     ghost use Rattle.crossbeam_queue.specs.Passes.{view};
-    ghost use Rattle.amo_mailbox.specs.Ends.{IsOutletOf, given, sent_by};
+    ghost use Rattle.amo_mailbox.specs.Endpoints.{IsOutletOf, given, sent_by};
 
     /// An outlet that was given nothing yet. Of the queue only proofs hear.
     pub(crate) fn new(

@@ -1,15 +1,16 @@
 //! The queue, its rule, and how its passes are made.
-use crate::hand::{Hand, Output};
+use crate::output::Output;
+use crate::pass_state::PassState;
 use crossbeam_queue::protocol::{Join, Lesson, Outcome, Protocol, Split};
 use crossbeam_queue::{Pass, RuledArrayQueue};
 
 /// What the inlet took, and then what stands in the queue, is for each worker what its outlet sent, in order.
 pub struct InOrder;
 
-impl<Out> Protocol<Output<Out>, Hand<Out>> for InOrder {
+impl<Out> Protocol<Output<Out>, PassState<Out>> for InOrder {
     ghost use Rattle.std.specs.Prelude.{[]};
     ghost use Rattle.amo_mailbox.specs.Mailbox.{Delivers};
-    ghost use Rattle.amo_mailbox.specs.declared.hand.Hand.TheVariants.{Gets};
+    ghost use Rattle.amo_mailbox.specs.declared.pass_state.PassState.TheVariants.{Gets};
 
     ghost holds = { Delivers };
 
@@ -17,9 +18,9 @@ impl<Out> Protocol<Output<Out>, Hand<Out>> for InOrder {
 }
 
 /// How passes are made and come back: the inlet's makes an outlet's, an outlet's moves whole, the inlet's takes it in.
-pub struct Moves;
+pub struct Passes;
 
-impl<Out> Split<Hand<Out>> for Moves {
+impl<Out> Split<PassState<Out>> for Passes {
     ghost use Rattle.amo_mailbox.specs.Mailbox.{stays, goes};
 
     ghost left = { stays };
@@ -27,9 +28,9 @@ impl<Out> Split<Hand<Out>> for Moves {
     ghost right = { goes };
 }
 
-impl<Out> Join<Hand<Out>> for Moves {
+impl<Out> Join<PassState<Out>> for Passes {
     ghost use Rattle.amo_mailbox.specs.Mailbox.{joined};
-    ghost use Rattle.amo_mailbox.specs.declared.hand.Hand.TheVariants.{Spent};
+    ghost use Rattle.amo_mailbox.specs.declared.pass_state.PassState.TheVariants.{Spent};
 
     ghost both = { joined };
 
@@ -39,36 +40,36 @@ impl<Out> Join<Hand<Out>> for Moves {
 /// What an outlet's put does to its pass. From a full queue it learns nothing.
 pub struct Puts;
 
-impl<Out> Outcome<Output<Out>, Hand<Out>> for Puts {
+impl<Out> Outcome<Output<Out>, PassState<Out>> for Puts {
     ghost use Rattle.amo_mailbox.specs.Mailbox.{Adds};
 
     ghost then = { Adds };
 }
 
-impl<Out> Lesson<Output<Out>, Hand<Out>> for Puts {
+impl<Out> Lesson<Output<Out>, PassState<Out>> for Puts {
     ghost fact = { λ v items. Unit {0} };
 }
 
 /// What the inlet's take does to its pass, and what it learns from an empty queue.
 pub struct Takes;
 
-impl<Out> Outcome<Output<Out>, Hand<Out>> for Takes {
+impl<Out> Outcome<Output<Out>, PassState<Out>> for Takes {
     ghost use Rattle.amo_mailbox.specs.Mailbox.{Takes};
 
     ghost then = { Takes };
 }
 
-impl<Out> Lesson<Output<Out>, Hand<Out>> for Takes {
+impl<Out> Lesson<Output<Out>, PassState<Out>> for Takes {
     ghost use Rattle.amo_mailbox.specs.Mailbox.{Tells};
 
     ghost fact = { Tells };
 }
 
 /// The queue of the library, under the rule.
-pub type Ring<Out> = RuledArrayQueue<Output<Out>, Hand<Out>, InOrder>;
+pub type Ring<Out> = RuledArrayQueue<Output<Out>, PassState<Out>, InOrder>;
 
 /// An end's leave to use it.
-pub type Port<Out> = Pass<Output<Out>, Hand<Out>>;
+pub type Port<Out> = Pass<Output<Out>, PassState<Out>>;
 
 /// The places of a queue.
 pub const PLACES: usize = 64;

@@ -8,13 +8,7 @@ use Rattle.amo_mounts.specs.Mounts.{MountView, mount_at, lines_of, fields_of, mo
 use Rattle.amo_mounts.specs.Folders.{Tells, NoneLonger, NoneAsLong, LiesOn, LiesOnNone}
 use Rattle.amo_mounts.proofs.WrittenPaths.{longer_was, more_was}
 use Rattle.amo_mounts.proofs.HeldPaths.{held_behind, held_written, IsHeldBy, held_was}
-use Rattle.amo_mounts.proofs.ToldMounts.{told_read, read_at_root, read_told}
-
-none_some : {A : Type 0} {x : A} → None ≡ Some x → ⊥
-none_some e = cc
-
-some_is : {A : Type 0} {x y : A} → Some x ≡ Some y → x ≡ y
-some_is e = cc
+use Rattle.amo_mounts.proofs.ToldMounts.{none_some, some_is, told_read, read_at_root, read_told}
 
 is_less : (a b : ℕ) → nat_lt a b ≡ true → a < b
 is_less a b h = grind (arith, nat_tests)
@@ -28,7 +22,7 @@ is_not_less a b h = grind (arith, nat_tests)
 record IsHolding (line path : List ℕ) (m : MountView) : Type 0 where
   pub point : List ℕ
   pub is : m.point ≡ written point
-  pub told : Tells line point m.kind
+  pub tells : Tells line point m.kind
   pub held : Holds point path
 
 was_held : (line path : List ℕ) (m : MountView) → holding (written path) line ≡ Some m → IsHolding line path m
@@ -39,15 +33,15 @@ was_held line path m h = by_mount (mount_of (fields_of line)) refl h
     by_test n read true t e =
         let same : n ≡ m = some_is e in
         let p : IsHeldBy n.point path = held_was n.point path (read_at_root line n read) t in
-        subst (λ (x : MountView). IsHolding line path x) same (record { point = p.point; is = p.is; told = read_told line p.point n read p.is p.at_root; held = p.held })
+        subst (λ (x : MountView). IsHolding line path x) same (record { point = p.point; is = p.is; tells = read_told line p.point n read p.is p.at_root; held = p.held })
 
     by_mount : (o : Option MountView) → mount_of (fields_of line) ≡ o → if_it_holds (written path) o ≡ Some m → IsHolding line path m
     by_mount None read e = absurd (none_some e)
     by_mount (Some n) read e = by_test n read (holds n.point (written path)) refl e
 
 is_held : (line point kind path : List ℕ) → Tells line point kind → Holds point path → holding (written path) line ≡ Some (mount_at (written point) kind)
-is_held line point kind path told held =
-    ap (if_it_holds (written path)) (told_read line point kind told) ∙ ap (λ b. cond b (Some (mount_at (written point) kind)) None) (held_written point path told.at_root held)
+is_held line point kind path tells held =
+    ap (if_it_holds (written path)) (told_read line point kind tells) ∙ ap (λ b. cond b (Some (mount_at (written point) kind)) None) (held_written point path tells.at_root held)
 
 -- ---- the deepest of those that hold the path, as the text has them
 
@@ -146,25 +140,24 @@ is_deepest path (line ∷ lines) m h = deepest_of path line lines (λ n e. is_de
 
 -- ---- the same of lines and paths
 
-none_longer : (path point : List ℕ) (lines : List (List ℕ)) → Holds point path → NoneDeeper (written path) (length (written point)) lines → NoneLonger (length point) path lines
-none_longer path point [] held all = tt
-none_longer path point (line ∷ lines) held all = (
-  (λ p k told is.
+-- what is so of the points as the text has them is so of the points
+each_point : (R : ℕ → ℕ → Type 0) → ((p r q s : List ℕ) → p ++ r ≡ q ++ s → R (length (written p)) (length (written q)) → R (length p) (length q))
+    → (path point : List ℕ) (lines : List (List ℕ)) → Holds point path → AllByRecursion (λ line. (n : MountView) → holding (written path) line ≡ Some n → R (length n.point) (length (written point))) lines
+    → AllByRecursion (λ line. (p k : List ℕ) → Tells line p k → Holds p path → R (length p) (length point)) lines
+each_point R was path point [] held all = tt
+each_point R was path point (line ∷ lines) held all = (
+  (λ p k tells is.
       let (rest, behind) = held_behind p path is in
       let (more, further) = held_behind point path held in
-      longer_was p rest point more (sym behind ∙ further) (all.0 (mount_at (written p) k) (is_held line p k path told is))),
-  none_longer path point lines held all.1,
+      was p rest point more (sym behind ∙ further) (all.0 (mount_at (written p) k) (is_held line p k path tells is))),
+  each_point R was path point lines held all.1,
 )
 
+none_longer : (path point : List ℕ) (lines : List (List ℕ)) → Holds point path → NoneDeeper (written path) (length (written point)) lines → NoneLonger (length point) path lines
+none_longer = each_point (λ a b. a ≤ b) longer_was
+
 none_as_long : (path point : List ℕ) (lines : List (List ℕ)) → Holds point path → NoneAsDeep (written path) (length (written point)) lines → NoneAsLong (length point) path lines
-none_as_long path point [] held all = tt
-none_as_long path point (line ∷ lines) held all = (
-  (λ p k told is.
-      let (rest, behind) = held_behind p path is in
-      let (more, further) = held_behind point path held in
-      more_was p rest point more (sym behind ∙ further) (all.0 (mount_at (written p) k) (is_held line p k path told is))),
-  none_as_long path point lines held all.1,
-)
+none_as_long = each_point (λ a b. a < b) more_was
 
 lies_on : (text path kind : List ℕ) → type_of text path ≡ Some kind → LiesOn text path kind
 lies_on text path kind h = by_mount (deepest (written path) (lines_of text)) refl h
@@ -181,7 +174,7 @@ lies_on text path kind h = by_mount (deepest (written path) (lines_of text)) ref
           behind = d.behind;
           point = p.point;
           lines = d.are;
-          told = subst (λ (k : List ℕ). Tells d.line p.point k) same p.told;
+          tells = subst (λ (k : List ℕ). Tells d.line p.point k) same p.tells;
           held = p.held;
           none_longer = none_longer path p.point d.before p.held (subst (λ (n : ℕ). NoneDeeper (written path) n d.before) (ap length p.is) d.none_deeper);
           none_as_long = none_as_long path p.point d.behind p.held (subst (λ (n : ℕ). NoneAsDeep (written path) n d.behind) (ap length p.is) d.none_as_deep);
@@ -189,7 +182,7 @@ lies_on text path kind h = by_mount (deepest (written path) (lines_of text)) ref
 
 none_told : (path : List ℕ) (lines : List (List ℕ)) → NoneHold (written path) lines → AllByRecursion (λ line. (point kind : List ℕ) → Tells line point kind → Holds point path → ⊥) lines
 none_told path [] all = tt
-none_told path (line ∷ lines) all = ((λ p k told is. none_some (sym all.0 ∙ is_held line p k path told is)), none_told path lines all.1)
+none_told path (line ∷ lines) all = ((λ p k tells is. none_some (sym all.0 ∙ is_held line p k path tells is)), none_told path lines all.1)
 
 lies_on_none : (text path : List ℕ) → type_of text path ≡ None → LiesOnNone text path
 lies_on_none text path h = none_told path (lines_of text) (none_hold (written path) (lines_of text) (by_mount (deepest (written path) (lines_of text)) h))

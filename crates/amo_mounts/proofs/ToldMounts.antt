@@ -11,10 +11,10 @@ use Rattle.amo_mounts.specs.Paths.{written}
 use Rattle.amo_mounts.specs.Mounts.{MountView, mount_at, fields_of, behind_dash, mount_of}
 use Rattle.amo_mounts.specs.Folders.{Tells}
 
-none_some : {A : Type 0} {x : A} → None ≡ Some x → ⊥
+pub none_some : {A : Type 0} {x : A} → None ≡ Some x → ⊥
 none_some e = cc
 
-some_is : {A : Type 0} {x y : A} → Some x ≡ Some y → x ≡ y
+pub some_is : {A : Type 0} {x y : A} → Some x ≡ Some y → x ≡ y
 some_is e = cc
 
 equal : (a b : ℕ) → a ≡ b → (a == b) ≡ true

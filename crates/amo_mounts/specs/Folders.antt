@@ -32,7 +32,7 @@ pub record LiesOn (text path kind : List ℕ) : Type 0 where
   pub behind : List (List ℕ)
   pub point : List ℕ
   pub lines : lines_of text ≡ before ++ line ∷ behind
-  pub told : Tells line point kind
+  pub tells : Tells line point kind
   pub held : Holds point path
   pub none_longer : NoneLonger (length point) path before
   pub none_as_long : NoneAsLong (length point) path behind

@@ -8,12 +8,13 @@ use Rattle.amo_plan.specs.Limits.{is_small}
 use Rattle.amo_crew.specs.declared.plan.making.StopFault.{StopFault}
 use Rattle.amo_crew.specs.declared.plan.making.StopFault.TheVariants.{WrongCount, TooLarge, NoMemory}
 use Rattle.amo_crew.specs.Faults.{first_large, stop_fault, IsRefusedPlan}
+use Rattle.amo_kk.specs.declared.limits.TheConstants.{MAX_STEPS}
 
 none_large : (p : ℕ) (budgets : List ℕ) → list_all is_small budgets ≡ true → first_large p budgets ≡ None
 none_large p [] small = refl
 none_large p (b ∷ bs) small =
     let (here, more) = and_parts (is_small b) (list_all is_small bs) small in
-    ap (λ (x : Bool). if x then Some (TooLarge p) else first_large (suc p) bs) (le-ltb 10000000 b (leb-true b 10000000 here)) ∙ none_large (suc p) bs more
+    ap (λ (x : Bool). if x then Some (TooLarge p) else first_large (suc p) bs) (le-ltb MAX_STEPS b (leb-true b MAX_STEPS here)) ∙ none_large (suc p) bs more
 
 nothing_wrong : (g : Givens) (budgets : List ℕ) → length budgets ≡ g.workers → list_all is_small budgets ≡ true → stop_fault g budgets ≡ None
 nothing_wrong g budgets count small =

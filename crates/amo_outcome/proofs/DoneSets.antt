@@ -1,11 +1,12 @@
 -- Lists as sets, and what is noted by the one or the other.
 use Rattle.std.proofs.Common.{◌≡◌, ℕ, zero, suc, ◌≤◌, Bool, false, ◌&&◌, List, [], ◌∷◌, ◌++◌, length, take, drop, map, get_or, Vec, Global, Option, Some, None, refl, sym, ap, ◌∙◌, arith}
-use Rattle.std.specs.Prelude.{◌==◌, cond, filter}
+use Rattle.std.specs.Prelude.{◌==◌}
 use Rattle.std.specs.List.{AllZip}
 use Rattle.std.proofs.lemmas.List.{take-append-le, take_all}
+use Rattle.std.proofs.lemmas.List.Elements.{filter_agree}
 use Rattle.amo_sets.specs.Lists.{numbered}
 use Rattle.amo_sets.specs.Sets.{has}
-use Rattle.amo_outcome.specs.declared.filed.Filed.{Filed}
+use Rattle.amo_outcome.specs.declared.block_done.BlockDone.{BlockDone}
 use Rattle.amo_texts.specs.Least.{least_of}
 use Rattle.amo_outcome.specs.Became.{Handed, listed, lists_block, doer_of}
 use Rattle.amo_outcome.specs.Noted.{IsSetOf, is_in, IsNoted}
@@ -31,20 +32,15 @@ pub sets_agree : (n b : ℕ) → 1 ≤ b → b ≤ n → (lists : List (Vec ℕ 
 sets_agree n b low high lists sets all zero = empty b
 sets_agree n b low high lists sets all (suc k) = set_at n b low high lists sets all k
 
-filter_agree : (p q : Handed → Bool) → ((x : Handed) → p x ≡ q x) → (xs : List Handed) → filter p xs ≡ filter q xs
-filter_agree p q same [] = refl
-filter_agree p q same (x ∷ xs) =
-    ap (λ c. cond c (x ∷ filter p xs) (filter p xs)) (same x) ∙ ap (λ (l : List Handed). cond (q x) (x ∷ l) l) (filter_agree p q same xs)
-
 -- what is noted by one test is noted by another that agrees
-pub noted_agree : (t u : ℕ → ℕ → Bool) (outputs : List Handed) (b : ℕ) (o : Option Filed) → ((p : ℕ) → t p b ≡ u p b) → IsNoted t outputs b o → IsNoted u outputs b o
+pub noted_agree : (t u : ℕ → ℕ → Bool) (outputs : List Handed) (b : ℕ) (o : Option BlockDone) → ((p : ℕ) → t p b ≡ u p b) → IsNoted t outputs b o → IsNoted u outputs b o
 noted_agree t u outputs b o same noted = by o noted
   where
     doers : doer_of u outputs b ≡ doer_of t outputs b
     doers = ap (λ (l : List Handed). least_of (map (λ (x : Handed). x.worker) l))
         (filter_agree (λ (x : Handed). x.job == b && u x.worker b) (λ (x : Handed). x.job == b && t x.worker b) (λ x. ap (λ c. x.job == b && c) (sym (same x.worker))) outputs)
 
-    by : (o : Option Filed) → IsNoted t outputs b o → IsNoted u outputs b o
+    by : (o : Option BlockDone) → IsNoted t outputs b o → IsNoted u outputs b o
     by None h = doers ∙ h
     by (Some f) h = (h.0, h.1, doers ∙ h.2, h.3)
 

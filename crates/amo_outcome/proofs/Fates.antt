@@ -7,22 +7,23 @@ use Rattle.std.proofs.lemmas.Grind.{div_ceil_times}
 use Rattle.std.proofs.Math.Nat.{div-lt_iff_lt-mul}
 use Rattle.amo_sets.proofs.Sets.{members_agree}
 use Rattle.amo_plan.specs.Keeps.{is_form}
-use Rattle.amo_plan.specs.Steps.{is_between}
+use Rattle.amo_plan.specs.Passing.{is_between}
 use Rattle.amo_plan.specs.declared.plan.Heads.{Heads}
 use Rattle.amo_crew.specs.declared.outcome.End.{End}
-use Rattle.amo_outcome.specs.declared.filed.Filed.{Filed}
+use Rattle.amo_outcome.specs.declared.block_done.BlockDone.{BlockDone}
 use Rattle.amo_texts.specs.Numbers.{first_line}
 use Rattle.amo_texts.specs.Tallies.{performed_line}
 use Rattle.amo_outcome.specs.Became.{Handed, Fate, fate_of, claimer_of, lists_block, first_output, done_blocks}
 use Rattle.amo_outcome.specs.Noted.{IsNoted, fate_in}
 use Rattle.amo_outcome.specs.OutcomeLines.{fate_line, block_of, place_of, job_line, job_lines, end_lines}
 use Rattle.amo_outcome.specs.OutcomeTexts.{run_lines}
+use Rattle.amo_plan.specs.declared.limits.TheConstants.{MOST_IN_BLOCK}
 
 -- blocks have jobs
 pub some_block : (version block : ℕ) → is_form version block ≡ true → 1 ≤ block
 some_block version block h = split (version == 1 && block == 1) refl h
   where
-    split : (c : Bool) → (version == 1 && block == 1) ≡ c → (c || (version == 2 && is_between 1 4096 block)) ≡ true → 1 ≤ block
+    split : (c : Bool) → (version == 1 && block == 1) ≡ c → (c || (version == 2 && is_between 1 MOST_IN_BLOCK block)) ≡ true → 1 ≤ block
     split true is e = let same = eqb-true block 1 (and_parts (version == 1) _ is).1 in omega arith
     split false is e = leb-true 1 block (and_parts (nat_le 1 block) _ (and_parts (version == 2) _ e).1).0
 
@@ -33,11 +34,11 @@ block_within jobs block j some low high =
     (div-lt_iff_lt-mul some).1 (omega (arith, enough))
 
 -- what is noted is what became of the block
-pub fate_is : (claims dones : List (List ℕ)) (outputs : List Handed) (b : ℕ) (o : Option Filed) (c : Option ℕ) → IsNoted (lists_block dones) outputs b o → c ≡ claimer_of claims b → fate_in outputs o c ≡ fate_of claims dones outputs b
+pub fate_is : (claims dones : List (List ℕ)) (outputs : List Handed) (b : ℕ) (o : Option BlockDone) (c : Option ℕ) → IsNoted (lists_block dones) outputs b o → c ≡ claimer_of claims b → fate_in outputs o c ≡ fate_of claims dones outputs b
 fate_is claims dones outputs b o c noted claimer =
     ap (λ (x : Option ℕ). fate_in outputs o x) claimer ∙ by o noted
   where
-    by : (o : Option Filed) → IsNoted (lists_block dones) outputs b o → fate_in outputs o (claimer_of claims b) ≡ fate_of claims dones outputs b
+    by : (o : Option BlockDone) → IsNoted (lists_block dones) outputs b o → fate_in outputs o (claimer_of claims b) ≡ fate_of claims dones outputs b
     by None h = ap (λ (d : Option ℕ). let fate : Fate = record { doer = d; output = first_output outputs b d; claimer = claimer_of claims b } in fate) (sym h)
     by (Some f) h =
         ap (λ (x : Option Handed). let fate : Fate = record { doer = Some f.worker; output = x; claimer = claimer_of claims b } in fate) (h.1 ∙ sym h.3)

@@ -8,7 +8,7 @@ use Rattle.std.proofs.lemmas.List.Elements.{filter-append}
 use Rattle.std.proofs.lemmas.List.Folds.{find-append}
 use Rattle.amo_sets.specs.Lists.{numbered, put}
 use Rattle.amo_sets.proofs.Numbers.{numbered-put_same, numbered-put_other}
-use Rattle.amo_outcome.specs.declared.filed.Filed.{Filed}
+use Rattle.amo_outcome.specs.declared.block_done.BlockDone.{BlockDone}
 use Rattle.amo_texts.specs.Least.{lesser, least_of}
 use Rattle.amo_outcome.specs.Became.{Handed, doer_of, output_of}
 use Rattle.amo_outcome.specs.Noted.{kept, noted_with, IsNoted}
@@ -86,13 +86,13 @@ module _ (t : ℕ → ℕ → Bool) (b : ℕ) where
       find-append (λ (z : Handed). z.worker == p && z.job == b) xs (x ∷ [])
       ∙ ap (λ (o : Option Handed). option_or o (output_of (x ∷ []) p b)) h
 
-  abbrev as_filed : List Handed → Handed → Filed
+  abbrev as_filed : List Handed → Handed → BlockDone
   as_filed xs x = record { worker = x.worker; place = length xs }
 
   taken : (xs : List Handed) (x : Handed) → counts x ≡ true → IsBelow x.worker (doer_of t xs b) → doer_of t (xs ++ x ∷ []) b ≡ Some x.worker → IsNoted t (xs ++ x ∷ []) b (Some (as_filed xs x))
   taken xs x h below doer = (x, get_last xs x, doer, found xs x h below)
 
-  more : (xs : List Handed) (x : Handed) (o : Option Filed) → counts x ≡ true → IsNoted t xs b o → IsNoted t (xs ++ x ∷ []) b (Some (kept o (as_filed xs x)))
+  more : (xs : List Handed) (x : Handed) (o : Option BlockDone) → counts x ≡ true → IsNoted t xs b o → IsNoted t (xs ++ x ∷ []) b (Some (kept o (as_filed xs x)))
   more xs x None h noted = taken xs x h (subst (IsBelow x.worker) (sym noted) tt) (doer_more xs x h ∙ ap (λ o. Some (lesser x.worker o)) noted)
   more xs x (Some e) h noted = split (nat_le e.worker x.worker) refl
     where
@@ -106,12 +106,12 @@ module _ (t : ℕ → ℕ → Bool) (b : ℕ) where
           let least : min x.worker e.worker ≡ x.worker = omega arith in
           taken xs x h (subst (IsBelow x.worker) (sym noted.2) low) (doer_more xs x h ∙ ap (λ o. Some (lesser x.worker o)) noted.2 ∙ ap (λ n. Some n) least)
 
-  other : (xs : List Handed) (x : Handed) (o : Option Filed) → counts x ≡ false → IsNoted t xs b o → IsNoted t (xs ++ x ∷ []) b o
+  other : (xs : List Handed) (x : Handed) (o : Option BlockDone) → counts x ≡ false → IsNoted t xs b o → IsNoted t (xs ++ x ∷ []) b o
   other xs x None h noted = doer_same xs x h ∙ noted
   other xs x (Some e) h noted = (noted.0, get_first xs (x ∷ []) e.place noted.0 noted.1, doer_same xs x h ∙ noted.2, found_before xs x noted.0 e.worker noted.3)
 
   -- one output more
-  pub noted_more : (xs : List Handed) (x : Handed) (o : Option Filed) → IsNoted t xs b o → IsNoted t (xs ++ x ∷ []) b (noted_with (counts x) o (as_filed xs x))
+  pub noted_more : (xs : List Handed) (x : Handed) (o : Option BlockDone) → IsNoted t xs b o → IsNoted t (xs ++ x ∷ []) b (noted_with (counts x) o (as_filed xs x))
   noted_more xs x o noted = split (counts x) refl
     where
       split : (c : Bool) → counts x ≡ c → IsNoted t (xs ++ x ∷ []) b (noted_with c o (as_filed xs x))
@@ -119,7 +119,7 @@ module _ (t : ℕ → ℕ → Bool) (b : ℕ) where
       split false is = other xs x o is noted
 
 -- an output that counts is noted at its job
-pub put_noted : (t : ℕ → Bool) (filed : List (Option Filed)) (job b : ℕ) (f : Filed) → t job ≡ true → 1 ≤ b → b ≤ length filed
+pub put_noted : (t : ℕ → Bool) (filed : List (Option BlockDone)) (job b : ℕ) (f : BlockDone) → t job ≡ true → 1 ≤ b → b ≤ length filed
     → numbered None (put filed job (Some (kept (numbered None filed job) f))) b ≡ noted_with (job == b && t b) (numbered None filed b) f
 put_noted t filed job b f h low high = ⊎_elim
     (λ (e : job ≡ b). subst (λ j. numbered None (put filed j (Some (kept (numbered None filed j) f))) b ≡ noted_with (j == b && t b) (numbered None filed b) f) (sym e)
@@ -128,7 +128,7 @@ put_noted t filed job b f h low high = ⊎_elim
     (cases_eq job b)
 
 -- one that doesn't count is not
-pub not_noted : (t : ℕ → Bool) (filed : List (Option Filed)) (job b : ℕ) (f : Filed) → t job ≡ false
+pub not_noted : (t : ℕ → Bool) (filed : List (Option BlockDone)) (job b : ℕ) (f : BlockDone) → t job ≡ false
     → numbered None filed b ≡ noted_with (job == b && t b) (numbered None filed b) f
 not_noted t filed job b f h = sym (split (job == b) refl)
   where
@@ -137,11 +137,11 @@ not_noted t filed job b f h = sym (split (job == b) refl)
     split false is = refl
 
 -- the next output
-pub noted_next : (t : ℕ → ℕ → Bool) (outputs : List Handed) (i b : ℕ) (x : Handed) (old new : Option Filed) → i < length outputs → x ≡ get_or outputs i x
+pub noted_next : (t : ℕ → ℕ → Bool) (outputs : List Handed) (i b : ℕ) (x : Handed) (old new : Option BlockDone) → i < length outputs → x ≡ get_or outputs i x
     → IsNoted t (take i outputs) b old → new ≡ noted_with (x.job == b && t x.worker b) old (record { worker = x.worker; place = i }) → IsNoted t (take (i + 1) outputs) b new
 noted_next t outputs i b x old new inside is noted said =
     let place : length (take i outputs) ≡ i = length-take-le i outputs (omega arith) in
     let grown : take (i + 1) outputs ≡ take i outputs ++ x ∷ [] = take_more outputs i x inside ∙ ap (λ (y : Handed). take i outputs ++ y ∷ []) (sym is) in
     let step = noted_more t b (take i outputs) x old noted in
     let placed = subst (λ k. IsNoted t (take i outputs ++ x ∷ []) b (noted_with (x.job == b && t x.worker b) old (record { worker = x.worker; place = k }))) place step in
-    subst (λ (o : Option Filed). IsNoted t (take (i + 1) outputs) b o) (sym said) (subst (λ (l : List Handed). IsNoted t l b (noted_with (x.job == b && t x.worker b) old (record { worker = x.worker; place = i }))) (sym grown) placed)
+    subst (λ (o : Option BlockDone). IsNoted t (take (i + 1) outputs) b o) (sym said) (subst (λ (l : List Handed). IsNoted t l b (noted_with (x.job == b && t x.worker b) old (record { worker = x.worker; place = i }))) (sym grown) placed)

@@ -3,7 +3,7 @@ use Rattle.std.specs.Prelude.{ℕ, ◌+◌, Bool, ◌&&◌, ◌==◌, if◌then�
 use Rattle.std.proofs.Common.{Vec, Global}
 use Rattle.amo_sets.specs.Lists.{numbered}
 use Rattle.amo_sets.specs.Sets.{has, members}
-use Rattle.amo_mailbox.specs.declared.hand.Output.{Output}
+use Rattle.amo_mailbox.specs.declared.output.Output.{Output}
 use Rattle.amo_plan.specs.declared.answer.Answer.{Answer}
 use Rattle.amo_texts.specs.Least.{least_of}
 

@@ -4,9 +4,9 @@ ghost use Rattle.amo_outcome.specs.Became.{listed};
 ghost use Rattle.amo_outcome.specs.Noted.{noted_fate};
 ghost use Rattle.amo_outcome.specs.OutcomeTexts.{run_lines, fates_of, outcome_of, FitsHeads};
 
-use super::claimers::claimers_of;
-use super::filed::{count_filed, count_filed_jobs, filed_of};
-use super::outcome_lines::{Notes, push_ends, push_jobs};
+use crate::block_done::{count_filed, count_filed_jobs, filed_of};
+use crate::claimers::claimers_of;
+use crate::outcome_lines::{Notes, push_ends, push_jobs};
 use amo_crew::Outcome;
 use amo_kk::Givens;
 use amo_plan::{Answer, Block, Heads};

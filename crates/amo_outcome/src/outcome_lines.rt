@@ -5,7 +5,7 @@ ghost use Rattle.amo_texts.specs.Escaped.{escaped};
 ghost use Rattle.amo_outcome.specs.OutcomeLines.{end_word, end_steps, end_line, end_lines, answer_text, text_in, done_line, claimed_line, free_line, fate_line, job_line, job_lines};
 ghost use Rattle.amo_outcome.specs.Noted.{noted_fate};
 
-use super::filed::Filed;
+use crate::block_done::BlockDone;
 use amo_crew::{End, Output};
 use amo_plan::{Answer, Text};
 use amo_texts::push_escaped;
@@ -105,7 +105,7 @@ fn push_done(
     alloc: Global,
     out: &mut String,
     outputs: &[Output<Vec<Answer>>],
-    filed: Filed,
+    filed: BlockDone,
     job: usize,
     place: usize,
     name: &str,
@@ -149,7 +149,7 @@ fn noted<T: Copy>(items: &[Option<T>], place: usize) -> Option<T>
 #[derive(Drop)]
 pub struct Notes<'a> {
     pub outputs: &'a [Output<Vec<Answer>>],
-    pub filed: Vec<Option<Filed>>,
+    pub filed: Vec<Option<BlockDone>>,
     pub claimers: Vec<Option<u32>>,
 }
 

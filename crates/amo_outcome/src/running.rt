@@ -8,9 +8,9 @@ ghost use Rattle.std.specs.Io.KnownBytes.{IsAtEnd};
 ghost use Rattle.amo_texts.specs.Written.{is_failed_read, is_failed_write};
 ghost use Rattle.amo_outcome.specs.Runs.{HasComeOf, IsRunText, WritesRun, RefusesRun};
 
-use super::block_work::BlockWork;
-use super::outcome::outcome_text;
-use super::started::Started;
+use crate::block_work::BlockWork;
+use crate::outcome::outcome_text;
+use crate::started::Started;
 use amo_crew::laws::outcome_fits;
 use amo_crew::{ExecFault, Outcome, StopFault, StopPlan, execute};
 use amo_plan::{Answer, Block, Heads, Plan, blocks_of};
@@ -22,7 +22,7 @@ use std::thread::Threads;
 
 /// What came of a run.
 #[derive(Drop)]
-struct Ran {
+struct Executed {
     outcome: Outcome<Block, Vec<Answer>>,
     started: Started,
 }
@@ -48,19 +48,19 @@ fn run_blocks<R: Threads + Wait + Sync>(
     alloc: Global,
     heads: &Heads,
     blocks: Vec<Block>,
-) -> Result<Ran, AllocError>
+) -> Result<Executed, AllocError>
     requires jobs { length blocks.items ≡ heads.now.givens.jobs }
     requires count { length heads.now.budgets ≡ heads.now.givens.workers }
     requires small { list_all is_small heads.now.budgets ≡ true }
-    ensures { IfOk result (λ ran. HasComeOf heads.now.givens blocks.items heads.now.budgets ran.started ran.outcome) }
+    ensures { IfOk result (λ e. HasComeOf heads.now.givens blocks.items heads.now.budgets e.started e.outcome) }
 {
     let stops = stops_of(alloc, heads)?;
     match execute(rt, alloc, heads.givens, blocks, &BlockWork, &stops) {
-        Ok(outcome) => Ok(Ran {
+        Ok(outcome) => Ok(Executed {
             outcome,
             started: Started::All,
         }),
-        Err(ExecFault::ThreadRefused(outcome)) => Ok(Ran {
+        Err(ExecFault::ThreadRefused(outcome)) => Ok(Executed {
             outcome,
             started: Started::NotAll,
         }),
@@ -81,10 +81,10 @@ fn run_text<R: Threads + Wait + Sync>(
 {
     let Plan { heads, tasks, .. } = plan;
     let blocks = blocks_of(alloc, tasks.into_vec(), heads.block)?;
-    let ran = run_blocks(rt, alloc, &heads, blocks)?;
+    let executed = run_blocks(rt, alloc, &heads, blocks)?;
     outcome_fits(&BlockWork);
-    let text = outcome_text(alloc, &heads, &ran.outcome)?;
-    Ok((text, ran.started))
+    let text = outcome_text(alloc, &heads, &executed.outcome)?;
+    Ok((text, executed.started))
 }
 
 /// Reads a plan to the end of the reader, executes its jobs in threads, and writes the text of what came of it and nothing

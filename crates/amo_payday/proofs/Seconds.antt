@@ -4,7 +4,7 @@ use Rattle.std.specs.Prelude.{All}
 use Rattle.std.specs.List.{enumerate_from}
 use Rattle.amo_sets.specs.Lists.{numbered}
 use Rattle.amo_sets.specs.Sets.{has, AreDistinct}
-use Rattle.amo_kk.specs.World.{nobody}
+use Rattle.amo_kk.specs.World.{nobody, world_of}
 use Rattle.amo_kk.specs.Lawful.{IsSoundRecord}
 use Rattle.amo_kk.specs.Machine.{LocalView}
 use Rattle.amo_kk.specs.declared.givens.Givens.{Givens}
@@ -13,17 +13,17 @@ use Rattle.amo_words.specs.declared.rule.Spot.TheVariants.{Home, Out as Away, Ba
 use Rattle.amo_words.specs.declared.floor.settling.Settlement.{Settlement}
 use Rattle.amo_words.specs.Faces.{Seated, machine, spots}
 use Rattle.amo_words.specs.Hiring.{HasHired, HasCollected}
-use Rattle.amo_words.specs.Logs.{world_after, machine_after, is_claimed}
+use Rattle.amo_words.specs.Logs.{machine_after, is_claimed}
 use Rattle.amo_words.specs.Looking.{IsBack}
 use Rattle.amo_words.specs.Settling.{IsWhole}
 use Rattle.amo_words.proofs.Worlds.{lawful}
 use Rattle.amo_words.proofs.Meetings.{stands_back, worker_back}
-use Rattle.amo_mailbox.specs.declared.hand.Output.{Output}
+use Rattle.amo_mailbox.specs.declared.output.Output.{Output}
 use Rattle.amo_crew.specs.Outcomes.{jobs_of}
 use Rattle.amo_crew.specs.Running.{IsAnswer}
 use Rattle.amo_crew.proofs.Hires.{fresh_first}
-use Rattle.amo_payday.specs.declared.second.Rest.{Rest}
-use Rattle.amo_payday.specs.Second.{IsRest}
+use Rattle.amo_payday.specs.declared.second.Leftover.{Leftover}
+use Rattle.amo_payday.specs.Second.{IsLeftover}
 use Rattle.amo_payday.specs.Stopping.{HasPaid, IsEmpty}
 use Rattle.amo_payday.proofs.Filters.{free_filtered}
 
@@ -72,17 +72,17 @@ module _ {P Out : Type 0} (related : ℕ → ℕ → P → Out → Type 0) (b c 
   payloads : d.view.payloads ≡ b.view.payloads
   payloads = collected.kept.payloads ∙ hired.kept.payloads
 
-  one : length (world_after d.view.givens whole.log).processes ≡ 1
+  one : length (world_of d.view.givens whole.log).processes ≡ 1
   one = (lawful d.view.givens whole.log).size ∙ ap (λ (x : Givens). x.workers) givens ∙ alone
 
-  only : (j : ℕ) → is_claimed (world_after d.view.givens whole.log).processes j ≡ has (jobs_of outputs) j
-  only j = single (world_after d.view.givens whole.log).processes one j ∙ ap (λ (l : LocalView). has l.state.claimed j) (sym same) ∙ ap (λ l. has l j) claimed
+  only : (j : ℕ) → is_claimed (world_of d.view.givens whole.log).processes j ≡ has (jobs_of outputs) j
+  only j = single (world_of d.view.givens whole.log).processes one j ∙ ap (λ (l : LocalView). has l.state.claimed j) (sym same) ∙ ap (λ l. has l j) claimed
 
-  pub rest_of : (r : Rest P Out) → r.outputs.items ≡ outputs → r.free.items ≡ s.free.items → IsRest related b.view.payloads r
+  pub rest_of : (r : Leftover P Out) → r.outputs.items ≡ outputs → r.free.items ≡ s.free.items → IsLeftover related b.view.payloads r
   rest_of r is free = record {
     answers = subst (λ l. All (IsAnswer related b.view.payloads) l) (sym is) (subst (λ xs. All (IsAnswer related xs) outputs) hired.worker.payloads paid.answers);
     distinct = subst AreDistinct (claimed ∙ ap jobs_of (sym is)) sound.distinct;
-    free = free ∙ whole.free ∙ free_filtered (world_after d.view.givens whole.log).processes (has (jobs_of outputs)) only 1 d.view.payloads
+    free = free ∙ whole.free ∙ free_filtered (world_of d.view.givens whole.log).processes (has (jobs_of outputs)) only 1 d.view.payloads
         ∙ ap (λ xs. filter (λ (t : ℕ × P). not (has (jobs_of outputs) t.0)) (enumerate_from 1 xs)) payloads
         ∙ ap (λ (l : List (Output Out)). filter (λ (t : ℕ × P). not (has (jobs_of l) t.0)) (enumerate_from 1 b.view.payloads)) (sym is);
   }

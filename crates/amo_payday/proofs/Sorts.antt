@@ -8,8 +8,9 @@ use Rattle.amo_sets.specs.Sets.{has, AreDistinct}
 use Rattle.amo_kk.specs.declared.givens.Givens.{Givens}
 use Rattle.amo_kk.specs.declared.model.Process.{Process}
 use Rattle.amo_words.specs.Settling.{free_of}
-use Rattle.amo_words.specs.Logs.{world_after, is_claimed}
-use Rattle.amo_mailbox.specs.declared.hand.Output.{Output}
+use Rattle.amo_kk.specs.World.{world_of}
+use Rattle.amo_words.specs.Logs.{is_claimed}
+use Rattle.amo_mailbox.specs.declared.output.Output.{Output}
 use Rattle.amo_crew.specs.declared.outcome.Outcome.{Outcome}
 use Rattle.amo_crew.specs.Running.{IsAnswer}
 use Rattle.amo_crew.specs.Outcomes.{jobs_of, IsOutcome, HasAPlace, IsOfNoThread}
@@ -154,7 +155,7 @@ sorted g payloads ids budgets o s is named all free doubt = record {
 }
   where
     processes : List Process
-    processes = (world_after g is.whole.log).processes
+    processes = (world_of g is.whole.log).processes
 
     unsure : ℕ → Bool
     unsure j = is_unsure s.answers.items s.free.items j

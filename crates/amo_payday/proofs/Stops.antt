@@ -4,13 +4,13 @@ use Rattle.std.proofs.lemmas.List.{map_push, append_assoc}
 use Rattle.std.proofs.lemmas.List.Elements.{All-push}
 use Rattle.amo_kk.specs.Record.{is_over, wants_nothing}
 use Rattle.amo_kk.specs.declared.phase.Phase.{Phase}
-use Rattle.amo_kk.specs.declared.phase.Phase.TheVariants.{Announcing, Trying, Reading, Claiming, Holding, Over as PhaseOver, Left}
+use Rattle.amo_kk.specs.declared.phase.Phase.TheVariants.{Over as PhaseOver, Left}
 use Rattle.amo_words.specs.Faces.{Seated, machine}
 use Rattle.amo_claims.specs.States.{Holds}
 use Rattle.amo_claims.specs.Calls.{IsOneStepOn, IsOverNow, FilesOn, state_of, worker_in}
 use Rattle.amo_claims.specs.declared.states.After.{After}
 use Rattle.amo_claims.specs.declared.states.After.TheVariants.{More, Over}
-use Rattle.amo_mailbox.specs.declared.hand.Output.{Output}
+use Rattle.amo_mailbox.specs.declared.output.Output.{Output}
 use Rattle.amo_crew.specs.Running.{IsAnswer}
 use Rattle.amo_payday.specs.Stopping.{HasPaid, HasEnded, EndsIfOver, StaysAs}
 
@@ -30,13 +30,9 @@ module _ {P : Type 0} where
 
 -- who is over wants nothing
 over_wants : (p : Phase) → is_over p ≡ true → wants_nothing p ≡ true
-over_wants (Announcing j) h = h
-over_wants (Trying j q) h = h
-over_wants (Reading j q) h = h
-over_wants (Claiming j) h = h
-over_wants (Holding j) h = h
 over_wants PhaseOver h = refl
 over_wants Left h = refl
+over_wants other h = h
 
 pub over_has_ended : {P : Type 0} (w : Seated P) → IsOverNow w → HasEnded w
 over_has_ended w h = over_wants (machine w).state.phase h.0

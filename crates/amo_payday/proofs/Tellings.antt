@@ -7,7 +7,7 @@ use Rattle.std.proofs.lemmas.List.{get_or_append_left, get_or-append-add, length
 use Rattle.std.proofs.lemmas.List.Elements.{All-nil, All-head, All-tail, All-append, All-weaker}
 use Rattle.std.proofs.lemmas.Option.{slice_get-get_or, slice_get-map}
 use Rattle.amo_sets.specs.Sets.{has}
-use Rattle.amo_mailbox.specs.declared.hand.Output.{Output}
+use Rattle.amo_mailbox.specs.declared.output.Output.{Output}
 use Rattle.amo_crew.specs.Outcomes.{jobs_of}
 use Rattle.amo_crew.specs.Running.{IsAnswer}
 use Rattle.amo_payday.specs.declared.day.Day.{Day}
@@ -15,7 +15,7 @@ use Rattle.amo_payday.specs.declared.day.payment.Payment.{Payment}
 use Rattle.amo_ledger.specs.declared.journal.Attempt.{Attempt}
 use Rattle.amo_payday.specs.declared.bank.Answer.{Answer}
 use Rattle.amo_payday.specs.declared.bank.Answer.TheVariants.{Paid, Unpaid}
-use Rattle.amo_payday.specs.declared.second.Rest.{Rest}
+use Rattle.amo_payday.specs.declared.second.Leftover.{Leftover}
 use Rattle.amo_payday.specs.declared.sorting.Sorted.{Sorted}
 use Rattle.amo_payday.specs.declared.rounds.Crew.{Crew}
 use Rattle.amo_payday.specs.Payments.{Answers}
@@ -24,8 +24,8 @@ use Rattle.amo_payday.specs.Days.{is_ended}
 use Rattle.amo_payday.specs.Restarts.{has_intent, has_receipt, was_made, is_in_doubt, is_untried}
 use Rattle.amo_payday.specs.Sorting.{is_paid, has_receipt_of, has_job, ids_of, IsOneOf, IsOwn, IsNumberOf}
 use Rattle.amo_payday.specs.Rounds.{IsRound}
-use Rattle.amo_payday.specs.Second.{IsRest}
-use Rattle.amo_payday.specs.Reports.{AreFloors, HasLine, IsTold, IsReport, answer_line, answer_lines, done_line, done_lines, doubt_lines, round_text, rest_text, payments_of, lines_of}
+use Rattle.amo_payday.specs.Second.{IsLeftover}
+use Rattle.amo_payday.specs.Reports.{AreFloors, HasLine, IsTold, IsReport, answer_line, answer_lines, done_line, done_lines, doubt_lines, round_text, leftover_text, payments_of, lines_of}
 use Rattle.amo_payday.proofs.HasLines.{ended_line, ended_append, ended_flat, line_here, line_after, each_line, told_before, told_after}
 
 -- ---- parts of lists
@@ -154,7 +154,7 @@ module _ (payments : List Payment) (j : ℕ) (p : Payment) (at : slice_get payme
 round_ended : (s : Sorted) → is_ended (round_text s) ≡ true
 round_ended s = ended_append (done_lines s.answers.items) (doubt_lines s.in_doubt.items) (ended_flat (λ x. done_line x.out) s.answers.items ended_done) (ended_flat (λ t. line (codes "doubt") t.1) s.in_doubt.items (λ t. ended_line (codes "doubt") t.1))
 
-rest_ended : (r : Rest Payment Answer) → is_ended (rest_text r) ≡ true
+rest_ended : (r : Leftover Payment Answer) → is_ended (leftover_text r) ≡ true
 rest_ended r = ended_flat (λ x. answer_line x.out) r.outputs.items ended_answer
 
 place_of : (payments : List Payment) (k : ℕ) (d : Payment) → k < length payments → slice_get payments (k + 1 - 1) ≡ Some (get_or payments k d)
@@ -178,7 +178,7 @@ of_round crew Q payments s is free_are told k d within =
         (inr (inr (inl (doubt payments (k + 1) p at s.in_doubt.items is.sorted.numbers l)))))
     go false h false i false l one = absurd (true≢false (sym one))
 
-of_rest : (Q : Payment → Type 0) (payments : List Payment) (r : Rest Payment Answer) → IsRest Answers payments r → All Q (payments_of r.free.items) → ((p : Payment) → IsTold (rest_text r) p → Q p) → All Q payments
+of_rest : (Q : Payment → Type 0) (payments : List Payment) (r : Leftover Payment Answer) → IsLeftover Answers payments r → All Q (payments_of r.free.items) → ((p : Payment) → IsTold (leftover_text r) p → Q p) → All Q payments
 of_rest Q payments r is free_are told k d within = go (has (jobs_of r.outputs.items) (k + 1)) refl
   where
     p : Payment
@@ -256,13 +256,13 @@ module _ (day : Day) (entries : List Attempt) (text : List ℕ) (is : IsReport d
   at_floors p h = at_rounds p (told_after is.rounds_text of_floors_on p (ap is_ended is.rounds.text_is ∙ ended_flat (λ (f : List Payment × Sorted). round_text f.1) is.rounds.floors (λ f. round_ended f.1)) h)
 
   at_last : (p : Payment) → IsTold last p → Told p
-  at_last p h = at_floors p (told_after is.floors_text last p (ap is_ended is.floors.text_is ∙ ended_flat (λ (f : List Payment × Rest Payment Answer). rest_text f.1) is.floors.floors (λ f. rest_ended f.1)) h)
+  at_last p h = at_floors p (told_after is.floors_text last p (ap is_ended is.floors.text_is ∙ ended_flat (λ (f : List Payment × Leftover Payment Answer). leftover_text f.1) is.floors.floors (λ f. rest_ended f.1)) h)
 
   left_are_told : All Told is.left
   left_are_told = All-weaker (λ p. HasLine last (codes "free") p.id) Told (λ p h. at_last p (inr (inr (inr h)))) is.left (each_line (codes "free") is.left)
 
   free_are_told : All Told is.free
-  free_are_told = all_floors (IsRest Answers) (λ r. r.free.items) rest_text Told (of_rest Told) rest_ended is.free is.left is.floors_text is.floors left_are_told (λ p h. at_floors p (told_before is.floors_text last p h))
+  free_are_told = all_floors (IsLeftover Answers) (λ r. r.free.items) leftover_text Told (of_rest Told) rest_ended is.free is.left is.floors_text is.floors left_are_told (λ p h. at_floors p (told_before is.floors_text last p h))
 
   untried_are_told : All Told (filter (is_untried entries) all)
   untried_are_told = all_floors (IsRound day.crew) (λ s. s.free.items) round_text Told (of_round day.crew Told) round_ended (filter (is_untried entries) all) is.free is.rounds_text is.rounds free_are_told

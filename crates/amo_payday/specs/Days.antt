@@ -9,27 +9,23 @@ use Rattle.amo_payday.specs.declared.day.payment.Payment.{Payment}
 use Rattle.amo_payday.specs.declared.rounds.Crew.{Crew}
 use Rattle.amo_payday.specs.Lines.{line_in}
 use Rattle.amo_payday.specs.Sorting.{ids_of}
+use Rattle.amo_kk.specs.declared.limits.TheConstants.{MAX_STEPS}
 
 -- the payments that a line adds, the next number being id
 abbrev pub payments_in : ℕ → Line → List Payment
 payments_in id (Pay account cents) = record { id = id; account = account; cents = cents } ∷ []
-payments_in id (Workers n) = []
-payments_in id (Steps n) = []
-payments_in id (Limit n) = []
+payments_in id line = []
 
 -- the crew after a line: each line of workers or steps takes the place of those before
 abbrev pub crew_after : Crew → Line → Crew
 crew_after crew (Workers n) = record crew { workers = n }
 crew_after crew (Steps n) = record crew { steps = n }
-crew_after crew (Limit n) = crew
-crew_after crew (Pay account cents) = crew
+crew_after crew line = crew
 
 -- the limit after a line
 abbrev pub limit_after : ℕ → Line → ℕ
 limit_after limit (Limit n) = n
-limit_after limit (Workers n) = limit
-limit_after limit (Steps n) = limit
-limit_after limit (Pay account cents) = limit
+limit_after limit line = limit
 
 -- the numbers 1..n
 abbrev pub numbers_upto : ℕ → List ℕ
@@ -51,7 +47,7 @@ paid_in line = map (λ p. (p.account, p.cents)) (payments_in 1 line)
 
 -- What a day without lines is: one worker, and no limit.
 abbrev pub first_crew : Crew
-first_crew = record { workers = 1; steps = 10000000 }
+first_crew = record { workers = 1; steps = MAX_STEPS }
 
 -- The lines say this day: its crew and its limit are the last that are said, and its payments are those that are said, in their
 -- order, numbered from 1.

@@ -14,8 +14,8 @@ use Rattle.amo_payday.specs.declared.fault.Fault.{Fault}
 use Rattle.amo_payday.specs.declared.fault.Fault.TheVariants.{Line, Input, Crew, Journal, Entry, Output, Memory, Unsettled}
 use Rattle.amo_payday.specs.declared.rounds.RoundFault.{RoundFault}
 use Rattle.amo_payday.specs.declared.rounds.RoundFault.TheVariants.{Unpaid, Unsettled as UnsettledRound, Unsorted}
-use Rattle.amo_payday.specs.declared.second.RestFault.{RestFault}
-use Rattle.amo_payday.specs.declared.second.RestFault.TheVariants.{Untried, Unhired, Unsettled as UnsettledRest}
+use Rattle.amo_payday.specs.declared.second.LeftoverFault.{LeftoverFault}
+use Rattle.amo_payday.specs.declared.second.LeftoverFault.TheVariants.{Untried, Unhired, Unsettled as UnsettledLeftover}
 
 -- the fault of a round that gave nothing
 abbrev pub fault_of_round : RoundFault → Fault
@@ -24,10 +24,10 @@ fault_of_round (UnsettledRound rest) = Unsettled
 fault_of_round (Unsorted outcome) = Unsettled
 
 -- the fault of a floor of one worker that gave nothing
-abbrev pub fault_of_rest : {P Out : Type 0} → RestFault P Out → Fault
-fault_of_rest (Untried back) = Memory
-fault_of_rest (Unhired floor book) = Memory
-fault_of_rest (UnsettledRest floor book outputs) = Unsettled
+abbrev pub fault_of_leftover : {P Out : Type 0} → LeftoverFault P Out → Fault
+fault_of_leftover (Untried back) = Memory
+fault_of_leftover (Unhired floor book) = Memory
+fault_of_leftover (UnsettledLeftover floor book outputs) = Unsettled
 
 -- the fault of a journal whose disk gave no answer
 abbrev pub fault_of_device : DeviceError → Fault
@@ -49,22 +49,13 @@ abbrev pub is_of_input : Fault → Bool
 is_of_input Line = true
 is_of_input Input = true
 is_of_input Crew = true
-is_of_input Journal = false
-is_of_input (Entry n) = false
-is_of_input Output = false
-is_of_input Memory = false
-is_of_input Unsettled = false
+is_of_input fault = false
 
 -- the journal can't be had, or is none of that day
 abbrev pub is_of_journal : Fault → Bool
-is_of_journal Line = false
-is_of_journal Input = false
-is_of_journal Crew = false
 is_of_journal Journal = true
 is_of_journal (Entry n) = true
-is_of_journal Output = false
-is_of_journal Memory = false
-is_of_journal Unsettled = false
+is_of_journal fault = false
 
 -- nothing was written yet
 abbrev pub is_early : Fault → Bool

@@ -1,4 +1,4 @@
--- What stands in the file of a day's journal.
+-- Within this crate: what stands in the file of a day's journal.
 use Rattle.std.specs.Prelude.{◌≡◌, ℕ, List, Some}
 use Rattle.amo_ledger.specs.declared.entry.Entry.{Entry}
 use Rattle.amo_ledger.specs.Puts.{entries_of}

@@ -1,10 +1,11 @@
 -- The lines of the input, and those that are written.
-use Rattle.std.specs.Prelude.{ℕ, ◌^◌, Bool, ◌&&◌, nat_lt, List, [], ◌∷◌, ◌++◌, ◌==◌, length, codes, Option, Some, None, option_and_then, if◌then◌else◌}
+use Rattle.std.specs.Prelude.{ℕ, ◌^◌, Bool, ◌&&◌, nat_lt, List, [], ◌∷◌, ◌++◌, length, codes, Option, Some, None, option_and_then, if◌then◌else◌}
 use Rattle.std.specs.Char.{digit_value}
-use Rattle.std.specs.List.{list_all, position_or_len, before_first, after_first}
+use Rattle.std.specs.List.{list_all}
 use Rattle.std.specs.Fmt.{decimal}
 use Rattle.std.specs.Str.{bytes_eq}
 use Rattle.std.specs.Str.Parse.{digits_value, without_leading_plus}
+use Rattle.amo_ledger.specs.Numbers.{has_blank, first_word, other_words}
 use Rattle.amo_payday.specs.declared.line.Line.{Line}
 use Rattle.amo_payday.specs.declared.line.Line.TheVariants.{Workers, Steps, Limit, Pay}
 
@@ -23,17 +24,6 @@ number_of_digits digits = if are_digits digits && nat_lt (digits_value 10 digits
 -- the number that a text says: its digits, before which a plus may stand
 abbrev pub number_in : List ℕ → Option ℕ
 number_in text = number_of_digits (without_leading_plus text)
-
--- whether there is a blank in the text
-abbrev pub has_blank : List ℕ → Bool
-has_blank text = nat_lt (position_or_len (λ b. b == 32) text) (length text)
-
--- what stands before the first blank, and what stands after it
-abbrev pub first_word : List ℕ → List ℕ
-first_word text = before_first (λ b. b == 32) text
-
-abbrev pub other_words : List ℕ → List ℕ
-other_words text = after_first (λ b. b == 32) text
 
 -- the line of this kind with the number that the text says
 abbrev pub with_number : (ℕ → Line) → List ℕ → Option Line

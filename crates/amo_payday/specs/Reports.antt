@@ -2,14 +2,14 @@
 use Rattle.std.specs.Prelude.{◌≡◌, ◌⊎◌, ℕ, true, List, [], ◌++◌, map, filter, All, Option, Some, IfSome, length, codes}
 use Rattle.std.specs.List.{flat_map}
 use Rattle.std.specs.Io.KnownBytes.{Appends, Keeps}
-use Rattle.amo_mailbox.specs.declared.hand.Output.{Output}
+use Rattle.amo_mailbox.specs.declared.output.Output.{Output}
 use Rattle.amo_ledger.specs.declared.journal.Attempt.{Attempt}
 use Rattle.amo_payday.specs.declared.day.Day.{Day}
 use Rattle.amo_payday.specs.declared.day.payment.Payment.{Payment}
 use Rattle.amo_payday.specs.declared.bank.Answer.{Answer}
 use Rattle.amo_payday.specs.declared.bank.Answer.TheVariants.{Paid, Unpaid}
 use Rattle.amo_payday.specs.declared.rounds.Crew.{Crew}
-use Rattle.amo_payday.specs.declared.second.Rest.{Rest}
+use Rattle.amo_payday.specs.declared.second.Leftover.{Leftover}
 use Rattle.amo_payday.specs.declared.sorting.Sorted.{Sorted}
 use Rattle.amo_payday.specs.Days.{IsDayOf, is_ended}
 use Rattle.amo_streams.specs.Streams.{AppendsFront}
@@ -17,7 +17,7 @@ use Rattle.amo_payday.specs.Lines.{line}
 use Rattle.amo_payday.specs.Payments.{Answers}
 use Rattle.amo_payday.specs.Restarts.{journal_in, was_made, is_in_doubt, is_untried}
 use Rattle.amo_payday.specs.Rounds.{IsRound}
-use Rattle.amo_payday.specs.Second.{IsRest}
+use Rattle.amo_payday.specs.Second.{IsLeftover}
 
 -- a line of this word for each payment
 abbrev pub lines_of : List ℕ → List Payment → List ℕ
@@ -50,8 +50,8 @@ abbrev pub round_text : Sorted → List ℕ
 round_text s = done_lines s.answers.items ++ doubt_lines s.in_doubt.items
 
 -- what is written of a floor of one worker
-abbrev pub rest_text : Rest Payment Answer → List ℕ
-rest_text r = answer_lines r.outputs.items
+abbrev pub leftover_text : Leftover Payment Answer → List ℕ
+leftover_text r = answer_lines r.outputs.items
 
 -- the payments that come with these jobs
 abbrev pub payments_of : List (ℕ × Payment) → List Payment
@@ -72,7 +72,7 @@ ArePaid crew payments rest free text = AreFloors (IsRound crew) (λ s. s.free.it
 
 -- on floors of one worker
 abbrev pub AreTried : List Payment → List Payment → List Payment → List ℕ → Type 0
-AreTried payments rest free text = AreFloors (IsRest Answers) (λ r. r.free.items) rest_text payments rest free text
+AreTried payments rest free text = AreFloors (IsLeftover Answers) (λ r. r.free.items) leftover_text payments rest free text
 
 -- Some floors took payments off this list, and what they gave back was added to that one: their text was written.
 abbrev pub TellsNext : (List Payment → List Payment → List Payment → List ℕ → Type 0) → List Payment → List Payment → List Payment → List Payment → Option (List ℕ) → Option (List ℕ) → Type 0

@@ -2,7 +2,7 @@
 use Rattle.std.specs.Prelude.{◌≡◌, ℕ, Bool, false, not, ◌==◌, ◌&&◌, ◌||◌, List, filter, Option, Some, None, option_and_then}
 use Rattle.std.specs.List.{list_any}
 use Rattle.amo_ledger.specs.declared.entry.Answer.{Answer}
-use Rattle.amo_ledger.specs.declared.entry.Answer.TheVariants.{Done, Doubt, Unbegun, Untouched}
+use Rattle.amo_ledger.specs.declared.entry.Answer.TheVariants.{Done}
 use Rattle.amo_ledger.specs.declared.journal.Attempt.{Attempt}
 use Rattle.amo_ledger.specs.Journals.{journal_of}
 use Rattle.amo_ledger.specs.Open.{reopens}
@@ -17,9 +17,7 @@ journal_in lines file = option_and_then (λ entries. journal_of lines entries) (
 -- the payment was made, by this answer
 abbrev pub is_made_by : Answer → Bool
 is_made_by (Done code time) = code == 0
-is_made_by Doubt = false
-is_made_by Unbegun = false
-is_made_by (Untouched code) = false
+is_made_by answer = false
 
 -- by what is known of its intent
 abbrev pub is_made : Option Answer → Bool

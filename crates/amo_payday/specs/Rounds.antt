@@ -13,10 +13,11 @@ use Rattle.amo_payday.specs.declared.rounds.RoundFault.{RoundFault}
 use Rattle.amo_payday.specs.declared.rounds.RoundFault.TheVariants.{Unpaid, Unsettled, Unsorted}
 use Rattle.amo_payday.specs.Payments.{Answers}
 use Rattle.amo_payday.specs.Sorting.{has_job, ids_of, IsSorted, IsSortingOf, MayBeUnsure}
+use Rattle.amo_kk.specs.declared.limits.TheConstants.{MAX_WORKERS, MAX_STEPS}
 
 -- the crew is from 1 to 16 workers, and each takes at most 10,000,000 steps
 abbrev pub is_fit : Crew → Bool
-is_fit crew = nat_le 1 crew.workers && nat_le crew.workers 16 && nat_le crew.steps 10000000
+is_fit crew = nat_le 1 crew.workers && nat_le crew.workers MAX_WORKERS && nat_le crew.steps MAX_STEPS
 
 -- The round was executed by this crew, each worker with its steps, and its jobs are sorted.
 pub record IsRound (crew : Crew) (payments : List Payment) (s : Sorted) : Type 0 where

@@ -1,15 +1,12 @@
 -- What is certain of a payment after a run.
 use Rattle.std.specs.Prelude.{◌≡◌, ◌⊎◌, ℕ, ◌-◌, ◌≤◌, Bool, true, false, not, ◌==◌, ◌&&◌, ◌||◌, List, length, map, filter, All, Some, slice_get}
-use Rattle.std.specs.BTreeSet.{contains}
 use Rattle.std.specs.List.{list_any, enumerate_from}
-use Rattle.std.specs.Ordering.{nat_cmp}
 use Rattle.amo_sets.specs.Sets.{has, AreDistinct}
-use Rattle.amo_mailbox.specs.declared.hand.Output.{Output}
+use Rattle.amo_mailbox.specs.declared.output.Output.{Output}
 use Rattle.amo_crew.specs.declared.outcome.Outcome.{Outcome}
 use Rattle.amo_payday.specs.declared.day.payment.Payment.{Payment}
 use Rattle.amo_payday.specs.declared.bank.Answer.{Answer}
 use Rattle.amo_payday.specs.declared.bank.Answer.TheVariants.{Paid, Unpaid}
-use Rattle.amo_payday.specs.declared.sorting.Certain.{Certain}
 use Rattle.amo_payday.specs.declared.sorting.Sorted.{Sorted}
 use Rattle.amo_crew.specs.Outcomes.{jobs_of, answered, in_hand, IsOfNoThread}
 use Rattle.amo_crew.specs.Running.{IsAnswer}
@@ -27,10 +24,6 @@ has_receipt_of answers j = list_any (λ x. x.job == j && is_paid x.out) answers
 -- the job j is in a list of jobs with what belongs to each
 abbrev pub has_job : {X : Type 0} → List (ℕ × X) → ℕ → Bool
 has_job list j = list_any (λ t. t.0 == j) list
-
--- it is certain what became of the job j
-abbrev pub is_certain : Certain → ℕ → Bool
-is_certain c j = contains nat_cmp c.paid j || contains nat_cmp c.free j
 
 -- there is no receipt of a job, and it is not free
 abbrev pub is_unsure : List (Output Answer) → List (ℕ × Payment) → ℕ → Bool

@@ -1,10 +1,10 @@
--- What a worker does in a loop of its caller's own.
+-- Within this crate: what a worker does in a loop of its caller's own.
 use Rattle.std.specs.Prelude.{◌≡◌, ℕ, true, List, [], ◌++◌, map, All, ⊤}
 use Rattle.amo_kk.specs.Record.{jobs_in_hand, wants_nothing}
 use Rattle.amo_words.specs.Faces.{Seated, machine}
 use Rattle.amo_claims.specs.declared.states.After.{After}
 use Rattle.amo_claims.specs.declared.states.After.TheVariants.{More, Over}
-use Rattle.amo_mailbox.specs.declared.hand.Output.{Output}
+use Rattle.amo_mailbox.specs.declared.output.Output.{Output}
 use Rattle.amo_crew.specs.Running.{IsAnswer}
 
 -- The worker b, now w, has filed just the jobs of these outputs, in their order, and each answer is that of its job's payload.

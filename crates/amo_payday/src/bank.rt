@@ -14,7 +14,7 @@ use std::time::{Clock, SystemTime, UNIX_EPOCH};
 
 /// What performing a payment gives.
 #[derive(Debug, PartialEq, Drop)]
-pub enum Answer {
+pub(crate) enum Answer {
     /// The payment was made, and its receipt stands in the journal.
     Paid(Receipt),
     /// There is no receipt: its intent could not be put, and then it was not made; or nobody knows whether the bank has it; or it
@@ -24,14 +24,14 @@ pub enum Answer {
 
 /// Makes payments, and keeps their journal. Threads share it by reference.
 #[derive(Drop)]
-pub struct Bank<'a, D: Device + Drop, S: Drop, R> {
-    rt: &'a R,
-    alloc: Global,
+pub(crate) struct Bank<'a, D: Device + Drop, S: Drop, R> {
+    pub(crate) rt: &'a R,
+    pub(crate) alloc: Global,
     ledger: Mutex<Ledger<D>>,
     orders: Mutex<S>,
     limit: u64,
     made: AtomicU64,
-    stop: &'a AtomicBool,
+    pub(crate) stop: &'a AtomicBool,
 }
 
 /// The time in seconds since 1970, or 0 where the clock can't be read: it is noted for persons and decides nothing.
@@ -47,7 +47,7 @@ fn now<R: Clock>(rt: &R) -> u64 {
 
 impl<'a, D: Device + Drop, S: Write + Drop, R: Wait + Clock> Bank<'a, D, S, R> {
     /// A bank with this journal, which tells its orders to the writer, and sets the flag once so many payments were made.
-    pub fn new(
+    pub(crate) fn new(
         rt: &'a R,
         alloc: Global,
         ledger: Ledger<D>,
@@ -69,7 +69,7 @@ impl<'a, D: Device + Drop, S: Write + Drop, R: Wait + Clock> Bank<'a, D, S, R> {
     }
 
     /// The file of the journal, once all have paid.
-    pub fn into_device(self) -> D {
+    pub(crate) fn into_device(self) -> D {
         self.ledger.into_inner().into_device()
     }
 

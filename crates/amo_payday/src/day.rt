@@ -10,16 +10,17 @@ ghost use Rattle.amo_payday.specs.declared.fault.Fault.TheVariants.{Line as Brok
 use crate::fault::Fault;
 use crate::line::{Line, line_of};
 use crate::rounds::Crew;
+use amo_kk::MAX_STEPS;
 use std::alloc::{AllocError, Global};
 use std::io::Read;
 
 mod payment;
 
-pub use payment::Payment;
+pub(crate) use payment::Payment;
 
 /// A day.
 #[derive(Drop)]
-pub struct Day {
+pub(crate) struct Day {
     /// Who pays in each round.
     pub crew: Crew,
     /// After so many payments the workers of the second floor are asked to stop.
@@ -30,13 +31,13 @@ pub struct Day {
 
 impl Day {
     /// A day without payments, with one worker and no limit.
-    pub fn new(alloc: Global) -> Day
+    pub(crate) fn new(alloc: Global) -> Day
         ensures { IsDay [] result }
     {
         Day {
             crew: Crew {
                 workers: 1,
-                steps: 10_000_000,
+                steps: MAX_STEPS,
             },
             limit: u64::MAX,
             payments: Vec::new(alloc),
@@ -44,7 +45,7 @@ impl Day {
     }
 
     /// Adds what a line says. Where memory is refused the day is of no use.
-    pub fn add(&mut self, line: Line) -> Result<(), AllocError>
+    pub(crate) fn add(&mut self, line: Line) -> Result<(), AllocError>
         ensures { OnOk result (IsDayWith self.old line self.new) }
     {
         match line {
@@ -99,7 +100,7 @@ fn day_of(alloc: Global, text: &str) -> Result<Day, Fault>
 
 /// Reads all of the input, and the day that it says. A line that is none, or whose end is missing, refuses the whole day, as
 /// does a crew that is outside its ranges. Input is refused where it can't be read, or is no text.
-pub fn read_day<B: Read>(alloc: Global, input: &mut B) -> Result<Day, Fault>
+pub(crate) fn read_day<B: Read>(alloc: Global, input: &mut B) -> Result<Day, Fault>
     ensures day { IfOk result (λ day. IfSome (B.remaining input.old) (λ text. IsDayOf text day)) }
     ensures fit { IfOk result (λ day. is_fit day.crew ≡ true) }
     ensures line { result ≡ Err BrokenLine → IfSome (B.remaining input.old) (λ text. has_broken_line text ≡ true) }

@@ -1,10 +1,10 @@
 //! Why a day ends early.
 ghost use Rattle.std.specs.Prelude.{◌≡◌};
-ghost use Rattle.amo_payday.specs.Faults.{fault_of_device, fault_of_reading, fault_of_round, fault_of_rest};
+ghost use Rattle.amo_payday.specs.Faults.{fault_of_device, fault_of_reading, fault_of_round, fault_of_leftover};
 ghost use Rattle.amo_payday.specs.declared.fault.Fault.TheVariants.{Memory};
 
 use crate::rounds::RoundFault;
-use crate::second::RestFault;
+use crate::second::LeftoverFault;
 use amo_journal::DeviceError;
 use std::alloc::AllocError;
 
@@ -71,13 +71,13 @@ impl From<RoundFault> for Fault {
     }
 }
 
-impl<P: Drop, Out: Drop> From<RestFault<P, Out>> for Fault {
-    ghost from_gives = { λ rest fault. fault ≡ fault_of_rest rest };
+impl<P: Drop, Out: Drop> From<LeftoverFault<P, Out>> for Fault {
+    ghost from_gives = { λ rest fault. fault ≡ fault_of_leftover rest };
 
-    fn from(fault: RestFault<P, Out>) -> Fault {
+    fn from(fault: LeftoverFault<P, Out>) -> Fault {
         match fault {
-            RestFault::Untried(_) | RestFault::Unhired(_, _) => Fault::Memory,
-            RestFault::Unsettled(_, _, _) => Fault::Unsettled,
+            LeftoverFault::Untried(_) | LeftoverFault::Unhired(_, _) => Fault::Memory,
+            LeftoverFault::Unsettled(_, _, _) => Fault::Unsettled,
         }
     }
 }

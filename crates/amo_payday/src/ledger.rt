@@ -1,35 +1,41 @@
 //! The journal of a day, in a file: an intent before each payment, and a receipt after it.
-ghost use Rattle.std.specs.Prelude.{◌≡◌, false, Some};
+ghost use Rattle.std.specs.Prelude.{◌≡◌, ℕ, false, Some};
+ghost use Rattle.std.specs.BTreeSet.{contains};
+ghost use Rattle.std.specs.Ordering.{nat_cmp};
 ghost use Rattle.amo_journal.specs.Journal.{IsSettled};
-ghost use Rattle.amo_payday.specs.Restarts.{journal_in};
+ghost use Rattle.amo_payday.specs.Restarts.{has_intent, journal_in};
 
 use crate::day::Payment;
 use crate::fault::Fault;
-use crate::restarting::has_intent;
+use crate::restarting::{Earlier, follow};
 use amo_journal::{Device, Journal};
 use amo_ledger::{Answer, Attempt, Entry, journal_of, note, put_entry, read_entries};
 use std::alloc::Global;
+use std::collections::BTreeSet;
 
 mod order;
 
-pub use order::{Given, Intent, Receipt};
+pub(crate) use order::{Given, Intent, Receipt};
 
 /// The journal of a day, over a file that is settled. Once an entry could not be put it puts no more.
 #[derive(Drop)]
-pub struct Ledger<D: Device> {
+pub(crate) struct Ledger<D: Device> {
     alloc: Global,
     journal: Journal<D>,
     /// How many payments the day has: each is the line of its number.
     lines: u64,
     /// What stands in the journal.
     attempts: Vec<Attempt>,
+    /// The payments of which an intent stands there, by their numbers.
+    intents: BTreeSet<u64>,
     broken: bool,
     ghost settled: { broken ≡ false → IsSettled D.seen D.may_leave D.stale journal },
     ghost known: { broken ≡ false → ∥ journal_in lines (D.seen journal.device) ≡ Some attempts.items ∥₁ },
+    ghost intended: { broken ≡ false → ∥ ((id : ℕ) → contains nat_cmp intents id ≡ has_intent attempts.items id) ∥₁ },
 }
 
 impl<D: Device + Drop> Ledger<D> {
-    ghost use Rattle.std.specs.Prelude.{◌+◌, ◌++◌, ◌∷◌, [], List, ℕ, true, length, Err, IfOk, IfErr, OnOk, OnErr};
+    ghost use Rattle.std.specs.Prelude.{◌+◌, ◌++◌, ◌∷◌, [], List, true, length, Err, IfOk, IfErr, OnOk, OnErr};
     ghost use Rattle.amo_journal.specs.Device.{LeavesOnly};
     ghost use Rattle.amo_journal.specs.Journal.{MaySettle};
     ghost use Rattle.amo_ledger.specs.declared.entry.Answer.TheVariants.{Done};
@@ -41,11 +47,10 @@ impl<D: Device + Drop> Ledger<D> {
     ghost use Rattle.amo_payday.specs.Faults.{IsOfOpening, IsRefusedIn};
     ghost use Rattle.amo_payday.specs.Ledgers.{AreKept};
     ghost use Rattle.amo_payday.specs.Payments.{IsReceiptOf};
-    ghost use Rattle.amo_payday.specs.Restarts.{has_intent};
 
     /// Settles the journal in a file, an empty one too, and reads it as that of a day of so many payments. What is no journal
     /// of such a day is refused.
-    pub fn open(alloc: Global, device: D, lines: u64) -> Result<Ledger<D>, Fault>
+    pub(crate) fn open(alloc: Global, device: D, lines: u64) -> Result<Ledger<D>, Fault>
         requires { MaySettle D.seen D.may_leave D.stale device }
         ensures known { IfOk result (λ l. journal_in lines (D.seen device) ≡ Some l.attempts.items) }
         ensures begun { IfOk result (λ l. (l.broken ≡ false) × (l.lines ≡ lines)) }
@@ -56,17 +61,19 @@ impl<D: Device + Drop> Ledger<D> {
         let texts = journal.settle(alloc)?;
         let entries = read_entries(alloc, &texts)?;
         let attempts = journal_of(alloc, lines, &entries)?;
+        let earlier = Earlier::of(alloc, &attempts)?;
         Ok(Ledger {
             alloc,
             journal,
             lines,
             attempts,
+            intents: earlier.intents,
             broken: false,
         })
     }
 
     /// What stands in the journal: its intents, each with its answer.
-    pub fn attempts(&self) -> &[Attempt]
+    pub(crate) fn attempts(&self) -> &[Attempt]
         ensures { result.now ≡ self.now.attempts.items }
     {
         &self.attempts
@@ -95,6 +102,9 @@ impl<D: Device + Drop> Ledger<D> {
         if !may_follow {
             return false;
         }
+        if !follow(&mut self.intents, entry) {
+            return false;
+        }
         match put_entry(&mut self.journal, self.alloc, entry) {
             Ok(()) => {
                 self.broken = false;
@@ -106,7 +116,7 @@ impl<D: Device + Drop> Ledger<D> {
 
     /// Puts the intent of the payment. Once this answers it, each crash leaves the intent. Where it can't be put, or an intent of
     /// the payment stands there already, the payment comes back, and must not be made: its intent may stand there now.
-    pub fn intend(&mut self, payment: Payment, time: u64) -> Result<Intent, Payment>
+    pub(crate) fn intend(&mut self, payment: Payment, time: u64) -> Result<Intent, Payment>
         // The journal had no intent of the payment that stands.
         ensures once { OnOk result (has_intent self.old.attempts.items payment.id ≡ false) }
         ensures shut { OnOk result (self.old.broken ≡ false) }
@@ -126,7 +136,7 @@ impl<D: Device + Drop> Ledger<D> {
     {
         let line = payment.id();
         let serial = self.attempts.len() as u64 + 1;
-        if has_intent(&self.attempts, line) {
+        if self.intents.contains(&line) {
             return Err(payment);
         }
         if self.put(Entry::Intent { serial, line, time }) {
@@ -138,7 +148,7 @@ impl<D: Device + Drop> Ledger<D> {
 
     /// Puts the receipt of a payment that was given to the bank, and answers it. Where that fails the payment comes back: it was
     /// made, and is in doubt, unless the receipt stands there now.
-    pub fn note(&mut self, given: Given, job: u32, time: u64) -> Result<Receipt, Payment>
+    pub(crate) fn note(&mut self, given: Given, job: u32, time: u64) -> Result<Receipt, Payment>
         ensures receipt { IfOk result (IsReceiptOf job given.payment) }
         ensures back { IfErr result (λ p. p ≡ given.payment) }
         ensures kept { (entries : List EntryView) → entries_of (D.seen self.old.journal.device) ≡ Some entries
@@ -159,7 +169,7 @@ impl<D: Device + Drop> Ledger<D> {
     }
 
     /// The file, whether the journal is broken or not.
-    pub fn into_device(self) -> D
+    pub(crate) fn into_device(self) -> D
         ensures { result ≡ self.journal.device }
     {
         self.journal.device

@@ -4,7 +4,7 @@ ghost use Rattle.amo_payday.specs.Lines.{number_in, payment_in, line_of_word, li
 
 /// A line of the input.
 #[derive(Clone, Copy, Debug, PartialEq, Eq)]
-pub enum Line {
+pub(crate) enum Line {
     /// How many workers there are.
     Workers(u64),
     /// After how many steps each worker is halted, in a round.
@@ -46,7 +46,7 @@ fn line_of_word(word: &str, rest: &str) -> Option<Line>
 
 /// What the line says, or None where it is none of these: then nobody may go on, since it may be a broken payment, and each one
 /// behind it would have another number than the journal gives it.
-pub fn line_of(text: &str) -> Option<Line>
+pub(crate) fn line_of(text: &str) -> Option<Line>
     ensures { result ≡ line_in text.now }
 {
     let (word, rest) = text.split_once(' ')?;

@@ -1,37 +1,27 @@
 //! What is left to do where earlier runs have left a journal.
-ghost use Rattle.std.specs.Prelude.{◌≡◌, ◌||◌, ℕ, List, [], ◌∷◌, ◌++◌, IfOk, OnOk};
+ghost use Rattle.std.specs.Prelude.{◌≡◌, ◌||◌, ◌==◌, true, ℕ, List, [], ◌∷◌, ◌++◌, Some, IfOk, OnOk};
 ghost use Rattle.std.specs.BTreeSet.{contains};
 ghost use Rattle.std.specs.Ordering.{nat_cmp};
 ghost use Rattle.amo_ledger.specs.declared.journal.Attempt.{Attempt as AttemptView};
+ghost use Rattle.amo_ledger.specs.Journals.{noted};
 ghost use Rattle.amo_ledger.specs.Open.{reopens};
 ghost use Rattle.amo_payday.specs.declared.day.payment.Payment.{Payment as PaymentView};
 ghost use Rattle.amo_payday.specs.Restarts.{has_intent, has_receipt, is_made, is_receipt, stands, IsParted};
 
 use crate::day::Payment;
-use amo_ledger::{Answer, Attempt, opens};
+use amo_ledger::{Answer, Attempt, Entry, opens};
 use std::alloc::{AllocError, Global};
 use std::collections::BTreeSet;
 
 /// The payments of a day after earlier runs of it. Each is in one of the three.
 #[derive(Drop)]
-pub struct Restart {
+pub(crate) struct Restart {
     /// Those with a receipt. They were made.
     pub made: Vec<Payment>,
     /// Those with an intent and no receipt. Nobody knows whether they were made, so a person has to ask the bank.
     pub in_doubt: Vec<Payment>,
     /// Those of which the journal says nothing. They were not made, since an intent is written first.
     pub untried: Vec<Payment>,
-}
-
-/// Whether the payment of this number has an intent that stands: no answer says that it was not begun.
-pub fn has_intent(journal: &[Attempt], id: u64) -> bool
-    ensures { result ≡ has_intent journal.now id }
-{
-    journal.iter().any(
-        |attempt| -> bool
-            ensures { result ≡ stands id attempt.now }
-        { attempt.line == id && !reopens(attempt.answer) },
-    )
 }
 
 /// Whether it is known that a payment was not begun.
@@ -53,9 +43,9 @@ fn is_made(answer: Option<Answer>) -> bool
 
 /// What a journal says of payments, by their numbers.
 #[derive(Drop)]
-struct Earlier {
+pub(crate) struct Earlier {
     /// Those with an intent that stands.
-    intents: BTreeSet<u64>,
+    pub intents: BTreeSet<u64>,
     /// Those with a receipt.
     receipts: BTreeSet<u64>,
 }
@@ -76,7 +66,7 @@ impl Earlier {
     }
 
     /// What this journal says.
-    fn of(alloc: Global, journal: &[Attempt]) -> Result<Earlier, AllocError>
+    pub(crate) fn of(alloc: Global, journal: &[Attempt]) -> Result<Earlier, AllocError>
         ensures intents { IfOk result (λ e. (id : ℕ) → contains nat_cmp e.intents id ≡ has_intent journal.now id) }
         ensures receipts { IfOk result (λ e. (id : ℕ) → contains nat_cmp e.receipts id ≡ has_receipt journal.now id) }
     {
@@ -88,6 +78,26 @@ impl Earlier {
             earlier.add(attempt)?;
         }
         Ok(earlier)
+    }
+}
+
+/// Adds a payment's number.
+fn add(numbers: &mut BTreeSet<u64>, id: u64) -> Result<(), AllocError>
+    ensures { OnOk result ((j : ℕ) → contains nat_cmp numbers.new j ≡ (contains nat_cmp numbers.old j || id == j)) }
+{
+    numbers.insert(id)?;
+    Ok(())
+}
+
+/// Has the set follow an entry that the journal is given: it is that of the payments whose intents stand. False where memory is
+/// refused, and where the entry is an answer by which its payment was not begun: a day puts none.
+pub(crate) fn follow(intents: &mut BTreeSet<u64>, entry: Entry) -> bool
+    ensures { result ≡ true → (lines : ℕ) (old new : List AttemptView) → noted lines old entry ≡ Some new
+        → ((id : ℕ) → contains nat_cmp intents.old id ≡ has_intent old id) → (id : ℕ) → contains nat_cmp intents.new id ≡ has_intent new id }
+{
+    match entry {
+        Entry::Intent { line, .. } => add(intents, line).is_ok(),
+        Entry::Answer { answer, .. } => !opens(answer),
     }
 }
 
@@ -113,7 +123,7 @@ impl Restart {
 
 /// Parts the payments by what the journal says of them. Nothing else is known of earlier runs. Where memory is refused the
 /// payments are dropped: nothing was paid, and the day has to end. It goes through the journal once.
-pub fn part(
+pub(crate) fn part(
     alloc: Global,
     payments: Vec<Payment>,
     journal: &[Attempt],

@@ -9,6 +9,7 @@ ghost use Rattle.amo_payday.specs.Payments.{Answers};
 ghost use Rattle.amo_payday.specs.Sorting.{ids_of, IsSorted, IsSortingOf};
 ghost use Rattle.amo_payday.specs.Rounds.{is_fit, IsRound, IsRunFault, IsRoundFault};
 ghost use Rattle.amo_payday.specs.declared.rounds.RoundFault.TheVariants.{Unsettled as UnsettledRound, Unsorted};
+ghost use Rattle.amo_kk.specs.declared.limits.TheConstants.{MAX_JOBS};
 
 use crate::bank::{Answer, Bank};
 use crate::day::Payment;
@@ -16,7 +17,7 @@ use crate::sorting::{Sorted, sort_out};
 use amo_crew::laws::settled_later;
 use amo_crew::{ExecFault, Outcome, StopPlan, Unsettled, execute};
 use amo_journal::Device;
-use amo_kk::Givens;
+use amo_kk::{Givens, MAX_JOBS, MAX_STEPS, MAX_WORKERS};
 use std::alloc::{AllocError, Global};
 use std::io::Write;
 use std::mem;
@@ -26,7 +27,7 @@ use std::time::Clock;
 
 /// How many workers pay, and after how many steps each is halted, in each round.
 #[derive(Clone, Copy, Debug, PartialEq, Eq)]
-pub struct Crew {
+pub(crate) struct Crew {
     /// From 1 to 16.
     pub workers: u64,
     /// At most 10,000,000.
@@ -35,16 +36,16 @@ pub struct Crew {
 
 impl Crew {
     /// Whether both numbers are within their ranges.
-    pub fn is_fit(self) -> bool
+    pub(crate) fn is_fit(self) -> bool
         ensures { result ≡ is_fit self }
     {
-        1 <= self.workers && self.workers <= 16 && self.steps <= 10_000_000
+        1 <= self.workers && self.workers <= MAX_WORKERS as u64 && self.steps <= MAX_STEPS
     }
 }
 
 /// Why a round gives no sorted jobs.
 #[derive(Drop)]
-pub enum RoundFault {
+pub(crate) enum RoundFault {
     /// Nothing was paid, and the payments come back in their order: there was no memory, or the crew is outside its ranges.
     Unpaid(Vec<Payment>),
     /// Memory was refused where the round was to be settled, twice. What it left can be settled later.
@@ -54,12 +55,12 @@ pub enum RoundFault {
 }
 
 /// Takes the next round off the payments: their first 4096, or all. Where memory is refused they stay as they are.
-pub fn next_round(payments: &mut Vec<Payment>) -> Result<Vec<Payment>, AllocError>
+pub(crate) fn next_round(payments: &mut Vec<Payment>) -> Result<Vec<Payment>, AllocError>
     ensures round { IfOk result (λ round. payments.old.items ≡ round.items ++ payments.new.items) }
-    ensures size { IfOk result (λ round. vec_len round ≡ min (vec_len payments.old) 4096) }
+    ensures size { IfOk result (λ round. vec_len round ≡ min (vec_len payments.old) MAX_JOBS) }
     ensures refused { OnErr result (payments.new.items ≡ payments.old.items) }
 {
-    let count = payments.len().min(4096);
+    let count = payments.len().min(MAX_JOBS as usize);
     let rest = payments.split_off(count)?;
     Ok(mem::replace(payments, rest))
 }
@@ -96,7 +97,7 @@ fn sort_twice(
     ids: &[u64],
     outcome: Outcome<Payment, Answer>,
 ) -> Result<Sorted, RoundFault>
-    requires few { length ids.now ≤ 4096 }
+    requires few { length ids.now ≤ MAX_JOBS }
     ensures lists { IfOk result (IsSortingOf ids.now outcome) }
     ensures sorted { IfOk result (λ s. (givens : GivensView) (payloads : List PaymentView) (budgets : List ℕ)
         → IsOutcome Answers givens payloads budgets outcome → ids.now ≡ ids_of payloads → IsSorted payloads s) }
@@ -150,14 +151,18 @@ fn run_round<D: Device + Drop + Send, S: Write + Drop + Send, R: Threads + Wait 
 }
 
 /// Pays one round, and sorts what came of it. There have to be at most 4096 payments. May wait.
-pub fn pay_round<D: Device + Drop + Send, S: Write + Drop + Send, R: Threads + Wait + Clock + Sync>(
+pub(crate) fn pay_round<
+    D: Device + Drop + Send,
+    S: Write + Drop + Send,
+    R: Threads + Wait + Clock + Sync,
+>(
     rt: &R,
     alloc: Global,
     bank: &Bank<'_, D, S, R>,
     crew: Crew,
     payments: Vec<Payment>,
 ) -> Result<Sorted, RoundFault>
-    requires few { vec_len payments ≤ 4096 }
+    requires few { vec_len payments ≤ MAX_JOBS }
     ensures sorted { IfOk result (IsRound crew payments.items) }
     ensures fault { IfErr result (IsRoundFault crew payments.items) }
 {
@@ -175,7 +180,7 @@ pub fn pay_round<D: Device + Drop + Send, S: Write + Drop + Send, R: Threads + W
 
 /// Adds the payments that nobody began, in their order: what a new floor is made of. What was in a worker's hand is not
 /// among them. Where memory is refused they are dropped, and the journal has no entry of them.
-pub fn add_free(free: Vec<(u32, Payment)>, list: &mut Vec<Payment>) -> Result<(), AllocError>
+pub(crate) fn add_free(free: Vec<(u32, Payment)>, list: &mut Vec<Payment>) -> Result<(), AllocError>
     ensures { OnOk result (list.new.items ≡ list.old.items ++ map (λ t. t.1) free.items) }
 {
     for (_, payment) in free {

@@ -2,7 +2,8 @@
 ghost use Rattle.std.specs.Prelude.{◌≡◌, ◌≤◌, [], length, replicate, vec_len, vec_capacity, IfOk, IfErr};
 ghost use Rattle.amo_words.specs.Faces.{spots};
 ghost use Rattle.amo_words.specs.declared.rule.Spot.TheVariants.{Home};
-ghost use Rattle.amo_payday.specs.Second.{IsRest, IsRestFault};
+ghost use Rattle.amo_payday.specs.Second.{IsLeftover, IsLeftoverFault};
+ghost use Rattle.amo_kk.specs.declared.limits.TheConstants.{MAX_JOBS};
 
 use crate::stopping::run_until;
 use amo_crew::{Output, Work};
@@ -13,7 +14,7 @@ use std::sync::atomic::AtomicBool;
 
 /// What a worker in the caller's own loop has left.
 #[derive(Drop)]
-pub struct Rest<P, Out> {
+pub(crate) struct Leftover<P, Out> {
     /// The answers of what it has performed, in its order.
     pub outputs: Vec<Output<Out>>,
     /// What it has not begun.
@@ -22,7 +23,7 @@ pub struct Rest<P, Out> {
 
 /// Why a worker in the caller's own loop has left nothing.
 #[derive(Drop)]
-pub enum RestFault<P: Drop, Out> {
+pub(crate) enum LeftoverFault<P: Drop, Out> {
     /// Nothing was performed, and the payloads come back in their order: there was no memory.
     Untried(Vec<P>),
     /// Memory was refused to hire the worker. Nothing was begun: the floor and its book come back as they were opened.
@@ -40,53 +41,53 @@ fn run_one<P: Drop, W: Work<P>>(
     floor: Floor<P>,
     mut book: Book<P>,
     outputs: Vec<Output<W::Out>>,
-) -> Result<Rest<P, W::Out>, RestFault<P, W::Out>>
+) -> Result<Leftover<P, W::Out>, LeftoverFault<P, W::Out>>
 where
     W::Out: Drop,
     requires table { book.table_id ≡ floor.table_id }
     requires alone { (book.view.givens.workers ≡ 1) × (spots book ≡ replicate 1 Home) }
     requires room { (outputs.items ≡ []) × (book.view.givens.jobs ≤ vec_capacity outputs) }
-    ensures rest { IfOk result (IsRest (W.related work.now) book.view.payloads) }
-    ensures fault { IfErr result (IsRestFault (W.related work.now) book.view.payloads) }
+    ensures rest { IfOk result (IsLeftover (W.related work.now) book.view.payloads) }
+    ensures fault { IfErr result (IsLeftoverFault (W.related work.now) book.view.payloads) }
 {
     let Ok(worker) = book.hire(alloc, &floor, 1) else {
-        return Err(RestFault::Unhired(floor, book));
+        return Err(LeftoverFault::Unhired(floor, book));
     };
     let (gone, outputs) = run_until(flag, &floor, work, 1, worker, outputs);
     gone.collect(&floor, &mut book);
     match floor.settle(alloc, book) {
-        Ok(settlement) => Ok(Rest {
+        Ok(settlement) => Ok(Leftover {
             outputs,
             free: settlement.free,
         }),
-        Err((floor, book)) => Err(RestFault::Unsettled(floor, book, outputs)),
+        Err((floor, book)) => Err(LeftoverFault::Unsettled(floor, book, outputs)),
     }
 }
 
 /// Opens a floor of these payloads, of which there have to be at most 4096, and runs one worker there until it has ended,
 /// or the flag is set.
-pub fn run_alone<P: Drop, W: Work<P>>(
+pub(crate) fn run_alone<P: Drop, W: Work<P>>(
     alloc: Global,
     flag: &AtomicBool,
     work: &W,
     payloads: Vec<P>,
-) -> Result<Rest<P, W::Out>, RestFault<P, W::Out>>
+) -> Result<Leftover<P, W::Out>, LeftoverFault<P, W::Out>>
 where
     W::Out: Drop,
-    requires few { vec_len payloads ≤ 4096 }
-    ensures rest { IfOk result (IsRest (W.related work.now) payloads.items) }
-    ensures fault { IfErr result (IsRestFault (W.related work.now) payloads.items) }
+    requires few { vec_len payloads ≤ MAX_JOBS }
+    ensures rest { IfOk result (IsLeftover (W.related work.now) payloads.items) }
+    ensures fault { IfErr result (IsLeftoverFault (W.related work.now) payloads.items) }
 {
     let Ok(givens) = Givens::try_new(payloads.len() as u64, 1, 1) else {
-        return Err(RestFault::Untried(payloads));
+        return Err(LeftoverFault::Untried(payloads));
     };
     let Ok(outputs) = Vec::with_capacity(alloc, payloads.len()) else {
-        return Err(RestFault::Untried(payloads));
+        return Err(LeftoverFault::Untried(payloads));
     };
     match Floor::try_new(alloc, givens, payloads) {
         Ok((floor, book)) => run_one(alloc, flag, work, floor, book, outputs),
         Err(OpenFault::WrongCount(payloads) | OpenFault::NoMemory(payloads)) => {
-            Err(RestFault::Untried(payloads))
+            Err(LeftoverFault::Untried(payloads))
         }
     }
 }

@@ -25,97 +25,86 @@ use std::sync::atomic::AtomicBool;
 use std::thread::Threads;
 use std::time::Clock;
 
-/// Pays one round off the payments, writes what is certain of it, and adds what nobody began to the list.
-fn pay_next<
-    D: Device + Drop + Send,
-    S: Write + Drop + Send,
-    O: Write,
-    R: Threads + Wait + Clock + Sync,
->(
-    rt: &R,
-    alloc: Global,
-    out: &mut O,
-    bank: &Bank<'_, D, S, R>,
-    crew: Crew,
-    payments: &mut Vec<Payment>,
-    free: &mut Vec<Payment>,
-) -> Result<(), Fault>
-    ensures told { OnOk result (TellsNext (ArePaid crew) payments.old.items payments.new.items free.old.items free.new.items (O.contents out.old) (O.contents out.new)) }
-    ensures fewer { OnOk result (0 < vec_len payments.old → vec_len payments.new < vec_len payments.old) }
-    ensures part { OnErr result (TellsPart (ArePaid crew) payments.old.items (O.contents out.old) (O.contents out.new)) }
-    ensures fault { IfErr result IsOfPaying }
-{
-    let round = next_round(payments)?;
-    let sorted = pay_round(rt, alloc, bank, crew, round)?;
-    tell_round(alloc, out, &sorted)?;
-    add_free(sorted.free, free)?;
-    Ok(())
-}
-
-/// Pays all in rounds, and answers what nobody began.
-fn pay_all<
-    D: Device + Drop + Send,
-    S: Write + Drop + Send,
-    O: Write,
-    R: Threads + Wait + Clock + Sync,
->(
-    rt: &R,
-    alloc: Global,
-    out: &mut O,
-    bank: &Bank<'_, D, S, R>,
-    crew: Crew,
-    mut payments: Vec<Payment>,
-) -> Result<Vec<Payment>, Fault>
-    ensures told { IfOk result (λ free. TellsNext (ArePaid crew) payments.items [] [] free.items (O.contents out.old) (O.contents out.new)) }
-    ensures part { OnErr result (TellsPart (ArePaid crew) payments.items (O.contents out.old) (O.contents out.new)) }
-    ensures fault { IfErr result IsOfPaying }
-{
-    let mut free = Vec::new(alloc);
-    'paying: while !payments.is_empty() {
-        pay_next(rt, alloc, out, bank, crew, &mut payments, &mut free)?;
+impl<D: Device + Drop + Send, S: Write + Drop + Send, R: Threads + Wait + Clock + Sync> Bank<
+    '_,
+    D,
+    S,
+    R,
+> {
+    /// Pays one round off the payments, writes what is certain of it, and adds what nobody began to the list.
+    fn pay_next<O: Write>(
+        &self,
+        out: &mut O,
+        crew: Crew,
+        payments: &mut Vec<Payment>,
+        free: &mut Vec<Payment>,
+    ) -> Result<(), Fault>
+        ensures told { OnOk result (TellsNext (ArePaid crew) payments.old.items payments.new.items free.old.items free.new.items (O.contents out.old) (O.contents out.new)) }
+        ensures fewer { OnOk result (0 < vec_len payments.old → vec_len payments.new < vec_len payments.old) }
+        ensures part { OnErr result (TellsPart (ArePaid crew) payments.old.items (O.contents out.old) (O.contents out.new)) }
+        ensures fault { IfErr result IsOfPaying }
+    {
+        let round = next_round(payments)?;
+        let sorted = pay_round(self.rt, self.alloc, self, crew, round)?;
+        tell_round(self.alloc, out, &sorted)?;
+        add_free(sorted.free, free)?;
+        Ok(())
     }
-    Ok(free)
-}
 
-/// Opens one floor of one worker for payments off the list, writes what it has made, and adds what it has not begun to the
-/// other list.
-fn try_next<D: Device + Drop, S: Write + Drop, O: Write, R: Wait + Clock>(
-    alloc: Global,
-    flag: &AtomicBool,
-    out: &mut O,
-    bank: &Bank<'_, D, S, R>,
-    payments: &mut Vec<Payment>,
-    left: &mut Vec<Payment>,
-) -> Result<(), Fault>
-    ensures told { OnOk result (TellsNext AreTried payments.old.items payments.new.items left.old.items left.new.items (O.contents out.old) (O.contents out.new)) }
-    ensures fewer { OnOk result (0 < vec_len payments.old → vec_len payments.new < vec_len payments.old) }
-    ensures part { OnErr result (TellsPart AreTried payments.old.items (O.contents out.old) (O.contents out.new)) }
-    ensures fault { IfErr result IsOfPaying }
-{
-    let round = next_round(payments)?;
-    let rest = run_alone(alloc, flag, bank, round)?;
-    tell_answers(alloc, out, &rest.outputs)?;
-    add_free(rest.free, left)?;
-    Ok(())
-}
-
-/// Pays on floors of one worker until the flag is set, and answers what is left.
-fn try_all<D: Device + Drop, S: Write + Drop, O: Write, R: Wait + Clock>(
-    alloc: Global,
-    flag: &AtomicBool,
-    out: &mut O,
-    bank: &Bank<'_, D, S, R>,
-    mut payments: Vec<Payment>,
-) -> Result<Vec<Payment>, Fault>
-    ensures told { IfOk result (λ left. TellsNext AreTried payments.items [] [] left.items (O.contents out.old) (O.contents out.new)) }
-    ensures part { OnErr result (TellsPart AreTried payments.items (O.contents out.old) (O.contents out.new)) }
-    ensures fault { IfErr result IsOfPaying }
-{
-    let mut left = Vec::new(alloc);
-    'trying: while !payments.is_empty() {
-        try_next(alloc, flag, out, bank, &mut payments, &mut left)?;
+    /// Pays all in rounds, and answers what nobody began.
+    fn pay_all<O: Write>(
+        &self,
+        out: &mut O,
+        crew: Crew,
+        mut payments: Vec<Payment>,
+    ) -> Result<Vec<Payment>, Fault>
+        ensures told { IfOk result (λ free. TellsNext (ArePaid crew) payments.items [] [] free.items (O.contents out.old) (O.contents out.new)) }
+        ensures part { OnErr result (TellsPart (ArePaid crew) payments.items (O.contents out.old) (O.contents out.new)) }
+        ensures fault { IfErr result IsOfPaying }
+    {
+        let mut free = Vec::new(self.alloc);
+        'paying: while !payments.is_empty() {
+            self.pay_next(out, crew, &mut payments, &mut free)?;
+        }
+        Ok(free)
     }
-    Ok(left)
+
+    /// Opens one floor of one worker for payments off the list, writes what it has made, and adds what it has not begun to the
+    /// other list.
+    fn try_next<O: Write>(
+        &self,
+        out: &mut O,
+        payments: &mut Vec<Payment>,
+        left: &mut Vec<Payment>,
+    ) -> Result<(), Fault>
+        ensures told { OnOk result (TellsNext AreTried payments.old.items payments.new.items left.old.items left.new.items (O.contents out.old) (O.contents out.new)) }
+        ensures fewer { OnOk result (0 < vec_len payments.old → vec_len payments.new < vec_len payments.old) }
+        ensures part { OnErr result (TellsPart AreTried payments.old.items (O.contents out.old) (O.contents out.new)) }
+        ensures fault { IfErr result IsOfPaying }
+    {
+        let round = next_round(payments)?;
+        let rest = run_alone(self.alloc, self.stop, self, round)?;
+        tell_answers(self.alloc, out, &rest.outputs)?;
+        add_free(rest.free, left)?;
+        Ok(())
+    }
+
+    /// Pays on floors of one worker until the flag is set, and answers what is left.
+    fn try_all<O: Write>(
+        &self,
+        out: &mut O,
+        mut payments: Vec<Payment>,
+    ) -> Result<Vec<Payment>, Fault>
+        ensures told { IfOk result (λ left. TellsNext AreTried payments.items [] [] left.items (O.contents out.old) (O.contents out.new)) }
+        ensures part { OnErr result (TellsPart AreTried payments.items (O.contents out.old) (O.contents out.new)) }
+        ensures fault { IfErr result IsOfPaying }
+    {
+        let mut left = Vec::new(self.alloc);
+        'trying: while !payments.is_empty() {
+            self.try_next(out, &mut payments, &mut left)?;
+        }
+        Ok(left)
+    }
 }
 
 /// Pays what the journal says nothing of: first in rounds, and then what nobody began on floors of one worker, until the flag is
@@ -135,8 +124,8 @@ fn pay_day<
     tell_each(alloc, out, "doubt", &parts.in_doubt)?;
     let stop = AtomicBool::new(day.limit == 0);
     let bank = Bank::new(rt, alloc, ledger, orders, day.limit, &stop);
-    let free = pay_all(rt, alloc, out, &bank, day.crew, parts.untried)?;
-    let left = try_all(alloc, &stop, out, &bank, free)?;
+    let free = bank.pay_all(out, day.crew, parts.untried)?;
+    let left = bank.try_all(out, free)?;
     tell_each(alloc, out, "free", &left)?;
     Ok(bank.into_device())
 }

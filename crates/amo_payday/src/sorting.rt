@@ -6,8 +6,9 @@ ghost use Rattle.std.specs.Ordering.{nat_cmp};
 ghost use Rattle.amo_kk.specs.declared.givens.Givens.{Givens as GivensView};
 ghost use Rattle.amo_crew.specs.Outcomes.{IsOutcome};
 ghost use Rattle.amo_payday.specs.Payments.{Answers};
-ghost use Rattle.amo_payday.specs.Sorting.{is_paid, has_receipt_of, has_job, is_certain, ids_of, IsSorted, IsSortingOf};
+ghost use Rattle.amo_payday.specs.Sorting.{is_paid, has_receipt_of, has_job, ids_of, IsSorted, IsSortingOf};
 ghost use Rattle.amo_payday.specs.declared.day.payment.Payment.{Payment as PaymentView};
+ghost use Rattle.amo_kk.specs.declared.limits.TheConstants.{MAX_JOBS};
 
 use crate::bank::Answer;
 use crate::day::Payment;
@@ -18,7 +19,7 @@ use std::collections::BTreeSet;
 /// The jobs of a run, sorted by what is certain of their payments. Each job has a receipt among the answers, or is free, or
 /// is in doubt, and just one of these.
 #[derive(Drop)]
-pub struct Sorted {
+pub(crate) struct Sorted {
     /// What came of those that were performed. Where it is a receipt the payment was made, and there is nothing left to do.
     pub answers: Vec<Output<Answer>>,
     /// Those that nobody began, each with its payment. They may be handed to a new floor.
@@ -68,71 +69,50 @@ fn free_in(alloc: Global, free: &[(u32, Payment)]) -> Result<BTreeSet<u32>, Allo
     Ok(jobs)
 }
 
-/// The jobs of which it is certain what became of them.
-#[derive(Drop)]
-struct Certain {
-    /// Those of which there is a receipt.
-    paid: BTreeSet<u32>,
-    /// Those that are free.
-    free: BTreeSet<u32>,
-}
-
-impl Certain {
-    /// Those of these answers and of these free jobs.
-    fn of(
-        alloc: Global,
-        answers: &[Output<Answer>],
-        free: &[(u32, Payment)],
-    ) -> Result<Certain, AllocError>
-        ensures { IfOk result (λ c. (j : ℕ) → is_certain c j ≡ (has_receipt_of answers.now j || has_job free.now j)) }
-    {
-        let paid = paid_in(alloc, answers)?;
-        let free = free_in(alloc, free)?;
-        Ok(Certain { paid, free })
-    }
-
-    /// Whether it has the job.
-    fn has(&self, job: u32) -> bool
-        ensures { result ≡ is_certain self.now job }
-    {
-        self.paid.contains(&job) || self.free.contains(&job)
-    }
-}
-
-/// Lists the job with its payment's number where it isn't among the certain ones.
+/// Lists the job with its payment's number where it is neither paid nor free.
 #[tactic(auto, using(crate::proofs::Filters::passed, crate::proofs::Filters::skipped))]
-fn add_unsure(job: (u32, u64), certain: &Certain, unsure: &mut Vec<(u32, u64)>)
+fn add_unsure(
+    job: (u32, u64),
+    paid: &BTreeSet<u32>,
+    free: &BTreeSet<u32>,
+    unsure: &mut Vec<(u32, u64)>,
+)
     requires room { vec_len unsure.old < vec_capacity unsure.old }
-    ensures listed { (jobs : List (ℕ × ℕ)) → unsure.old.items ≡ filter (λ t. not (is_certain certain.now t.0)) jobs
-        → unsure.new.items ≡ filter (λ t. not (is_certain certain.now t.0)) (jobs ++ job ∷ []) }
+    ensures listed { (jobs : List (ℕ × ℕ)) → unsure.old.items ≡ filter (λ t. not (contains nat_cmp paid.now t.0 || contains nat_cmp free.now t.0)) jobs
+        → unsure.new.items ≡ filter (λ t. not (contains nat_cmp paid.now t.0 || contains nat_cmp free.now t.0)) (jobs ++ job ∷ []) }
     ensures len { vec_len unsure.new ≤ vec_len unsure.old + 1 }
     ensures capacity { vec_capacity unsure.new ≡ vec_capacity unsure.old }
 {
-    if !certain.has(job.0) {
+    if !(paid.contains(&job.0) || free.contains(&job.0)) {
         unsure.push_reserved(job);
     }
 }
 
-/// Lists the jobs, from 1, of payments with these numbers, that aren't among the certain ones.
-fn list_unsure(ids: &[u64], certain: &Certain, unsure: &mut Vec<(u32, u64)>)
+/// Lists the jobs, from 1, of payments with these numbers, that are neither paid nor free.
+fn list_unsure(
+    ids: &[u64],
+    paid: &BTreeSet<u32>,
+    free: &BTreeSet<u32>,
+    unsure: &mut Vec<(u32, u64)>,
+)
     requires empty { unsure.old.items ≡ [] }
     requires room { (vec_len unsure.old ≡ 0) × (length ids.now ≤ vec_capacity unsure.old) }
-    requires small { length ids.now ≤ 4096 }
-    ensures { unsure.new.items ≡ filter (λ t. not (is_certain certain.now t.0)) (enumerate_from 1 ids.now) }
+    requires small { length ids.now ≤ MAX_JOBS }
+    ensures { unsure.new.items ≡ filter (λ t. not (contains nat_cmp paid.now t.0 || contains nat_cmp free.now t.0)) (enumerate_from 1 ids.now) }
 {
     for before in 0..ids.len() {
-        add_unsure((before as u32 + 1, ids[before]), certain, unsure);
+        add_unsure((before as u32 + 1, ids[before]), paid, free, unsure);
     }
 }
 
 /// Sorts the jobs of a run of payments with these numbers, at most 4096, by what is certain of each. Where memory is refused
 /// the outcome comes back as it was. It goes through the answers and the free jobs once.
-pub fn sort_out(
+pub(crate) fn sort_out(
     alloc: Global,
     ids: &[u64],
     outcome: Outcome<Payment, Answer>,
 ) -> Result<Sorted, Outcome<Payment, Answer>>
-    requires few { length ids.now ≤ 4096 }
+    requires few { length ids.now ≤ MAX_JOBS }
     ensures lists { IfOk result (IsSortingOf ids.now outcome) }
     ensures sorted { IfOk result (λ s. (givens : GivensView) (payloads : List PaymentView) (budgets : List ℕ)
         → IsOutcome Answers givens payloads budgets outcome → ids.now ≡ ids_of payloads → IsSorted payloads s) }
@@ -141,7 +121,10 @@ pub fn sort_out(
     let Ok(mut in_doubt) = Vec::with_capacity(alloc, ids.len()) else {
         return Err(outcome);
     };
-    let Ok(certain) = Certain::of(alloc, &outcome.outputs, &outcome.settlement.free) else {
+    let Ok(paid_jobs) = paid_in(alloc, &outcome.outputs) else {
+        return Err(outcome);
+    };
+    let Ok(free_jobs) = free_in(alloc, &outcome.settlement.free) else {
         return Err(outcome);
     };
     let Outcome {
@@ -151,7 +134,7 @@ pub fn sort_out(
         in_hand,
     } = outcome;
     let free = settlement.free;
-    list_unsure(ids, &certain, &mut in_doubt);
+    list_unsure(ids, &paid_jobs, &free_jobs, &mut in_doubt);
     Ok(Sorted {
         answers,
         free,

@@ -62,7 +62,7 @@ fn leave<P: Drop>(floor: &Floor<P>, after: After<P>) -> Gone<P>
 /// job is in its hand: what it has claimed it performs and files first. It may be called in as many threads as there are
 /// workers, with one flag. The list gets the answers, and needs room for as many as there are jobs. Afterwards the worker
 /// has ended or has left, so that nothing that it had announced is kept from others. No clause says when the flag is seen.
-pub fn run_until<P: Drop, W: Work<P>>(
+pub(crate) fn run_until<P: Drop, W: Work<P>>(
     flag: &AtomicBool,
     floor: &Floor<P>,
     work: &W,

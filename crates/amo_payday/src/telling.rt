@@ -74,7 +74,7 @@ fn push_doubts(text: &mut String, in_doubt: &[(u32, u64)]) -> Result<(), AllocEr
 }
 
 /// Writes a line of this word for each payment. Where memory is refused nothing is written.
-pub fn tell_each<O: Write>(
+pub(crate) fn tell_each<O: Write>(
     alloc: Global,
     out: &mut O,
     word: &str,
@@ -91,7 +91,7 @@ pub fn tell_each<O: Write>(
 }
 
 /// Writes a line for each answer: `done` with a receipt, and `doubt` without. Where memory is refused nothing is written.
-pub fn tell_answers<O: Write>(
+pub(crate) fn tell_answers<O: Write>(
     alloc: Global,
     out: &mut O,
     outputs: &[Output<Answer>],
@@ -108,7 +108,7 @@ pub fn tell_answers<O: Write>(
 
 /// Writes a line for each payment of a round that is not free: `done` with a receipt, and `doubt` without. Where memory is
 /// refused nothing is written.
-pub fn tell_round<O: Write>(alloc: Global, out: &mut O, sorted: &Sorted) -> Result<(), Fault>
+pub(crate) fn tell_round<O: Write>(alloc: Global, out: &mut O, sorted: &Sorted) -> Result<(), Fault>
     ensures whole { OnOk result (Appends (O.contents out.old) (O.contents out.new) (round_text sorted.now)) }
     ensures front { OnErr result (AppendsFront (O.contents out.old) (O.contents out.new) (round_text sorted.now)) }
     ensures memory { result ≡ Err NoMemory → Keeps (O.contents out.old) (O.contents out.new) }

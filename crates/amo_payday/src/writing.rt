@@ -8,7 +8,7 @@ use std::alloc::AllocError;
 use std::io::Write;
 
 /// Writes all of the text. Where the writer fails a beginning of it was taken, and this answers false.
-pub fn write_text<O: Write>(out: &mut O, text: &str) -> bool
+pub(crate) fn write_text<O: Write>(out: &mut O, text: &str) -> bool
     ensures whole { result ≡ true → Appends (O.contents out.old) (O.contents out.new) text.now }
     ensures front { result ≡ false → AppendsFront (O.contents out.old) (O.contents out.new) text.now }
 {
@@ -25,7 +25,7 @@ pub fn write_text<O: Write>(out: &mut O, text: &str) -> bool
 }
 
 /// Appends the line of a word and a number.
-pub fn push_line(text: &mut String, word: &str, id: u64) -> Result<(), AllocError>
+pub(crate) fn push_line(text: &mut String, word: &str, id: u64) -> Result<(), AllocError>
     ensures { OnOk result (string_bytes text.new ≡ string_bytes text.old ++ line word.now id) }
 {
     writeln!(text, "{word} {id}")

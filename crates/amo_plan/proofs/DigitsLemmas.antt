@@ -7,7 +7,7 @@ use Rattle.std.proofs.lemmas.Bool.Decides.{nat_tests}
 use Rattle.std.proofs.lemmas.Fmt.{decimal_by_steps, decimal_digit, decimal_nonempty, decimal_step, first_decimal}
 use Rattle.std.proofs.lemmas.List.{append-nil, drop_more}
 use Rattle.amo_plan.specs.Digits.{is_digit, digits_after, zero_before, number_in, at_most, within}
-use Rattle.amo_plan.proofs.StepsLemmas.{taken}
+use Rattle.amo_plan.proofs.PassingLemmas.{taken}
 
 -- the number that a text says
 

@@ -8,11 +8,11 @@ use Rattle.amo_plan.specs.declared.fault.PlanFault.TheVariants.{BadName, TwoName
 use Rattle.amo_plan.specs.declared.job.Job.{Job}
 use Rattle.amo_plan.specs.Keeps.{all_fit}
 use Rattle.amo_plan.specs.Results.{fits}
-use Rattle.amo_plan.specs.Steps.{unless, capped}
+use Rattle.amo_plan.specs.Passing.{unless, capped}
 use Rattle.amo_plan.specs.Tree.{Key, is_known}
 use Rattle.amo_plan.specs.Jobs.{is_name, fine_job, fine_jobs}
 use Rattle.amo_plan.proofs.NamesLemmas.{bytes_eq-same}
-use Rattle.amo_plan.proofs.StepsLemmas.{bind_ok, unless_ok}
+use Rattle.amo_plan.proofs.PassingLemmas.{bind_ok, unless_ok}
 
 -- a job that passes has a task that fits
 job_fits : (is_taken : Bool) (j : ℕ) (job : Job) (x : Unit {0}) → fine_job is_taken j job ≡ Ok x → fits job.task ≡ true

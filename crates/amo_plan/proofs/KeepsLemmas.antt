@@ -16,17 +16,18 @@ use Rattle.amo_kk.specs.Givens.{givens_of, numbers_or_fault}
 use Rattle.amo_kk.specs.Limits.{first_fault}
 use Rattle.amo_plan.specs.declared.fault.PlanFault.TheVariants.{TooLong, WrongKind, UnknownKey, MissingKey}
 use Rattle.amo_plan.specs.declared.job.Job.{Job}
+use Rattle.amo_plan.specs.declared.limits.TheConstants.{NEWEST_VERSION, MOST_BYTES, MOST_MOVES, MOST_ROUNDS, USUAL_BUDGET, MOST_IN_BLOCK}
 use Rattle.amo_plan.specs.declared.top.Form.{Form}
 use Rattle.amo_plan.specs.Jobs.{read_jobs, fine_jobs}
 use Rattle.amo_plan.specs.Keeps.{is_form, Keeps}
 use Rattle.amo_plan.specs.Limits.{is_small, small_budgets, budgets_within}
 use Rattle.amo_plan.specs.Plan.{PlanSeen, document, or_bad_givens, plan_with, plan_in, plan_of}
 use Rattle.amo_plan.specs.Schedule.{words_of, read_words, moves_of, short_moves_of, read_schedule}
-use Rattle.amo_plan.specs.Steps.{◌>>=◌, or_fault, unless, is_between}
-use Rattle.amo_plan.specs.Top.{TopSeen, MoreSeen, newest_version, version_of, block_in, block_of, so_many, jobs_of, text_of, rounds_of, budgets_of, is_two, is_top_key, form_of, more_values, top_values, top_of}
+use Rattle.amo_plan.specs.Passing.{◌>>=◌, or_fault, unless, is_between}
+use Rattle.amo_plan.specs.Top.{TopSeen, MoreSeen, version_of, block_in, block_of, so_many, jobs_of, text_of, rounds_of, budgets_of, is_two, is_top_key, form_of, more_values, top_values, top_of}
 use Rattle.amo_plan.specs.Tree.{has, each_key, natural, naturals_in, natural_at}
 use Rattle.amo_plan.proofs.FineLemmas.{jobs_fit, jobs_named}
-use Rattle.amo_plan.proofs.StepsLemmas.{bind_ok, ok_is, or_ok, unless_ok, taken}
+use Rattle.amo_plan.proofs.PassingLemmas.{bind_ok, ok_is, or_ok, unless_ok, taken}
 use Rattle.amo_plan.proofs.WithinLemmas.{schedule_in_range}
 
 -- a number that was taken within its bounds
@@ -37,15 +38,15 @@ within_bounds low high (Some m) n e =
     let same : m ≡ n = cc in
     rw (← same) fits
 
-block_known : (o : Option Data) (b : ℕ) → block_in o ≡ Some b → is_between 1 4096 b ≡ true
+block_known : (o : Option Data) (b : ℕ) → block_in o ≡ Some b → is_between 1 MOST_IN_BLOCK b ≡ true
 block_known None b e = let same : 1 ≡ b = cc in rw (← same) refl
 block_known (Some d) b e = within_bounds 1 4096 (natural d) b e
 
 -- a version with its block
-form_fits : (v b : ℕ) (o : Option ℕ) → is_between 1 newest_version v ≡ true → cond (v == 2) o (Some 1) ≡ Some b → (o ≡ Some b → is_between 1 4096 b ≡ true) → is_form v b ≡ true
+form_fits : (v b : ℕ) (o : Option ℕ) → is_between 1 NEWEST_VERSION v ≡ true → cond (v == 2) o (Some 1) ≡ Some b → (o ≡ Some b → is_between 1 MOST_IN_BLOCK b ≡ true) → is_form v b ≡ true
 form_fits v b o known e fits =
     elim (cases_Bool (v == 2)) [
-      | inl two ↦ let of_block : o ≡ Some b = rw two at e in let last : is_between 1 4096 b ≡ true = fits of_block in grind (arith, nat_tests)
+      | inl two ↦ let of_block : o ≡ Some b = rw two at e in let last : is_between 1 MOST_IN_BLOCK b ≡ true = fits of_block in grind (arith, nat_tests)
       | inr other ↦ let one : Some 1 ≡ Some b = rw other at e in let same : 1 ≡ b = cc in grind (arith, nat_tests)
     ]
 
@@ -54,7 +55,7 @@ unfolding form_of
 form_known doc form e =
     let (v, of_v, more) = bind_ok (or_fault (version_of doc) (WrongKind 0)) _ form e in
     let (b, of_b, last) = bind_ok (or_fault (block_of v doc) (WrongKind 0)) _ form more in
-    let known : is_between 1 newest_version v ≡ true = within_bounds 1 newest_version (natural_at (codes "version") doc) v (or_ok (version_of doc) (WrongKind 0) v of_v) in
+    let known : is_between 1 NEWEST_VERSION v ≡ true = within_bounds 1 NEWEST_VERSION (natural_at (codes "version") doc) v (or_ok (version_of doc) (WrongKind 0) v of_v) in
     let fits : is_form v b ≡ true = form_fits v b (block_in (get_member (codes "block") doc)) known (or_ok (block_of v doc) (WrongKind 0) b of_b) (block_known (get_member (codes "block") doc) b) in
     let same : record { version = v; block = b } ≡ form = ok_is _ form last in
     ap (λ (f : Form). is_form f.version f.block) (sym same) ∙ fits
@@ -105,37 +106,37 @@ top_keeps doc top e =
 
 -- budgets within their limit are as many as the workers
 small_many : (m : ℕ) (o : Option (List ℕ)) (out : List ℕ) → IfSome o (λ ys. length ys ≡ m) → small_budgets m o ≡ Ok out → length out ≡ m
-small_many m None out many e = let same : replicate m 1000000 ≡ out = ok_is _ out e in rw (← same) (length-replicate m 1000000)
+small_many m None out many e = let same : replicate m USUAL_BUDGET ≡ out = ok_is _ out e in rw (← same) (length-replicate m USUAL_BUDGET)
 small_many m (Some xs) out many e =
     let small = unless_ok (list_all is_small xs) TooLong (Ok xs) out e in
     let same : xs ≡ out = ok_is xs out small.1 in
     rw (← same) many
 
 -- budgets within their limit are small
-all_small : (m : ℕ) → list_all is_small (replicate m 1000000) ≡ true
+all_small : (m : ℕ) → list_all is_small (replicate m USUAL_BUDGET) ≡ true
 all_small zero = refl
 all_small (suc m) = all_small m
 
 small_small : (m : ℕ) (o : Option (List ℕ)) (out : List ℕ) → small_budgets m o ≡ Ok out → list_all is_small out ≡ true
-small_small m None out e = let same : replicate m 1000000 ≡ out = ok_is _ out e in rw (← same) (all_small m)
+small_small m None out e = let same : replicate m USUAL_BUDGET ≡ out = ok_is _ out e in rw (← same) (all_small m)
 small_small m (Some xs) out e =
     let small = unless_ok (list_all is_small xs) TooLong (Ok xs) out e in
     let same : xs ≡ out = ok_is xs out small.1 in
     rw (← same) small.0
 
 -- and the rounds before them are not too many
-budgets_few : (m rounds : ℕ) (o : Option (List ℕ)) (out : List ℕ) → budgets_within m rounds o ≡ Ok out → (leb rounds 10000 ≡ true) × (small_budgets m o ≡ Ok out)
+budgets_few : (m rounds : ℕ) (o : Option (List ℕ)) (out : List ℕ) → budgets_within m rounds o ≡ Ok out → (leb rounds MOST_ROUNDS ≡ true) × (small_budgets m o ≡ Ok out)
 unfolding budgets_within
-budgets_few m rounds o out e = unless_ok (leb rounds 10000) TooLong (small_budgets m o) out e
+budgets_few m rounds o out e = unless_ok (leb rounds MOST_ROUNDS) TooLong (small_budgets m o) out e
 
 -- the moves that are read are not too many
-schedule_short : (version m : ℕ) (text : List ℕ) (moves : List Move) → read_schedule version m text ≡ Ok moves → length moves ≤ 100000
+schedule_short : (version m : ℕ) (text : List ℕ) (moves : List Move) → read_schedule version m text ≡ Ok moves → length moves ≤ MOST_MOVES
 unfolding read_schedule short_moves_of
 schedule_short version m text moves e =
     let (words, of_words, e1) = bind_ok (read_words version m (words_of text)) _ moves e in
-    let few = unless_ok (leb (length (moves_of words)) 100000) TooLong (Ok (moves_of words)) moves e1 in
+    let few = unless_ok (leb (length (moves_of words)) MOST_MOVES) TooLong (Ok (moves_of words)) moves e1 in
     let same : moves_of words ≡ moves = ok_is _ _ few.1 in
-    rw (← same) (leb-true (length (moves_of words)) 100000 few.0)
+    rw (← same) (leb-true (length (moves_of words)) MOST_MOVES few.0)
 
 -- the givens have the numbers that they are of
 numbers_kept : (n m beta : ℕ) (fault : Option GivensFault) (is : first_fault n m beta ≡ fault) (g : Givens) → or_bad_givens (numbers_or_fault n m beta fault is) ≡ Ok g → (n ≡ g.jobs) × (m ≡ g.workers)
@@ -161,7 +162,7 @@ with_keeps top g jobs p keeps count workers e =
       fitting = jobs_fit [] 1 jobs fine of_fine;
       within = schedule_in_range top.form.version g top.more.schedule moves (subst (λ (m : ℕ). read_schedule top.form.version m top.more.schedule ≡ Ok moves) workers of_moves);
       short = schedule_short top.form.version top.workers top.more.schedule moves of_moves;
-      rounded = leb-true top.more.rounds 10000 few.0;
+      rounded = leb-true top.more.rounds MOST_ROUNDS few.0;
       budgeted = small_many top.workers top.more.budgets budgets keeps.budgets few.1 ∙ workers;
       small = small_small top.workers top.more.budgets budgets few.1;
     })
@@ -179,6 +180,6 @@ in_keeps doc p e =
 pub plan_keeps : (bytes : List ℕ) (p : PlanSeen) → plan_of bytes ≡ Ok p → Keeps p
 unfolding plan_of
 plan_keeps bytes p e =
-    let short = unless_ok (leb (length bytes) 1048576) TooLong (document bytes >>= λ doc. plan_in doc) p e in
+    let short = unless_ok (leb (length bytes) MOST_BYTES) TooLong (document bytes >>= λ doc. plan_in doc) p e in
     let (doc, of_doc, e1) = bind_ok (document bytes) plan_in p short.1 in
     in_keeps doc p e1

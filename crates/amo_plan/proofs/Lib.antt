@@ -1,4 +1,4 @@
-pub mod StepsLemmas
+pub mod PassingLemmas
 pub mod DigitsLemmas
 pub mod TreeLemmas
 pub mod MovesLemmas

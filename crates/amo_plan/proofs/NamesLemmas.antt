@@ -11,7 +11,7 @@ use Rattle.std.proofs.lemmas.Map.Text.{btree_map_updates_str}
 use Rattle.std.proofs.lemmas.Slice.Eq.{bytes_eq-Decides}
 use Rattle.amo_plan.specs.declared.fault.PlanFault.{PlanFault}
 use Rattle.amo_plan.specs.declared.job.Job.{Job}
-use Rattle.amo_plan.specs.Steps.{capped}
+use Rattle.amo_plan.specs.Passing.{capped}
 use Rattle.amo_plan.specs.Tree.{Key, is_known}
 use Rattle.amo_plan.specs.Jobs.{fine_job, fine_jobs}
 

@@ -10,17 +10,18 @@ use Rattle.amo_kk.specs.declared.event.Move.{Move}
 use Rattle.amo_kk.specs.declared.event.Move.TheVariants.{Turn}
 use Rattle.amo_plan.specs.declared.fault.PlanFault.{PlanFault}
 use Rattle.amo_plan.specs.declared.fault.PlanFault.TheVariants.{TooLong, BadScheduleWord, NoSuchWorker}
+use Rattle.amo_plan.specs.declared.limits.TheConstants.{HIGHEST_IN_WORD, MOST_MOVES}
 use Rattle.amo_plan.specs.declared.schedule_word.ScheduleWord.{ScheduleWord}
 use Rattle.amo_plan.specs.declared.schedule_word.ScheduleWord.TheVariants.{Turns, Stop, Departure}
 use Rattle.amo_plan.specs.Digits.{number_in}
 use Rattle.amo_plan.specs.Schedule.{is_x, is_l, is_asterisk, number_of, turns_of, turns_at, turns_word, word_of, worker_of, word_at, words_of, read_words, moves_of_word, moves_of, short_moves_of, read_schedule}
-use Rattle.amo_plan.specs.Steps.{◌>>=◌, or_fault, unless, each, capped}
+use Rattle.amo_plan.specs.Passing.{◌>>=◌, or_fault, unless, each, capped}
 use Rattle.amo_plan.proofs.DigitsLemmas.{within_some}
-use Rattle.amo_plan.proofs.StepsLemmas.{bind_ok, ok_is, or_ok, unless_ok}
+use Rattle.amo_plan.proofs.PassingLemmas.{bind_ok, ok_is, or_ok, unless_ok}
 
 number_some : (text : List ℕ) (k : ℕ) → number_of text ≡ Some k → 1 ≤ k
 unfolding number_of
-number_some text k e = (within_some 1 999999 k (number_in text) e).1
+number_some text k e = (within_some 1 HIGHEST_IN_WORD k (number_in text) e).1
 
 -- a word that names the worker of a number
 one_some : (named : ℕ → ScheduleWord) → ((k : ℕ) → worker_of (named k) ≡ k) → (o : Option ℕ) (x : ScheduleWord) → ((k : ℕ) → o ≡ Some k → 1 ≤ k) → option_map named o ≡ Some x → 1 ≤ worker_of x
@@ -99,7 +100,7 @@ pub schedule_in_range : (version : ℕ) (g : Givens) (text : List ℕ) (moves : 
 unfolding read_schedule short_moves_of
 schedule_in_range version g text moves e =
     let m = g.workers in
-    let a = bind_ok (read_words version m (words_of text)) (λ words. unless (leb (length (moves_of words)) 100000) TooLong (Ok (moves_of words))) moves e in
-    let b = unless_ok (leb (length (moves_of a.0)) 100000) TooLong (Ok (moves_of a.0)) moves a.2 in
+    let a = bind_ok (read_words version m (words_of text)) (λ words. unless (leb (length (moves_of words)) MOST_MOVES) TooLong (Ok (moves_of words))) moves e in
+    let b = unless_ok (leb (length (moves_of a.0)) MOST_MOVES) TooLong (Ok (moves_of a.0)) moves a.2 in
     let same : moves_of a.0 ≡ moves = ok_is _ _ b.1 in
     rw (← same) (of_words_in_range g a.0 (each_within (word_within m) (word_at version m) (at_within version m) 1 (words_of text) a.0 a.1))

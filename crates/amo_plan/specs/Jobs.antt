@@ -7,7 +7,7 @@ use Rattle.amo_plan.specs.declared.fault.PlanFault.TheVariants.{UnknownKey, Miss
 use Rattle.amo_plan.specs.declared.job.Job.{Job}
 use Rattle.amo_plan.specs.declared.task.Task.{Task}
 use Rattle.amo_plan.specs.declared.task.Task.TheVariants.{Say, Add}
-use Rattle.amo_plan.specs.Steps.{◌>>=◌, or_fault, unless, capped, each, is_between}
+use Rattle.amo_plan.specs.Passing.{◌>>=◌, or_fault, unless, capped, each, is_between}
 use Rattle.amo_plan.specs.Tree.{Key, has, text_at, is_known, each_key, naturals_in}
 use Rattle.amo_plan.specs.Results.{fits}
 

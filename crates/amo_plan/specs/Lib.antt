@@ -1,5 +1,5 @@
 pub mod Digits
-pub mod Steps
+pub mod Passing
 pub mod Tree
 pub mod Top
 pub mod Jobs

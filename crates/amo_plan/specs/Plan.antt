@@ -11,8 +11,9 @@ use Rattle.amo_kk.specs.Givens.{givens_of}
 use Rattle.amo_plan.specs.declared.fault.PlanFault.{PlanFault}
 use Rattle.amo_plan.specs.declared.fault.PlanFault.TheVariants.{NotToml, TooLong, BadGivens}
 use Rattle.amo_plan.specs.declared.job.Job.{Job}
+use Rattle.amo_plan.specs.declared.limits.TheConstants.{MOST_BYTES}
 use Rattle.amo_plan.specs.declared.task.Task.{Task}
-use Rattle.amo_plan.specs.Steps.{◌>>=◌, or_fault, unless}
+use Rattle.amo_plan.specs.Passing.{◌>>=◌, or_fault, unless}
 use Rattle.amo_plan.specs.Top.{TopSeen, top_of}
 use Rattle.amo_plan.specs.Jobs.{read_jobs, fine_jobs}
 use Rattle.amo_plan.specs.Schedule.{read_schedule}
@@ -70,4 +71,4 @@ plan_in doc = do
 
 -- the plan of a text
 unfoldable pub plan_of : List ℕ → Result PlanSeen PlanFault
-plan_of bytes = unless (nat_le (length bytes) 1048576) TooLong (document bytes >>= λ doc. plan_in doc)
+plan_of bytes = unless (nat_le (length bytes) MOST_BYTES) TooLong (document bytes >>= λ doc. plan_in doc)

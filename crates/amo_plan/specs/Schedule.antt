@@ -5,10 +5,11 @@ use Rattle.amo_kk.specs.declared.event.Move.{Move}
 use Rattle.amo_kk.specs.declared.event.Move.TheVariants.{Turn, Halt, Leave}
 use Rattle.amo_plan.specs.declared.fault.PlanFault.{PlanFault}
 use Rattle.amo_plan.specs.declared.fault.PlanFault.TheVariants.{BadScheduleWord, NoSuchWorker, TooLong}
+use Rattle.amo_plan.specs.declared.limits.TheConstants.{HIGHEST_IN_WORD, MOST_MOVES}
 use Rattle.amo_plan.specs.declared.schedule_word.ScheduleWord.{ScheduleWord}
 use Rattle.amo_plan.specs.declared.schedule_word.ScheduleWord.TheVariants.{Turns, Stop, Departure}
 use Rattle.amo_plan.specs.Digits.{number_in, within}
-use Rattle.amo_plan.specs.Steps.{◌>>=◌, or_fault, unless, each}
+use Rattle.amo_plan.specs.Passing.{◌>>=◌, or_fault, unless, each}
 
 -- space, tab, LF, CR
 abbrev pub is_space : ℕ → Bool
@@ -22,9 +23,9 @@ is_word w = not (length w == 0)
 abbrev pub words_of : List ℕ → List (List ℕ)
 words_of text = filter is_word (slice_split is_space text)
 
--- a number of 1 to 999999
+-- a number of 1 to the highest that a word may have
 unfoldable pub number_of : List ℕ → Option ℕ
-number_of text = within 1 999999 (number_in text)
+number_of text = within 1 HIGHEST_IN_WORD (number_in text)
 
 -- so many turns, if both numbers are there
 abbrev pub turns_of : Option ℕ → Option ℕ → Option ScheduleWord
@@ -83,9 +84,9 @@ moves_of_word (Departure k) = Leave k ∷ []
 abbrev pub moves_of : List ScheduleWord → List Move
 moves_of ws = flat_map moves_of_word ws
 
--- the moves of the words, of which a plan has at most 100000
+-- the moves of the words, of which a plan has not too many
 unfoldable pub short_moves_of : List ScheduleWord → Result (List Move) PlanFault
-short_moves_of ws = unless (nat_le (length (moves_of ws)) 100000) TooLong (Ok (moves_of ws))
+short_moves_of ws = unless (nat_le (length (moves_of ws)) MOST_MOVES) TooLong (Ok (moves_of ws))
 
 -- the moves of a text, of workers up to m
 unfoldable pub read_schedule : ℕ → ℕ → List ℕ → Result (List Move) PlanFault

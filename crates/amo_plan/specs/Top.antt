@@ -4,8 +4,9 @@ use Rattle.std.specs.Str.{bytes_eq}
 use Rattle.toml.specs.Data.{Data, Members, as_str, as_array, get_member}
 use Rattle.amo_plan.specs.declared.fault.PlanFault.{PlanFault}
 use Rattle.amo_plan.specs.declared.fault.PlanFault.TheVariants.{UnknownKey, MissingKey, WrongKind}
+use Rattle.amo_plan.specs.declared.limits.TheConstants.{NEWEST_VERSION, MOST_IN_BLOCK}
 use Rattle.amo_plan.specs.declared.top.Form.{Form}
-use Rattle.amo_plan.specs.Steps.{◌>>=◌, or_fault, unless, is_between}
+use Rattle.amo_plan.specs.Passing.{◌>>=◌, or_fault, unless, is_between}
 use Rattle.amo_plan.specs.Tree.{Key, has, natural, natural_at, is_known, each_key, tables_of, naturals_in}
 
 -- the values that may be absent, but for the jobs
@@ -23,13 +24,9 @@ pub record TopSeen : Type 0 where
   pub jobs : List Members
   pub more : MoreSeen
 
--- the newest version of the format
-abbrev pub newest_version : ℕ
-newest_version = 2
-
 -- a version that there is
 abbrev pub known_version : ℕ → Option ℕ
-known_version v = if is_between 1 newest_version v then Some v else None
+known_version v = if is_between 1 NEWEST_VERSION v then Some v else None
 
 -- the version of a document, if it is one that there is
 abbrev pub version_of : Members → Option ℕ
@@ -50,9 +47,9 @@ is_top_key with_block k = is_known top_keys k || (with_block && bytes_eq k (code
 
 -- how many jobs a block may have
 abbrev pub known_block : ℕ → Option ℕ
-known_block g = if is_between 1 4096 g then Some g else None
+known_block g = if is_between 1 MOST_IN_BLOCK g then Some g else None
 
--- an integer of 1..=4096, or 1 where there is none
+-- an integer of 1..=MOST_IN_BLOCK, or 1 where there is none
 abbrev pub block_in : Option Data → Option ℕ
 block_in None = Some 1
 block_in (Some d) = option_and_then known_block (natural d)

@@ -3,8 +3,8 @@ ghost use Rattle.std.specs.Prelude.{◌≡◌, ◌≤◌, IsTrue, sum};
 ghost use Rattle.amo_plan.specs.Results.{fits, answer_of, capped_answer};
 ghost use Rattle.amo_plan.specs.declared.answer.Answer.TheVariants.{Number};
 
-use super::task::Task;
-use super::text::Text;
+use crate::task::Task;
+use crate::text::Text;
 
 /// What a task gives.
 #[derive(Debug, Drop)]
@@ -36,7 +36,7 @@ pub fn answer_of(task: Task) -> Answer
 }
 
 /// What the task gives where it fits, else the largest number. It takes no memory.
-pub fn capped_answer(task: Task) -> Answer
+pub(crate) fn capped_answer(task: Task) -> Answer
     ensures { result ≡ capped_answer task }
 {
     if task.fits() {

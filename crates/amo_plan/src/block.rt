@@ -4,9 +4,10 @@ ghost use Rattle.std.specs.Int.{div_ceil};
 ghost use Rattle.std.specs.Vec.Iter.{into_iter_items};
 ghost use Rattle.amo_plan.specs.Results.{capped_answer};
 ghost use Rattle.amo_plan.specs.Blocks.{blocks_of};
+ghost use Rattle.amo_plan.specs.declared.limits.TheConstants.{MOST_IN_BLOCK};
 
-use super::answer::{Answer, capped_answer};
-use super::task::Task;
+use crate::answer::{Answer, capped_answer};
+use crate::task::Task;
 use std::alloc::{AllocError, Global};
 use std::marker::Model;
 use std::vec::IntoIter;
@@ -69,7 +70,7 @@ fn take_tasks(
 /// the tasks are gone.
 pub fn blocks_of(alloc: Global, tasks: Vec<Task>, block: u32) -> Result<Vec<Block>, AllocError>
     requires some { 1 ≤ block }
-    requires few { block ≤ 4096 }
+    requires few { block ≤ MOST_IN_BLOCK }
     ensures { IfOk result (λ v. v.items ≡ blocks_of block tasks.items) }
 {
     let count = tasks.len().div_ceil(block as usize);

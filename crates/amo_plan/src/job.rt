@@ -3,26 +3,26 @@ ghost use Rattle.std.specs.Prelude.{◌≡◌, map, codes};
 ghost use Rattle.toml.specs.Data.{get_member};
 ghost use Rattle.toml.specs.View.{view, table_view};
 ghost use Rattle.amo_plan.specs.declared.task.Task.TheVariants.{Say, Add};
-ghost use Rattle.amo_plan.specs.Steps.{Gives, or_fault};
+ghost use Rattle.amo_plan.specs.Passing.{Gives, or_fault};
 ghost use Rattle.amo_plan.specs.Tree.{is_known, each_key, naturals_in};
 ghost use Rattle.amo_plan.specs.Jobs.{job_keys, task_of, job_at, read_jobs};
 
-use super::fault::PlanFault;
-use super::items::Items;
-use super::place::place_of;
-use super::task::Task;
-use super::text::Text;
-use super::tree::{has_key, naturals, text_at, value_at};
+use crate::fault::PlanFault;
+use crate::items::Items;
+use crate::ordinal::ordinal_of;
+use crate::task::Task;
+use crate::text::Text;
+use crate::tree::{has_key, naturals, text_at, value_at};
 use std::alloc::Global;
 use toml::{Table, Value};
 
 /// A job, of which only the kinds of its values are tested yet.
 #[derive(Debug, Drop)]
-pub struct Job {
+pub(crate) struct Job {
     /// What it is called.
-    pub name: Text,
+    pub(crate) name: Text,
     /// What it does.
-    pub task: Task,
+    pub(crate) task: Task,
 }
 
 /// The key is one of a job.
@@ -98,13 +98,13 @@ fn read_job(alloc: Global, place: u32, table: &Table) -> Result<Job, PlanFault>
 }
 
 /// The jobs, one after the other.
-#[tactic(auto, using(crate::proofs::StepsLemmas::each_more, crate::proofs::StepsLemmas::each_stop, crate::proofs::StepsLemmas::each_all, crate::proofs::StepsLemmas::each_none))]
-pub fn read_jobs(alloc: Global, tables: &[&Table]) -> Result<Vec<Job>, PlanFault>
+#[tactic(auto, using(crate::proofs::PassingLemmas::each_more, crate::proofs::PassingLemmas::each_stop, crate::proofs::PassingLemmas::each_all, crate::proofs::PassingLemmas::each_none))]
+pub(crate) fn read_jobs(alloc: Global, tables: &[&Table]) -> Result<Vec<Job>, PlanFault>
     ensures { Gives (λ v. v.items) result (read_jobs (map (λ t. table_view t.now) tables.now)) }
 {
     let mut jobs = Vec::with_capacity(alloc, tables.len())?;
     for (i, table) in tables.iter().enumerate() {
-        let job = read_job(alloc, place_of(i), table)?;
+        let job = read_job(alloc, ordinal_of(i), table)?;
         jobs.push(job)?;
     }
     Ok(jobs)

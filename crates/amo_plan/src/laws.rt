@@ -4,6 +4,7 @@ ghost use Rattle.std.specs.Prelude.{◌≡◌, ◌<◌, ◌≤◌, ◌↔◌, �
 ghost use Rattle.std.specs.Fmt.{decimal};
 ghost use Rattle.amo_plan.specs.Digits.{number_in, within};
 ghost use Rattle.amo_plan.specs.Keeps.{Keeps};
+ghost use Rattle.amo_plan.specs.declared.limits.TheConstants.{HIGHEST_IN_WORD};
 ghost use Rattle.amo_plan.specs.Plan.{PlanSeen, plan_of};
 ghost use Rattle.amo_plan.specs.Schedule.{number_of};
 
@@ -15,9 +16,9 @@ pub fn digits_are_decimal()
         → within low high (number_in text) ≡ Some k ↔ (text ≡ decimal k) × (low ≤ k) × (k ≤ high) }
 {}
 
-/// A number in a word of a schedule is read as k just where it is k in decimal digits, and k is 1 to 999999.
+/// A number in a word of a schedule is read as k just where it is k in decimal digits, and k is 1 to `HIGHEST_IN_WORD`.
 pub fn schedule_numbers_are_decimal()
-    ensures { (text : List ℕ) (k : ℕ) → number_of text ≡ Some k ↔ (text ≡ decimal k) × (1 ≤ k) × (k ≤ 999999) }
+    ensures { (text : List ℕ) (k : ℕ) → number_of text ≡ Some k ↔ (text ≡ decimal k) × (1 ≤ k) × (k ≤ HIGHEST_IN_WORD) }
 {}
 
 /// What each plan of a text keeps: proper names that all differ, tasks that fit, as many budgets as workers, moves of

@@ -14,7 +14,7 @@ mod job;
 pub mod laws;
 mod limits;
 mod naming;
-mod place;
+mod ordinal;
 mod plan;
 mod reading;
 mod result;
@@ -30,6 +30,10 @@ pub use block::{Block, answer_block, blocks_of};
 pub use digits::number_within;
 pub use fault::PlanFault;
 pub use items::Items;
+pub use limits::{
+    HIGHEST_IN_WORD, HIGHEST_NUMBER, MOST_BYTES, MOST_MOVES, MOST_ROUNDS, NEWEST_VERSION,
+    USUAL_BUDGET,
+};
 pub use plan::{Heads, Plan};
 pub use reading::read_plan;
 pub use result::result_of;

@@ -1,22 +1,48 @@
-//! The limits of rounds and budgets.
+//! The limits of a plan, and those of rounds and budgets tested.
 ghost use Rattle.std.specs.Prelude.{◌≡◌, ◌≤◌, IfOk, IfSome, length, option_map};
 ghost use Rattle.std.specs.List.{list_all};
-ghost use Rattle.amo_plan.specs.Steps.{Gives};
+ghost use Rattle.amo_plan.specs.Passing.{Gives};
 ghost use Rattle.amo_plan.specs.Limits.{is_small, budgets_within};
+ghost use Rattle.amo_plan.specs.declared.limits.TheConstants.{MOST_ROUNDS};
 
-use super::fault::PlanFault;
+use crate::fault::PlanFault;
+use amo_kk::MAX_STEPS;
 use std::alloc::Global;
 
-/// No budget is above 10,000,000.
+/// The newest version of the format.
+pub const NEWEST_VERSION: u64 = 2;
+
+/// The most bytes of a plan.
+pub const MOST_BYTES: usize = 1_048_576;
+
+/// The most moves of a schedule.
+pub const MOST_MOVES: u64 = 100_000;
+
+/// The most rounds.
+pub const MOST_ROUNDS: u64 = 10_000;
+
+/// The most jobs of a block.
+pub const MOST_IN_BLOCK: u64 = 4096;
+
+/// How many steps each worker has where no budgets are named.
+pub const USUAL_BUDGET: u64 = 1_000_000;
+
+/// The highest number of a schedule's word.
+pub const HIGHEST_IN_WORD: u64 = 999_999;
+
+/// The highest number that is read from digits.
+pub const HIGHEST_NUMBER: u64 = 1_000_000_000_000;
+
+/// No budget is above `MAX_STEPS`.
 fn are_small(budgets: &[u64]) -> bool
     ensures { result ≡ list_all is_small budgets.now }
 {
-    budgets.iter().all(|budget| *budget <= 10_000_000)
+    budgets.iter().all(|budget| *budget <= MAX_STEPS)
 }
 
-/// The budgets of the workers, a million steps each where none are named, if rounds and budgets keep their limits.
+/// The budgets of the workers, `USUAL_BUDGET` steps each where none are named, if rounds and budgets keep their limits.
 #[tactic(auto, unfolding(crate::specs::Limits::budgets_within))]
-pub fn budgets_within(
+pub(crate) fn budgets_within(
     alloc: Global,
     workers: u32,
     rounds: u64,
@@ -24,14 +50,14 @@ pub fn budgets_within(
 ) -> Result<Vec<u64>, PlanFault>
     requires { IfSome budgets.now (λ v. length v.items ≡ workers) }
     ensures budgets { Gives (λ v. v.items) result (budgets_within workers rounds (option_map (λ v. v.items) budgets.now)) }
-    ensures rounds { IfOk result (λ _. rounds ≤ 10000) }
+    ensures rounds { IfOk result (λ _. rounds ≤ MOST_ROUNDS) }
     ensures count { IfOk result (λ v. length v.items ≡ workers) }
 {
-    if rounds > 10_000 {
+    if rounds > MOST_ROUNDS {
         return Err(PlanFault::TooLong);
     }
     match budgets {
-        None => Ok(vec![in alloc; 1_000_000; workers as usize]?),
+        None => Ok(vec![in alloc; USUAL_BUDGET; workers as usize]?),
         Some(budgets) => {
             if !are_small(budgets) {
                 return Err(PlanFault::TooLong);

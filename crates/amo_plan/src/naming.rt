@@ -1,14 +1,14 @@
 //! Tests the names and the sums of the jobs.
 ghost use Rattle.std.specs.Prelude.{◌≡◌, [], map, IfOk, length};
 ghost use Rattle.std.specs.List.{list_all};
-ghost use Rattle.amo_plan.specs.Steps.{Gives};
+ghost use Rattle.amo_plan.specs.Passing.{Gives};
 ghost use Rattle.amo_plan.specs.Jobs.{is_name_byte, is_name, fine_job, fine_jobs};
 
-use super::fault::PlanFault;
-use super::job::Job;
-use super::place::place_of;
-use super::task::Task;
-use super::text::Text;
+use crate::fault::PlanFault;
+use crate::job::Job;
+use crate::ordinal::ordinal_of;
+use crate::task::Task;
+use crate::text::Text;
 use std::alloc::{AllocError, Global};
 use std::collections::BTreeMap;
 
@@ -57,20 +57,20 @@ fn check_job(is_taken: bool, place: u32, job: &Job) -> Result<(), PlanFault>
 }
 
 /// Each job has a proper name that no earlier job has, and a task that fits.
-pub fn check_jobs(alloc: Global, jobs: &[Job]) -> Result<(), PlanFault>
+pub(crate) fn check_jobs(alloc: Global, jobs: &[Job]) -> Result<(), PlanFault>
     ensures { Gives (λ x. x) result (fine_jobs [] 1 jobs.now) }
 {
     let mut names = BTreeMap::new(alloc);
     for (i, job) in jobs.iter().enumerate() {
         let name = job.name.as_str();
         let other = names.insert(name, ())?;
-        check_job(other.is_some(), place_of(i), job)?;
+        check_job(other.is_some(), ordinal_of(i), job)?;
     }
     Ok(())
 }
 
 /// The names and the tasks of the jobs, apart.
-pub fn part_jobs(alloc: Global, jobs: Vec<Job>) -> Result<(Vec<Text>, Vec<Task>), AllocError>
+pub(crate) fn part_jobs(alloc: Global, jobs: Vec<Job>) -> Result<(Vec<Text>, Vec<Task>), AllocError>
     ensures names { IfOk result (λ p. p.0.items ≡ map (λ job. job.name) jobs.items) }
     ensures tasks { IfOk result (λ p. p.1.items ≡ map (λ job. job.task) jobs.items) }
 {

@@ -4,9 +4,9 @@ ghost use Rattle.std.specs.Int.{div_ceil};
 ghost use Rattle.amo_kk.specs.World.{are_in_range};
 ghost use Rattle.amo_plan.specs.Keeps.{is_form, all_fit};
 
-use super::items::Items;
-use super::task::Task;
-use super::text::Text;
+use crate::items::Items;
+use crate::task::Task;
+use crate::text::Text;
 use amo_kk::{Givens, Move};
 
 /// A plan without its tasks.

@@ -3,21 +3,22 @@ ghost use Rattle.std.specs.Prelude.{◌≡◌, ◌<◌, true, map, length, Err, 
 ghost use Rattle.std.specs.Int.{div_ceil};
 ghost use Rattle.toml.specs.View.{table_view};
 ghost use Rattle.amo_plan.specs.declared.fault.PlanFault.TheVariants.{TooLong};
-ghost use Rattle.amo_plan.specs.Steps.{Gives};
+ghost use Rattle.amo_plan.specs.declared.limits.TheConstants.{MOST_BYTES};
+ghost use Rattle.amo_plan.specs.Passing.{Gives};
 ghost use Rattle.amo_plan.specs.Keeps.{is_form};
 ghost use Rattle.amo_plan.specs.Plan.{document, or_bad_givens, plan_with, plan_in, plan_of};
 ghost use Rattle.amo_plan.specs.Seen.{top_seen};
 ghost use Rattle.amo_plan.specs.PlanSeen.{plan_seen};
 ghost use Rattle.amo_kk.specs.Givens.{givens_of};
 
-use super::fault::PlanFault;
-use super::items::Items;
-use super::job::{Job, read_jobs};
-use super::limits::budgets_within;
-use super::naming::{check_jobs, part_jobs};
-use super::plan::{Heads, Plan};
-use super::schedule::read_schedule;
-use super::top::{Top, read_top};
+use crate::fault::PlanFault;
+use crate::items::Items;
+use crate::job::{Job, read_jobs};
+use crate::limits::{MOST_BYTES, budgets_within};
+use crate::naming::{check_jobs, part_jobs};
+use crate::plan::{Heads, Plan};
+use crate::schedule::read_schedule;
+use crate::top::{Top, read_top};
 use amo_kk::Givens;
 use std::alloc::Global;
 use toml::Table;
@@ -97,9 +98,9 @@ fn plan_in(alloc: Global, table: &Table) -> Result<Plan, PlanFault>
 #[tactic(auto, unfolding(crate::specs::Plan::plan_of))]
 pub fn read_plan(alloc: Global, bytes: &[u8]) -> Result<Plan, PlanFault>
     ensures plan { Gives plan_seen result (plan_of bytes.now) }
-    ensures long { 1048576 < length bytes.now → result ≡ Err TooLong }
+    ensures long { MOST_BYTES < length bytes.now → result ≡ Err TooLong }
 {
-    if bytes.len() > 1_048_576 {
+    if bytes.len() > MOST_BYTES {
         return Err(PlanFault::TooLong);
     }
     let table = document(alloc, bytes)?;

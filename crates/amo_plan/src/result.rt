@@ -3,7 +3,7 @@ ghost use Rattle.std.specs.Prelude.{◌≡◌, ◌≤◌, IfOk, IsTrue, sum, str
 ghost use Rattle.std.specs.Fmt.{decimal};
 ghost use Rattle.amo_plan.specs.Results.{fits, result_text};
 
-use super::task::Task;
+use crate::task::Task;
 use std::alloc::{AllocError, Global};
 
 /// The sum in decimal digits, or out of memory.

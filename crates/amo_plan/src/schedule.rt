@@ -1,12 +1,13 @@
 //! Reads a schedule.
 ghost use Rattle.std.specs.Prelude.{◌≡◌, ◌++◌, map, replicate, IfOk, OnOk};
 ghost use Rattle.amo_kk.specs.declared.event.Move.TheVariants.{Turn};
-ghost use Rattle.amo_plan.specs.Steps.{Gives};
+ghost use Rattle.amo_plan.specs.Passing.{Gives};
 ghost use Rattle.amo_plan.specs.Schedule.{is_space, words_of, read_words, moves_of_word, short_moves_of, read_schedule};
 
-use super::fault::PlanFault;
-use super::place::place_of;
-use super::schedule_word::{ScheduleWord, word_at};
+use crate::fault::PlanFault;
+use crate::limits::MOST_MOVES;
+use crate::ordinal::ordinal_of;
+use crate::schedule_word::{ScheduleWord, word_at};
 use amo_kk::Move;
 use std::alloc::{AllocError, Global};
 
@@ -27,7 +28,7 @@ fn words(alloc: Global, text: &[u8]) -> Result<Vec<&[u8]>, AllocError>
 }
 
 /// What the words say, of the workers up to so many.
-#[tactic(auto, using(crate::proofs::StepsLemmas::each_more, crate::proofs::StepsLemmas::each_stop, crate::proofs::StepsLemmas::each_all, crate::proofs::StepsLemmas::each_none))]
+#[tactic(auto, using(crate::proofs::PassingLemmas::each_more, crate::proofs::PassingLemmas::each_stop, crate::proofs::PassingLemmas::each_all, crate::proofs::PassingLemmas::each_none))]
 fn read_words(
     alloc: Global,
     version: u32,
@@ -38,7 +39,7 @@ fn read_words(
 {
     let mut read = Vec::with_capacity(alloc, words.len())?;
     for (i, text) in words.iter().enumerate() {
-        let word = word_at(version, workers, place_of(i), text)?;
+        let word = word_at(version, workers, ordinal_of(i), text)?;
         read.push(word)?;
     }
     Ok(read)
@@ -71,7 +72,7 @@ fn moves(alloc: Global, words: &[ScheduleWord]) -> Result<Vec<Move>, PlanFault>
 {
     let mut moves = Vec::new(alloc);
     for word in words {
-        if moves.len() as u64 + word.count() as u64 > 100_000 {
+        if moves.len() as u64 + word.count() as u64 > MOST_MOVES {
             return Err(PlanFault::TooLong);
         }
         push_word(&mut moves, *word)?;
@@ -81,7 +82,7 @@ fn moves(alloc: Global, words: &[ScheduleWord]) -> Result<Vec<Move>, PlanFault>
 
 /// The moves of a text, of the workers up to so many.
 #[tactic(auto, unfolding(crate::specs::Schedule::read_schedule))]
-pub fn read_schedule(
+pub(crate) fn read_schedule(
     alloc: Global,
     version: u32,
     workers: u32,

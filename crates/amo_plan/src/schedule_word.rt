@@ -1,14 +1,15 @@
 //! Reads the words of a schedule, each by itself.
 ghost use Rattle.std.specs.Prelude.{◌≡◌, ◌<◌, length, IfSome, IsTrue, position, slice_index};
-ghost use Rattle.amo_plan.specs.Steps.{Gives};
+ghost use Rattle.amo_plan.specs.Passing.{Gives};
 ghost use Rattle.amo_plan.specs.Schedule.{is_asterisk, is_x, is_l, number_of, turns_word, word_of, worker_of, word_at, moves_of_word};
 
-use super::digits::number_within;
-use super::fault::PlanFault;
+use crate::digits::number_within;
+use crate::fault::PlanFault;
+use crate::limits::HIGHEST_IN_WORD;
 
 /// What a word says.
 #[derive(Clone, Copy, Debug, PartialEq, Eq)]
-pub enum ScheduleWord {
+pub(crate) enum ScheduleWord {
     /// Of a worker so many turns.
     Turns(u32, u32),
     /// A stop of a worker.
@@ -19,7 +20,7 @@ pub enum ScheduleWord {
 
 impl ScheduleWord {
     /// How many moves it is.
-    pub fn count(&self) -> u32
+    pub(crate) fn count(&self) -> u32
         ensures { result ≡ length (moves_of_word self.now) }
     {
         match self {
@@ -30,7 +31,7 @@ impl ScheduleWord {
     }
 
     /// The worker that it names.
-    pub fn worker(&self) -> u32
+    pub(crate) fn worker(&self) -> u32
         ensures { result ≡ worker_of self.now }
     {
         match self {
@@ -41,12 +42,12 @@ impl ScheduleWord {
     }
 }
 
-/// A number of 1 to 999999.
+/// A number of 1 to `HIGHEST_IN_WORD`.
 #[tactic(auto, unfolding(crate::specs::Schedule::number_of))]
 fn number(text: &[u8]) -> Option<u32>
     ensures { result ≡ number_of text.now }
 {
-    let number = number_within(1, 999_999, text)?;
+    let number = number_within(1, HIGHEST_IN_WORD, text)?;
     Some(number as u32)
 }
 
@@ -109,7 +110,7 @@ fn read_word(version: u32, text: &[u8]) -> Option<ScheduleWord>
 
 /// The word in this place, of the workers up to so many.
 #[tactic(auto, unfolding(crate::specs::Schedule::word_at))]
-pub fn word_at(
+pub(crate) fn word_at(
     version: u32,
     workers: u32,
     place: u32,

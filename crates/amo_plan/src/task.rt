@@ -3,8 +3,8 @@ ghost use Rattle.std.specs.Prelude.{◌≡◌, ◌≤◌, sum, is_some};
 ghost use Rattle.std.specs.Option.{SomeIff};
 ghost use Rattle.amo_plan.specs.Results.{fits};
 
-use super::items::Items;
-use super::text::Text;
+use crate::items::Items;
+use crate::text::Text;
 
 /// What a job does.
 #[derive(Debug, Drop)]

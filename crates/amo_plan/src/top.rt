@@ -4,58 +4,57 @@ ghost use Rattle.std.specs.List.{list_all};
 ghost use Rattle.toml.specs.Data.{get_member};
 ghost use Rattle.toml.specs.View.{view, table_view};
 ghost use Rattle.amo_plan.specs.Keeps.{is_form};
-ghost use Rattle.amo_plan.specs.Steps.{Gives, or_fault, is_between};
+ghost use Rattle.amo_plan.specs.Passing.{Gives, or_fault, is_between};
 ghost use Rattle.amo_plan.specs.Tree.{each_key};
-ghost use Rattle.amo_plan.specs.Top.{newest_version, version_of, is_two, is_top_key, known_block, block_in, block_of, jobs_of, text_of, rounds_of, budgets_of, form_of, more_values, top_values, top_of};
+ghost use Rattle.amo_plan.specs.Top.{version_of, is_two, is_top_key, known_block, block_in, block_of, jobs_of, text_of, rounds_of, budgets_of, form_of, more_values, top_values, top_of};
+ghost use Rattle.amo_plan.specs.declared.limits.TheConstants.{NEWEST_VERSION, MOST_IN_BLOCK};
 ghost use Rattle.amo_plan.specs.Seen.{top_seen, more_seen};
 
-use super::fault::PlanFault;
-use super::tree::{has_key, natural, natural_at, naturals, tables, value_at};
+use crate::fault::PlanFault;
+use crate::limits::{MOST_IN_BLOCK, NEWEST_VERSION};
+use crate::tree::{has_key, natural, natural_at, naturals, tables, value_at};
 use std::alloc::Global;
 use toml::{Table, Value};
 
-/// The newest version of the format.
-const NEWEST_VERSION: u64 = 2;
-
 /// The version, and how many jobs make a block.
 #[derive(Clone, Copy, Debug, PartialEq, Eq)]
-pub struct Form {
+pub(crate) struct Form {
     /// The version, 1 or 2.
-    pub version: u32,
-    /// How many jobs make a block, 1 to 4096.
-    pub block: u32,
+    pub(crate) version: u32,
+    /// How many jobs make a block, 1 to `MOST_IN_BLOCK`.
+    pub(crate) block: u32,
 }
 
 /// The values that may be absent, but for the jobs.
 #[derive(Drop)]
-pub struct More<'a> {
+pub(crate) struct More<'a> {
     /// The text of the schedule, empty where the key is absent.
-    pub schedule: &'a str,
+    pub(crate) schedule: &'a str,
     /// How many rounds, 0 where the key is absent. Their limit isn't tested yet.
-    pub rounds: u64,
+    pub(crate) rounds: u64,
     /// As many budgets as workers; None where the key is absent. Their limit isn't tested yet.
-    pub budgets: Option<Vec<u64>>,
+    pub(crate) budgets: Option<Vec<u64>>,
 }
 
 /// What the top level says.
 #[derive(Drop)]
-pub struct Top<'a> {
+pub(crate) struct Top<'a> {
     /// The version, and how many jobs make a block.
-    pub form: Form,
+    pub(crate) form: Form,
     /// How many workers there are to be. No limit is tested yet.
-    pub workers: u64,
+    pub(crate) workers: u64,
     /// The threshold. No limit is tested yet.
-    pub beta: u64,
+    pub(crate) beta: u64,
     /// The tables of the jobs, none where the key is absent.
-    pub jobs: Vec<&'a Table>,
+    pub(crate) jobs: Vec<&'a Table>,
     /// The values that may be absent, but for the jobs.
-    pub more: More<'a>,
+    pub(crate) more: More<'a>,
 }
 
 /// The version, if it is one that there is.
 fn version(table: &Table) -> Option<u32>
     ensures version { result ≡ version_of (table_view table.now) }
-    ensures within { IfSome result (λ v. is_between 1 2 v ≡ true) }
+    ensures within { IfSome result (λ v. is_between 1 NEWEST_VERSION v ≡ true) }
 {
     let number = natural_at(table, "version")?;
     if 1 <= number && number <= NEWEST_VERSION {
@@ -93,14 +92,14 @@ fn has_top_keys(with_block: bool, table: &Table) -> bool
 
 /// How many jobs make a block in version 2, where the key may be absent.
 fn block_in(value: Option<&Value>) -> Option<u32>
-    ensures within { IfSome result (λ b. is_between 1 4096 b ≡ true) }
+    ensures within { IfSome result (λ b. is_between 1 MOST_IN_BLOCK b ≡ true) }
     ensures block { result ≡ block_in (option_map (λ v. view v.now) value.entry) }
 {
     let Some(value) = value else {
         return Some(1);
     };
     let block = natural(value)?;
-    if 1 <= block && block <= 4096 {
+    if 1 <= block && block <= MOST_IN_BLOCK {
         Some(block as u32)
     } else {
         None
@@ -109,7 +108,7 @@ fn block_in(value: Option<&Value>) -> Option<u32>
 
 /// How many jobs make a block in this version.
 fn block(version: u32, table: &Table) -> Option<u32>
-    requires { is_between 1 2 version ≡ true }
+    requires { is_between 1 NEWEST_VERSION version ≡ true }
     ensures block { result ≡ block_of version (table_view table.now) }
     ensures form { IfSome result (λ b. is_form version b ≡ true) }
 {
@@ -223,7 +222,7 @@ fn read_values(alloc: Global, table: &Table) -> Result<Top<'_>, PlanFault>
 
 /// The top level: no other keys, each that is needed, and each of its kind.
 #[tactic(auto, unfolding(crate::specs::Top::top_of))]
-pub fn read_top(alloc: Global, table: &Table) -> Result<Top<'_>, PlanFault>
+pub(crate) fn read_top(alloc: Global, table: &Table) -> Result<Top<'_>, PlanFault>
     ensures count { IfOk result (λ t. IfSome t.more.budgets (λ v. length v.items ≡ t.workers)) }
     ensures fine { IfOk result (λ t. is_form t.form.version t.form.block ≡ true) }
     ensures top { Gives top_seen result (top_of (table_view table.now)) }

@@ -6,7 +6,7 @@ use Rattle.amo_kk.specs.Step.{want_in}
 use Rattle.amo_kk.specs.Words.{words_after}
 use Rattle.amo_kk.specs.declared.givens.Givens.{Givens}
 use Rattle.amo_kk.specs.declared.phase.Phase.{Phase}
-use Rattle.amo_kk.specs.declared.phase.Phase.TheVariants.{Announcing, Trying, Reading, Claiming, Holding, Over, Left}
+use Rattle.amo_kk.specs.declared.phase.Phase.TheVariants.{Announcing}
 use Rattle.amo_kk.specs.declared.model.Record.{Record}
 use Rattle.amo_process.specs.declared.standing.Standing.{Standing}
 use Rattle.amo_process.specs.declared.standing.Standing.TheVariants.{Beginning, Going}
@@ -18,12 +18,7 @@ module _ (g : Givens) (s : Shared) (p : ℕ) where
       → (if wants_nothing phase then s else with_heard s p (heard_of g s.words (want_in r phase)) (words_after g p (want_in r phase) s.words))
       ≡ shared_after_access s p (access_for g p (want_in r phase))
   by_phase r (Announcing j) = refl
-  by_phase r (Trying j q) = refl
-  by_phase r (Reading j q) = refl
-  by_phase r (Claiming j) = refl
-  by_phase r (Holding j) = refl
-  by_phase r Over = refl
-  by_phase r Left = refl
+  by_phase r phase = refl
 
   pub access_is_step : (o : Option Standing) → shared_after_step g s p o ≡ shared_after_access s p (access_of g p o)
   access_is_step None = refl

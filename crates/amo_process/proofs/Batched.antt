@@ -11,7 +11,7 @@ use Rattle.amo_sets.proofs.Tables.{numbered-table}
 use Rattle.amo_kk.specs.World.{process}
 use Rattle.amo_kk.specs.declared.givens.Givens.{Givens}
 use Rattle.amo_return.specs.declared.model.Tale.{Tale}
-use Rattle.amo_return.specs.Return.{world_of, tale_after_all, opening_tale}
+use Rattle.amo_return.specs.Return.{world_of_tale, tale_after_all, opening_tale}
 use Rattle.amo_return.proofs.Tales.{IsTold, acts_told, opening_told}
 use Rattle.amo_process.specs.declared.model.Happening.{Happening}
 use Rattle.amo_process.specs.declared.model.Happening.TheVariants.{Steps, Begins, Leaves}
@@ -21,7 +21,7 @@ use Rattle.amo_process.specs.declared.batch.Item.{Item}
 use Rattle.amo_process.specs.declared.batch.Item.TheVariants.{Store, Load, LoadUntilZero}
 use Rattle.amo_process.specs.Heard.{standing_of}
 use Rattle.amo_process.specs.Shared.{Shared, first_shared, standing_at, shared_after_step, shared_after_leave, with_new_process, shared_after, shared_after_all, shared_of, acts_of_one, told_to_perform, AreOfWorkers, HasNoStep, IsBeginning, IsGoing, Shows}
-use Rattle.amo_process.specs.Batch.{items_of, left_after, left_if, left_after_all, carried_out, WantsRest}
+use Rattle.amo_process.specs.Batch.{items_of, left_after, left_if, left_after_all, carried_out, WantsLeft}
 use Rattle.amo_process.specs.Batched.{Batched, first_batched, batch_at, next_items, heard_by, left_or_none, after_access, batched_after, batched_after_all, batched_of}
 use Rattle.amo_process.proofs.Together.{beginning_stands, one_shows}
 use Rattle.amo_process.proofs.Opening.{first_shows}
@@ -35,8 +35,8 @@ pub record Stands (g : Givens) (s : Shared) (p : ℕ) : Type 0 where
 
 stands : (g : Givens) (s : Shared) (t : Tale) (p : ℕ) → IsTold g t → (shows : Shows g s t) → (o : IsWorker g p) → Stands g s p
 stands g s t p told shows o = ⊎_elim
-    (λ (b : IsBeginning g p (numbered [] s.lists p) (process (world_of t) p)). record { at = _; is = beginning_stands g s t told shows p o b })
-    (λ (h : IsGoing g p (numbered [] s.lists p) (process (world_of t) p)). record { at = _; is = h.1 })
+    (λ (b : IsBeginning g p (numbered [] s.lists p) (process (world_of_tale t) p)). record { at = _; is = beginning_stands g s t told shows p o b })
+    (λ (h : IsGoing g p (numbered [] s.lists p) (process (world_of_tale t) p)). record { at = _; is = h.1 })
     (shows.workers p o).stands
 
 -- what is left is what the worker wants
@@ -49,9 +49,9 @@ pub record AllFit (g : Givens) (b : Batched) : Type 0 where
   pub size : length b.left ≡ g.workers
   pub fits : (p : ℕ) → IsWorker g p → FitsLeft g p (numbered [] b.left p) (standing_at g b.shared p)
 
-rest_fits : (g : Givens) (p : ℕ) (rest : List Item) (t : Standing) → WantsRest g p t rest → FitsLeft g p rest (Some t)
-rest_fits g p [] t h = tt
-rest_fits g p (item ∷ items) t h = h
+wanted_fits : (g : Givens) (p : ℕ) (rest : List Item) (t : Standing) → WantsLeft g p t rest → FitsLeft g p rest (Some t)
+wanted_fits g p [] t h = tt
+wanted_fits g p (item ∷ items) t h = h
 
 -- so the next items are those of where it stands
 next_are : (g : Givens) (s : Shared) (p : ℕ) (left : List Item) (t : Standing) → standing_at g s p ≡ Some t → FitsLeft g p left (standing_at g s p) → next_items g s p left ≡ items_of g p t
@@ -132,7 +132,7 @@ access_fits g b p t u item rest o size fit is items now =
 
     left_fits : (x : Option (List Item)) → left_after (item ∷ rest) (heard_by b.shared item) ≡ x → FitsLeft g p (left_or_none x) (Some u)
     left_fits None e = tt
-    left_fits (Some more) e = rest_fits g p more u
+    left_fits (Some more) e = wanted_fits g p more u
         (more_rests g p (numbered [] b.shared.lists p) (heard_by b.shared item) [] t u more o is
         (subst (λ l. left_after_all l (heard_by b.shared item ∷ []) ≡ Some more) items (ap (left_if (λ l. Some l)) e))
         (ap (standing_of g p) (sym list) ∙ now)).wants

@@ -15,7 +15,7 @@ use Rattle.amo_kk.specs.Machine.{LocalView}
 use Rattle.amo_kk.specs.declared.givens.Givens.{Givens}
 use Rattle.amo_kk.specs.declared.model.Record.{Record}
 use Rattle.amo_kk.specs.declared.phase.Phase.{Phase}
-use Rattle.amo_kk.specs.declared.phase.Phase.TheVariants.{Announcing, Trying, Reading, Claiming, Holding, Over, Left}
+use Rattle.amo_kk.specs.declared.phase.Phase.TheVariants.{Announcing, Holding}
 use Rattle.amo_kk.proofs.Choice.{choice_cases}
 use Rattle.amo_process.specs.declared.standing.Standing.{Standing}
 use Rattle.amo_process.specs.declared.standing.Standing.TheVariants.{Beginning, Going}
@@ -24,7 +24,7 @@ use Rattle.amo_process.specs.declared.batch.Item.TheVariants.{Load, LoadUntilZer
 use Rattle.amo_process.specs.Heard.{record_after_all, rest_of, is_nothing, going, standing_in, standing_of}
 use Rattle.amo_process.specs.declared.model.Happening.TheVariants.{Steps}
 use Rattle.amo_process.specs.Shared.{Shared, heard_of, with_heard, shared_after_step, shared_after, standing_at}
-use Rattle.amo_process.specs.Batch.{items_from, carried_out, last_word, items_beginning, items_of, left_after_all, WantsRest, HasNoJob}
+use Rattle.amo_process.specs.Batch.{items_from, carried_out, last_word, items_beginning, items_of, left_after_all, WantsLeft, HasNoJob}
 use Rattle.amo_process.proofs.Hearing.{with_record, is_going, IsGoingBy, going_by, going_sound, more_going}
 use Rattle.amo_process.proofs.Passes.{whole, steps_rest, goer}
 
@@ -36,7 +36,7 @@ rest_none_append (suc j ∷ xs) vs h = rest_none_append xs vs h
 
 -- Worker p, which stands so, wants what is left, and has no job while something is.
 pub record RestsAt (g : Givens) (p : ℕ) (t : Standing) (rest : List Item) : Type 0 where
-  pub wants : WantsRest g p t rest
+  pub wants : WantsLeft g p t rest
   pub none : HasNoJob t rest
 
 going_rests : (g : Givens) (p : ℕ) (heard : List ℕ) (l : LocalView) (fresh : Bool) (v : ℕ) (vs : List ℕ) (t : Standing) (rest : List Item) → IsWorker g p
@@ -169,11 +169,11 @@ more_rests g p heard v vs (Beginning word) t rest o stands left after = beginnin
 more_rests g p heard v vs (Going l fresh) t rest o stands left after = going_rests g p heard l fresh v vs t rest o stands left after
 
 -- a batch is the batch
-all_wanted : (g : Givens) (p : ℕ) (s : Standing) → WantsRest g p s (items_of g p s)
+all_wanted : (g : Givens) (p : ℕ) (s : Standing) → WantsLeft g p s (items_of g p s)
 all_wanted g p (Beginning word) = go (word == next_word p) refl (word == claim_word g p) refl
   where
     go : (b : Bool) → (word == next_word p) ≡ b → (c : Bool) → (word == claim_word g p) ≡ c
-        → WantsRest g p (Beginning word) (if b then Load word ∷ Load (claim_word g p) ∷ LoadUntilZero (done_word g p 1) (last_word g p) ∷ []
+        → WantsLeft g p (Beginning word) (if b then Load word ∷ Load (claim_word g p) ∷ LoadUntilZero (done_word g p 1) (last_word g p) ∷ []
         else if c then Load word ∷ LoadUntilZero (done_word g p 1) (last_word g p) ∷ [] else LoadUntilZero word (last_word g p) ∷ [])
     go true e c f = ap (λ b. if b then Load word ∷ Load (claim_word g p) ∷ LoadUntilZero (done_word g p 1) (last_word g p) ∷ []
         else if word == claim_word g p then Load word ∷ LoadUntilZero (done_word g p 1) (last_word g p) ∷ [] else LoadUntilZero word (last_word g p) ∷ []) e
@@ -183,15 +183,15 @@ all_wanted g p (Beginning word) = go (word == next_word p) refl (word == claim_w
         else if f i then Load word ∷ LoadUntilZero (done_word g p 1) (last_word g p) ∷ [] else LoadUntilZero word (last_word g p) ∷ [])
 all_wanted g p (Going l fresh) = from (items_from g p l.state (want l.state)) (whole g p l.state)
   where
-    from : (items : List Item) → WantsRest g p (goer g p l.state) items → WantsRest g p (Going l fresh) items
+    from : (items : List Item) → WantsLeft g p (goer g p l.state) items → WantsLeft g p (Going l fresh) items
     from [] h = h
     from (item ∷ items) h = h
 
 pub rest_wanted : (g : Givens) (p : ℕ) (heard more : List ℕ) (s t : Standing) (rest : List Item) → IsWorker g p
-    → standing_of g p heard ≡ Some s → left_after_all (items_of g p s) more ≡ Some rest → standing_of g p (heard ++ more) ≡ Some t → WantsRest g p t rest
+    → standing_of g p heard ≡ Some s → left_after_all (items_of g p s) more ≡ Some rest → standing_of g p (heard ++ more) ≡ Some t → WantsLeft g p t rest
 rest_wanted g p heard [] s t rest o stands left after =
-    subst (λ l. WantsRest g p t l) (same_Some (items_of g p s) rest left)
-    (subst (λ x. WantsRest g p x (items_of g p s)) (same_Some s t (sym stands ∙ ap (standing_of g p) (sym (append-nil heard)) ∙ after)) (all_wanted g p s))
+    subst (λ l. WantsLeft g p t l) (same_Some (items_of g p s) rest left)
+    (subst (λ x. WantsLeft g p x (items_of g p s)) (same_Some s t (sym stands ∙ ap (standing_of g p) (sym (append-nil heard)) ∙ after)) (all_wanted g p s))
 rest_wanted g p heard (v ∷ vs) s t rest o stands left after = (more_rests g p heard v vs s t rest o stands left after).wants
 
 -- the first access of an item is the step of the process
@@ -214,12 +214,7 @@ first_step g s p (Going l fresh) = go l.state.phase
     go : (phase : Phase) → (if wants_nothing phase then s else with_heard s p (heard_of g s.words (want_in l.state phase)) (words_after g p (want_in l.state phase) s.words))
         ≡ carried_first s p (items_from g p l.state (want_in l.state phase))
     go (Announcing j) = refl
-    go (Trying j q) = refl
-    go (Reading j q) = refl
-    go (Claiming j) = refl
-    go (Holding j) = refl
-    go Over = refl
-    go Left = refl
+    go phase = refl
 
 pub item_is_step : (g : Givens) (s : Shared) (p : ℕ) (heard more : List ℕ) (from t : Standing) (item : Item) (rest : List Item) → IsWorker g p
     → numbered [] s.lists p ≡ heard ++ more → standing_of g p heard ≡ Some from → left_after_all (items_of g p from) more ≡ Some (item ∷ rest) → standing_at g s p ≡ Some t

@@ -13,7 +13,7 @@ use Rattle.amo_kk.specs.Lawful.{IsSoundRecord, FitsPhase}
 use Rattle.amo_kk.specs.declared.givens.Givens.{Givens}
 use Rattle.amo_kk.specs.declared.model.Record.{Record}
 use Rattle.amo_kk.specs.declared.phase.Phase.{Phase}
-use Rattle.amo_kk.specs.declared.phase.Phase.TheVariants.{Announcing, Trying, Reading, Claiming, Holding, Over, Left}
+use Rattle.amo_kk.specs.declared.phase.Phase.TheVariants.{Announcing, Trying, Reading, Claiming, Holding, Over}
 use Rattle.amo_kk.proofs.Choice.{choice_cases}
 use Rattle.amo_process.specs.declared.standing.Standing.{Standing}
 use Rattle.amo_process.specs.declared.standing.Standing.TheVariants.{Beginning, Going}
@@ -93,8 +93,7 @@ module _ (g : Givens) (p : ℕ) where
           held z e = subst (λ (y : Record). loads_or_announces p (items_wanted g p y.fronts (want y)) ≡ false → left_after_all (items_wanted g p y.fronts (want y)) vs ≡ Some []
               → record_after_all g p after_it vs ≡ Some s → Rested s) (sym e)
               (chosen (record r { dones = r.dones ++ j ∷ []; known = with_number j r.known }) (min (r.steps + 1) (2 ^ 64 - 1)) vs s)
-      go Over is = subst (λ x. Goal x) (sym is) (λ n l a. absurd (none-some [] l))
-      go Left is = subst (λ x. Goal x) (sym is) (λ n l a. absurd (none-some [] l))
+      go ended is = subst (λ x. Goal x) (sym is) (λ n l a. absurd (none-some [] l))
 
   -- where there is nothing to be told, nothing is wanted
   abbrev is_empty : List Item → Bool
@@ -103,12 +102,7 @@ module _ (g : Givens) (p : ℕ) where
 
   empty_from : (r : Record) (phase : Phase) → is_empty (items_from g p r (want_in r phase)) ≡ wants_nothing phase
   empty_from r (Announcing j) = refl
-  empty_from r (Trying j q) = refl
-  empty_from r (Reading j q) = refl
-  empty_from r (Claiming j) = refl
-  empty_from r (Holding j) = refl
-  empty_from r Over = refl
-  empty_from r Left = refl
+  empty_from r phase = refl
 
   -- own words are loaded
   own_loads : (word : ℕ) → loads_or_announces p (items_beginning g p word) ≡ true

@@ -4,7 +4,7 @@ use Rattle.std.specs.Prelude.{if◌then◌else◌}
 use Rattle.amo_kk.specs.Step.{want, record_after}
 use Rattle.amo_kk.specs.declared.givens.Givens.{Givens}
 use Rattle.amo_kk.specs.declared.phase.Want.{Want}
-use Rattle.amo_kk.specs.declared.phase.Want.TheVariants.{StoreNext, LoadNext, LoadDone, StoreClaim, StoreDone, Nothing}
+use Rattle.amo_kk.specs.declared.phase.Want.TheVariants.{StoreDone}
 use Rattle.amo_process.specs.declared.standing.Standing.{Standing}
 use Rattle.amo_process.specs.declared.standing.Standing.TheVariants.{Beginning, Going}
 use Rattle.amo_process.specs.Heard.{can_hear}
@@ -19,9 +19,5 @@ goes_on g p (Going l fresh) = go (want l.state)
     go : (x : Want) → items_from g p l.state x
         ≡ items_wanted g p l.state.fronts x
         ++ (if is_filing x then items_to_filing g p (if can_hear g 0 x then Some (Going (record l { state = record_after g p 0 l.state }) false) else None) else [])
-    go (StoreNext j) = sym (append-nil (items_wanted g p l.state.fronts (StoreNext j)))
-    go (LoadNext q) = sym (append-nil (items_wanted g p l.state.fronts (LoadNext q)))
-    go (LoadDone q k) = sym (append-nil (items_wanted g p l.state.fronts (LoadDone q k)))
-    go (StoreClaim c j) = refl
     go (StoreDone k j) = refl
-    go Nothing = refl
+    go x = sym (append-nil (items_wanted g p l.state.fronts x))

@@ -24,7 +24,7 @@ use Rattle.amo_kk.specs.Object.{is_within}
 use Rattle.amo_kk.specs.Choice.{record_after_choice}
 use Rattle.amo_kk.proofs.Fit.{after_fit, rested_fit, doubted_fit}
 use Rattle.amo_kk.specs.declared.phase.Want.{Want}
-use Rattle.amo_kk.specs.declared.phase.Want.TheVariants.{StoreNext, LoadNext, LoadDone, StoreClaim, StoreDone, Nothing}
+use Rattle.amo_kk.specs.declared.phase.Want.TheVariants.{LoadNext, LoadDone}
 
 -- the worker with this record
 abbrev pub with_record : Givens → ℕ → Record → LocalView
@@ -205,7 +205,6 @@ hear_parts g p r v vs s = go (can_hear g v (want r)) refl
 
 -- what can be heard may be loaded
 pub may_load : (g : Givens) (v : ℕ) (x : Want) → can_hear g v x ≡ true → MayLoad g v x
-may_load g v (StoreNext j) h = tt
 may_load g v (LoadNext q) h = leb-true _ _ h
 may_load g v (LoadDone q k) h = (within (not (k == g.jobs + 1 && not (v == 0))) h, λ e. last v g.jobs k h e)
   where
@@ -214,9 +213,7 @@ may_load g v (LoadDone q k) h = (within (not (k == g.jobs + 1 && not (v == 0))) 
 
     last : (v n k : ℕ) → (nat_le v n && not (k == n + 1 && not (v == 0))) ≡ true → k ≡ n + 1 → v ≡ 0
     last v n k h e = grind (arith, nat_tests)
-may_load g v (StoreClaim c j) h = tt
-may_load g v (StoreDone k j) h = tt
-may_load g v Nothing h = tt
+may_load g v x h = tt
 
 -- What it says of a list that its worker goes on so.
 pub record IsGoingBy (g : Givens) (p : ℕ) (heard : List ℕ) (l : LocalView) : Type 0 where

@@ -1,18 +1,20 @@
+-- The crates above lean on these too:
 pub mod Hearing
-pub mod Coming
 pub mod Stepped
-pub mod Beginning
-pub mod Performs
-pub mod Together
-pub mod Opening
 pub mod Told
 pub mod Accesses
-pub mod Others
-pub mod Passes
 pub mod Batches
 pub mod Within
-pub mod Batched
-pub mod Stores
-pub mod Ends
-pub mod Short
-pub mod Filings
+-- These serve this crate alone.
+mod Coming
+mod Beginning
+mod Performs
+mod Together
+mod Opening
+mod Others
+mod Passes
+mod Batched
+mod Stores
+mod Ends
+mod Short
+mod Filings

@@ -10,17 +10,16 @@ use Rattle.amo_sets.proofs.Tables.{numbered-table}
 use Rattle.amo_kk.specs.Givens.{IsWorker}
 use Rattle.amo_kk.specs.Again.{entries_of, record_again}
 use Rattle.amo_kk.specs.Record.{wants_nothing}
-use Rattle.amo_kk.specs.Words.{words_of}
+use Rattle.amo_kk.specs.Words.{words_of, word_count}
 use Rattle.amo_kk.specs.World.{nobody, process, first_process, opening_world}
 use Rattle.amo_kk.specs.declared.givens.Givens.{Givens}
 use Rattle.amo_kk.specs.declared.event.Event.{Event}
 use Rattle.amo_kk.specs.declared.event.Event.TheVariants.{Ended}
 use Rattle.amo_kk.specs.declared.model.Process.{Process}
-use Rattle.amo_return.specs.Return.{process_after_return, world_of, entries_for, opening_tale}
+use Rattle.amo_return.specs.Return.{process_after_return, world_of_tale, entries_for, opening_tale}
 use Rattle.amo_return.specs.Story.{may_perform}
 use Rattle.amo_return.specs.declared.model.Entry.TheVariants.{Shown as ShownEntry}
 use Rattle.amo_return.proofs.Once.{may-append}
-use Rattle.amo_process.specs.Heard.{word_count}
 use Rattle.amo_process.specs.Shared.{first_shared, IsBeginning, ShowsWorker, Shows}
 
 map_table : {X : Type 0} (f : X → ℕ) (h : ℕ → X) → ((k : ℕ) → f (h k) ≡ 0) → (n : ℕ) → map f (table n h) ≡ replicate n 0
@@ -73,5 +72,5 @@ first_shows g = record { words = sym (opening_words g); size = length-table (λ 
           performs = may p;
         })
       where
-        is : process (world_of (opening_tale g)) p ≡ first_process g p
+        is : process (world_of_tale (opening_tale g)) p ≡ first_process g p
         is = numbered-table nobody (first_process g) g.workers p o.low o.high

@@ -6,7 +6,7 @@ use Rattle.amo_kk.specs.Record.{is_over, wants_nothing, job_in_hand}
 use Rattle.amo_kk.specs.Step.{record_after, record_after_phase, shown, events_of, ended_if_over}
 use Rattle.amo_kk.specs.declared.givens.Givens.{Givens}
 use Rattle.amo_kk.specs.declared.phase.Phase.{Phase}
-use Rattle.amo_kk.specs.declared.phase.Phase.TheVariants.{Announcing, Trying, Reading, Claiming, Holding, Over, Left}
+use Rattle.amo_kk.specs.declared.phase.Phase.TheVariants.{Announcing, Trying, Reading, Claiming, Holding}
 use Rattle.amo_kk.specs.declared.model.Record.{Record}
 use Rattle.amo_kk.specs.declared.event.Event.TheVariants.{Ended as EndedEvent}
 use Rattle.amo_kk.specs.declared.event.Shown.{Shown}
@@ -58,5 +58,4 @@ step_may g p v h r wants was = go r.phase refl (has_done g p v r r.phase refl) w
     go (Reading j q) is d e = quiet (is_over x.phase) ∙ nothing e ∙ sym d.held_now
     go (Claiming j) is d e = ap (λ b. if b then j else h) (eq-eqb p p refl) ∙ sym d.held_now
     go (Holding j) is d e = filed j (is_over x.phase) ∙ sym d.held_now
-    go Over is d e = absurd (true≢false (sym (ap wants_nothing is) ∙ wants))
-    go Left is d e = absurd (true≢false (sym (ap wants_nothing is) ∙ wants))
+    go ended is d e = absurd (true≢false (sym (ap wants_nothing is) ∙ wants))

@@ -10,7 +10,7 @@ use Rattle.amo_kk.specs.Words.{next_word, claim_word, done_word}
 use Rattle.amo_kk.specs.declared.givens.Givens.{Givens}
 use Rattle.amo_kk.specs.declared.model.Record.{Record}
 use Rattle.amo_kk.specs.declared.phase.Want.{Want}
-use Rattle.amo_kk.specs.declared.phase.Want.TheVariants.{StoreNext, LoadNext, LoadDone, StoreClaim, StoreDone, Nothing}
+use Rattle.amo_kk.specs.declared.phase.Want.TheVariants.{StoreNext, LoadNext, LoadDone, StoreDone}
 use Rattle.amo_process.specs.declared.standing.Standing.{Standing}
 use Rattle.amo_process.specs.declared.standing.Standing.TheVariants.{Beginning, Going}
 use Rattle.amo_process.specs.declared.batch.Item.TheVariants.{Load, LoadUntilZero}
@@ -63,17 +63,11 @@ module _ (g : Givens) (p : ℕ) (o : IsWorker g p) where
   wanted_short fronts (LoadNext q) =
       let e = length-append (loads_above g p q) (rows_above g p fronts 0) in let a = loads_few q in let b = rows_fewer fronts in omega arith
   wanted_short fronts (LoadDone q k) = let b = rows_few fronts q in let low = o.low in let high = o.high in omega arith
-  wanted_short fronts (StoreClaim c j) = let low = o.low in let high = o.high in omega arith
-  wanted_short fronts (StoreDone k j) = let low = o.low in let high = o.high in omega arith
-  wanted_short fronts Nothing = omega arith
+  wanted_short fronts x = let low = o.low in let high = o.high in omega arith
 
   from_short : (r : Record) (x : Want) → length (items_from g p r x) ≤ 2 * g.workers + 1
-  from_short r (StoreNext j) = let h = wanted_short r.fronts (StoreNext j) in omega arith
-  from_short r (LoadNext q) = let h = wanted_short r.fronts (LoadNext q) in omega arith
-  from_short r (LoadDone q k) = let h = wanted_short r.fronts (LoadDone q k) in omega arith
-  from_short r (StoreClaim c j) = omega arith
   from_short r (StoreDone k j) = let h = wanted_short (record_after g p 0 r).fronts (want (record_after g p 0 r)) in omega arith
-  from_short r Nothing = omega arith
+  from_short r x = let h = wanted_short r.fronts x in omega arith
 
   own_short : (word : ℕ) → length (items_beginning g p word) ≤ 2 * g.workers + 1
   own_short word = go (word == next_word p) (word == claim_word g p)

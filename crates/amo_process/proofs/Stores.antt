@@ -6,7 +6,7 @@ use Rattle.amo_kk.specs.Words.{next_word, claim_word, done_word}
 use Rattle.amo_kk.specs.declared.givens.Givens.{Givens}
 use Rattle.amo_kk.specs.declared.model.Record.{Record}
 use Rattle.amo_kk.specs.declared.phase.Want.{Want}
-use Rattle.amo_kk.specs.declared.phase.Want.TheVariants.{StoreNext, LoadNext, LoadDone, StoreClaim, StoreDone, Nothing}
+use Rattle.amo_kk.specs.declared.phase.Want.TheVariants.{StoreNext, LoadNext, LoadDone, StoreDone}
 use Rattle.amo_process.specs.declared.standing.Standing.{Standing}
 use Rattle.amo_process.specs.declared.standing.Standing.TheVariants.{Beginning, Going}
 use Rattle.amo_process.specs.declared.batch.Item.{Item}
@@ -31,17 +31,11 @@ wanted_first g p fronts (StoreNext j) = none (loads_above g p 0 ++ rows_above g 
     none (LoadUntilZero word last ∷ items) h = h
 wanted_first g p fronts (LoadNext q) = loads_none (others_above g p q) (rows_above g p fronts 0) (rows_none g fronts (others_above g p 0))
 wanted_first g p fronts (LoadDone q k) = rows_none g fronts (others_above g p q)
-wanted_first g p fronts (StoreClaim c j) = tt
-wanted_first g p fronts (StoreDone k j) = tt
-wanted_first g p fronts Nothing = tt
+wanted_first g p fronts x = tt
 
 from_first : (g : Givens) (p : ℕ) (r : Record) (x : Want) → StoresFirst (items_from g p r x)
-from_first g p r (StoreNext j) = wanted_first g p r.fronts (StoreNext j)
-from_first g p r (LoadNext q) = wanted_first g p r.fronts (LoadNext q)
-from_first g p r (LoadDone q k) = wanted_first g p r.fronts (LoadDone q k)
-from_first g p r (StoreClaim c j) = tt
 from_first g p r (StoreDone k j) = wanted_first g p (record_after g p 0 r).fronts (want (record_after g p 0 r))
-from_first g p r Nothing = tt
+from_first g p r x = wanted_first g p r.fronts x
 
 pub stores_first : (g : Givens) (p : ℕ) (s : Standing) → StoresFirst (items_of g p s)
 stores_first g p (Beginning word) = go (word == next_word p) (word == claim_word g p)

@@ -15,9 +15,9 @@ use Rattle.amo_kk.specs.Lawful.{IsLawful}
 use Rattle.amo_kk.specs.World.{nobody, process, loaded_value, process_after, world_with, world_after_step, world_after_leave}
 use Rattle.amo_kk.specs.declared.givens.Givens.{Givens}
 use Rattle.amo_kk.specs.declared.phase.Phase.{Phase}
-use Rattle.amo_kk.specs.declared.phase.Phase.TheVariants.{Announcing, Trying, Reading, Claiming, Holding, Over, Left}
+use Rattle.amo_kk.specs.declared.phase.Phase.TheVariants.{Over, Left}
 use Rattle.amo_kk.specs.declared.phase.Want.{Want}
-use Rattle.amo_kk.specs.declared.phase.Want.TheVariants.{StoreNext, LoadNext, LoadDone, StoreClaim, StoreDone, Nothing}
+use Rattle.amo_kk.specs.declared.phase.Want.TheVariants.{StoreNext, LoadNext, LoadDone}
 use Rattle.amo_kk.specs.declared.model.Record.{Record}
 use Rattle.amo_kk.specs.declared.model.Process.{Process}
 use Rattle.amo_kk.specs.declared.model.World.{World}
@@ -29,7 +29,7 @@ use Rattle.amo_kk.proofs.Words.{turn_loads, turn_stores, leave_stores, keep_word
 use Rattle.amo_return.specs.declared.model.Act.TheVariants.{Moves, Returns}
 use Rattle.amo_return.specs.declared.model.Entry.TheVariants.{Returned}
 use Rattle.amo_return.specs.declared.model.Tale.{Tale}
-use Rattle.amo_return.specs.Return.{process_after_return, world_of, entries_for, tale_after_move, tale_with_return, tale_after_return, tale_after_all}
+use Rattle.amo_return.specs.Return.{process_after_return, world_of_tale, entries_for, tale_after_move, tale_with_return, tale_after_return, tale_after_all}
 use Rattle.amo_return.specs.Story.{may_perform}
 use Rattle.amo_return.proofs.Once.{may-append}
 use Rattle.amo_return.proofs.Tales.{IsTold, act_told}
@@ -44,7 +44,7 @@ use Rattle.amo_process.proofs.Beginning.{begun, BeginsAt, begins}
 use Rattle.amo_process.proofs.Performs.{other_may, end_may, step_may}
 
 -- another worker, of whom nothing changed
-same_worker : (g : Givens) (heard now : List ℕ) (t v : Tale) (q : ℕ) → now ≡ heard → process (world_of v) q ≡ process (world_of t) q → may_perform q 0 v.entries ≡ may_perform q 0 t.entries
+same_worker : (g : Givens) (heard now : List ℕ) (t v : Tale) (q : ℕ) → now ≡ heard → process (world_of_tale v) q ≡ process (world_of_tale t) q → may_perform q 0 v.entries ≡ may_perform q 0 t.entries
     → ShowsWorker g heard t q → ShowsWorker g now v q
 same_worker g heard now t v q e same may w =
     subst (λ l. ShowsWorker g l v q) (sym e)
@@ -69,37 +69,37 @@ all_show g s words v p l size o same others mine =
     }
 
 -- a return of p, whatever p is before it
-return_shows : (g : Givens) (s : Shared) (words : List ℕ) (t : Tale) (p : ℕ) → IsLawful g (world_of t) → length s.lists ≡ g.workers → (o : IsWorker g p) → words ≡ words_of t.processes
+return_shows : (g : Givens) (s : Shared) (words : List ℕ) (t : Tale) (p : ℕ) → IsLawful g (world_of_tale t) → length s.lists ≡ g.workers → (o : IsWorker g p) → words ≡ words_of t.processes
     → ((q : ℕ) → IsWorker g q → q ≢ p → ShowsWorker g (numbered [] s.lists q) t q)
     → Shows g (with_new_process s p words) (tale_after_return g t p)
 return_shows g s words t p law size o same others =
-    subst (λ b. Shows g (with_new_process s p words) (if b then tale_with_return g t p (process (world_of t) p) else t)) (sym within)
+    subst (λ b. Shows g (with_new_process s p words) (if b then tale_with_return g t p (process (world_of_tale t) p) else t)) (sym within)
     (all_show g s words v p [] size o (same ∙ sym (keep_words g t.processes nobody law.size p b o.low refl refl refl)) (λ q w n. same_worker g (numbered [] s.lists q) (numbered [] s.lists q) t v q refl (now_q q n) (may_q q n) (others q w n)) mine)
   where
     within : is_within g.workers p ≡ true
     within = and_from _ _ (le-leb 1 p o.low) (le-leb p g.workers o.high)
 
     b : Process
-    b = process_after_return g p (process (world_of t) p)
+    b = process_after_return g p (process (world_of_tale t) p)
 
     v : Tale
-    v = tale_with_return g t p (process (world_of t) p)
+    v = tale_with_return g t p (process (world_of_tale t) p)
 
-    now_p : process (world_of v) p ≡ b
-    now_p = put_here g (world_of t) p b law.size o
+    now_p : process (world_of_tale v) p ≡ b
+    now_p = put_here g (world_of_tale t) p b law.size o
 
-    now_q : (q : ℕ) → q ≢ p → process (world_of v) q ≡ process (world_of t) q
+    now_q : (q : ℕ) → q ≢ p → process (world_of_tale v) q ≡ process (world_of_tale t) q
     now_q q n = numbered-put_other nobody b t.processes p q n
 
     may_q : (q : ℕ) → q ≢ p → may_perform q 0 v.entries ≡ may_perform q 0 t.entries
     may_q q n =
-        may-append t.entries (Returned p (doubt (process (world_of t) p).next (process (world_of t) p).claim (entries_of (process (world_of t) p).row)) ∷ entries_for (ended_if_over p b.local.phase)) q 0
+        may-append t.entries (Returned p (doubt (process (world_of_tale t) p).next (process (world_of_tale t) p).claim (entries_of (process (world_of_tale t) p).row)) ∷ entries_for (ended_if_over p b.local.phase)) q 0
         ∙ end_may p q (if p == q then 0 else may_perform q 0 t.entries) b.local.phase
         ∙ ap (λ c. if c then 0 else may_perform q 0 t.entries) (ne_eqb p q (λ e. n (sym e)))
 
     may_p : may_perform p 0 v.entries ≡ 0
     may_p =
-        may-append t.entries (Returned p (doubt (process (world_of t) p).next (process (world_of t) p).claim (entries_of (process (world_of t) p).row)) ∷ entries_for (ended_if_over p b.local.phase)) p 0
+        may-append t.entries (Returned p (doubt (process (world_of_tale t) p).next (process (world_of_tale t) p).claim (entries_of (process (world_of_tale t) p).row)) ∷ entries_for (ended_if_over p b.local.phase)) p 0
         ∙ end_may p p (if p == p then 0 else may_perform p 0 t.entries) b.local.phase
         ∙ ap (λ c. if c then 0 else may_perform p 0 t.entries) (eq-eqb p p refl)
 
@@ -113,10 +113,10 @@ return_shows g s words t p law size o same others =
 
 module _ (g : Givens) (s : Shared) (t : Tale) (told : IsTold g t) (shows : Shows g s t) (p : ℕ) (o : IsWorker g p) where
   abbrev w : World
-  w = world_of t
+  w = world_of_tale t
 
   abbrev a : Process
-  a = process (world_of t) p
+  a = process (world_of_tale t) p
 
   abbrev heard : List ℕ
   heard = numbered [] s.lists p
@@ -166,12 +166,9 @@ module _ (g : Givens) (s : Shared) (t : Tale) (told : IsTold g t) (shows : Shows
 
   -- a turn
   heard_is : (x : Want) → loaded_value w x ≡ get_or s.words (loaded_word g x) 0 → heard_of g s.words x ≡ loaded_value w x
-  heard_is (StoreNext j) h = refl
   heard_is (LoadNext q) h = sym h
   heard_is (LoadDone q k) h = sym h
-  heard_is (StoreClaim c j) h = refl
-  heard_is (StoreDone k j) h = refl
-  heard_is Nothing h = refl
+  heard_is x h = refl
 
   turns : (fresh : Bool) → standing_of g p heard ≡ Some (Going (with_record g p a.local) fresh) → wants_nothing a.local.phase ≡ false
       → Shows g (with_heard s p (heard_of g s.words (want a.local)) (words_after g p (want a.local) s.words)) (tale_after_move g t (Turn p))
@@ -203,10 +200,10 @@ module _ (g : Givens) (s : Shared) (t : Tale) (told : IsTold g t) (shows : Shows
       words : words_after g p (want a.local) s.words ≡ words_of v.processes
       words = ap (λ l. words_after g p (want a.local) l) shows.words ∙ sym (turn_stores g w told.lawful p o)
 
-      now_p : process (world_of v) p ≡ c
+      now_p : process (world_of_tale v) p ≡ c
       now_p = put_here g w p c told.lawful.size o
 
-      now_q : (q : ℕ) → q ≢ p → process (world_of v) q ≡ process w q
+      now_q : (q : ℕ) → q ≢ p → process (world_of_tale v) q ≡ process w q
       now_q q n = numbered-put_other nobody c t.processes p q n
 
       may_q : (q : ℕ) → q ≢ p → may_perform q 0 v.entries ≡ may_perform q 0 t.entries
@@ -231,7 +228,7 @@ module _ (g : Givens) (s : Shared) (t : Tale) (told : IsTold g t) (shows : Shows
           }
 
   -- the record of p after its turn
-  pub turned_local : wants_nothing a.local.phase ≡ false → (process (world_of (tale_after_move g t (Turn p))) p).local ≡ record_after g p (loaded_value w (want a.local)) a.local
+  pub turned_local : wants_nothing a.local.phase ≡ false → (process (world_of_tale (tale_after_move g t (Turn p))) p).local ≡ record_after g p (loaded_value w (want a.local)) a.local
   turned_local wants =
       ap (λ b. (process (if b then w else world_after_step g w p a) p).local) (mine.gone ∙ wants)
       ∙ ap (λ (y : Process). y.local) (put_here g w p (process_after (want a.local) a (record_after g p (loaded_value w (want a.local)) a.local)) told.lawful.size o)
@@ -243,13 +240,9 @@ module _ (g : Givens) (s : Shared) (t : Tale) (told : IsTold g t) (shows : Shows
       (λ q x n. same_worker g (numbered [] s.lists q) (numbered [] s.lists q) t (tale_after_move g t (Leave p)) q refl (now_q q n) (may_q q n) (shows.workers q x))
     where
       goes_on : (phase : Phase) → can_leave phase ≡ true → wants_nothing phase ≡ false
-      goes_on (Announcing j) h = refl
-      goes_on (Trying j q) h = refl
-      goes_on (Reading j q) h = refl
-      goes_on (Claiming j) h = refl
-      goes_on (Holding j) h = refl
       goes_on Over h = absurd (true≢false (sym h))
       goes_on Left h = absurd (true≢false (sym h))
+      goes_on phase h = refl
 
       here : a.gone ≡ false
       here = mine.gone ∙ goes_on a.local.phase may
@@ -266,7 +259,7 @@ module _ (g : Givens) (s : Shared) (t : Tale) (told : IsTold g t) (shows : Shows
       words : set s.words (next_word p) 0 ≡ words_of (tale_after_move g t (Leave p)).processes
       words = ap (λ l. set l (next_word p) 0) shows.words ∙ sym (leave_stores g w told.lawful p o) ∙ ap (λ (y : World). words_of y.processes) (sym is)
 
-      now_q : (q : ℕ) → q ≢ p → process (world_of (tale_after_move g t (Leave p))) q ≡ process w q
+      now_q : (q : ℕ) → q ≢ p → process (world_of_tale (tale_after_move g t (Leave p))) q ≡ process w q
       now_q q n = ap (λ (y : World). numbered nobody y.processes q) is ∙ numbered-put_other nobody c t.processes p q n
 
       may_q : (q : ℕ) → q ≢ p → may_perform q 0 (tale_after_move g t (Leave p)).entries ≡ may_perform q 0 t.entries

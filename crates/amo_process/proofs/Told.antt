@@ -13,7 +13,7 @@ use Rattle.amo_kk.specs.Machine.{LocalView}
 use Rattle.amo_kk.specs.World.{process, done_count}
 use Rattle.amo_kk.specs.declared.givens.Givens.{Givens}
 use Rattle.amo_kk.specs.declared.phase.Phase.{Phase}
-use Rattle.amo_kk.specs.declared.phase.Phase.TheVariants.{Announcing, Trying, Reading, Claiming, Holding, Over, Left}
+use Rattle.amo_kk.specs.declared.phase.Phase.TheVariants.{Claiming, Over, Left}
 use Rattle.amo_kk.specs.declared.model.Record.{Record}
 use Rattle.amo_kk.specs.declared.event.Event.TheVariants.{Claimed, Done, Ended, Halted, Left as LeftEvent}
 use Rattle.amo_kk.specs.declared.event.Move.TheVariants.{Turn}
@@ -24,7 +24,7 @@ use Rattle.amo_return.specs.declared.model.Act.TheVariants.{Moves, Returns}
 use Rattle.amo_return.specs.declared.model.Entry.{Entry}
 use Rattle.amo_return.specs.declared.model.Entry.TheVariants.{Shown, Returned}
 use Rattle.amo_return.specs.declared.model.Tale.{Tale}
-use Rattle.amo_return.specs.Return.{filed_in, world_of, tale_after_move, tale_with_return, tale_after, tale_after_all, opening_tale, tale_of}
+use Rattle.amo_return.specs.Return.{filed_in, world_of_tale, tale_after_move, tale_with_return, tale_after, tale_after_all, opening_tale, tale_of}
 use Rattle.amo_return.specs.Story.{IsStory, may_perform, HasNoDeed}
 use Rattle.amo_return.proofs.Once.{may-append, one_stretch}
 use Rattle.amo_return.proofs.Tales.{IsTold, act_told, acts_told, opening_told}
@@ -53,7 +53,7 @@ one_more : (g : Givens) (t : Tale) (x : Act) → HasMore t (tale_after g t x)
 one_more g t (Moves m) = record { more = _; is = refl }
 one_more g t (Returns p) = go (is_within g.workers p)
   where
-    go : (b : Bool) → HasMore t (if b then tale_with_return g t p (process (world_of t) p) else t)
+    go : (b : Bool) → HasMore t (if b then tale_with_return g t p (process (world_of_tale t) p) else t)
     go true = record { more = _; is = refl }
     go false = record { more = []; is = sym (append-nil t.entries) }
 
@@ -102,14 +102,14 @@ cancel xs ys zs e = sym (drop-append_seam xs ys) ∙ ap (drop (length xs)) e ∙
 
 -- what is told is nothing, or what is in the hand
 told_hand : (g : Givens) (s : Shared) (t : Tale) (p : ℕ) → IsTold g t → (shows : Shows g s t) → (o : IsWorker g p)
-    → (told_to_perform g s p ≡ 0) ⊎ (told_to_perform g s p ≡ job_in_hand (process (world_of t) p).local.phase)
+    → (told_to_perform g s p ≡ 0) ⊎ (told_to_perform g s p ≡ job_in_hand (process (world_of_tale t) p).local.phase)
 told_hand g s t p told shows o = ⊎_elim
-    (λ (b : IsBeginning g p (numbered [] s.lists p) (process (world_of t) p)). inl (ap told_by (beginning_stands g s t told shows p o b)))
-    (λ (h : IsGoing g p (numbered [] s.lists p) (process (world_of t) p)). by h.0 (ap told_by h.1))
+    (λ (b : IsBeginning g p (numbered [] s.lists p) (process (world_of_tale t) p)). inl (ap told_by (beginning_stands g s t told shows p o b)))
+    (λ (h : IsGoing g p (numbered [] s.lists p) (process (world_of_tale t) p)). by h.0 (ap told_by h.1))
     (shows.workers p o).stands
   where
-    by : (f : Bool) → told_to_perform g s p ≡ (if f then 0 else job_in_hand (process (world_of t) p).local.phase)
-        → (told_to_perform g s p ≡ 0) ⊎ (told_to_perform g s p ≡ job_in_hand (process (world_of t) p).local.phase)
+    by : (f : Bool) → told_to_perform g s p ≡ (if f then 0 else job_in_hand (process (world_of_tale t) p).local.phase)
+        → (told_to_perform g s p ≡ 0) ⊎ (told_to_perform g s p ≡ job_in_hand (process (world_of_tale t) p).local.phase)
     by true h = inl h
     by false h = inr h
 
@@ -118,43 +118,34 @@ hand_empties : (g : Givens) (p v : ℕ) (r : Record) → 1 ≤ job_in_hand r.pha
 hand_empties g p v r some = go r.phase refl (has_done g p v r r.phase refl) some
   where
     go : (phase : Phase) → r.phase ≡ phase → HasDone r (record_after_phase g p v r r.phase) phase → 1 ≤ job_in_hand phase → job_in_hand (record_after_phase g p v r r.phase).phase ≡ 0
-    go (Announcing j) is d h = d.held_now
-    go (Trying j q) is d h = d.held_now
-    go (Reading j q) is d h = d.held_now
     go (Claiming j) is d h = absurd (omega arith)
-    go (Holding j) is d h = d.held_now
-    go Over is d h = d.held_now
-    go Left is d h = d.held_now
+    go phase is d h = d.held_now
 
 -- a worker that is told to perform a job is told so no more after its step
 step_ends : (g : Givens) (s : Shared) (t : Tale) (p j : ℕ) → IsTold g t → (shows : Shows g s t) → (o : IsWorker g p) → 1 ≤ j → told_to_perform g s p ≡ j
     → told_to_perform g (shared_after g s (Steps p)) p ≡ 0
 step_ends g s t p j told shows o some e = ⊎_elim
     (λ (z : told_to_perform g s p ≡ 0). absurd (omega arith))
-    (λ (h : told_to_perform g s p ≡ job_in_hand (process (world_of t) p).local.phase). ⊎_elim
-    (λ (b : IsBeginning g p (numbered [] s.lists p) (process (world_of t) p)). absurd (let z = ap told_by (beginning_stands g s t told shows p o b) in omega arith))
-    (λ (k : IsGoing g p (numbered [] s.lists p) (process (world_of t) p)). after k.0 k.1 (sym h ∙ e))
+    (λ (h : told_to_perform g s p ≡ job_in_hand (process (world_of_tale t) p).local.phase). ⊎_elim
+    (λ (b : IsBeginning g p (numbered [] s.lists p) (process (world_of_tale t) p)). absurd (let z = ap told_by (beginning_stands g s t told shows p o b) in omega arith))
+    (λ (k : IsGoing g p (numbered [] s.lists p) (process (world_of_tale t) p)). after k.0 k.1 (sym h ∙ e))
     (shows.workers p o).stands)
     (told_hand g s t p told shows o)
   where
     goes : (phase : Phase) → 1 ≤ job_in_hand phase → wants_nothing phase ≡ false
-    goes (Announcing i) h = refl
-    goes (Trying i q) h = refl
-    goes (Reading i q) h = refl
-    goes (Claiming i) h = refl
-    goes (Holding i) h = refl
     goes Over h = absurd (omega arith)
     goes Left h = absurd (omega arith)
+    goes phase h = refl
 
     now : Tale
     now = tale_after_move g t (Turn p)
 
-    after : (f : Bool) → standing_of g p (numbered [] s.lists p) ≡ Some (Going (with_record g p (process (world_of t) p).local) f) → job_in_hand (process (world_of t) p).local.phase ≡ j
+    after : (f : Bool) → standing_of g p (numbered [] s.lists p) ≡ Some (Going (with_record g p (process (world_of_tale t) p).local) f) → job_in_hand (process (world_of_tale t) p).local.phase ≡ j
         → told_to_perform g (shared_after g s (Steps p)) p ≡ 0
-    after f is held = ⊎_elim (λ z. z) (λ h. h ∙ ap (λ (r : Record). job_in_hand r.phase) (turned_local g s t told shows p o wants) ∙ hand_empties g p _ (process (world_of t) p).local (let x = held in omega arith)) (told_hand g (shared_after g s (Steps p)) now p (act_told g t (Moves (Turn p)) g.limits told) shown o)
+    after f is held = ⊎_elim (λ z. z) (λ h. h ∙ ap (λ (r : Record). job_in_hand r.phase) (turned_local g s t told shows p o wants) ∙ hand_empties g p _ (process (world_of_tale t) p).local (let x = held in omega arith)) (told_hand g (shared_after g s (Steps p)) now p (act_told g t (Moves (Turn p)) g.limits told) shown o)
       where
-        wants : wants_nothing (process (world_of t) p).local.phase ≡ false
-        wants = goes (process (world_of t) p).local.phase (let x = held in omega arith)
+        wants : wants_nothing (process (world_of_tale t) p).local.phase ≡ false
+        wants = goes (process (world_of_tale t) p).local.phase (let x = held in omega arith)
 
         acts : acts_of_one g s (Steps p) ≡ Moves (Turn p) ∷ []
         acts = ap (acts_of_step p) is ∙ ap (λ b. if b then [] else Moves (Turn p) ∷ []) wants
@@ -240,10 +231,10 @@ told_once g hs more p q j o m w x some first second = (once.0, no_step g (shared
 
 -- where a worker is told that it has ended, enough is filed
 over_is_late : (g : Givens) (hs : List Happening) (p : ℕ) (l : LocalView) (fresh : Bool) → AreOfWorkers g hs → IsWorker g p → standing_at g (shared_of g hs) p ≡ Some (Going l fresh) → is_over l.state.phase ≡ true
-    → bound g ≤ done_count (world_of (tale_of g (acts_of g hs)))
-over_is_late g hs p l fresh o w is over = enough_done g (world_of (tale_of g (acts_of g hs))) p told.lawful w (⊎_elim
-    (λ (b : IsBeginning g p (numbered [] (shared_of g hs).lists p) (process (world_of (tale_of g (acts_of g hs))) p)). absurd (true≢false (sym (ap is_going (sym (beginning_stands g (shared_of g hs) (tale_of g (acts_of g hs)) told shows p w b) ∙ is)))))
-    (λ (h : IsGoing g p (numbered [] (shared_of g hs).lists p) (process (world_of (tale_of g (acts_of g hs))) p)). ap (λ (r : Record). is_over r.phase) (ap (record_in l.state) (sym h.1 ∙ is)) ∙ over)
+    → bound g ≤ done_count (world_of_tale (tale_of g (acts_of g hs)))
+over_is_late g hs p l fresh o w is over = enough_done g (world_of_tale (tale_of g (acts_of g hs))) p told.lawful w (⊎_elim
+    (λ (b : IsBeginning g p (numbered [] (shared_of g hs).lists p) (process (world_of_tale (tale_of g (acts_of g hs))) p)). absurd (true≢false (sym (ap is_going (sym (beginning_stands g (shared_of g hs) (tale_of g (acts_of g hs)) told shows p w b) ∙ is)))))
+    (λ (h : IsGoing g p (numbered [] (shared_of g hs).lists p) (process (world_of_tale (tale_of g (acts_of g hs))) p)). ap (λ (r : Record). is_over r.phase) (ap (record_in l.state) (sym h.1 ∙ is)) ∙ over)
     (shows.workers p w).stands)
   where
     told : IsTold g (tale_of g (acts_of g hs))
@@ -257,5 +248,5 @@ pub words_are_late : (g : Givens) (hs : List Happening) (p : ℕ) (l : LocalView
     → bound g ≤ filed_in g (shared_of g hs).words
 words_are_late g hs p l fresh o w is over =
     subst (λ n. bound g ≤ n)
-    (sym (ap (filed_in g) (always_shows g hs o).words ∙ filed_is g (world_of (tale_of g (acts_of g hs))) (acts_told g (opening_tale g) (acts_of g hs) g.limits (opening_told g g.limits)).lawful))
+    (sym (ap (filed_in g) (always_shows g hs o).words ∙ filed_is g (world_of_tale (tale_of g (acts_of g hs))) (acts_told g (opening_tale g) (acts_of g hs) g.limits (opening_told g g.limits)).lawful))
     (over_is_late g hs p l fresh o w is over)

@@ -68,16 +68,12 @@ module _ (g : Givens) (p : ℕ) (o : IsWorker g p) where
   wanted_within fronts Nothing fit front = tt
 
   from_within : (r : Record) → IsSoundRecord g p r → (x : Want) → want r ≡ x → AreWithin g (items_from g p r x)
-  from_within r fit (StoreNext j) is = wanted_within r.fronts (StoreNext j) (subst (λ x. WantFits g p x) is (want_fits g p r g.limits o fit)) fit.front
-  from_within r fit (LoadNext q) is = wanted_within r.fronts (LoadNext q) (subst (λ x. WantFits g p x) is (want_fits g p r g.limits o fit)) fit.front
-  from_within r fit (LoadDone q k) is = wanted_within r.fronts (LoadDone q k) (subst (λ x. WantFits g p x) is (want_fits g p r g.limits o fit)) fit.front
-  from_within r fit (StoreClaim c j) is = wanted_within r.fronts (StoreClaim c j) (subst (λ x. WantFits g p x) is (want_fits g p r g.limits o fit)) fit.front
   from_within r fit (StoreDone k j) is =
       let next = after_fit g g.limits p o r 0 fit (subst (λ x. MayLoad g 0 x) (sym is) tt) in (
         (wanted_within r.fronts (StoreDone k j) (subst (λ x. WantFits g p x) is (want_fits g p r g.limits o fit)) fit.front).0,
         wanted_within (record_after g p 0 r).fronts (want (record_after g p 0 r)) (want_fits g p (record_after g p 0 r) g.limits o next) next.front,
       )
-  from_within r fit Nothing is = tt
+  from_within r fit x is = wanted_within r.fronts x (subst (λ y. WantFits g p y) is (want_fits g p r g.limits o fit)) fit.front
 
 own_within : (g : Givens) (p : ℕ) (heard : List ℕ) (word : ℕ) → IsWorker g p → standing_of g p heard ≡ Some (Beginning word) → AreWithin g (items_beginning g p word)
 own_within g p [] word o stands =

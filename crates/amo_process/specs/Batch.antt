@@ -4,7 +4,7 @@ use Rattle.std.specs.List.{filter, range_with_len}
 use Rattle.amo_sets.specs.Lists.{numbered}
 use Rattle.amo_kk.specs.Record.{wants_nothing}
 use Rattle.amo_kk.specs.Step.{want, is_load, record_after}
-use Rattle.amo_kk.specs.Words.{next_word, claim_word, done_word}
+use Rattle.amo_kk.specs.Words.{next_word, claim_word, done_word, word_count}
 use Rattle.amo_kk.specs.declared.givens.Givens.{Givens}
 use Rattle.amo_kk.specs.declared.model.Record.{Record}
 use Rattle.amo_kk.specs.declared.phase.Want.{Want}
@@ -13,7 +13,7 @@ use Rattle.amo_process.specs.declared.standing.Standing.{Standing}
 use Rattle.amo_process.specs.declared.standing.Standing.TheVariants.{Beginning, Going}
 use Rattle.amo_process.specs.declared.batch.Item.{Item}
 use Rattle.amo_process.specs.declared.batch.Item.TheVariants.{Store, Load, LoadUntilZero}
-use Rattle.amo_process.specs.Heard.{word_count, to_perform, in_doubt}
+use Rattle.amo_process.specs.Heard.{to_perform, in_doubt}
 use Rattle.amo_process.specs.Shared.{Shared, with_heard}
 
 -- the workers above q, without p
@@ -48,13 +48,9 @@ items_wanted g p fronts Nothing = []
 
 -- the same; after a filing comes what the worker wants then, since a store lets nothing be heard
 abbrev pub items_from : Givens → ℕ → Record → Want → List Item
-items_from g p r (StoreNext j) = items_wanted g p r.fronts (StoreNext j)
-items_from g p r (LoadNext q) = items_wanted g p r.fronts (LoadNext q)
-items_from g p r (LoadDone q k) = items_wanted g p r.fronts (LoadDone q k)
-items_from g p r (StoreClaim c j) = items_wanted g p r.fronts (StoreClaim c j)
 items_from g p r (StoreDone k j) =
     Store (done_word g p k) j ∷ items_wanted g p (record_after g p 0 r).fronts (want (record_after g p 0 r))
-items_from g p r Nothing = []
+items_from g p r want = items_wanted g p r.fronts want
 
 -- its own words, from this one on
 abbrev pub items_beginning : Givens → ℕ → ℕ → List Item
@@ -78,12 +74,8 @@ items_to_filing g p (Some (Going l fresh)) = items_wanted g p l.state.fronts (wa
 
 -- whether this is a filing
 abbrev pub is_filing : Want → Bool
-is_filing (StoreNext j) = false
-is_filing (LoadNext q) = false
-is_filing (LoadDone q k) = false
-is_filing (StoreClaim c j) = false
 is_filing (StoreDone k j) = true
-is_filing Nothing = false
+is_filing want = false
 
 -- whether a worker that stands so is about to file a job
 abbrev pub files : Standing → Bool
@@ -116,9 +108,9 @@ wants_load (Going l fresh) = is_load (want l.state)
 
 -- Worker p, which stands so, wants what is left of its batch; where nothing is left, the batch was as long as could be: what
 -- the worker wants now isn't a load.
-abbrev pub WantsRest : Givens → ℕ → Standing → List Item → Type 0
-WantsRest g p s [] = wants_load s ≡ false
-WantsRest g p s (item ∷ rest) = items_of g p s ≡ item ∷ rest
+abbrev pub WantsLeft : Givens → ℕ → Standing → List Item → Type 0
+WantsLeft g p s [] = wants_load s ≡ false
+WantsLeft g p s (item ∷ rest) = items_of g p s ≡ item ∷ rest
 
 -- whether worker p loads anything by these, or announces a job
 abbrev pub loads_or_announces : ℕ → List Item → Bool

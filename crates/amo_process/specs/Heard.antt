@@ -5,7 +5,7 @@ use Rattle.std.specs.Prelude.{◌≡◌, ℕ, zero, suc, ◌+◌, ◌*◌, ◌<�
 use Rattle.amo_kk.specs.Record.{job_in_hand}
 use Rattle.amo_kk.specs.Step.{want, record_after}
 use Rattle.amo_kk.specs.Again.{entries_of, are_own_words, record_again}
-use Rattle.amo_kk.specs.Words.{next_word, claim_word, done_word}
+use Rattle.amo_kk.specs.Words.{word_count, next_word, claim_word, done_word}
 use Rattle.amo_kk.specs.declared.givens.Givens.{Givens}
 use Rattle.amo_kk.specs.declared.model.Record.{Record}
 use Rattle.amo_kk.specs.declared.phase.Want.{Want}
@@ -63,10 +63,6 @@ abbrev pub standing_of : Givens → ℕ → List ℕ → Option Standing
 standing_of g p [] = Some (Beginning (next_word p))
 standing_of g p (next ∷ []) = Some (Beginning (claim_word g p))
 standing_of g p (next ∷ claim ∷ row) = standing_in g p next claim row (rest_of row)
-
--- how many shared words there are
-abbrev pub word_count : Givens → ℕ
-word_count g = g.workers * (g.jobs + 3) + 1
 
 -- it is where worker p of these givens may stand: the own word to be loaded is one of the words
 abbrev pub IsOf : Givens → ℕ → Standing → Type 0

@@ -4,7 +4,7 @@ use Rattle.amo_sets.specs.Lists.{numbered, put, table}
 use Rattle.amo_kk.specs.Givens.{IsWorker}
 use Rattle.amo_kk.specs.Record.{wants_nothing, can_leave}
 use Rattle.amo_kk.specs.Step.{want, is_load}
-use Rattle.amo_kk.specs.Words.{words_of, next_word, loaded_word, words_after}
+use Rattle.amo_kk.specs.Words.{words_of, next_word, loaded_word, words_after, word_count}
 use Rattle.amo_kk.specs.Again.{entries_of}
 use Rattle.amo_kk.specs.World.{process}
 use Rattle.amo_kk.specs.declared.givens.Givens.{Givens}
@@ -14,7 +14,7 @@ use Rattle.amo_kk.specs.declared.event.Move.TheVariants.{Turn, Leave}
 use Rattle.amo_return.specs.declared.model.Act.{Act}
 use Rattle.amo_return.specs.declared.model.Act.TheVariants.{Moves, Returns}
 use Rattle.amo_return.specs.declared.model.Tale.{Tale}
-use Rattle.amo_return.specs.Return.{process_after_return, world_of}
+use Rattle.amo_return.specs.Return.{process_after_return, world_of_tale}
 use Rattle.amo_return.specs.Story.{may_perform}
 use Rattle.amo_process.specs.declared.model.Happening.{Happening}
 use Rattle.amo_process.specs.declared.model.Happening.TheVariants.{Steps, Begins, Leaves}
@@ -22,7 +22,7 @@ use Rattle.amo_process.specs.declared.access.Access.{Access}
 use Rattle.amo_process.specs.declared.access.Access.TheVariants.{Load, Store, Nothing}
 use Rattle.amo_process.specs.declared.standing.Standing.{Standing}
 use Rattle.amo_process.specs.declared.standing.Standing.TheVariants.{Beginning, Going}
-use Rattle.amo_process.specs.Heard.{word_count, standing_of, told_by}
+use Rattle.amo_process.specs.Heard.{standing_of, told_by}
 
 -- The shared words, and for each worker what its process has heard.
 pub record Shared : Type 0 where
@@ -127,8 +127,8 @@ IsGoing g p heard a = (fresh : Bool) × (standing_of g p heard ≡ Some (Going (
 
 -- What worker p is told by its list is what it is in the tale.
 pub record ShowsWorker (g : Givens) (heard : List ℕ) (t : Tale) (p : ℕ) : Type 0 where
-  pub gone : (process (world_of t) p).gone ≡ wants_nothing (process (world_of t) p).local.phase
-  pub stands : IsBeginning g p heard (process (world_of t) p) ⊎ IsGoing g p heard (process (world_of t) p)
+  pub gone : (process (world_of_tale t) p).gone ≡ wants_nothing (process (world_of_tale t) p).local.phase
+  pub stands : IsBeginning g p heard (process (world_of_tale t) p) ⊎ IsGoing g p heard (process (world_of_tale t) p)
   pub performs : may_perform p 0 t.entries ≡ told_by (standing_of g p heard)
 
 -- The words are those of the tale, and so is each worker.

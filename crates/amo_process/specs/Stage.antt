@@ -1,4 +1,4 @@
--- What a stepped process keeps.
+-- Within this crate: what a stepped process keeps.
 use Rattle.std.specs.Prelude.{◌≡◌, ⊤, ℕ, ◌+◌, ◌≤◌, List, Option, Some, None, length, drop}
 use Rattle.amo_kk.specs.Givens.{IsWorker}
 use Rattle.amo_kk.specs.Choice.{first_record}

@@ -10,7 +10,7 @@ ghost use Rattle.amo_process.specs.declared.batch.Item.{Item};
 ghost use Rattle.amo_process.specs.Heard.{standing_of};
 ghost use Rattle.amo_process.specs.Stepped.{standing_after};
 ghost use Rattle.amo_process.specs.Shared.{Shared, shared_after, shared_of, standing_at, told_to_perform, AreOfWorkers, HasNoStep};
-ghost use Rattle.amo_process.specs.Batch.{items_of, items_to_filing, files, left_after_all, WantsRest, IsAtEnd, HasNoJob, AreWithin, StoresFirst, carried_out};
+ghost use Rattle.amo_process.specs.Batch.{items_of, items_to_filing, files, left_after_all, WantsLeft, IsAtEnd, HasNoJob, AreWithin, StoresFirst, carried_out};
 ghost use Rattle.amo_process.specs.Batched.{batched_of};
 
 /// A process by batches is a process by single accesses. Where a part of a batch was heard, whatever was heard of it, the
@@ -19,7 +19,7 @@ ghost use Rattle.amo_process.specs.Batched.{batched_of};
 pub fn batches_are_accesses()
     ensures { (g : Givens) (p : ℕ) (heard more : List ℕ) (s t : Standing) (rest : List Item) → IsWorker g p
         → standing_of g p heard ≡ Some s → left_after_all (items_of g p s) more ≡ Some rest → standing_of g p (heard ++ more) ≡ Some t
-        → WantsRest g p t rest }
+        → WantsLeft g p t rest }
 {}
 
 /// A batch is as long as it can be. Once nothing is left of it, the worker wants no load; and where it has loaded nothing by it

@@ -3,8 +3,8 @@ ghost use Rattle.std.specs.Prelude.{◌≡◌, ◌<◌, ◌≤◌, ◌+◌, true
 ghost use Rattle.amo_kk.specs.Givens.{IsWorker};
 ghost use Rattle.amo_kk.specs.Fits.{WantFits};
 ghost use Rattle.amo_kk.specs.Record.{job_in_hand};
-ghost use Rattle.amo_kk.specs.Words.{next_word};
-ghost use Rattle.amo_process.specs.Heard.{word_count, own_word, told_by, doubted_by};
+ghost use Rattle.amo_kk.specs.Words.{next_word, word_count};
+ghost use Rattle.amo_process.specs.Heard.{own_word, told_by, doubted_by};
 ghost use Rattle.amo_process.specs.Stepped.{new_process, process_after, access_for, access_of, is_store, may_leave, has_ended, is_refused, one_or_none, IsWord};
 ghost use Rattle.amo_process.specs.Batch.{items_to_filing};
 ghost use Rattle.amo_process.specs.declared.access.Access.TheVariants.{Store};

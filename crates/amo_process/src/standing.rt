@@ -4,8 +4,8 @@ ghost use Rattle.amo_kk.specs.Givens.{IsWorker};
 ghost use Rattle.amo_kk.specs.Choice.{first_record};
 ghost use Rattle.amo_kk.specs.Step.{want, record_after};
 ghost use Rattle.amo_kk.specs.Again.{entries_of};
-ghost use Rattle.amo_kk.specs.Words.{done_word};
-ghost use Rattle.amo_process.specs.Heard.{can_hear, record_after_all, rest_of, word_count, standing_in, standing_of, IsOf};
+ghost use Rattle.amo_kk.specs.Words.{done_word, word_count};
+ghost use Rattle.amo_process.specs.Heard.{can_hear, record_after_all, rest_of, standing_in, standing_of, IsOf};
 
 use amo_kk::{Givens, Local, NoSuchWords, Want};
 use thiserror::Error;

@@ -33,18 +33,10 @@ status_of Write = 4
 
 -- the reader has failed where this fault came
 abbrev pub is_of_reader : Fault → Bool
-is_of_reader (Plan f) = false
-is_of_reader NoCommand = false
-is_of_reader NoMemory = false
-is_of_reader Thread = false
 is_of_reader Read = true
-is_of_reader Write = false
+is_of_reader fault = false
 
 -- the writer has failed where this fault came
 abbrev pub is_of_writer : Fault → Bool
-is_of_writer (Plan f) = false
-is_of_writer NoCommand = false
-is_of_writer NoMemory = false
-is_of_writer Thread = false
-is_of_writer Read = false
 is_of_writer Write = true
+is_of_writer fault = false

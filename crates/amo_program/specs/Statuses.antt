@@ -18,12 +18,8 @@ IsAnswer wanted found = MatchResult found (λ command. wanted ≡ Some command) 
 
 -- Nothing that was written to `out` waits for a flush where it is a text that was written whole before the fault came.
 abbrev pub IsPassedOn : Fault → Bool → Type 0
-IsPassedOn (Plan f) waits = ⊤
-IsPassedOn NoCommand waits = ⊤
-IsPassedOn NoMemory waits = ⊤
 IsPassedOn Thread waits = waits ≡ false
-IsPassedOn Read waits = ⊤
-IsPassedOn Write waits = ⊤
+IsPassedOn fault waits = ⊤
 
 module _ {C : Type 0} where
   -- What is wanted was written to `out`, and nothing else. The reader is at its end, and neither has failed.

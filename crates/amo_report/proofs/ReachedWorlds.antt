@@ -4,7 +4,7 @@ use Rattle.std.proofs.Common.{◌≡◌, ℕ, ◌+◌, ◌≤◌, List, [], ◌�
 use Rattle.std.specs.Prelude.{replicate}
 use Rattle.std.proofs.lemmas.List.{length-replicate}
 use Rattle.amo_kk.specs.Object.{first_object}
-use Rattle.amo_kk.specs.World.{process, world_after_halt, world_after_moves, opening_world}
+use Rattle.amo_kk.specs.World.{process, world_after_halt, world_after_moves, opening_world, world_of}
 use Rattle.amo_kk.specs.Alone.{world_after_turns}
 use Rattle.amo_kk.specs.Lawful.{IsLawful}
 use Rattle.amo_kk.specs.declared.givens.Givens.{Givens}
@@ -26,7 +26,7 @@ reached_lawful g most w way = subst (IsLawful g) way.leads (always_lawful g way.
 pub reached_verdict : (g : Givens) (most : ℕ) (w : World) → IsReached g most w → verdict g w.history ≡ Lawful
 reached_verdict g most w way =
     subst (λ (x : World). verdict g x.history ≡ Lawful) way.leads
-    (lawful_history g (world_after_moves g (opening_world g) way.moves).history (run_first_bad g (first_object g) (world_after_moves g (opening_world g) way.moves).history (always_runs g way.moves g.limits).0))
+    (lawful_history g (world_of g way.moves).history (run_first_bad g (first_object g) (world_of g way.moves).history (always_runs g way.moves g.limits).0))
 
 pub reached_steps : (g : Givens) (most : ℕ) (w : World) (q : ℕ) → IsReached g most w → (process w q).local.steps ≤ most
 reached_steps g most w q way =
@@ -52,5 +52,5 @@ reached_turns g most w p n way = reached_more g most n w (replicate n (Turn p)) 
 pub reached_halt : (g : Givens) (most : ℕ) (w : World) (p : ℕ) → IsReached g most w → IsReached g (most + 1) (world_after_halt w p)
 reached_halt g most w p way = reached_more g most 1 w (Halt p ∷ []) (lit≤ tt) way
 
-pub reached_first : (g : Givens) (most : ℕ) (ms : List Move) → length ms ≤ most → IsReached g most (world_after_moves g (opening_world g) ms)
+pub reached_first : (g : Givens) (most : ℕ) (ms : List Move) → length ms ≤ most → IsReached g most (world_of g ms)
 reached_first g most ms l = record { moves = ms; few = l; leads = refl }

@@ -2,13 +2,12 @@
 use Rattle.std.proofs.Common.{◌≡◌, ℕ, zero, suc, ◌+◌, true, List, [], ◌∷◌, ◌++◌, take, refl, sym, ap, ◌∙◌, add-one}
 use Rattle.std.proofs.lemmas.Bool.{and_parts, and_from}
 use Rattle.amo_sets.specs.Lists.{table}
-use Rattle.amo_kk.specs.World.{world_after_moves, are_in_range}
+use Rattle.amo_kk.specs.World.{world_after_moves, are_in_range, round, rounds}
 use Rattle.amo_kk.specs.declared.givens.Givens.{Givens}
 use Rattle.amo_kk.specs.declared.event.Move.{Move}
 use Rattle.amo_kk.specs.declared.model.World.{World}
 use Rattle.amo_kk.proofs.Moves.{world_after_moves-append}
 use Rattle.amo_world.specs.Views.{WorldView}
-use Rattle.amo_report.specs.Texts.{round, rounds}
 
 -- moves that a plan keeps can be run, wherever it hands them
 pub range_of : (g h : Givens) (moves handed : List Move) → h ≡ g → handed ≡ moves → are_in_range g moves ≡ true → are_in_range h handed ≡ true

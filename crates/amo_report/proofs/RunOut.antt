@@ -23,6 +23,8 @@ use Rattle.amo_kk.proofs.Growth.{keeps_claims, claims_more, over_wants}
 use Rattle.amo_kk.proofs.Alone.{claims_or_ends_soon}
 use Rattle.amo_world.proofs.Resting.{here_next}
 use Rattle.amo_plan.specs.Plan.{PlanSeen}
+use Rattle.amo_report.specs.declared.stops.TheConstants.{MOST_STOPS}
+use Rattle.amo_report.specs.Reached.{most_before_all_ends}
 use Rattle.amo_report.specs.Stops.{lone_turns, LoneRun, after_lone_run, after_lone_runs, run_out, all_run_out, stopped_world, stopped}
 use Rattle.amo_report.proofs.ReachedWorlds.{reached_lawful}
 use Rattle.amo_report.proofs.Stopped.{turns_are, after_lone_run_here, after_lone_run_gone, IsUnderLimit, often_under, run_out_under, all_under, stopped_reached}
@@ -125,18 +127,18 @@ all_out g (suc n) moves start under l q low high = ⊎_elim
     (cases_eq q (suc n))
 
 -- nobody is left in the end
-pub nobody_left : (plan : PlanSeen) (p k q : ℕ) → length plan.moves ≤ 1000 → (process (stopped plan p k).world q).gone ≡ true
+pub nobody_left : (plan : PlanSeen) (p k q : ℕ) → length plan.moves ≤ MOST_STOPS → (process (stopped plan p k).world q).gone ≡ true
 nobody_left plan p k zero few = refl
 nobody_left plan p k (suc q) few = ⊎_elim
-    (λ (l : q < plan.givens.workers). all_out plan.givens plan.givens.workers 1001 start under (omega arith) (suc q) (omega arith) (omega arith))
+    (λ (l : q < plan.givens.workers). all_out plan.givens plan.givens.workers most_before_all_ends start under (omega arith) (suc q) (omega arith) (omega arith))
     (λ (m : plan.givens.workers ≤ q). ap (λ (y : Process). y.gone) (numbered_past nobody (stopped plan p k).world.processes (suc q) (let s = law.size in omega arith)))
     (cases_lt q plan.givens.workers)
   where
     start : LoneRun
     start = record { world = stopped_world plan p k; most = 0 }
 
-    under : IsUnderLimit plan.givens 1001 start
+    under : IsUnderLimit plan.givens most_before_all_ends start
     under = record { reached = stopped_reached plan p k few; most = omega arith }
 
     law : IsLawful plan.givens (stopped plan p k).world
-    law = reached_lawful plan.givens _ (stopped plan p k).world (all_under plan.givens plan.givens.workers 1001 start under).reached
+    law = reached_lawful plan.givens _ (stopped plan p k).world (all_under plan.givens plan.givens.workers most_before_all_ends start under).reached

@@ -13,7 +13,8 @@ use Rattle.amo_world.specs.Resting.{RunsAlone}
 use Rattle.amo_world.specs.Views.{WorldView}
 use Rattle.amo_world.specs.declared.answer.Alone.{Alone}
 use Rattle.amo_world.proofs.Resting.{here_next}
-use Rattle.amo_report.specs.Reached.{IsReached}
+use Rattle.amo_report.specs.Reached.{IsReached, most_before_a_claim, most_before_all_ends}
+use Rattle.amo_report.specs.declared.stops.TheConstants.{MOST_STOPS}
 use Rattle.amo_plan.specs.Plan.{PlanSeen}
 use Rattle.amo_report.specs.Stops.{stopped_world, stopped, lone_turns, LoneRun, after_lone_run, after_lone_runs, run_out, all_run_out}
 use Rattle.amo_report.proofs.ReachedWorlds.{reached_lawful, reached_steps, reached_later, reached_turns, reached_halt, reached_first}
@@ -54,15 +55,15 @@ pub record RunsLone (g : Givens) (w : World) (p : ℕ) (v : World) : Type 0 wher
   pub steps : (process v p).local.steps ≡ (process w p).local.steps + lone_turns g p (lone_bound g) w
   pub leads : v ≡ world_after_turns g w p (lone_turns g p (lone_bound g) w)
 
-pub runs_lone : (g : Givens) (w v : World) (p : ℕ) (answer : Alone) → IsReached g 1000000000 w → (process w p).gone ≡ false → RunsAlone g w p v answer → RunsLone g w p v
+pub runs_lone : (g : Givens) (w v : World) (p : ℕ) (answer : Alone) → IsReached g most_before_a_claim w → (process w p).gone ≡ false → RunsAlone g w p v answer → RunsLone g w p v
 runs_lone g w v p answer way here runs =
     let turns = turns_are g runs.others (lone_bound g) w p runs.soon runs.first in
-    let before = reached_steps g 1000000000 w p way in
+    let before = reached_steps g most_before_a_claim w p way in
     let soon = runs.soon in
     let jobs = g.limits.few_jobs in
     let workers = g.limits.few_workers in
     let room : (process w p).local.steps + suc runs.others < 2 ^ 64 = omega arith in
-    let all = settling_steps g runs.others w p (reached_lawful g 1000000000 w way) here runs.first.none_before room in
+    let all = settling_steps g runs.others w p (reached_lawful g most_before_a_claim w way) here runs.first.none_before room in
     record {
       steps = ap (λ x. (process x p).local.steps) runs.leads ∙ all ∙ ap (λ n. (process w p).local.steps + n) (sym turns);
       leads = runs.leads ∙ ap (λ n. world_after_turns g w p n) (sym turns);
@@ -160,9 +161,9 @@ pub seen_reached : (g : Givens) (most : ℕ) (w : World) (v : WorldView) → v �
 seen_reached g most w v is way = subst (λ (x : WorldView). IsReached x.givens most x.world) (sym is) way
 
 -- the world of a stop
-pub stopped_reached : (plan : PlanSeen) (p k : ℕ) → length plan.moves ≤ 1000 → IsReached plan.givens 1001 (stopped_world plan p k)
+pub stopped_reached : (plan : PlanSeen) (p k : ℕ) → length plan.moves ≤ MOST_STOPS → IsReached plan.givens most_before_all_ends (stopped_world plan p k)
 stopped_reached plan p k few =
-    reached_halt plan.givens 1000 _ p (reached_first plan.givens 1000 (take k plan.moves) (let l = length-take k plan.moves in omega arith))
+    reached_halt plan.givens MOST_STOPS _ p (reached_first plan.givens MOST_STOPS (take k plan.moves) (let l = length-take k plan.moves in omega arith))
 
-pub stopped_under : (plan : PlanSeen) (p k : ℕ) → length plan.moves ≤ 1000 → IsUnderLimit plan.givens (1001 + plan.givens.workers * 17174624) (stopped plan p k)
-stopped_under plan p k few = first_under plan.givens plan.givens.workers 1001 _ (stopped_reached plan p k few)
+pub stopped_under : (plan : PlanSeen) (p k : ℕ) → length plan.moves ≤ MOST_STOPS → IsUnderLimit plan.givens (most_before_all_ends + plan.givens.workers * 17174624) (stopped plan p k)
+stopped_under plan p k few = first_under plan.givens plan.givens.workers most_before_all_ends _ (stopped_reached plan p k few)

@@ -3,7 +3,7 @@ use Rattle.std.specs.Prelude.{ℕ, zero, suc, ◌+◌, ◌/◌, ◌%◌, ◌^◌
 use Rattle.std.specs.Fmt.{decimal}
 use Rattle.std.specs.List.{flat_map}
 use Rattle.amo_kk.specs.Run.{done_jobs}
-use Rattle.amo_kk.specs.World.{opening_world, world_after_moves}
+use Rattle.amo_kk.specs.World.{world_of, rounds}
 use Rattle.amo_kk.specs.declared.event.Event.{Event}
 use Rattle.amo_kk.specs.declared.event.Move.{Move}
 use Rattle.amo_kk.specs.declared.event.Move.TheVariants.{Turn}
@@ -12,7 +12,6 @@ use Rattle.amo_world.specs.Answer.{verdict}
 use Rattle.amo_world.specs.declared.answer.Verdict.{Verdict}
 use Rattle.amo_plan.specs.Plan.{PlanSeen}
 use Rattle.amo_texts.specs.Happened.{is_end}
-use Rattle.amo_report.specs.Texts.{rounds}
 use Rattle.amo_texts.specs.Least.{numbers_from, least_of}
 use Rattle.amo_report.specs.Summary.{counts_part, verdict_part, least_line}
 
@@ -29,7 +28,7 @@ schedule m s (suc i) = schedule m s i ++ Turn (worker_at m s i) ∷ []
 -- schedule has no part in it
 abbrev pub explored_world : PlanSeen → ℕ → ℕ → World
 explored_world p turns s =
-    world_after_moves p.givens (opening_world p.givens) (schedule p.givens.workers s turns ++ rounds p.givens.workers p.rounds)
+    world_of p.givens (schedule p.givens.workers s turns ++ rounds p.givens.workers p.rounds)
 
 -- what the judge says of its history
 abbrev pub explored_verdict : PlanSeen → ℕ → ℕ → Verdict

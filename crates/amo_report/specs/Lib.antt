@@ -1,6 +1,5 @@
 pub mod Report
 pub mod Check
-pub mod CheckHeads
 pub mod Texts
 pub mod Summary
 pub mod Explorer

@@ -12,13 +12,13 @@ use Rattle.amo_texts.specs.Tallies.{performed_line, unclaimed_line}
 unfoldable pub happened_lines : List Event → List ℕ → List ℕ
 happened_lines history turns = event_lines 1 history ++ worker_lines history 1 turns
 
--- what came of it: the results, how much was performed, and what nobody has claimed
-unfoldable pub outcome_lines : PlanSeen → List Event → List ℕ
-outcome_lines p history =
+-- the lines that close a report say what came of it: the results, how much was performed, and what nobody has claimed
+unfoldable pub closing_lines : PlanSeen → List Event → List ℕ
+closing_lines p history =
     done_results p.block p.names p.tasks history
     ++ performed_line p.version p.block (length p.names) (done_jobs history)
     ++ unclaimed_line p.givens.jobs history
 
--- the first line, what happened, and what came of it
+-- the first line, what happened, and the lines that close it
 unfoldable pub report_lines : PlanSeen → List Event → List ℕ → List ℕ
-report_lines p history turns = first_line p.version p.block (length p.names) p.givens ++ happened_lines history turns ++ outcome_lines p history
+report_lines p history turns = first_line p.version p.block (length p.names) p.givens ++ happened_lines history turns ++ closing_lines p history

@@ -12,9 +12,10 @@ use Rattle.amo_world.specs.Answer.{verdict}
 use Rattle.amo_world.specs.declared.answer.Verdict.{Verdict}
 use Rattle.amo_plan.specs.declared.fault.PlanFault.{PlanFault}
 use Rattle.amo_plan.specs.declared.fault.PlanFault.TheVariants.{NoSuchWorker, TooLong}
-use Rattle.amo_plan.specs.Steps.{unless}
+use Rattle.amo_plan.specs.Passing.{unless}
 use Rattle.amo_plan.specs.Plan.{PlanSeen}
 use Rattle.amo_texts.specs.Least.{numbers_from, least_of}
+use Rattle.amo_report.specs.declared.stops.TheConstants.{MOST_STOPS}
 use Rattle.amo_report.specs.Summary.{counts_part, verdict_part, least_line}
 
 -- how many turns p takes, alone, to claim a job or end, of so many at most
@@ -81,6 +82,6 @@ all_stops plan = numbers_from 0 (length plan.moves + 1)
 abbrev pub stops_of : PlanSeen → ℕ → List ℕ
 stops_of plan p = flat_map (stopped_line plan p) (all_stops plan) ++ least_line (least_of (map (stopped_dones plan p) (all_stops plan)))
 
--- the same, where p is a worker and there are at most 1000 moves; 0 stands in the place of a word of the schedule
+-- the same, where p is a worker and there are not too many moves; 0 stands in the place of a word of the schedule
 unfoldable pub stops_in : PlanSeen → ℕ → Result (List ℕ) PlanFault
-stops_in plan p = unless (nat_le p plan.givens.workers) (NoSuchWorker 0) (unless (nat_le (length plan.moves) 1000) TooLong (Ok (stops_of plan p)))
+stops_in plan p = unless (nat_le p plan.givens.workers) (NoSuchWorker 0) (unless (nat_le (length plan.moves) MOST_STOPS) TooLong (Ok (stops_of plan p)))

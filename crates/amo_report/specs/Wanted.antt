@@ -6,6 +6,7 @@ use Rattle.amo_report.specs.Check.{check_of}
 use Rattle.amo_report.specs.Explorer.{explore_of}
 use Rattle.amo_report.specs.Stops.{stops_in}
 use Rattle.amo_report.specs.Texts.{report_of}
+use Rattle.amo_report.specs.declared.explorer.TheConstants.{MOST_FIRST, MOST_COUNT, MOST_TURNS}
 use Rattle.amo_report.specs.declared.wanted.Wanted.{Wanted}
 use Rattle.amo_report.specs.declared.wanted.Wanted.TheVariants.{Report, Check, Explored, Stops}
 
@@ -18,7 +19,6 @@ text_of (Stops worker) plan = stops_in plan worker
 
 -- its numbers are within their ranges
 abbrev pub IsWithinRanges : Wanted → Type 0
-IsWithinRanges Report = Unit {0}
-IsWithinRanges Check = Unit {0}
-IsWithinRanges (Explored from count turns) = (from ≤ 1000000000000) × (1 ≤ count) × (count ≤ 1000) × (turns ≤ 10000)
+IsWithinRanges (Explored from count turns) = (from ≤ MOST_FIRST) × (1 ≤ count) × (count ≤ MOST_COUNT) × (turns ≤ MOST_TURNS)
 IsWithinRanges (Stops worker) = 1 ≤ worker
+IsWithinRanges text = Unit {0}

@@ -3,11 +3,12 @@ ghost use Rattle.std.specs.Prelude.{◌≡◌, ◌≤◌, ◌++◌, ℕ, OnOk, I
 ghost use Rattle.amo_kk.specs.World.{world_after_moves};
 ghost use Rattle.amo_world.specs.declared.answer.Verdict.TheVariants.{Lawful};
 ghost use Rattle.amo_plan.specs.PlanSeen.{plan_seen};
+ghost use Rattle.amo_report.specs.declared.explorer.TheConstants.{MOST_FIRST, MOST_COUNT, MOST_TURNS};
 ghost use Rattle.amo_report.specs.Explorer.{schedule, explored_world, explored_verdict, explored_dones, schedule_line, explored_line, explore_of};
 
-use super::laws::histories_are_lawful;
-use super::running::run_rounds;
-use super::summary::{lesser, push_counts, push_least, push_verdict};
+use crate::laws::histories_are_lawful;
+use crate::running::run_rounds;
+use crate::summary::{lesser, push_counts, push_least, push_verdict};
 use amo_kk::Event;
 use amo_plan::Plan;
 use amo_texts::{count_ends, count_performances};
@@ -16,6 +17,12 @@ use std::alloc::{AllocError, Global};
 
 /// The greatest number of a schedule with which the explorer begins.
 pub const MOST_FIRST: u64 = 1_000_000_000_000;
+
+/// The most schedules in a text of the explorer.
+pub const MOST_COUNT: u32 = 1000;
+
+/// The most turns of a schedule.
+pub const MOST_TURNS: u32 = 10_000;
 
 /// The turns of a numbered schedule of this length.
 fn run_schedule(world: &mut World, number: u64, length: u32)
@@ -81,8 +88,8 @@ fn push_explored(
 /// run through the schedule and the plan's rounds, and its line says how much was claimed and performed, how many
 /// workers ended, and what the judge says, which is always `lawful`. Turn i, from 0, of schedule s is one of worker
 /// s / workers ^ i % workers + 1. The last line has the least number of performances. The plan's own schedule isn't
-/// used. `from` is at most 1,000,000,000,000, `count` 1 to 1000, `length` at most 10,000. The only error is want of
-/// memory.
+/// used. `from` is at most `MOST_FIRST`, `count` 1 to `MOST_COUNT`, `length` at most `MOST_TURNS`. The only error is
+/// want of memory.
 #[tactic(auto, using(amo_texts::proofs::Least::pieces_more, amo_texts::proofs::Least::least_more))]
 pub fn explore(
     alloc: Global,
@@ -91,10 +98,10 @@ pub fn explore(
     count: u32,
     length: u32,
 ) -> Result<String, AllocError>
-    requires from { from ≤ 1000000000000 }
+    requires from { from ≤ MOST_FIRST }
     requires some { 1 ≤ count }
-    requires few { count ≤ 1000 }
-    requires short { length ≤ 10000 }
+    requires few { count ≤ MOST_COUNT }
+    requires short { length ≤ MOST_TURNS }
     ensures text { IfOk result (λ s. string_bytes s ≡ explore_of (plan_seen plan.now) from count length) }
     ensures lawful { (s : ℕ) → explored_verdict (plan_seen plan.now) length s ≡ Lawful }
 {

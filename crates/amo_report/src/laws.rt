@@ -3,20 +3,21 @@
 ghost use Rattle.std.specs.Prelude.{◌≡◌, ◌≤◌, ◌+◌, ◌*◌, ℕ, suc, true, false, List, length};
 ghost use Rattle.amo_kk.specs.Alone.{IsFirstToClaimOrEnd, lone_bound};
 ghost use Rattle.amo_kk.specs.Lawful.{IsLawful};
-ghost use Rattle.amo_kk.specs.World.{process, opening_world, world_after_moves};
+ghost use Rattle.amo_kk.specs.World.{process, world_of};
 ghost use Rattle.amo_kk.specs.declared.event.Move.{Move};
 ghost use Rattle.amo_kk.specs.declared.givens.Givens.{Givens};
 ghost use Rattle.amo_kk.specs.declared.model.World.{World};
 ghost use Rattle.amo_world.specs.Answer.{verdict};
 ghost use Rattle.amo_world.specs.declared.answer.Verdict.TheVariants.{Lawful};
 ghost use Rattle.amo_plan.specs.Plan.{PlanSeen};
+ghost use Rattle.amo_report.specs.declared.stops.TheConstants.{MOST_STOPS};
 ghost use Rattle.amo_report.specs.Stops.{lone_turns, stopped, stopped_verdict};
 
 use amo_kk::laws::{first_bad_is_the_first, history_is_a_run};
 
 /// Whatever moves are made in the opening world, the judge finds the history lawful.
 pub fn histories_are_lawful()
-    ensures { (g : Givens) (moves : List Move) → verdict g (world_after_moves g (opening_world g) moves).history ≡ Lawful }
+    ensures { (g : Givens) (moves : List Move) → verdict g (world_of g moves).history ≡ Lawful }
 {
     history_is_a_run();
     first_bad_is_the_first();
@@ -29,10 +30,10 @@ pub fn lone_turns_are_counted()
         → (i : ℕ) × IsFirstToClaimOrEnd g w p i × (lone_turns g p (lone_bound g) w ≡ suc i) }
 {}
 
-/// Wherever a schedule of at most 1000 moves is cut off: no worker takes more than 6 * workers + jobs turns in one go,
+/// Wherever a schedule of at most `MOST_STOPS` moves is cut off: no worker takes more than 6 * workers + jobs turns in one go,
 /// all are gone in the end, and the judge finds the history lawful.
 pub fn stops_run_out()
-    ensures most { (plan : PlanSeen) (p count : ℕ) → length plan.moves ≤ 1000 → (stopped plan p count).most ≤ 6 * plan.givens.workers + plan.givens.jobs }
-    ensures gone { (plan : PlanSeen) (p count q : ℕ) → length plan.moves ≤ 1000 → (process (stopped plan p count).world q).gone ≡ true }
-    ensures lawful { (plan : PlanSeen) (p count : ℕ) → length plan.moves ≤ 1000 → stopped_verdict plan p count ≡ Lawful }
+    ensures most { (plan : PlanSeen) (p count : ℕ) → length plan.moves ≤ MOST_STOPS → (stopped plan p count).most ≤ 6 * plan.givens.workers + plan.givens.jobs }
+    ensures gone { (plan : PlanSeen) (p count q : ℕ) → length plan.moves ≤ MOST_STOPS → (process (stopped plan p count).world q).gone ≡ true }
+    ensures lawful { (plan : PlanSeen) (p count : ℕ) → length plan.moves ≤ MOST_STOPS → stopped_verdict plan p count ≡ Lawful }
 {}

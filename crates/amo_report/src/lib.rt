@@ -17,9 +17,9 @@ pub use amo_streams::{
 };
 pub use amo_texts::{ReplayFault, fault_text};
 pub use checking::check_text;
-pub use explorer::{MOST_FIRST, explore};
+pub use explorer::{MOST_COUNT, MOST_FIRST, MOST_TURNS, explore};
 pub use replaying::replay;
 pub use report::report_text;
 pub use running::all_turns;
-pub use stops::stops_text;
+pub use stops::{MOST_STOPS, stops_text};
 pub use wanted::Wanted;

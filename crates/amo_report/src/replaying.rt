@@ -4,7 +4,7 @@ ghost use Rattle.std.specs.Io.KnownBytes.{IsAtEnd};
 ghost use Rattle.amo_texts.specs.Written.{Refuses, Writes, is_failed_read, is_failed_write};
 ghost use Rattle.amo_report.specs.Texts.{report_of};
 
-use super::wanted::Wanted;
+use crate::wanted::Wanted;
 use amo_streams::{Sink, Source};
 use amo_texts::{ReplayFault, write_of};
 use std::alloc::Global;

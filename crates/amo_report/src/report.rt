@@ -1,10 +1,10 @@
 //! The report of a plan.
 ghost use Rattle.std.specs.Prelude.{◌≡◌, ◌++◌, ◌<◌, ◌^◌, OnOk, IfOk, string_bytes, length};
 ghost use Rattle.amo_plan.specs.PlanSeen.{plan_seen};
-ghost use Rattle.amo_report.specs.Report.{happened_lines, outcome_lines, report_lines};
+ghost use Rattle.amo_report.specs.Report.{happened_lines, closing_lines, report_lines};
 ghost use Rattle.amo_report.specs.Texts.{report_in};
 
-use super::running::all_turns;
+use crate::running::all_turns;
 use amo_kk::Event;
 use amo_kk::laws::runs_are_short;
 use amo_plan::Plan;
@@ -23,16 +23,16 @@ fn push_happened(out: &mut String, history: &[Event], turns: &[u64]) -> Result<(
     push_workers(out, history, turns)
 }
 
-/// Appends what came of it.
-#[tactic(auto, unfolding(crate::specs::Report::outcome_lines))]
-fn push_outcome(
+/// Appends the lines that close a report: what came of it.
+#[tactic(auto, unfolding(crate::specs::Report::closing_lines))]
+fn push_closing(
     alloc: Global,
     out: &mut String,
     plan: &Plan,
     history: &[Event],
 ) -> Result<(), AllocError>
     requires { length history.now < 2 ^ 32 }
-    ensures { OnOk result (string_bytes out.new ≡ string_bytes out.old ++ outcome_lines (plan_seen plan.now) history.now) }
+    ensures { OnOk result (string_bytes out.new ≡ string_bytes out.old ++ closing_lines (plan_seen plan.now) history.now) }
 {
     let heads = &plan.heads;
     let names = heads.names.as_slice();
@@ -44,7 +44,7 @@ fn push_outcome(
         plan.tasks.as_slice(),
         history,
     )?;
-    push_performed(out, heads.version, heads.block, names.len(), history)?;
+    push_performed(out, heads, history)?;
     push_unclaimed(alloc, out, heads.givens.jobs, history)
 }
 
@@ -62,7 +62,7 @@ fn history_report(
     let mut out = String::new(alloc);
     push_first_line(&mut out, &plan.heads)?;
     push_happened(&mut out, history, turns)?;
-    push_outcome(alloc, &mut out, plan, history)?;
+    push_closing(alloc, &mut out, plan, history)?;
     Ok(out)
 }
 

@@ -1,9 +1,9 @@
-//! Runs the moves of a plan.
+//! Simulates a plan: makes its moves on one thread.
 ghost use Rattle.std.specs.Prelude.{◌≡◌, IfOk};
 ghost use Rattle.amo_sets.specs.Lists.{table};
-ghost use Rattle.amo_kk.specs.World.{world_after_moves};
+ghost use Rattle.amo_kk.specs.World.{world_after_moves, round, rounds};
 ghost use Rattle.amo_plan.specs.PlanSeen.{plan_seen};
-ghost use Rattle.amo_report.specs.Texts.{round, rounds, world_of, turns_of};
+ghost use Rattle.amo_report.specs.Texts.{plan_world, turns_of};
 
 use amo_plan::Plan;
 use amo_world::World;
@@ -20,7 +20,7 @@ fn run_round(world: &mut World)
 }
 
 /// So many rounds.
-pub fn run_rounds(world: &mut World, count: u32)
+pub(crate) fn run_rounds(world: &mut World, count: u32)
     ensures { world.new ≡ record { givens = world.old.givens; world = world_after_moves world.old.givens world.old.world (rounds world.old.givens.workers count) } }
 {
     for _done in 0..count {
@@ -29,8 +29,8 @@ pub fn run_rounds(world: &mut World, count: u32)
 }
 
 /// The world of a plan: after its schedule and its rounds. The only error is out of memory.
-pub fn run_plan(alloc: Global, plan: &Plan) -> Result<World, AllocError>
-    ensures { IfOk result (λ w. w ≡ record { givens = (plan_seen plan.now).givens; world = world_of (plan_seen plan.now) }) }
+pub(crate) fn simulate(alloc: Global, plan: &Plan) -> Result<World, AllocError>
+    ensures { IfOk result (λ w. w ≡ record { givens = (plan_seen plan.now).givens; world = plan_world (plan_seen plan.now) }) }
 {
     let mut world = World::new(alloc, plan.heads.givens)?;
     world.run(plan.heads.moves.as_slice());

@@ -5,22 +5,26 @@ ghost use Rattle.amo_kk.specs.World.{process};
 ghost use Rattle.amo_kk.specs.Alone.{world_after_turns, lone_bound};
 ghost use Rattle.amo_world.specs.declared.answer.Verdict.TheVariants.{Lawful};
 ghost use Rattle.amo_plan.specs.PlanSeen.{plan_seen};
-ghost use Rattle.amo_report.specs.Reached.{IsReached};
+ghost use Rattle.amo_report.specs.Reached.{IsReached, most_before_a_claim, most_before_an_end, most_before_all_ends};
+ghost use Rattle.amo_report.specs.declared.stops.TheConstants.{MOST_STOPS};
 ghost use Rattle.amo_report.specs.Stops.{lone_turns, run_out, all_run_out, stopped_world, stopped, stopped_verdict, stopped_dones, stop_line, stopped_line, stops_of};
 
-use super::laws::stops_run_out;
-use super::summary::{lesser, push_counts, push_least, push_verdict};
+use crate::laws::stops_run_out;
+use crate::summary::{lesser, push_counts, push_least, push_verdict};
 use amo_kk::Event;
 use amo_plan::Plan;
 use amo_texts::count_performances;
 use amo_world::{Verdict, World, judge};
 use std::alloc::{AllocError, Global};
 
+/// The most moves of a plan whose stops are shown.
+pub const MOST_STOPS: usize = 1000;
+
 /// Runs worker p, which isn't gone, alone until it claims a job or ends, and tells in how many turns. The world is
 /// far from having had more moves than its workers count.
 fn lone_run(world: &mut World, p: u32) -> u64
     requires here { (process world.old.world p).gone ≡ false }
-    requires reached { IsReached world.old.givens 1000000000 world.old.world }
+    requires reached { IsReached world.old.givens most_before_a_claim world.old.world }
     ensures turns { result ≡ lone_turns world.old.givens p (lone_bound world.old.givens) world.old.world }
     ensures world { world.new ≡ record { givens = world.old.givens; world = world_after_turns world.old.givens world.old.world p result } }
 {
@@ -32,7 +36,7 @@ fn lone_run(world: &mut World, p: u32) -> u64
 /// Runs worker p alone until it is gone, and tells the most turns that it, or another before, took in one go.
 fn run_out(world: &mut World, p: u32, mut most: u64) -> u64
     requires worker { IsWorker world.old.givens p }
-    requires reached { IsReached world.old.givens 900000000 world.old.world }
+    requires reached { IsReached world.old.givens most_before_an_end world.old.world }
     requires most { most ≤ lone_bound world.old.givens }
     ensures world { world.new ≡ record { givens = world.old.givens; world = (run_out world.old.givens p (record { world = world.old.world; most = most })).world } }
     ensures most { result ≡ (run_out world.old.givens p (record { world = world.old.world; most = most })).most }
@@ -49,7 +53,7 @@ fn run_out(world: &mut World, p: u32, mut most: u64) -> u64
 /// Runs each worker that isn't gone, in the order of their numbers, alone until it is gone, and tells the most turns
 /// that one took in one go.
 fn run_all_out(world: &mut World) -> u64
-    requires { IsReached world.old.givens 1001 world.old.world }
+    requires { IsReached world.old.givens most_before_all_ends world.old.world }
     ensures world { world.new ≡ record { givens = world.old.givens; world = (all_run_out world.old.givens world.old.givens.workers (record { world = world.old.world; most = 0 })).world } }
     ensures most { result ≡ (all_run_out world.old.givens world.old.givens.workers (record { world = world.old.world; most = 0 })).most }
 {
@@ -102,7 +106,7 @@ fn push_stopped(
 ) -> Result<usize, AllocError>
     requires worker { IsWorker plan.now.heads.givens p }
     requires count { count ≤ length plan.now.heads.moves }
-    requires few { length plan.now.heads.moves ≤ 1000 }
+    requires few { length plan.now.heads.moves ≤ MOST_STOPS }
     ensures line { OnOk result (string_bytes out.new ≡ string_bytes out.old ++ stopped_line (plan_seen plan.now) p count) }
     ensures dones { IfOk result (λ dones. dones ≡ stopped_dones (plan_seen plan.now) p count) }
 {
@@ -118,13 +122,13 @@ fn push_stopped(
 /// worker p stops, and each worker that isn't gone, in the order of their numbers, runs alone until it ends. The line
 /// says how much was claimed and performed, the most turns that a worker took in one go to claim a job or end, which
 /// is at most 6 * workers + jobs, and what the judge says, which is always `lawful`. The last line has the least
-/// number of performances. The plan's rounds aren't used. p is in 1..=workers, and there are at most 1000 moves. The
+/// number of performances. The plan's rounds aren't used. p is in 1..=workers, and there are at most `MOST_STOPS` moves. The
 /// only error is out of memory.
 #[tactic(auto, using(amo_texts::proofs::Least::pieces_more, amo_texts::proofs::Least::least_more))]
 pub fn stops_text(alloc: Global, plan: &Plan, p: u32) -> Result<String, AllocError>
     requires low { 1 ≤ p }
     requires high { p ≤ plan.now.heads.givens.workers }
-    requires few { length plan.now.heads.moves ≤ 1000 }
+    requires few { length plan.now.heads.moves ≤ MOST_STOPS }
     ensures text { IfOk result (λ s. string_bytes s ≡ stops_of (plan_seen plan.now) p) }
     ensures most { (count : ℕ) → (stopped (plan_seen plan.now) p count).most ≤ 6 * plan.now.heads.givens.workers + plan.now.heads.givens.jobs }
     ensures gone { (count q : ℕ) → (process (stopped (plan_seen plan.now) p count).world q).gone ≡ true }

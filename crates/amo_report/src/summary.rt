@@ -10,7 +10,7 @@ use std::alloc::AllocError;
 
 /// Appends how much was claimed and performed.
 #[tactic(auto, unfolding(crate::specs::Summary::counts_part))]
-pub fn push_counts(out: &mut String, history: &[Event]) -> Result<(), AllocError>
+pub(crate) fn push_counts(out: &mut String, history: &[Event]) -> Result<(), AllocError>
     ensures { OnOk result (string_bytes out.new ≡ string_bytes out.old ++ counts_part history.now) }
 {
     let claims = count_claims(history);
@@ -20,7 +20,7 @@ pub fn push_counts(out: &mut String, history: &[Event]) -> Result<(), AllocError
 
 /// Appends what the judge says, after a space.
 #[tactic(auto, unfolding(crate::specs::Summary::verdict_part))]
-pub fn push_verdict(out: &mut String, verdict: Verdict) -> Result<(), AllocError>
+pub(crate) fn push_verdict(out: &mut String, verdict: Verdict) -> Result<(), AllocError>
     ensures { OnOk result (string_bytes out.new ≡ string_bytes out.old ++ verdict_part verdict) }
 {
     match verdict {
@@ -30,7 +30,7 @@ pub fn push_verdict(out: &mut String, verdict: Verdict) -> Result<(), AllocError
 }
 
 /// The lesser of a number and another, where there is one.
-pub fn lesser(number: usize, other: Option<usize>) -> usize
+pub(crate) fn lesser(number: usize, other: Option<usize>) -> usize
     ensures { result ≡ lesser number other }
 {
     match other {
@@ -41,7 +41,7 @@ pub fn lesser(number: usize, other: Option<usize>) -> usize
 
 /// Appends the line of the least number of performances, where there is one.
 #[tactic(auto, unfolding(crate::specs::Summary::least_line))]
-pub fn push_least(out: &mut String, least: Option<usize>) -> Result<(), AllocError>
+pub(crate) fn push_least(out: &mut String, least: Option<usize>) -> Result<(), AllocError>
     ensures { OnOk result (string_bytes out.new ≡ string_bytes out.old ++ least_line least) }
 {
     match least {

@@ -5,11 +5,11 @@ ghost use Rattle.amo_texts.specs.Written.{IsNotMade};
 ghost use Rattle.amo_report.specs.Stops.{stops_in};
 ghost use Rattle.amo_report.specs.Texts.{report_of};
 
-use super::checking::check_text;
-use super::explorer::explore;
-use super::report::report_text;
-use super::running::run_plan;
-use super::stops::stops_text;
+use crate::checking::check_text;
+use crate::explorer::explore;
+use crate::report::report_text;
+use crate::running::simulate;
+use crate::stops::{MOST_STOPS, stops_text};
 use amo_plan::{Plan, PlanFault};
 use amo_texts::{PlanText, ReplayFault};
 use std::alloc::{AllocError, Global};
@@ -23,11 +23,11 @@ pub enum Wanted {
     Check,
     /// What numbered schedules of it lead to.
     Explored {
-        /// The number of the first schedule, 0 to 1,000,000,000,000.
+        /// The number of the first schedule, at most `MOST_FIRST`.
         from: u64,
-        /// How many schedules, 1 to 1000.
+        /// How many schedules, 1 to `MOST_COUNT`.
         count: u32,
-        /// How many turns each of them has, 0 to 10,000.
+        /// How many turns each of them has, at most `MOST_TURNS`.
         turns: u32,
     },
     /// What stops of a worker lead to, one after each of its first moves.
@@ -41,12 +41,12 @@ pub enum Wanted {
 fn plan_report(alloc: Global, plan: &Plan) -> Result<String, AllocError>
     ensures { IfOk result (λ s. string_bytes s ≡ report_of (plan_seen plan.now)) }
 {
-    let world = run_plan(alloc, plan)?;
+    let world = simulate(alloc, plan)?;
     report_text(alloc, plan, &world)
 }
 
 /// What `stops_text` makes of a plan. Where the plan has no worker p this is `Plan(NoSuchWorker(0))`, else where it has
-/// more than 1000 moves `Plan(TooLong)`.
+/// more than `MOST_STOPS` moves `Plan(TooLong)`.
 #[tactic(auto, unfolding(crate::specs::Stops::stops_in))]
 fn plan_stops(alloc: Global, plan: &Plan, p: u32) -> Result<String, ReplayFault>
     requires { 1 ≤ p }
@@ -56,7 +56,7 @@ fn plan_stops(alloc: Global, plan: &Plan, p: u32) -> Result<String, ReplayFault>
     if p > plan.heads.givens.workers {
         return Err(ReplayFault::Plan(PlanFault::NoSuchWorker(0)));
     }
-    if plan.heads.moves.as_slice().len() > 1000 {
+    if plan.heads.moves.as_slice().len() > MOST_STOPS {
         return Err(ReplayFault::Plan(PlanFault::TooLong));
     }
     Ok(stops_text(alloc, plan, p)?)
@@ -70,11 +70,11 @@ impl PlanText for Wanted {
     ghost made = { text_of };
 
     /// The text. Where the stops of a worker are wanted that the plan doesn't have, this is `Plan(NoSuchWorker(0))`, else where it
-    /// has more than 1000 moves `Plan(TooLong)`; of each other text the only error is out of memory.
+    /// has more than `MOST_STOPS` moves `Plan(TooLong)`; of each other text the only error is out of memory.
     fn make(&self, alloc: Global, plan: &Plan) -> Result<String, ReplayFault> {
         match *self {
             Wanted::Report => Ok(plan_report(alloc, plan)?),
-            Wanted::Check => Ok(check_text(alloc, &plan.heads)?),
+            Wanted::Check => Ok(check_text(alloc, plan)?),
             Wanted::Explored { from, count, turns } => {
                 let text = explore(alloc, plan, from, count, turns)?;
                 Ok(text)

@@ -17,8 +17,9 @@ use Rattle.amo_kk.specs.declared.model.Record.{Record}
 use Rattle.amo_kk.specs.declared.model.Process.{Process}
 use Rattle.amo_kk.proofs.Again.{has-set_of}
 use Rattle.amo_kk.proofs.Choice.{chosen_is_job, choice_cases}
-use Rattle.amo_kk.proofs.Kept.{IsKept, not_both}
-use Rattle.amo_kk.proofs.Worlds.{numbered-table_same}
+use Rattle.amo_kk.proofs.Fit.{again_fit}
+use Rattle.amo_kk.proofs.Kept.{IsKept, not_both, sound_with}
+use Rattle.amo_sets.proofs.Tables.{numbered-table_same}
 use Rattle.amo_kk.specs.Again.{entries_of, set_of, record_of_dones}
 use Rattle.amo_return.specs.Return.{process_again, process_after_return}
 
@@ -39,22 +40,12 @@ entries_are (suc x ∷ xs) (d ∷ ds) same some =
 
 -- a hand is empty, or holds a job
 pub hand_cases : (phase : Phase) → (jobs_in_hand phase ≡ []) ⊎ ((j : ℕ) × (phase ≡ Holding j))
-hand_cases (Announcing j) = inl refl
-hand_cases (Trying j q) = inl refl
-hand_cases (Reading j q) = inl refl
-hand_cases (Claiming j) = inl refl
 hand_cases (Holding j) = inr (j, refl)
-hand_cases Over = inl refl
-hand_cases Left = inl refl
+hand_cases phase = inl refl
 
 pub empty_hand : (phase : Phase) → jobs_in_hand phase ≡ [] → job_in_hand phase ≡ 0
-empty_hand (Announcing j) h = refl
-empty_hand (Trying j q) h = refl
-empty_hand (Reading j q) h = refl
-empty_hand (Claiming j) h = refl
 empty_hand (Holding j) h = absurd (cc)
-empty_hand Over h = refl
-empty_hand Left h = refl
+empty_hand phase h = refl
 
 module _ (g : Givens) (ok : AreGivens g) (at : ℕ → Process) (before : AreLawful g at) (p : ℕ) (w : IsWorker g p) where
   -- a record with these dones, another phase and these claims
@@ -65,25 +56,10 @@ module _ (g : Givens) (ok : AreGivens g) (at : ℕ → Process) (before : AreLaw
       → IsKept g at p (record (at p) { local = record (record_of_dones g (at p).local.dones) { phase = phase; claimed = claimed }; gone = wants_nothing phase })
   begins phase claimed same hand past announces stands =
       record {
-        sound = record {
-          local = record {
-            claims = same ∙ s.local.claims ∙ ap (λ l. dones ++ l) (sym hand);
-            distinct = subst (λ l. AreDistinct l) (sym same) s.local.distinct;
-            jobs = λ j h. s.local.jobs j (ap (λ l. has l j) (sym same) ∙ h);
-            own = λ j h. has-set_of dones j ∙ h;
-            tried_few = ok.some;
-            tried_jobs = λ j h. absurd (true≢false (sym h));
-            fronts = length-table (λ _. 0) g.workers;
-            front = λ q. let z = zero_front q in omega arith;
-            stands = stands;
-          };
-          announces = announces;
-          next = s.next;
-          claim = s.claim ∙ ap length (sym same);
-          row_length = s.row_length;
-          row = s.row;
-          gone = λ h. h;
-        };
+        sound = sound_with g at before p w (record (record_of_dones g dones) { phase = phase; claimed = claimed }) (at p).next (wants_nothing phase)
+            (again_fit g ok p w dones claimed phase (same ∙ s.local.claims ∙ ap (λ l. dones ++ l) (sym hand))
+            (subst (λ l. AreDistinct l) (sym same) s.local.distinct) (λ j h. s.local.jobs j (ap (λ l. has l j) (sym same) ∙ h)) stands)
+            announces s.next same refl (λ h. h);
         mine = λ q o. let was = before.apart p q w o in
             record {
               claims = λ j h. was.claims j (ap (λ l. has l j) (sym same) ∙ h);

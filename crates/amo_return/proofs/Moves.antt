@@ -4,7 +4,7 @@ use Rattle.std.specs.Prelude.{if◌then◌else◌}
 use Rattle.amo_sets.specs.Lists.{put}
 use Rattle.amo_kk.specs.Record.{can_leave}
 use Rattle.amo_kk.specs.Step.{want, record_after, record_after_leave, shown, events_of}
-use Rattle.amo_kk.specs.World.{process, loaded_value, process_after, world_with, world_after_step, world_after_move, world_after_moves, opening_world}
+use Rattle.amo_kk.specs.World.{process, loaded_value, process_after, world_with, world_after_step, world_after_move, world_after_moves, opening_world, world_of}
 use Rattle.amo_kk.specs.declared.givens.Givens.{Givens}
 use Rattle.amo_kk.specs.declared.phase.Want.{Want}
 use Rattle.amo_kk.specs.declared.phase.Want.TheVariants.{StoreNext, LoadNext, LoadDone, StoreClaim, StoreDone, Nothing}
@@ -41,11 +41,7 @@ with_next w p a es = (λ i. record { processes = put w.processes p a; entries = 
 
 loads : (w : World) (x : Want) → loaded_value (bare w) x ≡ loaded_value w x
 loads w (StoreNext j) = refl
-loads w (LoadNext q) = refl
-loads w (LoadDone q k) = refl
-loads w (StoreClaim c j) = refl
-loads w (StoreDone k j) = refl
-loads w Nothing = refl
+loads w want = refl
 
 -- the event of a worker that has loaded v
 abbrev event_with : Givens → World → ℕ → Process → ℕ → World
@@ -79,5 +75,5 @@ moves_next : (g : Givens) (w : World) (ms : List Move) → tale_after_all g (tol
 moves_next g w [] = refl
 moves_next g w (m ∷ ms) = ap (λ t. tale_after_all g t (map (λ (m : Move). Moves m) ms)) (move_next g w m) ∙ moves_next g (world_after_move g w m) ms
 
-pub tale_of_moves : (g : Givens) (ms : List Move) → tale_of g (map (λ (m : Move). Moves m) ms) ≡ told (world_after_moves g (opening_world g) ms)
+pub tale_of_moves : (g : Givens) (ms : List Move) → tale_of g (map (λ (m : Move). Moves m) ms) ≡ told (world_of g ms)
 tale_of_moves g ms = moves_next g (opening_world g) ms

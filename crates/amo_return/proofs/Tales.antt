@@ -21,6 +21,7 @@ use Rattle.amo_kk.specs.declared.model.Object.{Object}
 use Rattle.amo_kk.specs.declared.event.Event.{Event}
 use Rattle.amo_kk.specs.declared.event.Move.{Move}
 use Rattle.amo_kk.proofs.Choice.{choice_cases}
+use Rattle.amo_kk.proofs.Steps.{agrees_put_gone}
 use Rattle.amo_kk.proofs.Worlds.{put_here, kept_lawful, move_lawful, opening_lawful}
 use Rattle.amo_kk.proofs.Runs.{Goes, move_goes, ending_goes, opening_runs}
 use Rattle.amo_return.specs.declared.model.Act.{Act}
@@ -29,7 +30,7 @@ use Rattle.amo_return.specs.declared.model.Entry.{Entry}
 use Rattle.amo_return.specs.declared.model.Entry.TheVariants.{Returned}
 use Rattle.amo_return.specs.declared.model.Tale.{Tale}
 use Rattle.amo_kk.specs.Again.{entries_of, record_of_dones, doubt}
-use Rattle.amo_return.specs.Return.{process_again, process_after_return, world_of, entries_for, tale_after_move, tale_with_return, tale_after_return, tale_after, tale_after_all, opening_tale, tale_of}
+use Rattle.amo_return.specs.Return.{process_again, process_after_return, world_of_tale, entries_for, tale_after_move, tale_with_return, tale_after_return, tale_after, tale_after_all, opening_tale, tale_of}
 use Rattle.amo_return.specs.Story.{object_after_entry, object_after_entries, IsStory}
 use Rattle.amo_return.proofs.Kept.{hand_cases, empty_hand, entries, counts_empty, counts_held, announced_held, returned_kept}
 
@@ -64,37 +65,13 @@ tells_shown g at s es h = record { story = story-shown g s es h.run; agrees = su
 
 -- the moves
 
-move_told_on : (g : Givens) (t : Tale) (m : Move) (s : Object) → AreGivens g → IsLawful g (world_of t) → Agrees g (process (world_of t)) s
-    → Goes g (process (world_after_move g (world_of t) m)) s (world_after_move g (world_of t) m).history
+move_told_on : (g : Givens) (t : Tale) (m : Move) (s : Object) → AreGivens g → IsLawful g (world_of_tale t) → Agrees g (process (world_of_tale t)) s
+    → Goes g (process (world_after_move g (world_of_tale t) m)) s (world_after_move g (world_of_tale t) m).history
 move_told_on g t m s ok law agrees =
-    let more = move_goes g s (world_of t) m ok law agrees in
-    subst (λ l. Goes g (process (world_after_move g (world_of t) m)) s l) (sym more.history) (record { run = more.run; agrees = more.agrees })
+    let more = move_goes g s (world_of_tale t) m ok law agrees in
+    subst (λ l. Goes g (process (world_after_move g (world_of_tale t) m)) s l) (sym more.history) (record { run = more.run; agrees = more.agrees })
 
 -- the returns
-
--- the same workers, but that p is there
-agrees_back : (g : Givens) (at : ℕ → Process) (s : Object) → Agrees g at s → (p : ℕ) → IsWorker g p → (a : Process) (now : ℕ → Process) → now p ≡ a → ((q : ℕ) → q ≢ p → now q ≡ at q)
-    → a.local.claimed ≡ (at p).local.claimed → a.local.dones ≡ (at p).local.dones → job_in_hand a.local.phase ≡ job_in_hand (at p).local.phase → a.gone ≡ false
-    → Agrees g now (record s { gone = put s.gone p false })
-agrees_back g at s agrees p o a now is_now others claims dones held stays =
-    record {
-      unclaimed = λ i is_job all. agrees.unclaimed i is_job (λ q w. ⊎_elim
-          (λ (e : q ≡ p). subst (λ x. has (at x).local.claimed i ≡ false) (sym e) (sym (ap (λ (x : Process). has x.local.claimed i) is_now ∙ ap (λ l. has l i) claims) ∙ all p o))
-          (λ m. sym (ap (λ (x : Process). has x.local.claimed i) (others q m)) ∙ all q w)
-          (cases_eq q p));
-      only_unclaimed = λ i h. let was = agrees.only_unclaimed i h in
-          (was.0, each (λ q x. IsWorker g q → has x.local.claimed i ≡ false) (λ w. ap (λ l. has l i) claims ∙ was.1 p w) (λ q m w. was.1 q w));
-      in_hand_size = agrees.in_hand_size;
-      in_hand = each (λ q x. IsWorker g q → numbered 0 s.in_hand q ≡ job_in_hand x.local.phase) (λ w. agrees.in_hand p w ∙ sym held) (λ q m w. agrees.in_hand q w);
-      performed = each (λ q x. jobs_of s.performed q ≡ x.local.dones) (agrees.performed p ∙ sym dones) (λ q m. agrees.performed q);
-      gone_size = length-put false s.gone p ∙ agrees.gone_size;
-      gone = each (λ q x. IsWorker g q → numbered true (put s.gone p false) q ≡ x.gone)
-          (λ w. numbered-put_same true false s.gone p o.low (let l = agrees.gone_size in let h = o.high in omega arith) ∙ sym stays)
-          (λ q m w. numbered-put_other true false s.gone p q m ∙ agrees.gone q w);
-    }
-  where
-    each : (P : ℕ → Process → Type 0) → P p a → ((q : ℕ) → q ≢ p → P q (at q)) → (q : ℕ) → P q (now q)
-    each P mine theirs q = ⊎_elim (λ (e : q ≡ p). subst (λ x. P x (now x)) (sym e) (subst (λ x. P p x) (sym is_now) mine)) (λ n. subst (λ x. P q x) (sym (others q n)) (theirs q n)) (cases_eq q p)
 
 -- what a return leaves as it was, and the job d in doubt
 pub record IsSame (a b : Process) (d : ℕ) : Type 0 where
@@ -152,48 +129,48 @@ module _ (g : Givens) (ok : AreGivens g) (at : ℕ → Process) (before : AreLaw
 
 -- what holds of every tale
 pub record IsTold (g : Givens) (t : Tale) : Type 0 where
-  pub lawful : IsLawful g (world_of t)
+  pub lawful : IsLawful g (world_of_tale t)
   pub story : IsStory g (first_object g) t.entries
-  pub agrees : Agrees g (process (world_of t)) (object_after_entries (first_object g) t.entries)
+  pub agrees : Agrees g (process (world_of_tale t)) (object_after_entries (first_object g) t.entries)
 
 move_told : (g : Givens) (t : Tale) (m : Move) → AreGivens g → IsTold g t → IsTold g (tale_after_move g t m)
 move_told g t m ok told =
     let s = object_after_entries (first_object g) t.entries in
-    let w = world_after_move g (world_of t) m in
-    let law = move_lawful g (world_of t) m ok told.lawful in
+    let w = world_after_move g (world_of_tale t) m in
+    let law = move_lawful g (world_of_tale t) m ok told.lawful in
     let all : Tells g (process w) (first_object g) (t.entries ++ entries_for w.history)
-    = tells_on g (process (world_of t)) (process w) (first_object g) t.entries (entries_for w.history) (record { story = told.story; agrees = told.agrees })
+    = tells_on g (process (world_of_tale t)) (process w) (first_object g) t.entries (entries_for w.history) (record { story = told.story; agrees = told.agrees })
     (tells_shown g (process w) s w.history (move_told_on g t m s ok told.lawful told.agrees)) in
     record { lawful = record { size = law.size; lawful = law.lawful }; story = all.story; agrees = all.agrees }
 
-with_return_told : (g : Givens) (t : Tale) (p : ℕ) → AreGivens g → IsWorker g p → is_within g.workers p ≡ true → IsTold g t → IsTold g (tale_with_return g t p (process (world_of t) p))
+with_return_told : (g : Givens) (t : Tale) (p : ℕ) → AreGivens g → IsWorker g p → is_within g.workers p ≡ true → IsTold g t → IsTold g (tale_with_return g t p (process (world_of_tale t) p))
 with_return_told g t p ok o within told = record { lawful = law; story = all.story; agrees = all.agrees }
   where
     at : ℕ → Process
-    at = process (world_of t)
+    at = process (world_of_tale t)
 
     b : Process
-    b = process_after_return g p (process (world_of t) p)
+    b = process_after_return g p (process (world_of_tale t) p)
 
     v : Tale
-    v = tale_with_return g t p (process (world_of t) p)
+    v = tale_with_return g t p (process (world_of_tale t) p)
 
     s : Object
     s = object_after_entries (first_object g) t.entries
 
     d : ℕ
-    d = doubt (process (world_of t) p).next (process (world_of t) p).claim (entries_of (process (world_of t) p).row)
+    d = doubt (process (world_of_tale t) p).next (process (world_of_tale t) p).claim (entries_of (process (world_of_tale t) p).row)
 
-    is : IsSame (process (world_of t) p) (process_after_return g p (process (world_of t) p)) (doubt (process (world_of t) p).next (process (world_of t) p).claim (entries_of (process (world_of t) p).row))
-    is = same g ok (process (world_of t)) told.lawful.lawful p o
+    is : IsSame (process (world_of_tale t) p) (process_after_return g p (process (world_of_tale t) p)) (doubt (process (world_of_tale t) p).next (process (world_of_tale t) p).claim (entries_of (process (world_of_tale t) p).row))
+    is = same g ok (process (world_of_tale t)) told.lawful.lawful p o
 
-    law : IsLawful g (world_of v)
-    law = kept_lawful g (world_of t) (world_of v) p b told.lawful o (returned_kept g ok (process (world_of t)) told.lawful.lawful p o) refl
+    law : IsLawful g (world_of_tale v)
+    law = kept_lawful g (world_of_tale t) (world_of_tale v) p b told.lawful o (returned_kept g ok (process (world_of_tale t)) told.lawful.lawful p o) refl
 
-    now_p : process (world_of v) p ≡ b
-    now_p = put_here g (world_of t) p b told.lawful.size o
+    now_p : process (world_of_tale v) p ≡ b
+    now_p = put_here g (world_of_tale t) p b told.lawful.size o
 
-    now_q : (q : ℕ) → q ≢ p → process (world_of v) q ≡ process (world_of t) q
+    now_q : (q : ℕ) → q ≢ p → process (world_of_tale v) q ≡ process (world_of_tale t) q
     now_q q n = numbered-put_other nobody b t.processes p q n
 
     -- before it is over
@@ -201,36 +178,36 @@ with_return_told g t p ok o within told = record { lawful = law; story = all.sto
     stay = record b { gone = false }
 
     mid : ℕ → Process
-    mid q = if q == p then stay else process (world_of t) q
+    mid q = if q == p then stay else process (world_of_tale t) q
 
     mid_p : mid p ≡ stay
-    mid_p = ap (λ c. if c then stay else process (world_of t) p) (eq-eqb p p refl)
+    mid_p = ap (λ c. if c then stay else process (world_of_tale t) p) (eq-eqb p p refl)
 
-    mid_q : (q : ℕ) → q ≢ p → mid q ≡ process (world_of t) q
-    mid_q q n = ap (λ c. if c then stay else process (world_of t) q) (ne_eqb q p n)
+    mid_q : (q : ℕ) → q ≢ p → mid q ≡ process (world_of_tale t) q
+    mid_q q n = ap (λ c. if c then stay else process (world_of_tale t) q) (ne_eqb q p n)
 
     back : Object
     back = record s { gone = put s.gone p false }
 
     back_agrees : Agrees g mid back
-    back_agrees = agrees_back g (process (world_of t)) s told.agrees p o stay mid mid_p mid_q is.claimed is.done is.held refl
+    back_agrees = agrees_put_gone g (process (world_of_tale t)) p o stay mid mid_p mid_q s told.agrees is.claimed is.done is.held false refl
 
-    last : Goes g (process (world_of v)) back (ended_if_over p b.local.phase)
-    last = ending_goes g mid back p b (process (world_of v)) ok law.lawful o back_agrees (ap (λ (y : Process). y.gone) mid_p) mid_p is.rests now_p (λ q n. now_q q n ∙ sym (mid_q q n))
+    last : Goes g (process (world_of_tale v)) back (ended_if_over p b.local.phase)
+    last = ending_goes g mid back p b (process (world_of_tale v)) ok law.lawful o back_agrees (ap (λ (y : Process). y.gone) mid_p) mid_p is.rests now_p (λ q n. now_q q n ∙ sym (mid_q q n))
 
-    after : Tells g (process (world_of v)) back (entries_for (ended_if_over p b.local.phase))
-    after = tells_shown g (process (world_of v)) back (ended_if_over p b.local.phase) last
+    after : Tells g (process (world_of_tale v)) back (entries_for (ended_if_over p b.local.phase))
+    after = tells_shown g (process (world_of_tale v)) back (ended_if_over p b.local.phase) last
 
-    both : Tells g (process (world_of v)) s (Returned p d ∷ entries_for (ended_if_over p b.local.phase))
+    both : Tells g (process (world_of_tale v)) s (Returned p d ∷ entries_for (ended_if_over p b.local.phase))
     both = record { story = (and_from _ _ within (eq-eqb _ _ (told.agrees.in_hand p o ∙ sym is.in_doubt)), after.story); agrees = after.agrees }
 
-    all : Tells g (process (world_of v)) (first_object g) (t.entries ++ Returned p d ∷ entries_for (ended_if_over p b.local.phase))
-    all = tells_on g (process (world_of t)) (process (world_of v)) (first_object g) t.entries (Returned p d ∷ entries_for (ended_if_over p b.local.phase)) (record { story = told.story; agrees = told.agrees }) both
+    all : Tells g (process (world_of_tale v)) (first_object g) (t.entries ++ Returned p d ∷ entries_for (ended_if_over p b.local.phase))
+    all = tells_on g (process (world_of_tale t)) (process (world_of_tale v)) (first_object g) t.entries (Returned p d ∷ entries_for (ended_if_over p b.local.phase)) (record { story = told.story; agrees = told.agrees }) both
 
 return_told : (g : Givens) (t : Tale) (p : ℕ) → AreGivens g → IsTold g t → IsTold g (tale_after_return g t p)
 return_told g t p ok told = go (is_within g.workers p) refl
   where
-    go : (c : Bool) → is_within g.workers p ≡ c → IsTold g (if c then tale_with_return g t p (process (world_of t) p) else t)
+    go : (c : Bool) → is_within g.workers p ≡ c → IsTold g (if c then tale_with_return g t p (process (world_of_tale t) p) else t)
     go false e = told
     go true e =
         let a = and_parts (nat_le 1 p) (nat_le p g.workers) e in

@@ -20,7 +20,7 @@ use Rattle.amo_kk.specs.declared.event.Move.{Move}
 use Rattle.amo_kk.specs.declared.event.Move.TheVariants.{Turn, Halt, Leave}
 use Rattle.amo_kk.proofs.Words.{map-set_same, flat_map-set_same}
 use Rattle.amo_return.specs.declared.model.Tale.{Tale}
-use Rattle.amo_return.specs.Return.{process_after_return, world_of, tale_after_move, tale_with_return, tale_after_return}
+use Rattle.amo_return.specs.Return.{process_after_return, world_of_tale, tale_after_move, tale_with_return, tale_after_return}
 
 -- the words
 
@@ -34,7 +34,7 @@ put_words g xs (suc k) =
 pub words_stay : (g : Givens) (t : Tale) (p : ℕ) → words_of (tale_after_return g t p).processes ≡ words_of t.processes
 words_stay g t p = go (is_within g.workers p)
   where
-    go : (c : Bool) → words_of (if c then tale_with_return g t p (process (world_of t) p) else t).processes ≡ words_of t.processes
+    go : (c : Bool) → words_of (if c then tale_with_return g t p (process (world_of_tale t) p) else t).processes ≡ words_of t.processes
     go true = put_words g t.processes p
     go false = refl
 
@@ -73,12 +73,9 @@ module _ (g : Givens) (w : World) (p q : ℕ) (low : 1 ≤ p) (high : p ≤ leng
       (cases_eq i p)
 
   loads : (x : Want) → loaded_value after x ≡ loaded_value w x
-  loads (StoreNext j) = refl
   loads (LoadNext i) = same_at (λ (a : Process). a.next) refl i
   loads (LoadDone i k) = same_at (λ (a : Process). numbered 0 a.row k) refl i
-  loads (StoreClaim c j) = refl
-  loads (StoreDone k j) = refl
-  loads Nothing = refl
+  loads want = refl
 
   -- the two orders, where q becomes c
   both : (c d : Process) → c ≡ d → put after.processes q c ≡ put (put w.processes q d) p (process_after_return g p (numbered nobody (put w.processes q d) p))
@@ -141,10 +138,10 @@ pub any_moment : (g : Givens) (t : Tale) (p : ℕ) (m : Move) → length t.proce
 any_moment g t p m size n = go (is_within g.workers p) refl
   where
     go : (c : Bool) → is_within g.workers p ≡ c
-        → (tale_after_move g (if c then tale_with_return g t p (process (world_of t) p) else t) m).processes
-        ≡ (if c then tale_with_return g (tale_after_move g t m) p (process (world_of (tale_after_move g t m)) p) else tale_after_move g t m).processes
+        → (tale_after_move g (if c then tale_with_return g t p (process (world_of_tale t) p) else t) m).processes
+        ≡ (if c then tale_with_return g (tale_after_move g t m) p (process (world_of_tale (tale_after_move g t m)) p) else tale_after_move g t m).processes
     go false e = refl
     go true e =
         let a = and_parts (nat_le 1 p) (nat_le p g.workers) e in
         let l = leb-true p g.workers a.1 in
-        move_swaps g (world_of t) p m (leb-true 1 p a.0) (omega arith) n
+        move_swaps g (world_of_tale t) p m (leb-true 1 p a.0) (omega arith) n

@@ -36,8 +36,8 @@ abbrev pub filed_in : Givens → List ℕ → ℕ
 filed_in g words = entries_in (drop (2 * g.workers + 1) words)
 
 -- the workers of a tale, with nothing shown
-abbrev pub world_of : Tale → World
-world_of t = record { processes = t.processes; history = [] }
+abbrev pub world_of_tale : Tale → World
+world_of_tale t = record { processes = t.processes; history = [] }
 
 -- these events as entries
 abbrev pub entries_for : List Event → List Entry
@@ -45,7 +45,7 @@ entries_for events = map (λ (e : Event). Shown e) events
 
 -- the tale after a move: what the move shows comes after the entries
 abbrev pub tale_after_move : Givens → Tale → Move → Tale
-tale_after_move g t m = let w = world_after_move g (world_of t) m in record { processes = w.processes; entries = t.entries ++ entries_for w.history }
+tale_after_move g t m = let w = world_after_move g (world_of_tale t) m in record { processes = w.processes; entries = t.entries ++ entries_for w.history }
 
 -- the tale after p, which is the process a, begins again
 abbrev pub tale_with_return : Givens → Tale → ℕ → Process → Tale
@@ -58,7 +58,7 @@ tale_with_return g t p a =
 
 -- the tale after a return of p, if p is a worker: whatever became of it before
 abbrev pub tale_after_return : Givens → Tale → ℕ → Tale
-tale_after_return g t p = if is_within g.workers p then tale_with_return g t p (process (world_of t) p) else t
+tale_after_return g t p = if is_within g.workers p then tale_with_return g t p (process (world_of_tale t) p) else t
 
 -- the tale after an act
 abbrev pub tale_after : Givens → Tale → Act → Tale

@@ -3,7 +3,7 @@ ghost use Rattle.std.specs.Prelude.{◌≡◌, ◌≢◌, ◌≤◌, ◌+◌, �
 ghost use Rattle.amo_sets.specs.Sets.{has, AreDistinct};
 ghost use Rattle.amo_kk.specs.Givens.{bound, IsWorker};
 ghost use Rattle.amo_kk.specs.Record.{job_in_hand};
-ghost use Rattle.amo_kk.specs.World.{process, done_count, worker_of, world_after_moves, opening_world};
+ghost use Rattle.amo_kk.specs.World.{process, done_count, worker_of, world_of};
 ghost use Rattle.amo_kk.specs.Words.{words_of};
 ghost use Rattle.amo_kk.specs.Object.{first_object};
 ghost use Rattle.amo_kk.specs.Run.{claimed_jobs, has_claimed};
@@ -19,17 +19,17 @@ ghost use Rattle.amo_return.specs.declared.model.Entry.{Entry};
 ghost use Rattle.amo_return.specs.declared.model.Entry.TheVariants.{Shown, Returned};
 ghost use Rattle.amo_return.specs.declared.model.Tale.{Tale};
 ghost use Rattle.amo_kk.specs.Again.{entries_of, doubt};
-ghost use Rattle.amo_return.specs.Return.{process_after_return, tale_of, tale_after_move, tale_after_return, filed_in, world_of, entries_for};
+ghost use Rattle.amo_return.specs.Return.{process_after_return, tale_of, tale_after_move, tale_after_return, filed_in, world_of_tale, entries_for};
 ghost use Rattle.amo_return.specs.Story.{IsStory, object_after_entries, events_in, doubted_jobs, returns_in_doubt, filed_jobs, sure_jobs, may_perform, HasNoDeed};
 
 /// The headline. For all givens and every list of turns, stops, leavings and returns: all that holds of every world
 /// holds, the entries are a story of the one sequential object, and the state that the story leaves agrees with the
 /// workers.
 pub fn tale_is_a_story()
-    ensures lawful { (g : Givens) (acts : List Act) → IsLawful g (world_of (tale_of g acts)) }
+    ensures lawful { (g : Givens) (acts : List Act) → IsLawful g (world_of_tale (tale_of g acts)) }
     ensures story { (g : Givens) (acts : List Act) → IsStory g (first_object g) (tale_of g acts).entries }
     ensures agrees { (g : Givens) (acts : List Act)
-        → Agrees g (process (world_of (tale_of g acts))) (object_after_entries (first_object g) (tale_of g acts).entries) }
+        → Agrees g (process (world_of_tale (tale_of g acts))) (object_after_entries (first_object g) (tale_of g acts).entries) }
 {}
 
 /// What a story says in plain words: over all returns no job is claimed twice, none is filed twice, and each job that
@@ -89,7 +89,7 @@ pub fn returns_touch_no_word()
 /// Without returns nothing is new: the tale of some moves has the workers of their world, and its history.
 pub fn tales_without_returns()
     ensures workers { (g : Givens) (moves : List Move)
-        → (tale_of g (map (λ (m : Move). Moves m) moves)).processes ≡ (world_after_moves g (opening_world g) moves).processes }
+        → (tale_of g (map (λ (m : Move). Moves m) moves)).processes ≡ (world_of g moves).processes }
     ensures history { (g : Givens) (moves : List Move)
-        → (tale_of g (map (λ (m : Move). Moves m) moves)).entries ≡ entries_for (world_after_moves g (opening_world g) moves).history }
+        → (tale_of g (map (λ (m : Move). Moves m) moves)).entries ≡ entries_for (world_of g moves).history }
 {}

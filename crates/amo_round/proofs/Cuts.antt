@@ -5,7 +5,7 @@ use Rattle.std.proofs.lemmas.Bool.{cases_eq}
 use Rattle.std.proofs.lemmas.List.{take_at}
 use Rattle.amo_ledger.specs.Records.{ended}
 use Rattle.amo_ledger.proofs.Words.{Lacks, lacks_append, equal, not_equal}
-use Rattle.amo_round.specs.Lines.{lines_from, rest_from, lines_in, rest_in, first_lines, BeginsWith}
+use Rattle.amo_round.specs.Lines.{lines_from, remainder_from, lines_in, remainder_in, first_lines, BeginsWith}
 
 -- a byte that ends a line, and one that doesn't
 
@@ -16,72 +16,72 @@ module _ (begun : List ℕ) (b : ℕ) (bytes : List ℕ) where
   pub lines_on : b ≢ 10 → lines_from begun (b ∷ bytes) ≡ lines_from (begun ++ b ∷ []) bytes
   lines_on ne = ap (λ (t : Bool). cond t (begun ∷ lines_from [] bytes) (lines_from (begun ++ b ∷ []) bytes)) (not_equal b 10 ne)
 
-  rest_end : b ≡ 10 → rest_from begun (b ∷ bytes) ≡ rest_from [] bytes
-  rest_end e = ap (λ (t : Bool). cond t (rest_from [] bytes) (rest_from (begun ++ b ∷ []) bytes)) (equal b 10 e)
+  remainder_end : b ≡ 10 → remainder_from begun (b ∷ bytes) ≡ remainder_from [] bytes
+  remainder_end e = ap (λ (t : Bool). cond t (remainder_from [] bytes) (remainder_from (begun ++ b ∷ []) bytes)) (equal b 10 e)
 
-  rest_on : b ≢ 10 → rest_from begun (b ∷ bytes) ≡ rest_from (begun ++ b ∷ []) bytes
-  rest_on ne = ap (λ (t : Bool). cond t (rest_from [] bytes) (rest_from (begun ++ b ∷ []) bytes)) (not_equal b 10 ne)
+  remainder_on : b ≢ 10 → remainder_from begun (b ∷ bytes) ≡ remainder_from (begun ++ b ∷ []) bytes
+  remainder_on ne = ap (λ (t : Bool). cond t (remainder_from [] bytes) (remainder_from (begun ++ b ∷ []) bytes)) (not_equal b 10 ne)
 
--- the lines and the rest are the file
+-- the lines and the remainder are the file
 
-pub whole_from : (begun file : List ℕ) → ended (lines_from begun file) ++ rest_from begun file ≡ begun ++ file
+pub whole_from : (begun file : List ℕ) → ended (lines_from begun file) ++ remainder_from begun file ≡ begun ++ file
 whole_from begun [] = sym (append-nil begun)
 whole_from begun (b ∷ bytes) = elim (cases_eq b 10) [
   | inl e ↦
-      ap (λ (ls : List (List ℕ)). ended ls ++ rest_from begun (b ∷ bytes)) (lines_end begun b bytes e)
-      ∙ ap (λ (r : List ℕ). ended (begun ∷ lines_from [] bytes) ++ r) (rest_end begun b bytes e)
-      ∙ append_assoc begun (10 ∷ ended (lines_from [] bytes)) (rest_from [] bytes)
+      ap (λ (ls : List (List ℕ)). ended ls ++ remainder_from begun (b ∷ bytes)) (lines_end begun b bytes e)
+      ∙ ap (λ (r : List ℕ). ended (begun ∷ lines_from [] bytes) ++ r) (remainder_end begun b bytes e)
+      ∙ append_assoc begun (10 ∷ ended (lines_from [] bytes)) (remainder_from [] bytes)
       ∙ ap (λ (t : List ℕ). begun ++ 10 ∷ t) (whole_from [] bytes)
       ∙ ap (λ (x : ℕ). begun ++ x ∷ bytes) (sym e)
   | inr ne ↦
-      ap (λ (ls : List (List ℕ)). ended ls ++ rest_from begun (b ∷ bytes)) (lines_on begun b bytes ne)
-      ∙ ap (λ (r : List ℕ). ended (lines_from (begun ++ b ∷ []) bytes) ++ r) (rest_on begun b bytes ne)
+      ap (λ (ls : List (List ℕ)). ended ls ++ remainder_from begun (b ∷ bytes)) (lines_on begun b bytes ne)
+      ∙ ap (λ (r : List ℕ). ended (lines_from (begun ++ b ∷ []) bytes) ++ r) (remainder_on begun b bytes ne)
       ∙ whole_from (begun ++ b ∷ []) bytes
       ∙ append_assoc begun (b ∷ []) bytes
 ]
 
-pub whole : (file : List ℕ) → ended (lines_in file) ++ rest_in file ≡ file
+pub whole : (file : List ℕ) → ended (lines_in file) ++ remainder_in file ≡ file
 whole file = whole_from [] file
 
 abbrev NoneHasEnd : List (List ℕ) → List ℕ → Type 0
 NoneHasEnd lines rest = AllByRecursion (Lacks 10) lines × Lacks 10 rest
 
-lacking_from : (begun file : List ℕ) → Lacks 10 begun → NoneHasEnd (lines_from begun file) (rest_from begun file)
+lacking_from : (begun file : List ℕ) → Lacks 10 begun → NoneHasEnd (lines_from begun file) (remainder_from begun file)
 lacking_from begun [] lacks = (tt, lacks)
 lacking_from begun (b ∷ bytes) lacks = elim (cases_eq b 10) [
   | inl e ↦
-      let more : NoneHasEnd (lines_from [] bytes) (rest_from [] bytes) = lacking_from [] bytes tt in (
+      let more : NoneHasEnd (lines_from [] bytes) (remainder_from [] bytes) = lacking_from [] bytes tt in (
         subst (λ (ls : List (List ℕ)). AllByRecursion (Lacks 10) ls) (sym (lines_end begun b bytes e)) (lacks, more.0),
-        subst (λ (r : List ℕ). Lacks 10 r) (sym (rest_end begun b bytes e)) more.1,
+        subst (λ (r : List ℕ). Lacks 10 r) (sym (remainder_end begun b bytes e)) more.1,
       )
   | inr ne ↦
-      let more : NoneHasEnd (lines_from (begun ++ b ∷ []) bytes) (rest_from (begun ++ b ∷ []) bytes) = lacking_from (begun ++ b ∷ []) bytes (lacks_append 10 begun (b ∷ []) lacks (ne, tt)) in (
+      let more : NoneHasEnd (lines_from (begun ++ b ∷ []) bytes) (remainder_from (begun ++ b ∷ []) bytes) = lacking_from (begun ++ b ∷ []) bytes (lacks_append 10 begun (b ∷ []) lacks (ne, tt)) in (
         subst (λ (ls : List (List ℕ)). AllByRecursion (Lacks 10) ls) (sym (lines_on begun b bytes ne)) more.0,
-        subst (λ (r : List ℕ). Lacks 10 r) (sym (rest_on begun b bytes ne)) more.1,
+        subst (λ (r : List ℕ). Lacks 10 r) (sym (remainder_on begun b bytes ne)) more.1,
       )
 ]
 
-pub lacking : (file : List ℕ) → AllByRecursion (Lacks 10) (lines_in file) × Lacks 10 (rest_in file)
+pub lacking : (file : List ℕ) → AllByRecursion (Lacks 10) (lines_in file) × Lacks 10 (remainder_in file)
 lacking file = lacking_from [] file tt
 
--- other lines and another rest are another file
+-- other lines and another remainder are another file
 
 line_cut : (line begun rest : List ℕ) → Lacks 10 line → lines_from begun (line ++ 10 ∷ rest) ≡ (begun ++ line) ∷ lines_from [] rest
 line_cut [] begun rest lacks = ap (λ (l : List ℕ). l ∷ lines_from [] rest) (sym (append-nil begun))
 line_cut (b ∷ line) begun rest lacks =
     lines_on begun b (line ++ 10 ∷ rest) lacks.0 ∙ line_cut line (begun ++ b ∷ []) rest lacks.1 ∙ ap (λ (l : List ℕ). l ∷ lines_from [] rest) (append_assoc begun (b ∷ []) line)
 
-rest_cut : (line begun rest : List ℕ) → Lacks 10 line → rest_from begun (line ++ 10 ∷ rest) ≡ rest_from [] rest
-rest_cut [] begun rest lacks = refl
-rest_cut (b ∷ line) begun rest lacks = rest_on begun b (line ++ 10 ∷ rest) lacks.0 ∙ rest_cut line (begun ++ b ∷ []) rest lacks.1
+remainder_cut : (line begun rest : List ℕ) → Lacks 10 line → remainder_from begun (line ++ 10 ∷ rest) ≡ remainder_from [] rest
+remainder_cut [] begun rest lacks = refl
+remainder_cut (b ∷ line) begun rest lacks = remainder_on begun b (line ++ 10 ∷ rest) lacks.0 ∙ remainder_cut line (begun ++ b ∷ []) rest lacks.1
 
 no_line : (rest begun : List ℕ) → Lacks 10 rest → lines_from begun rest ≡ []
 no_line [] begun lacks = refl
 no_line (b ∷ rest) begun lacks = lines_on begun b rest lacks.0 ∙ no_line rest (begun ++ b ∷ []) lacks.1
 
-all_rest : (rest begun : List ℕ) → Lacks 10 rest → rest_from begun rest ≡ begun ++ rest
-all_rest [] begun lacks = sym (append-nil begun)
-all_rest (b ∷ rest) begun lacks = rest_on begun b rest lacks.0 ∙ all_rest rest (begun ++ b ∷ []) lacks.1 ∙ append_assoc begun (b ∷ []) rest
+all_remainder : (rest begun : List ℕ) → Lacks 10 rest → remainder_from begun rest ≡ begun ++ rest
+all_remainder [] begun lacks = sym (append-nil begun)
+all_remainder (b ∷ rest) begun lacks = remainder_on begun b rest lacks.0 ∙ all_remainder rest (begun ++ b ∷ []) lacks.1 ∙ append_assoc begun (b ∷ []) rest
 
 -- lines at the front of a file are its first lines
 pub lines_more : (lines : List (List ℕ)) (more : List ℕ) → AllByRecursion (Lacks 10) lines → lines_in (ended lines ++ more) ≡ lines ++ lines_in more
@@ -89,27 +89,27 @@ lines_more [] more all = refl
 lines_more (line ∷ lines) more all =
     ap lines_in (append_assoc line (10 ∷ ended lines) more) ∙ line_cut line [] (ended lines ++ more) all.0 ∙ ap (λ (ls : List (List ℕ)). line ∷ ls) (lines_more lines more all.1)
 
-rest_more : (lines : List (List ℕ)) (more : List ℕ) → AllByRecursion (Lacks 10) lines → rest_in (ended lines ++ more) ≡ rest_in more
-rest_more [] more all = refl
-rest_more (line ∷ lines) more all = ap rest_in (append_assoc line (10 ∷ ended lines) more) ∙ rest_cut line [] (ended lines ++ more) all.0 ∙ rest_more lines more all.1
+remainder_more : (lines : List (List ℕ)) (more : List ℕ) → AllByRecursion (Lacks 10) lines → remainder_in (ended lines ++ more) ≡ remainder_in more
+remainder_more [] more all = refl
+remainder_more (line ∷ lines) more all = ap remainder_in (append_assoc line (10 ∷ ended lines) more) ∙ remainder_cut line [] (ended lines ++ more) all.0 ∙ remainder_more lines more all.1
 
-pub only : (lines : List (List ℕ)) (rest : List ℕ) → AllByRecursion (Lacks 10) lines → Lacks 10 rest → (lines_in (ended lines ++ rest) ≡ lines) × (rest_in (ended lines ++ rest) ≡ rest)
+pub only : (lines : List (List ℕ)) (rest : List ℕ) → AllByRecursion (Lacks 10) lines → Lacks 10 rest → (lines_in (ended lines ++ rest) ≡ lines) × (remainder_in (ended lines ++ rest) ≡ rest)
 only lines rest all lacks = (
   lines_more lines rest all ∙ ap (λ (ls : List (List ℕ)). lines ++ ls) (no_line rest [] lacks) ∙ append-nil lines,
-  rest_more lines rest all ∙ all_rest rest [] lacks,
+  remainder_more lines rest all ∙ all_remainder rest [] lacks,
 )
 
--- what stands before the rest
+-- what stands before the remainder
 
 pub front_is : (file : List ℕ) → take (length (ended (lines_in file))) file ≡ ended (lines_in file)
 front_is file =
-    ap (take (length (ended (lines_in file)))) (sym (whole file)) ∙ take_at (ended (lines_in file)) (rest_in file) (length (ended (lines_in file))) refl
+    ap (take (length (ended (lines_in file)))) (sym (whole file)) ∙ take_at (ended (lines_in file)) (remainder_in file) (length (ended (lines_in file))) refl
 
-pub front_lines : (file : List ℕ) → (lines_in (ended (lines_in file)) ≡ lines_in file) × (rest_in (ended (lines_in file)) ≡ [])
+pub front_lines : (file : List ℕ) → (lines_in (ended (lines_in file)) ≡ lines_in file) × (remainder_in (ended (lines_in file)) ≡ [])
 front_lines file =
     let alone : ended (lines_in file) ++ [] ≡ ended (lines_in file) = append-nil (ended (lines_in file)) in
     let are = only (lines_in file) [] (lacking file).0 tt in
-    (sym (ap lines_in alone) ∙ are.0, sym (ap rest_in alone) ∙ are.1)
+    (sym (ap lines_in alone) ∙ are.0, sym (ap remainder_in alone) ∙ are.1)
 
 -- the first lines
 
@@ -164,7 +164,7 @@ pub keep_numbers : (known file : List ℕ) → BeginsWith known file → take (l
 keep_numbers known file begins =
     let lines = lines_in known in
     let more = drop (length known) file in
-    let grown : file ≡ ended lines ++ (rest_in known ++ more) =
-    sym (take-append-drop (length known) file) ∙ ap (λ (t : List ℕ). t ++ more) (begins ∙ sym (whole known)) ∙ append_assoc (ended lines) (rest_in known) more in
-    ap (λ (f : List ℕ). take (length lines) (lines_in f)) grown ∙ ap (take (length lines)) (lines_more lines (rest_in known ++ more) (lacking known).0)
-    ∙ take_at lines (lines_in (rest_in known ++ more)) (length lines) refl
+    let grown : file ≡ ended lines ++ (remainder_in known ++ more) =
+    sym (take-append-drop (length known) file) ∙ ap (λ (t : List ℕ). t ++ more) (begins ∙ sym (whole known)) ∙ append_assoc (ended lines) (remainder_in known) more in
+    ap (λ (f : List ℕ). take (length lines) (lines_in f)) grown ∙ ap (take (length lines)) (lines_more lines (remainder_in known ++ more) (lacking known).0)
+    ∙ take_at lines (lines_in (remainder_in known ++ more)) (length lines) refl

@@ -4,7 +4,7 @@ use Rattle.std.specs.Prelude.{◌==◌}
 use Rattle.std.proofs.lemmas.Bool.{cases_eq}
 use Rattle.amo_ledger.specs.Records.{ended}
 use Rattle.amo_ledger.proofs.Words.{equal, not_equal}
-use Rattle.amo_round.specs.Lines.{lines_from, lines_in, rest_in, ends_of}
+use Rattle.amo_round.specs.Lines.{lines_from, lines_in, remainder_in, ends_of}
 use Rattle.amo_round.proofs.Cuts.{lines_end, lines_on, whole}
 
 -- where the lines end that are read from here on; so far this many bytes were read
@@ -81,11 +81,11 @@ line_from bytes i start end lt start_is end_is =
     let lines = lines_in bytes in
     let line = get_or lines i [] in
     let front = ended (take i lines) in
-    let more = ended (drop (suc i) lines) ++ rest_in bytes in
+    let more = ended (drop (suc i) lines) ++ remainder_in bytes in
     let up_to : ended (take (suc i) lines) ≡ front ++ (line ++ 10 ∷ []) = ap ended (take-suc lines i [] lt) ∙ ended-append (take i lines) (line ∷ []) in
     let cut : ended lines ≡ ended (take (suc i) lines) ++ ended (drop (suc i) lines) = ap ended (sym (take-append-drop (suc i) lines)) ∙ ended-append (take (suc i) lines) (drop (suc i) lines) in
     let are : bytes ≡ front ++ (line ++ 10 ∷ more) =
-    sym (whole bytes) ∙ ap (λ (t : List ℕ). t ++ rest_in bytes) cut ∙ append_assoc (ended (take (suc i) lines)) (ended (drop (suc i) lines)) (rest_in bytes)
+    sym (whole bytes) ∙ ap (λ (t : List ℕ). t ++ remainder_in bytes) cut ∙ append_assoc (ended (take (suc i) lines)) (ended (drop (suc i) lines)) (remainder_in bytes)
     ∙ ap (λ (t : List ℕ). t ++ more) up_to ∙ append_assoc front (line ++ 10 ∷ []) more ∙ ap (λ (t : List ℕ). front ++ t) (append_assoc line (10 ∷ []) more) in
     let end_more : end ≡ length front + length line + 1 = omega (arith, ap length up_to, length-append front (line ++ 10 ∷ []), length-append line (10 ∷ [])) in
     let size : end - 1 - start ≡ length line = omega arith in
@@ -105,10 +105,10 @@ line_part bytes ends i start are there begins =
     let within : i < length lines = omega (arith, ap length are, length_ends 0 lines) in
     line_from bytes i start (get_or ends i 0) within (begins lines are) (ap (λ (es : List ℕ). get_or es i 0) are ∙ end_at lines i 0 within)
 
--- and the rest
+-- and the remainder
 
-pub rest_from_end : (bytes : List ℕ) (end : ℕ) → end ≡ length (ended (lines_in bytes)) → (end ≤ length bytes) × (drop end bytes ≡ rest_in bytes)
-rest_from_end bytes end is = (
-  omega (arith, ap length (whole bytes), length-append (ended (lines_in bytes)) (rest_in bytes)),
-  ap (drop end) (sym (whole bytes)) ∙ drop_at (ended (lines_in bytes)) (rest_in bytes) end (sym is),
+pub remainder_from_end : (bytes : List ℕ) (end : ℕ) → end ≡ length (ended (lines_in bytes)) → (end ≤ length bytes) × (drop end bytes ≡ remainder_in bytes)
+remainder_from_end bytes end is = (
+  omega (arith, ap length (whole bytes), length-append (ended (lines_in bytes)) (remainder_in bytes)),
+  ap (drop end) (sym (whole bytes)) ∙ drop_at (ended (lines_in bytes)) (remainder_in bytes) end (sym is),
 )

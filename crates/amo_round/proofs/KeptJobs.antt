@@ -3,10 +3,10 @@ use Rattle.std.proofs.Common.{◌≡◌, ℕ, zero, suc, ◌-◌, ◌<◌, ◌�
 use Rattle.std.proofs.lemmas.Option.{slice_get-get_or, slice_get_past}
 use Rattle.amo_ledger.specs.Records.{ended}
 use Rattle.amo_round.specs.Jobs.{line_of, AreJobs, AreKept}
-use Rattle.amo_round.specs.Lines.{lines_in, rest_in, ends_of}
-use Rattle.amo_round.specs.Refusals.{MayStand, IsTaken, why_rest}
+use Rattle.amo_round.specs.Lines.{lines_in, remainder_in, ends_of}
+use Rattle.amo_round.specs.Refusals.{MayStand, IsTaken, why_remainder}
 use Rattle.amo_round.proofs.Cuts.{whole, front_is, front_lines, lacking}
-use Rattle.amo_round.proofs.Refusals.{stands, rest_none, no_rest, jobs_are}
+use Rattle.amo_round.proofs.Refusals.{stands, remainder_none, no_remainder, jobs_are}
 
 pub front_from : (file : List ℕ) (n : ℕ) → n ≡ length (ended (lines_in file)) → take n file ≡ ended (lines_in file)
 front_from file n is = ap (λ (k : ℕ). take k file) is ∙ front_is file
@@ -19,11 +19,11 @@ kept file ends n are stand is =
     let same = view_is file n is in
     record {
       ends = are ∙ ap (ends_of 0) (sym same);
-      whole = ap rest_in (front_from file n is) ∙ (front_lines file).1;
+      whole = ap remainder_in (front_from file n is) ∙ (front_lines file).1;
       stand = subst (λ (ls : List (List ℕ)). MayStand ls) (sym same) stand;
     }
 
-pub bytes_are : (bytes : List ℕ) → rest_in bytes ≡ [] → bytes ≡ ended (lines_in bytes)
+pub bytes_are : (bytes : List ℕ) → remainder_in bytes ≡ [] → bytes ≡ ended (lines_in bytes)
 bytes_are bytes none = sym (whole bytes) ∙ ap (λ (r : List ℕ). ended (lines_in bytes) ++ r) none ∙ append-nil (ended (lines_in bytes))
 
 -- what is known of jobs that were read: n bytes of the file were kept
@@ -39,7 +39,7 @@ are_read file cut bytes ends n are taken is cuts =
     record {
       kept = subst (λ (bs : List ℕ). AreKept bs ends) (sym cuts) (kept file ends n are stand is);
       lines = ap lines_in cuts ∙ view_is file n is;
-      whole = λ uncut. sym (bytes_are file (no_rest (lines_in file) (rest_in file) (ap (why_rest (lines_in file) (rest_in file)) (sym uncut) ∙ rest_none file cut taken)));
+      whole = λ uncut. sym (bytes_are file (no_remainder (lines_in file) (remainder_in file) (ap (why_remainder (lines_in file) (remainder_in file)) (sym uncut) ∙ remainder_none file cut taken)));
       jobs = jobs_are (lines_in file) stand (lacking file).0;
     }
 

@@ -17,9 +17,9 @@ use Rattle.amo_round.specs.declared.fault.JobsFault.{JobsFault}
 use Rattle.amo_round.specs.declared.fault.JobsFault.TheVariants.{Memory, Refused}
 use Rattle.amo_round.specs.declared.fault.Why.{Why}
 use Rattle.amo_round.specs.declared.fault.Why.TheVariants.{Empty, Nul, CarriageReturn, NotText, TooLong, Repeated, NoEnd}
-use Rattle.amo_round.specs.Lines.{lines_in, rest_in}
+use Rattle.amo_round.specs.Lines.{lines_in, remainder_in}
 use Rattle.amo_round.specs.Jobs.{IsLine, AreJobs}
-use Rattle.amo_round.specs.Refusals.{has_byte, wrong_with, why_not, why_rest, why_at, IsTaken, IsRefused, MayStand, IsFirstRefused}
+use Rattle.amo_round.specs.Refusals.{has_byte, wrong_with, why_not, why_remainder, why_at, IsTaken, IsRefused, MayStand, IsFirstRefused}
 use Rattle.amo_round.proofs.Cuts.{only}
 
 or_none : {A : Type 0} (a b : Option A) → option_or a b ≡ None → (a ≡ None) × (b ≡ None)
@@ -114,20 +114,20 @@ first_refused lines i why lt is earlier =
 module _ (file : List ℕ) (cut : Bool) where
   at_line : (k : ℕ) → k < length (lines_in file) → why_at file cut k ≡ why_not (take k (lines_in file)) (get_or (lines_in file) k [])
   at_line k lt =
-      ap (λ (t : Bool). cond t (why_not (take k (lines_in file)) (get_or (lines_in file) k [])) (why_rest (lines_in file) (rest_in file) cut)) (lt-ltb k (length (lines_in file)) lt)
+      ap (λ (t : Bool). cond t (why_not (take k (lines_in file)) (get_or (lines_in file) k [])) (why_remainder (lines_in file) (remainder_in file) cut)) (lt-ltb k (length (lines_in file)) lt)
 
-  at_rest : (k : ℕ) → length (lines_in file) ≤ k → why_at file cut k ≡ why_rest (lines_in file) (rest_in file) cut
-  at_rest k le =
-      ap (λ (t : Bool). cond t (why_not (take k (lines_in file)) (get_or (lines_in file) k [])) (why_rest (lines_in file) (rest_in file) cut)) (le-ltb k (length (lines_in file)) le)
+  at_remainder : (k : ℕ) → length (lines_in file) ≤ k → why_at file cut k ≡ why_remainder (lines_in file) (remainder_in file) cut
+  at_remainder k le =
+      ap (λ (t : Bool). cond t (why_not (take k (lines_in file)) (get_or (lines_in file) k [])) (why_remainder (lines_in file) (remainder_in file) cut)) (le-ltb k (length (lines_in file)) le)
 
-  pub taken : MayStand (lines_in file) → why_rest (lines_in file) (rest_in file) cut ≡ None → IsTaken file cut
-  taken stand rest k le = elim (cases_lt k (length (lines_in file))) [ inl lt ↦ at_line k lt ∙ stand k lt | inr ge ↦ at_rest k ge ∙ rest ]
+  pub taken : MayStand (lines_in file) → why_remainder (lines_in file) (remainder_in file) cut ≡ None → IsTaken file cut
+  taken stand rest k le = elim (cases_lt k (length (lines_in file))) [ inl lt ↦ at_line k lt ∙ stand k lt | inr ge ↦ at_remainder k ge ∙ rest ]
 
   pub stands : IsTaken file cut → MayStand (lines_in file)
   stands all k lt = sym (at_line k lt) ∙ all k (omega arith)
 
-  pub rest_none : IsTaken file cut → why_rest (lines_in file) (rest_in file) cut ≡ None
-  rest_none all = sym (at_rest (length (lines_in file)) (omega arith)) ∙ all (length (lines_in file)) (omega arith)
+  pub remainder_none : IsTaken file cut → why_remainder (lines_in file) (remainder_in file) cut ≡ None
+  remainder_none all = sym (at_remainder (length (lines_in file)) (omega arith)) ∙ all (length (lines_in file)) (omega arith)
 
   pub refused_line : (fault : JobsFault) → IsFirstRefused (lines_in file) fault → IsRefused file cut fault
   refused_line Memory first = tt
@@ -138,18 +138,18 @@ module _ (file : List ℕ) (cut : Bool) where
     λ k lt. at_line k (omega (arith, first.1)) ∙ first.3 k lt,
   )
 
-  pub refused_rest : (number : ℕ) (why : Why) → MayStand (lines_in file) → why_rest (lines_in file) (rest_in file) cut ≡ Some why → number ≡ length (lines_in file) + 1 → IsRefused file cut (Refused number why)
-  refused_rest number why stand rest is = (
+  pub refused_remainder : (number : ℕ) (why : Why) → MayStand (lines_in file) → why_remainder (lines_in file) (remainder_in file) cut ≡ Some why → number ≡ length (lines_in file) + 1 → IsRefused file cut (Refused number why)
+  refused_remainder number why stand rest is = (
     omega arith,
     omega arith,
-    at_rest (number - 1) (omega arith) ∙ rest,
+    at_remainder (number - 1) (omega arith) ∙ rest,
     λ k lt. at_line k (omega arith) ∙ stand k (omega arith),
   )
 
--- where nothing is cut off, there is no rest
-pub no_rest : (lines : List (List ℕ)) (rest : List ℕ) → why_rest lines rest false ≡ None → rest ≡ []
-no_rest lines [] h = refl
-no_rest lines (b ∷ rest) h =
+-- where nothing is cut off, there is no remainder
+pub no_remainder : (lines : List (List ℕ)) (rest : List ℕ) → why_remainder lines rest false ≡ None → rest ≡ []
+no_remainder lines [] h = refl
+no_remainder lines (b ∷ rest) h =
     absurd (ends (why_not lines (b ∷ rest))
     (sym (ap (λ (t : Bool). cond t None (option_or (why_not lines (b ∷ rest)) (Some NoEnd))) (not_equal (length (b ∷ rest)) 0 (λ e. omega (arith, e)))) ∙ h))
   where
@@ -172,7 +172,7 @@ may_stand lines are k lt = must (take k lines) line (are.each k [] lt) new
         are.distinct at.0 k (get_or lines k []) before lt
         (sym (get_or-take k lines at.0 (get_or lines k []) before) ∙ at.2 ∙ get_or_default lines k [] (get_or lines k []) lt)
 
-nothing_behind : (lines : List (List ℕ)) (cut : Bool) → why_rest lines [] cut ≡ None
+nothing_behind : (lines : List (List ℕ)) (cut : Bool) → why_remainder lines [] cut ≡ None
 nothing_behind lines true = refl
 nothing_behind lines false = refl
 
@@ -181,7 +181,7 @@ read_back jobs cut are =
     let all : ended jobs ++ [] ≡ ended jobs = append-nil (ended jobs) in
     let file = only jobs [] are.one_line tt in
     let lines : lines_in (ended jobs) ≡ jobs = sym (ap lines_in all) ∙ file.0 in
-    let rest : rest_in (ended jobs) ≡ [] = sym (ap rest_in all) ∙ file.1 in (
-      taken (ended jobs) cut (subst (λ (ls : List (List ℕ)). MayStand ls) (sym lines) (may_stand jobs are)) (ap (λ (r : List ℕ). why_rest (lines_in (ended jobs)) r cut) rest ∙ nothing_behind (lines_in (ended jobs)) cut),
+    let rest : remainder_in (ended jobs) ≡ [] = sym (ap remainder_in all) ∙ file.1 in (
+      taken (ended jobs) cut (subst (λ (ls : List (List ℕ)). MayStand ls) (sym lines) (may_stand jobs are)) (ap (λ (r : List ℕ). why_remainder (lines_in (ended jobs)) r cut) rest ∙ nothing_behind (lines_in (ended jobs)) cut),
       lines,
     )

@@ -1,6 +1,7 @@
--- The head of the words of a round: 512 bytes that say which round it is.
+-- The head of the words of a round: `HEAD_LEN` bytes that say which round it is.
 use Rattle.std.specs.Prelude.{ℕ, ◌-◌, nat_lt, List, [], ◌∷◌, ◌++◌, codes, decimal, length, replicate, Option, Some, None, if◌then◌else◌}
 use Rattle.amo_ledger.specs.Records.{RecordView, ended}
+use Rattle.amo_round.specs.declared.head.TheConstants.{HEAD_LEN}
 
 -- its lines
 abbrev pub head_lines : RecordView → List (List ℕ)
@@ -12,9 +13,9 @@ head_lines r =
 abbrev pub head_text : RecordView → List ℕ
 head_text r = ended (head_lines r)
 
--- a text with blanks behind it, and a line feed as the last of 512 bytes, if it has at most 511
+-- a text with blanks behind it, and a line feed as the last byte of a head, if it has fewer bytes than that
 abbrev pub filled_up : List ℕ → Option (List ℕ)
-filled_up text = if nat_lt (length text) 512 then Some (text ++ (replicate (511 - length text) 32 ++ 10 ∷ [])) else None
+filled_up text = if nat_lt (length text) HEAD_LEN then Some (text ++ (replicate (HEAD_LEN - 1 - length text) 32 ++ 10 ∷ [])) else None
 
 -- the head
 abbrev pub head_of : RecordView → Option (List ℕ)

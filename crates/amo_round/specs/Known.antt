@@ -1,4 +1,4 @@
--- A set of lines.
+-- Within this crate: a set of lines.
 use Rattle.std.specs.Prelude.{◌≡◌, ℕ, List}
 use Rattle.std.specs.BTreeSet.{BTreeSet}
 use Rattle.std.specs.Borrow.{Bor}

@@ -7,17 +7,17 @@ lines_from begun [] = []
 lines_from begun (b ∷ bytes) = if b == 10 then begun ∷ lines_from [] bytes else lines_from (begun ++ b ∷ []) bytes
 
 -- what stands behind the last line feed from here on
-abbrev pub rest_from : List ℕ → List ℕ → List ℕ
-rest_from begun [] = begun
-rest_from begun (b ∷ bytes) = if b == 10 then rest_from [] bytes else rest_from (begun ++ b ∷ []) bytes
+abbrev pub remainder_from : List ℕ → List ℕ → List ℕ
+remainder_from begun [] = begun
+remainder_from begun (b ∷ bytes) = if b == 10 then remainder_from [] bytes else remainder_from (begun ++ b ∷ []) bytes
 
 -- the lines of a file, without their ends
 abbrev pub lines_in : List ℕ → List (List ℕ)
 lines_in file = lines_from [] file
 
 -- what stands behind the last line feed of a file: a line without its end, or nothing
-abbrev pub rest_in : List ℕ → List ℕ
-rest_in file = rest_from [] file
+abbrev pub remainder_in : List ℕ → List ℕ
+remainder_in file = remainder_from [] file
 
 -- where each of these lines ends, behind its line feed, if the first begins here
 abbrev pub ends_of : ℕ → List (List ℕ) → List ℕ

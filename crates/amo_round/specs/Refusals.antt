@@ -7,7 +7,8 @@ use Rattle.amo_round.specs.declared.fault.JobsFault.{JobsFault}
 use Rattle.amo_round.specs.declared.fault.JobsFault.TheVariants.{Memory, Refused}
 use Rattle.amo_round.specs.declared.fault.Why.{Why}
 use Rattle.amo_round.specs.declared.fault.Why.TheVariants.{Empty, Nul, CarriageReturn, NotText, TooLong, Repeated, NoEnd}
-use Rattle.amo_round.specs.Lines.{lines_in, rest_in}
+use Rattle.amo_round.specs.declared.known.TheConstants.{MAX_LINE}
+use Rattle.amo_round.specs.Lines.{lines_in, remainder_in}
 
 -- whether the line has this byte
 abbrev pub has_byte : ℕ → List ℕ → Bool
@@ -20,7 +21,7 @@ wrong_with line =
     else (if has_byte 0 line then Some Nul
     else (if has_byte 13 line then Some CarriageReturn
     else (if not (is_utf8 line) then Some NotText
-    else (if nat_lt 100000 (length line) then Some TooLong
+    else (if nat_lt MAX_LINE (length line) then Some TooLong
     else None))))
 
 -- why a line may not stand behind these lines, if it may not
@@ -29,16 +30,16 @@ why_not before line = option_or (wrong_with line) (if list_any (bytes_eq line) b
 
 -- why what stands behind the last line feed, and behind these lines, is refused, if it is: it has no end, after what else is wrong
 -- with it; but not if it is nothing, or cut off
-abbrev pub why_rest : List (List ℕ) → List ℕ → Bool → Option Why
-why_rest lines rest cut = if cut || (length rest == 0) then None else option_or (why_not lines rest) (Some NoEnd)
+abbrev pub why_remainder : List (List ℕ) → List ℕ → Bool → Option Why
+why_remainder lines rest cut = if cut || (length rest == 0) then None else option_or (why_not lines rest) (Some NoEnd)
 
--- why the line at this index of a file is refused, if it is; behind the last line stands the rest
+-- why the line at this index of a file is refused, if it is; behind the last line stands the remainder
 abbrev pub why_at : List ℕ → Bool → ℕ → Option Why
 why_at file cut k =
     if nat_lt k (length (lines_in file)) then why_not (take k (lines_in file)) (slice_index_or (lines_in file) k [])
-    else why_rest (lines_in file) (rest_in file) cut
+    else why_remainder (lines_in file) (remainder_in file) cut
 
--- no line of the file is refused, and neither is the rest
+-- no line of the file is refused, and neither is the remainder
 abbrev pub IsTaken : List ℕ → Bool → Type 0
 IsTaken file cut = (k : ℕ) → k ≤ length (lines_in file) → why_at file cut k ≡ None
 

@@ -2,18 +2,19 @@
 ghost use Rattle.std.specs.Prelude.{◌≡◌, length, option_map, IfOk, IfSome};
 ghost use Rattle.amo_ledger.specs.Records.{said_by};
 ghost use Rattle.amo_round.specs.Heads.{head_text, filled_up, head_of};
+ghost use Rattle.amo_round.specs.declared.head.TheConstants.{HEAD_LEN};
 
 use amo_ledger::{Givens, Record};
 use std::alloc::{AllocError, Global};
 
 /// How many bytes stand before the first word.
-const HEAD: usize = 512;
+pub const HEAD_LEN: usize = 512;
 
-/// The 512 bytes at the front of the words of the round that has this record: which round it is of, and behind it blanks and a
+/// The `HEAD_LEN` bytes at the front of the words of the round that has this record: which round it is of, and behind it blanks and a
 /// line feed. `None` where the boot id is so long that it doesn't fit.
 pub fn head_of(alloc: Global, recorded: &Record) -> Result<Option<Vec<u8>>, AllocError>
     ensures exact { IfOk result (λ head. option_map (λ bytes. bytes.items) head ≡ head_of (said_by recorded.now)) }
-    ensures size { IfOk result (λ head. IfSome head (λ bytes. length bytes.items ≡ 512)) }
+    ensures size { IfOk result (λ head. IfSome head (λ bytes. length bytes.items ≡ HEAD_LEN)) }
 {
     let text = head_text(alloc, recorded)?;
     filled_up(text)
@@ -40,12 +41,12 @@ fn head_text(alloc: Global, recorded: &Record) -> Result<Vec<u8>, AllocError>
 /// The text, with blanks and a line feed behind it, if they have room.
 fn filled_up(mut text: Vec<u8>) -> Result<Option<Vec<u8>>, AllocError>
     ensures exact { IfOk result (λ head. option_map (λ bytes. bytes.items) head ≡ filled_up text.items) }
-    ensures size { IfOk result (λ head. IfSome head (λ bytes. length bytes.items ≡ 512)) }
+    ensures size { IfOk result (λ head. IfSome head (λ bytes. length bytes.items ≡ HEAD_LEN)) }
 {
-    if text.len() >= HEAD {
+    if text.len() >= HEAD_LEN {
         return Ok(None);
     }
-    text.resize(HEAD - 1, b' ')?;
+    text.resize(HEAD_LEN - 1, b' ')?;
     text.push(b'\n')?;
     Ok(Some(text))
 }

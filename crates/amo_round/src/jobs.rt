@@ -2,7 +2,7 @@
 ghost use Rattle.std.specs.Prelude.{◌≡◌, ◌++◌, ◌<◌, ℕ, List, false, length, option_map, IfOk, IfErr, OnOk, All, AllPairs, ◌≢◌};
 ghost use Rattle.amo_ledger.specs.Records.{ended};
 ghost use Rattle.amo_round.specs.Jobs.{line_of, AreJobs};
-ghost use Rattle.amo_round.specs.Lines.{lines_in, rest_in};
+ghost use Rattle.amo_round.specs.Lines.{lines_in, remainder_in};
 ghost use Rattle.amo_round.specs.Refusals.{IsTaken, IsRefused};
 
 use crate::fault::JobsFault;
@@ -42,7 +42,7 @@ impl Jobs {
 
         // The jobs are all its lines, and with their ends they are the file but for what was left out.
         ensures lines { IfOk result (λ jobs. jobs ≡ lines_in bytes.items) }
-        ensures front { IfOk result (λ jobs. ended jobs ++ rest_in bytes.items ≡ bytes.items) }
+        ensures front { IfOk result (λ jobs. ended jobs ++ remainder_in bytes.items ≡ bytes.items) }
         ensures whole { cut ≡ false → IfOk result (λ jobs. ended jobs ≡ bytes.items) }
 
         // No two of them are equal, and none is empty.

@@ -2,17 +2,17 @@
 ghost use Rattle.std.specs.Prelude.{◌≡◌, ◌++◌, ◌∷◌, [], ℕ, List, IfOk, IfErr, OnOk, IfNone};
 ghost use Rattle.std.specs.Str.{is_utf8};
 ghost use Rattle.amo_round.specs.Known.{HasJust};
-ghost use Rattle.amo_round.specs.Lines.{lines_in, rest_in, ends_of};
-ghost use Rattle.amo_round.specs.Refusals.{wrong_with, why_not, why_rest, MayStand, IsFirstRefused, IsTaken, IsRefused};
+ghost use Rattle.amo_round.specs.Lines.{lines_in, remainder_in, ends_of};
+ghost use Rattle.amo_round.specs.Refusals.{wrong_with, why_not, why_remainder, MayStand, IsFirstRefused, IsTaken, IsRefused};
 
 use crate::fault::{JobsFault, Why};
-use crate::lines::{line_at, rest_of};
+use crate::lines::{line_at, remainder_of};
 use std::alloc::{AllocError, Global};
 use std::collections::BTreeSet;
 use std::str;
 
-/// A longer line is refused.
-const MAX_LINE: usize = 100_000;
+/// A line with more bytes is refused.
+pub const MAX_LINE: usize = 100_000;
 
 /// Refuses the first line that may not stand behind those before it. Then what stands behind the last line feed is refused, unless
 /// it is cut off.
@@ -22,7 +22,7 @@ pub(crate) fn check(alloc: Global, bytes: &[u8], ends: &[usize], cut: bool) -> R
     ensures refused { IfErr result (IsRefused bytes.now cut) }
 {
     let mut known = known_lines(alloc, bytes, ends)?;
-    match why_rest(&mut known, rest_of(bytes, ends), cut)? {
+    match why_remainder(&mut known, remainder_of(bytes, ends), cut)? {
         None => Ok(()),
         Some(why) => Err(JobsFault::Refused(ends.len() + 1, why)),
     }
@@ -50,12 +50,12 @@ fn known_lines<'a>(
 }
 
 /// Why what stands behind the last line feed is refused, if it is.
-fn why_rest<'a>(
+fn why_remainder<'a>(
     known: &mut BTreeSet<&'a [u8]>,
     rest: &'a [u8],
     cut: bool,
 ) -> Result<Option<Why>, AllocError>
-    ensures { (lines : List (List ℕ)) → HasJust known.old lines → IfOk result (λ why. why ≡ why_rest lines rest.now cut) }
+    ensures { (lines : List (List ℕ)) → HasJust known.old lines → IfOk result (λ why. why ≡ why_remainder lines rest.now cut) }
 {
     if cut || rest.is_empty() {
         return Ok(None);

@@ -6,19 +6,19 @@ ghost use Rattle.amo_kk.specs.declared.model.Process.{Process as Worker};
 ghost use Rattle.amo_ledger.specs.Records.{RecordView, IsRecord, ended};
 ghost use Rattle.amo_ledger.specs.declared.round.Givens.{Givens as GivensView};
 ghost use Rattle.amo_round.specs.Heads.{head_of};
-ghost use Rattle.amo_round.specs.Lines.{lines_in, rest_in, first_lines, BeginsWith};
+ghost use Rattle.amo_round.specs.Lines.{lines_in, remainder_in, first_lines, BeginsWith};
 ghost use Rattle.amo_round.specs.Jobs.{IsLine, AreJobs};
 ghost use Rattle.amo_round.specs.Refusals.{IsTaken, why_not};
-ghost use Rattle.amo_round.specs.Words.{place_of, word_count, words_len};
+ghost use Rattle.amo_round.specs.Words.{offset_of, word_count, words_len};
 
 /// A file is its lines, each with a line feed behind it, and what stands behind them. Neither they nor it have a line feed, and
 /// nothing else is a file's lines.
 pub fn a_file_is_its_lines()
-    ensures whole { (file : List ℕ) → ended (lines_in file) ++ rest_in file ≡ file }
+    ensures whole { (file : List ℕ) → ended (lines_in file) ++ remainder_in file ≡ file }
     ensures lines { (file : List ℕ) → AllByRecursion (AllByRecursion (λ b. b ≢ 10)) (lines_in file) }
-    ensures rest { (file : List ℕ) → AllByRecursion (λ b. b ≢ 10) (rest_in file) }
+    ensures rest { (file : List ℕ) → AllByRecursion (λ b. b ≢ 10) (remainder_in file) }
     ensures only { (lines : List (List ℕ)) (rest : List ℕ) → AllByRecursion (AllByRecursion (λ b. b ≢ 10)) lines → AllByRecursion (λ b. b ≢ 10) rest
-        → (lines_in (ended lines ++ rest) ≡ lines) × (rest_in (ended lines ++ rest) ≡ rest) }
+        → (lines_in (ended lines ++ rest) ≡ lines) × (remainder_in (ended lines ++ rest) ≡ rest) }
 {}
 
 /// The first lines of a file, with their ends, up to all of them, and then the whole file.
@@ -55,6 +55,6 @@ pub fn a_head_is_of_one_round()
 pub fn words_fill_their_file()
     ensures many { (givens : GivensView) (workers : List Worker) → length workers ≡ givens.workers → All (λ worker. length worker.row ≡ givens.jobs + 1) workers
         → length (words_of workers) ≡ word_count givens }
-    ensures side_by_side { (word : ℕ) → place_of (word + 1) ≡ place_of word + 8 }
-    ensures within { (givens : GivensView) (word : ℕ) → word < word_count givens → place_of word + 8 ≤ words_len givens }
+    ensures side_by_side { (word : ℕ) → offset_of (word + 1) ≡ offset_of word + 8 }
+    ensures within { (givens : GivensView) (word : ℕ) → word < word_count givens → offset_of word + 8 ≤ words_len givens }
 {}

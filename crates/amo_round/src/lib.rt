@@ -15,4 +15,4 @@ pub use difference::first_difference;
 pub use fault::{JobsFault, Why};
 pub use head::head_of;
 pub use jobs::Jobs;
-pub use words::{place_of, words_len};
+pub use words::{offset_of, words_len};

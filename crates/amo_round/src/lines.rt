@@ -1,7 +1,7 @@
 //! Where the lines of a file stand.
 ghost use Rattle.std.specs.Prelude.{◌≡◌, ◌<◌, ◌≤◌, ℕ, List, [], length, take, slice_index_or, IfOk};
 ghost use Rattle.amo_ledger.specs.Records.{ended};
-ghost use Rattle.amo_round.specs.Lines.{lines_in, rest_in, ends_of};
+ghost use Rattle.amo_round.specs.Lines.{lines_in, remainder_in, ends_of};
 
 use std::alloc::{AllocError, Global};
 
@@ -48,9 +48,9 @@ pub(crate) fn line_at<'a>(bytes: &'a [u8], ends: &[usize], i: usize) -> &'a [u8]
 }
 
 /// What stands behind the last line.
-pub(crate) fn rest_of<'a>(bytes: &'a [u8], ends: &[usize]) -> &'a [u8]
+pub(crate) fn remainder_of<'a>(bytes: &'a [u8], ends: &[usize]) -> &'a [u8]
     requires { ends.now ≡ ends_of 0 (lines_in bytes.now) }
-    ensures { result.now ≡ rest_in bytes.now }
+    ensures { result.now ≡ remainder_in bytes.now }
 {
     let (_, rest) = bytes.split_at(last_end(ends));
     rest

@@ -1,7 +1,9 @@
 //! The places of a round's words in their file.
 ghost use Rattle.std.specs.Prelude.{◌≡◌, ◌+◌, ◌*◌, ◌^◌, ◌<◌, ◌≤◌};
-ghost use Rattle.amo_round.specs.Words.{place_of, word_count, words_len};
+ghost use Rattle.amo_round.specs.Words.{offset_of, word_count, words_len};
+ghost use Rattle.amo_round.specs.declared.head.TheConstants.{HEAD_LEN};
 
+use crate::head::HEAD_LEN;
 use amo_ledger::Givens;
 
 /// How many bytes the file of the words has: the head, and 8 for each word.
@@ -11,13 +13,13 @@ pub fn words_len(givens: &Givens) -> u64
     requires few_workers { givens.now.workers ≤ 16 }
     ensures { result ≡ words_len givens.now }
 {
-    place_of(givens.workers * (givens.jobs + 3) + 1)
+    offset_of(givens.workers * (givens.jobs + 3) + 1)
 }
 
 /// Where the word of this number, from 0, stands in the file.
-pub fn place_of(word: u64) -> u64
-    requires { 512 + 8 * word < 2 ^ 64 }
-    ensures { result ≡ place_of word }
+pub fn offset_of(word: u64) -> u64
+    requires { HEAD_LEN + 8 * word < 2 ^ 64 }
+    ensures { result ≡ offset_of word }
 {
-    512 + 8 * word
+    HEAD_LEN as u64 + 8 * word
 }

@@ -13,8 +13,8 @@ use Rattle.amo_ledger.specs.declared.entry.Entry.{Entry}
 use Rattle.amo_ledger.specs.Grammar.{intents}
 use Rattle.amo_ledger.proofs.Seats.{in_range}
 use Rattle.amo_rounds.specs.File.{File, after_put}
-use Rattle.amo_rounds.specs.World.{Place, Away, Before, Inside, Round, World, with_at, lines_of, lines_at}
-use Rattle.amo_rounds.specs.Run.{entries_of_try, has_fallen, place_after, place_missing, with_moment, with_moment_at, MayJoin, MayBeIn, MayAct, MayMiss}
+use Rattle.amo_rounds.specs.Site.{Whereabouts, Away, Before, Inside, Round, Site, with_at, lines_of, lines_at}
+use Rattle.amo_rounds.specs.Run.{entries_of_try, has_fallen, whereabouts_after, whereabouts_missing, with_moment, with_moment_at, MayJoin, MayBeIn, MayAct, MayMiss}
 use Rattle.amo_rounds.proofs.Files.{after_tight, after_kept}
 use Rattle.amo_rounds.proofs.Moments.{longer, stands_after, stands_broken, stands_first}
 use Rattle.amo_rounds.proofs.Records.{sound_parts}
@@ -38,7 +38,7 @@ module _ (rounds : ℕ → Option Round) (last : ℕ) (good : (k : ℕ) → IsGo
   -- a deed
 
   module _ (time : ℕ) (d : Deed) where
-    pub acted_good : (place : Place) → MayAct rounds place d → (i : ℕ) → IsGoodIf (with_moment_at place (λ q. Does q d) rounds i)
+    pub acted_good : (whereabouts : Whereabouts) → MayAct rounds whereabouts d → (i : ℕ) → IsGoodIf (with_moment_at whereabouts (λ q. Does q d) rounds i)
     acted_good Away may i = absurd may
     acted_good (Before s) may i = good i
     acted_good (Inside k q) may i = good_with rounds good k (Does q d) may i
@@ -66,8 +66,8 @@ module _ (rounds : ℕ → Option Round) (last : ℕ) (good : (k : ℕ) → IsGo
           (ready_then r.written.lines f (stage_at (scene_of r.givens r.moments) q) may.1 h.1),
     )
 
-    pub acted_fits : (f : File Entry) (place : Place) → MayAct rounds place d → Fits rounds last f p place
-        → Fits (with_moment_at place (λ q. Does q d) rounds) last (after_deed (lines_at rounds place) f) p (place_after place d)
+    pub acted_fits : (f : File Entry) (whereabouts : Whereabouts) → MayAct rounds whereabouts d → Fits rounds last f p whereabouts
+        → Fits (with_moment_at whereabouts (λ q. Does q d) rounds) last (after_deed (lines_at rounds whereabouts) f) p (whereabouts_after whereabouts d)
     acted_fits f Away may h = absurd may
     acted_fits f (Before s) may h = (asks_on s d h.0, (λ b. after_tight (has_fallen d) f (entries_of_try [] time (try_of d)) (h.1 (not_broken s (try_of d) may))))
     acted_fits f (Inside k q) may h = (
@@ -77,8 +77,8 @@ module _ (rounds : ℕ → Option Round) (last : ℕ) (good : (k : ℕ) → IsGo
           (λ n. absurd (n refl)),
     )
 
-    pub acted_others : (f : File Entry) (place : Place) → MayAct rounds place d → Fits rounds last f p place
-        → (other : ℕ) → (other ≡ p → ⊥) → (g : File Entry) (there : Place) → Fits rounds last g other there → Fits (with_moment_at place (λ q. Does q d) rounds) last g other there
+    pub acted_others : (f : File Entry) (whereabouts : Whereabouts) → MayAct rounds whereabouts d → Fits rounds last f p whereabouts
+        → (other : ℕ) → (other ≡ p → ⊥) → (g : File Entry) (there : Whereabouts) → Fits rounds last g other there → Fits (with_moment_at whereabouts (λ q. Does q d) rounds) last g other there
     acted_others f Away may own other n g there h = absurd may
     acted_others f (Before s) may own other n g there h = h
     acted_others f (Inside k q) may own other n g there h = fits_still rounds last good k (Does q d) p (seat_in (rounds k) f p q own.1) other n g there h
@@ -86,7 +86,7 @@ module _ (rounds : ℕ → Option Round) (last : ℕ) (good : (k : ℕ) → IsGo
   -- what is missed
 
   module _ (t : Try) where
-    pub missed_good : (place : Place) → MayMiss rounds place t → (i : ℕ) → IsGoodIf (with_moment_at place (λ q. Loses q t) rounds i)
+    pub missed_good : (whereabouts : Whereabouts) → MayMiss rounds whereabouts t → (i : ℕ) → IsGoodIf (with_moment_at whereabouts (λ q. Loses q t) rounds i)
     missed_good Away may i = absurd may
     missed_good (Before s) may i = good i
     missed_good (Inside k q) may i = good_with rounds good k (Loses q t) may i
@@ -101,8 +101,8 @@ module _ (rounds : ℕ → Option Round) (last : ℕ) (good : (k : ℕ) → IsGo
       subst (λ s. IsReady r.written.lines g s) (sym (stands_broken r.givens r.moments fine.history q t may.0)) (broken_ready r.written.lines g),
     )
 
-    pub missed_fits : (f g : File Entry) (place : Place) → MayMiss rounds place t → Fits rounds last f p place
-        → Fits (with_moment_at place (λ q. Loses q t) rounds) last g p (place_missing place)
+    pub missed_fits : (f g : File Entry) (whereabouts : Whereabouts) → MayMiss rounds whereabouts t → Fits rounds last f p whereabouts
+        → Fits (with_moment_at whereabouts (λ q. Loses q t) rounds) last g p (whereabouts_missing whereabouts)
     missed_fits f g Away may h = absurd may
     missed_fits f g (Before s) may h = (refl, (λ b. absurd (true≢false b)))
     missed_fits f g (Inside k q) may h = (
@@ -110,15 +110,15 @@ module _ (rounds : ℕ → Option Round) (last : ℕ) (good : (k : ℕ) → IsGo
       at_number (λ o. FitsIn o g p q) rounds k (with_moment (Loses q t) (rounds k)) k (λ e. missed_in (rounds k) (good k) f g q may h.1) (λ n. absurd (n refl)),
     )
 
-    pub missed_others : (f : File Entry) (place : Place) → MayMiss rounds place t → Fits rounds last f p place
-        → (other : ℕ) → (other ≡ p → ⊥) → (g : File Entry) (there : Place) → Fits rounds last g other there → Fits (with_moment_at place (λ q. Loses q t) rounds) last g other there
+    pub missed_others : (f : File Entry) (whereabouts : Whereabouts) → MayMiss rounds whereabouts t → Fits rounds last f p whereabouts
+        → (other : ℕ) → (other ≡ p → ⊥) → (g : File Entry) (there : Whereabouts) → Fits rounds last g other there → Fits (with_moment_at whereabouts (λ q. Loses q t) rounds) last g other there
     missed_others f Away may own other n g there h = absurd may
     missed_others f (Before s) may own other n g there h = h
     missed_others f (Inside k q) may own other n g there h = fits_still rounds last good k (Loses q t) p (seat_in (rounds k) f p q own.1) other n g there h
 
 -- joining
 
-module _ (w : World) (p q n : ℕ) (may : MayJoin w p q n) (good : IsGood may.round) where
+module _ (w : Site) (p q n : ℕ) (may : MayJoin w p q n) (good : IsGood may.round) where
   pub seat_worker : IsWorker may.round.givens q
   seat_worker =
       let written = may.round.written in

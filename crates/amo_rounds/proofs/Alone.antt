@@ -14,8 +14,8 @@ use Rattle.amo_history.specs.declared.model.Moment.TheVariants.{Does, Loses, Beg
 use Rattle.amo_history.proofs.Intents.{no_intent_after, by_its_intent}
 use Rattle.amo_ledger.proofs.Seats.{one_each}
 use Rattle.amo_rounds.specs.File.{read_of}
-use Rattle.amo_rounds.specs.World.{Inside, Round, World, Event, Acts, Misses, IsNumber, is_inside, lines_at}
-use Rattle.amo_rounds.specs.Run.{world_after, MayHappen, Handing, handings_by, openings_by, is_among, IsOneOf}
+use Rattle.amo_rounds.specs.Site.{Inside, Round, Site, Event, Acts, Misses, IsNumber, is_inside, lines_at}
+use Rattle.amo_rounds.specs.Run.{site_after, MayHappen, Handing, handings_by, openings_by, is_among, IsOneOf}
 use Rattle.amo_rounds.specs.Commands.{is_stop}
 use Rattle.amo_rounds.proofs.Openings.{among_parts}
 use Rattle.amo_rounds.proofs.Entries.{HasEntry}
@@ -62,12 +62,12 @@ none_intends r good m n j may tries handed =
     no_intent_after r.givens at.before at.after at.moment m (subst (λ l. IsHistory r.givens (l ++ m ∷ [])) at.is (longer r.givens r.moments good.history m may)) at.serial n j at.tries tries
 
 -- each intent of its line that is read is its own, or was said not to have been begun or done
-abbrev pub IsAlone : World → (said : List (ℕ × ℕ)) → Handing → Type 0
+abbrev pub IsAlone : Site → (said : List (ℕ × ℕ)) → Handing → Type 0
 IsAlone w said h = (p n : ℕ) → IsNumber p → HasEntry n h.line (read_of (w.journals p)) → is_among said p n ≡ false → (p ≡ h.worker) × (n ≡ h.serial)
 
 -- it stays so
-pub alone_after : (w : World) (said : List (ℕ × ℕ)) → IsSane w said → (h : Handing) → WasHanded w said h → is_among said h.worker h.serial ≡ false → IsAlone w said h
-    → (e : Event) → MayHappen w e → is_stop e ≡ false → IsAlone (world_after w e) (said ++ openings_by w e) h
+pub alone_after : (w : Site) (said : List (ℕ × ℕ)) → IsSane w said → (h : Handing) → WasHanded w said h → is_among said h.worker h.serial ≡ false → IsAlone w said h
+    → (e : Event) → MayHappen w e → is_stop e ≡ false → IsAlone (site_after w e) (said ++ openings_by w e) h
 alone_after w said sane h was unsaid alone e may on p n number there unsaid_then = ⊎_elim
     (λ (old : HasEntry n h.line (read_of (w.journals p))). alone p n number old (among_parts said (openings_by w e) p n unsaid_then).0)
     (λ (new : TriesIntent w e p n h.line). absurd (
@@ -85,22 +85,22 @@ abbrev is_performance : Try → Bool
 is_performance (Perform n j) = true
 is_performance t = false
 
-hands_or_tries : (w : World) (e : Event) (h : Handing) (p n line : ℕ) → IsOneOf (handings_by w e) h → TriesIntent w e p n line → ⊥
+hands_or_tries : (w : Site) (e : Event) (h : Handing) (p n line : ℕ) → IsOneOf (handings_by w e) h → TriesIntent w e p n line → ⊥
 hands_or_tries w (Acts q time d) h p n line one tries =
-    let of = of_try q (lines_at w.rounds (w.places q)) (try_of d) h one in
+    let of = of_try q (lines_at w.rounds (w.whereabouts q)) (try_of d) h one in
     true≢false (ap is_performance (sym of.try_is ∙ tries.1.is))
 hands_or_tries w (Misses q time t) h p n line one tries =
-    let of = of_try q (lines_at w.rounds (w.places q)) t h one in
+    let of = of_try q (lines_at w.rounds (w.whereabouts q)) t h one in
     true≢false (ap is_performance (sym of.try_is ∙ tries.1.is))
 hands_or_tries w e h p n line one tries = tries
 
 -- it is so of what is handed over now
-pub alone_now : (w : World) (said : List (ℕ × ℕ)) → IsSane w said → IsClosing w said → (e : Event) (h : Handing) → IsOneOf (handings_by w e) h → IsNow w e h → is_stop e ≡ false
-    → IsAlone (world_after w e) (said ++ openings_by w e) h
+pub alone_now : (w : Site) (said : List (ℕ × ℕ)) → IsSane w said → IsClosing w said → (e : Event) (h : Handing) → IsOneOf (handings_by w e) h → IsNow w e h → is_stop e ≡ false
+    → IsAlone (site_after w e) (said ++ openings_by w e) h
 alone_now w said sane closing e h one now on p n number there unsaid_then = ⊎_elim
     (λ (old : HasEntry n h.line (read_of (w.journals p))).
     let here = now.here in
-    let inside : is_inside (w.places h.worker) ≡ true = ap is_inside here.inside in
+    let inside : is_inside (w.whereabouts h.worker) ≡ true = ap is_inside here.inside in
     let taken : IsTaken (Some here.round) said p n h.line = subst (λ o. IsTaken o said p n h.line) here.stands (closing.taken (closing.joinable h.worker inside) p n h.line number old) in
     ⊎_elim
     (λ (yes : is_among said p n ≡ true). absurd (true≢false (sym yes ∙ (among_parts said (openings_by w e) p n unsaid_then).0)))
@@ -108,7 +108,7 @@ alone_now w said sane closing e h one now on p n number there unsaid_then = ⊎_
     let r = here.round in
     let its = by_its_intent r.givens tried.before tried.after tried.moment now.moment
     (subst (λ l. IsHistory r.givens (l ++ now.moment ∷ [])) tried.is (longer r.givens r.moments here.good.history now.moment here.may)) n h.serial now.job tried.tries here.tries in
-    let fits : Fits w.rounds w.last (w.journals h.worker) h.worker (Inside w.last here.seat) = subst (λ place. Fits w.rounds w.last (w.journals h.worker) h.worker place) here.inside (sane.places h.worker) in
+    let fits : Fits w.rounds w.last (w.journals h.worker) h.worker (Inside w.last here.seat) = subst (λ whereabouts. Fits w.rounds w.last (w.journals h.worker) h.worker whereabouts) here.inside (sane.whereabouts h.worker) in
     let seat = (subst (λ o. FitsIn o (w.journals h.worker) h.worker here.seat) here.stands fits.1).0 in (
       one_each p h.worker r.written.first r.written.workers r.written.givens.workers here.seat (sound_parts r.written here.good.sound).first
           (tried.seat ∙ ap (λ x. Some x) (its.0 ∙ here.of)) seat,

@@ -6,14 +6,14 @@ use Rattle.amo_sets.specs.Sets.{AreDistinct, has}
 use Rattle.amo_sets.proofs.Numbers.{distinct_push}
 use Rattle.amo_course.specs.Course.{try_of}
 use Rattle.amo_rounds.specs.File.{read_of}
-use Rattle.amo_rounds.specs.World.{World, Event, Acts, Misses, IsNumber, lines_at}
-use Rattle.amo_rounds.specs.Run.{entries_of_try, world_after, IsRunFrom, IsRun, world_after_all, world_of, Handing, handings_by, opened_by_entries, openings_by, is_among, IsOneOf, names_of, AreDifferent}
-use Rattle.amo_rounds.specs.Commands.{Step, Happens, Begins, Performs, Ends, Drops, Lists, Yard, first_yard, without, is_stop, unless_stopped, yard_after, MayStep, AreStepsFrom, AreSteps, yard_after_all, yard_of, said_by, said_from, said_in, AreTrue, IsTruthfulFrom, IsTruthful, lines_in, events_of, IsOver}
+use Rattle.amo_rounds.specs.Site.{Site, Event, Acts, Misses, IsNumber, lines_at}
+use Rattle.amo_rounds.specs.Run.{entries_of_try, site_after, IsRunFrom, IsRun, site_after_all, site_of, Handing, handings_by, opened_by_entries, openings_by, is_among, IsOneOf, names_of, AreDifferent}
+use Rattle.amo_rounds.specs.Commands.{Action, Happens, Begins, Performs, Ends, Drops, Lists, Yard, first_yard, without, is_stop, unless_stopped, yard_after, MayFollow, AreActionsFrom, AreActions, yard_after_all, yard_of, said_by, said_from, said_in, AreTrue, IsTruthfulFrom, IsTruthful, lines_in, events_of, IsOver}
 use Rattle.amo_rounds.proofs.Openings.{among_neither}
 use Rattle.amo_rounds.proofs.Entries.{HasEntry, entry_stays}
 use Rattle.amo_rounds.proofs.Counted.{size_is}
 use Rattle.amo_rounds.proofs.Sane.{IsSane, first_sane}
-use Rattle.amo_rounds.proofs.Steps.{sane_after}
+use Rattle.amo_rounds.proofs.Events.{sane_after}
 use Rattle.amo_rounds.proofs.Handed.{kept_grows, split_one, WasHanded, handed_after, handed_now, now_handed, of_try}
 use Rattle.amo_rounds.proofs.Named.{WasNamed, named_after, now_named, differs, unnamed}
 use Rattle.amo_rounds.proofs.Low.{AreAllLow, first_low, low_then_all}
@@ -23,25 +23,25 @@ use Rattle.amo_rounds.proofs.Alone.{IsAlone, alone_after, alone_now}
 use Rattle.amo_rounds.proofs.Yards.{names-append, named_one, one_left, one_right, one_named, without_some, without_less, without_it, still_none, still_open}
 
 -- The command of this may begin, or something is left of it.
-pub record IsOpen (w : World) (said : List (ℕ × ℕ)) (h : Handing) : Type 0 where
+pub record IsOpen (w : Site) (said : List (ℕ × ℕ)) (h : Handing) : Type 0 where
   pub was : WasHanded w said h
   pub name : WasNamed w h
   pub unsaid : is_among said h.worker h.serial ≡ false
   pub alone : IsAlone w said h
 
 -- It has begun, and will not begin again.
-pub record HasBegun (y : Yard) (h : Handing) : Type 0 where
-  pub name : WasNamed y.world h
-  pub waits : is_among (names_of y.waiting) h.worker h.serial ≡ false
+pub record HasBegun (w : Site) (waiting : List Handing) (h : Handing) : Type 0 where
+  pub name : WasNamed w h
+  pub waits : is_among (names_of waiting) h.worker h.serial ≡ false
 
 pub record IsOrderly (y : Yard) (said : List (ℕ × ℕ)) : Type 0 where
-  pub sane : IsSane y.world said
-  pub closing : IsClosing y.world said
-  pub low : AreAllLow y.world
-  pub names : AreNamed y.world said
-  pub going : (h : Handing) → IsOneOf (y.waiting ++ y.running) h → IsOpen y.world said h
-  pub begun : (h : Handing) → IsOneOf y.begun h → HasBegun y h
-  pub performed : (h : Handing) → IsOneOf y.performed h → WasHanded y.world said h
+  pub sane : IsSane y.site said
+  pub closing : IsClosing y.site said
+  pub low : AreAllLow y.site
+  pub names : AreNamed y.site said
+  pub going : (h : Handing) → IsOneOf (y.waiting ++ y.running) h → IsOpen y.site said h
+  pub begun : (h : Handing) → IsOneOf y.begun h → HasBegun y.site y.waiting h
+  pub performed : (h : Handing) → IsOneOf y.performed h → WasHanded y.site said h
 
 first_orderly : IsOrderly first_yard []
 first_orderly = record {
@@ -58,145 +58,139 @@ its_only : (k h : Handing) → IsOneOf (k ∷ []) h → k ≡ h
 its_only k h one = ⊎_elim (λ (e : k ≡ h). e) (λ none. absurd none) one
 
 -- who hands something over says nothing
-hands_or_says : (w : World) (e : Event) (h : Handing) → IsOneOf (handings_by w e) h → openings_by w e ≡ []
+hands_or_says : (w : Site) (e : Event) (h : Handing) → IsOneOf (handings_by w e) h → openings_by w e ≡ []
 hands_or_says w (Acts q time d) h one =
-    let of = of_try q (lines_at w.rounds (w.places q)) (try_of d) h one in
-    ap (λ t. opened_by_entries q (entries_of_try (lines_at w.rounds (w.places q)) time t)) of.try_is
+    let of = of_try q (lines_at w.rounds (w.whereabouts q)) (try_of d) h one in
+    ap (λ t. opened_by_entries q (entries_of_try (lines_at w.rounds (w.whereabouts q)) time t)) of.try_is
 hands_or_says w (Misses q time t) h one =
-    let of = of_try q (lines_at w.rounds (w.places q)) t h one in
-    ap (λ t. opened_by_entries q (entries_of_try (lines_at w.rounds (w.places q)) time t)) of.try_is
+    let of = of_try q (lines_at w.rounds (w.whereabouts q)) t h one in
+    ap (λ t. opened_by_entries q (entries_of_try (lines_at w.rounds (w.whereabouts q)) time t)) of.try_is
 hands_or_says w e h one = absurd one
 
 module _ (y : Yard) (said : List (ℕ × ℕ)) (orderly : IsOrderly y said) where
   -- an event
 
-  module _ (e : Event) (may : MayStep IsOver y (Happens e)) where
+  module _ (e : Event) (may : MayFollow IsOver y (Happens e)) where
     -- what may begin or runs is none of what is said now
-    unsaid_now : (h : Handing) → IsOneOf (y.waiting ++ y.running) h → is_among (openings_by y.world e) h.worker h.serial ≡ false
-    unsaid_now h one = false_from_ne_true (is_among (openings_by y.world e) h.worker h.serial) (λ t.
+    unsaid_now : (h : Handing) → IsOneOf (y.waiting ++ y.running) h → is_among (openings_by y.site e) h.worker h.serial ≡ false
+    unsaid_now h one = false_from_ne_true (is_among (openings_by y.site e) h.worker h.serial) (λ t.
         let over = may.1 h.worker h.serial t in
         ⊎_elim
         (λ (a : IsOneOf y.waiting h). true≢false (sym (one_named y.waiting h a) ∙ over.waits))
         (λ (a : IsOneOf y.running h). true≢false (sym (one_named y.running h a) ∙ over.runs))
         (split_one y.waiting y.running h one))
 
-    old_open : (h : Handing) → IsOneOf (y.waiting ++ y.running) h → is_stop e ≡ false → IsOpen (world_after y.world e) (said ++ openings_by y.world e) h
+    old_open : (h : Handing) → IsOneOf (y.waiting ++ y.running) h → is_stop e ≡ false → IsOpen (site_after y.site e) (said ++ openings_by y.site e) h
     old_open h one on =
         let it = orderly.going h one in
         record {
-          was = handed_after y.world said orderly.sane h it.was e may.0;
-          name = named_after y.world said orderly.sane h it.name e may.0;
-          unsaid = among_neither said (openings_by y.world e) h.worker h.serial it.unsaid (unsaid_now h one);
-          alone = alone_after y.world said orderly.sane h it.was it.unsaid it.alone e may.0 on;
+          was = handed_after y.site said orderly.sane h it.was e may.0;
+          name = named_after y.site said orderly.sane h it.name e may.0;
+          unsaid = among_neither said (openings_by y.site e) h.worker h.serial it.unsaid (unsaid_now h one);
+          alone = alone_after y.site said orderly.sane h it.was it.unsaid it.alone e may.0 on;
         }
 
-    new_open : (h : Handing) → IsOneOf (handings_by y.world e) h → is_stop e ≡ false → IsOpen (world_after y.world e) (said ++ openings_by y.world e) h
+    new_open : (h : Handing) → IsOneOf (handings_by y.site e) h → is_stop e ≡ false → IsOpen (site_after y.site e) (said ++ openings_by y.site e) h
     new_open h one on =
-        let now = handed_now y.world said orderly.sane e may.0 h one in
+        let now = handed_now y.site said orderly.sane e may.0 h one in
         record {
-          was = now_handed y.world said e h now;
-          name = now_named y.world said orderly.sane e may.0 h one;
-          unsaid = among_neither said (openings_by y.world e) h.worker h.serial
-              (false_from_ne_true (is_among said h.worker h.serial) (λ t. differs y.world e (named h.worker h.serial) h (orderly.names h.worker h.serial t) now refl refl))
-              (ap (λ l. is_among l h.worker h.serial) (hands_or_says y.world e h one));
-          alone = alone_now y.world said orderly.sane orderly.closing e h one now on;
+          was = now_handed y.site said e h now;
+          name = now_named y.site said orderly.sane e may.0 h one;
+          unsaid = among_neither said (openings_by y.site e) h.worker h.serial
+              (false_from_ne_true (is_among said h.worker h.serial) (λ t. differs y.site e (named h.worker h.serial) h (orderly.names h.worker h.serial t) now refl refl))
+              (ap (λ l. is_among l h.worker h.serial) (hands_or_says y.site e h one));
+          alone = alone_now y.site said orderly.sane orderly.closing e h one now on;
         }
 
     -- what has its name will not be handed over by this
-    not_again : (h : Handing) → WasNamed y.world h → is_among (names_of (handings_by y.world e)) h.worker h.serial ≡ false
-    not_again h name = unnamed (handings_by y.world e) h.worker h.serial (λ k one. differs y.world e h k name (handed_now y.world said orderly.sane e may.0 k one))
+    not_again : (h : Handing) → WasNamed y.site h → is_among (names_of (handings_by y.site e)) h.worker h.serial ≡ false
+    not_again h name = unnamed (handings_by y.site e) h.worker h.serial (λ k one. differs y.site e h k name (handed_now y.site said orderly.sane e may.0 k one))
 
-    waits_not : (h : Handing) → WasNamed y.world h → is_among (names_of y.waiting) h.worker h.serial ≡ false
-        → is_among (names_of (unless_stopped e (y.waiting ++ handings_by y.world e))) h.worker h.serial ≡ false
-    waits_not h name waits = still_none e (y.waiting ++ handings_by y.world e) h.worker h.serial
-        (ap (λ l. is_among l h.worker h.serial) (names-append y.waiting (handings_by y.world e))
-        ∙ among_neither (names_of y.waiting) (names_of (handings_by y.world e)) h.worker h.serial waits (not_again h name))
+    waits_not : (h : Handing) → WasNamed y.site h → is_among (names_of y.waiting) h.worker h.serial ≡ false
+        → is_among (names_of (unless_stopped e (y.waiting ++ handings_by y.site e))) h.worker h.serial ≡ false
+    waits_not h name waits = still_none e (y.waiting ++ handings_by y.site e) h.worker h.serial
+        (ap (λ l. is_among l h.worker h.serial) (names-append y.waiting (handings_by y.site e))
+        ∙ among_neither (names_of y.waiting) (names_of (handings_by y.site e)) h.worker h.serial waits (not_again h name))
 
-    happens : IsOrderly (yard_after y (Happens e)) (said ++ openings_by y.world e)
+    happens : IsOrderly (yard_after y (Happens e)) (said ++ openings_by y.site e)
     happens = record {
-      sane = sane_after y.world said orderly.sane e may.0;
-      closing = closing_after y.world said orderly.sane orderly.closing e may.0;
-      low = low_then_all y.world said orderly.sane orderly.low e may.0;
-      names = named_then y.world said orderly.sane orderly.low orderly.names e may.0 (λ p n t. (may.1 p n t).due);
+      sane = sane_after y.site said orderly.sane e may.0;
+      closing = closing_after y.site said orderly.sane orderly.closing e may.0;
+      low = low_then_all y.site said orderly.sane orderly.low e may.0;
+      names = named_then y.site said orderly.sane orderly.low orderly.names e may.0 (λ p n t. (may.1 p n t).due);
       going = λ h one.
-          let it = still_open e y.waiting (handings_by y.world e) y.running h one in
-          ⊎_elim (λ (a : IsOneOf (y.waiting ++ y.running) h). old_open h a it.0) (λ (a : IsOneOf (handings_by y.world e) h). new_open h a it.0) it.1;
+          let it = still_open e y.waiting (handings_by y.site e) y.running h one in
+          ⊎_elim (λ (a : IsOneOf (y.waiting ++ y.running) h). old_open h a it.0) (λ (a : IsOneOf (handings_by y.site e) h). new_open h a it.0) it.1;
       begun = λ h one.
           let it = orderly.begun h one in
-          record { name = named_after y.world said orderly.sane h it.name e may.0; waits = waits_not h it.name it.waits };
-      performed = λ h one. handed_after y.world said orderly.sane h (orderly.performed h one) e may.0;
+          record { name = named_after y.site said orderly.sane h it.name e may.0; waits = waits_not h it.name it.waits };
+      performed = λ h one. handed_after y.site said orderly.sane h (orderly.performed h one) e may.0;
     }
 
   -- what runners and commands do
 
-  begins : (k : Handing) → IsOneOf y.waiting k → IsOrderly (yard_after y (Begins k)) said
-  begins k waits = record {
+  -- of those that were going or begin no others are left
+  acted : (waiting running begun performed : List Handing) → ((h : Handing) → IsOneOf (waiting ++ running) h → IsOpen y.site said h)
+      → ((h : Handing) → IsOneOf begun h → HasBegun y.site waiting h) → ((h : Handing) → IsOneOf performed h → WasHanded y.site said h)
+      → IsOrderly (record { site = y.site; waiting = waiting; running = running; begun = begun; performed = performed }) said
+  acted waiting running begun performed going have_begun was = record {
     sane = orderly.sane;
     closing = orderly.closing;
     low = orderly.low;
     names = orderly.names;
-    going = λ h one. ⊎_elim
-        (λ (a : IsOneOf (without k y.waiting) h). orderly.going h (one_left y.waiting y.running h (without_some k y.waiting h a)))
-        (λ (a : IsOneOf (y.running ++ k ∷ []) h). ⊎_elim
-        (λ (b : IsOneOf y.running h). orderly.going h (one_right y.waiting y.running h b))
-        (λ (b : IsOneOf (k ∷ []) h). subst (IsOpen y.world said) (its_only k h b) (orderly.going k (one_left y.waiting y.running k waits)))
-        (split_one y.running (k ∷ []) h a))
-        (split_one (without k y.waiting) (y.running ++ k ∷ []) h one);
-    begun = λ h one. ⊎_elim
-        (λ (a : IsOneOf y.begun h). let it = orderly.begun h a in record { name = it.name; waits = without_less k y.waiting h.worker h.serial it.waits })
-        (λ (a : IsOneOf (k ∷ []) h). subst (HasBegun (yard_after y (Begins k))) (its_only k h a)
-        (record { name = (orderly.going k (one_left y.waiting y.running k waits)).name; waits = without_it k y.waiting }))
-        (split_one y.begun (k ∷ []) h one);
-    performed = orderly.performed;
+    going = going;
+    begun = have_begun;
+    performed = was;
   }
+
+  -- what may still be begun without this one
+  fewer_wait : (k h : Handing) → HasBegun y.site y.waiting h → HasBegun y.site (without k y.waiting) h
+  fewer_wait k h it = record { name = it.name; waits = without_less k y.waiting h.worker h.serial it.waits }
+
+  begins : (k : Handing) → IsOneOf y.waiting k → IsOrderly (yard_after y (Begins k)) said
+  begins k waits = acted (without k y.waiting) (y.running ++ k ∷ []) (y.begun ++ k ∷ []) y.performed
+      (λ h one. ⊎_elim
+      (λ (a : IsOneOf (without k y.waiting) h). orderly.going h (one_left y.waiting y.running h (without_some k y.waiting h a)))
+      (λ (a : IsOneOf (y.running ++ k ∷ []) h). ⊎_elim
+      (λ (b : IsOneOf y.running h). orderly.going h (one_right y.waiting y.running h b))
+      (λ (b : IsOneOf (k ∷ []) h). subst (IsOpen y.site said) (its_only k h b) (orderly.going k (one_left y.waiting y.running k waits)))
+      (split_one y.running (k ∷ []) h a))
+      (split_one (without k y.waiting) (y.running ++ k ∷ []) h one))
+      (λ h one. ⊎_elim
+      (λ (a : IsOneOf y.begun h). fewer_wait k h (orderly.begun h a))
+      (λ (a : IsOneOf (k ∷ []) h). subst (HasBegun y.site (without k y.waiting)) (its_only k h a)
+      (record { name = (orderly.going k (one_left y.waiting y.running k waits)).name; waits = without_it k y.waiting }))
+      (split_one y.begun (k ∷ []) h one))
+      orderly.performed
 
   performs : (k : Handing) → IsOneOf y.running k → IsOrderly (yard_after y (Performs k)) said
-  performs k runs = record {
-    sane = orderly.sane;
-    closing = orderly.closing;
-    low = orderly.low;
-    names = orderly.names;
-    going = orderly.going;
-    begun = λ h one. let it = orderly.begun h one in record { name = it.name; waits = it.waits };
-    performed = λ h one. ⊎_elim
-        (λ (a : IsOneOf y.performed h). orderly.performed h a)
-        (λ (a : IsOneOf (k ∷ []) h). subst (WasHanded y.world said) (its_only k h a) (orderly.going k (one_right y.waiting y.running k runs)).was)
-        (split_one y.performed (k ∷ []) h one);
-  }
+  performs k runs = acted y.waiting y.running y.begun (y.performed ++ k ∷ []) orderly.going orderly.begun
+      (λ h one. ⊎_elim
+      (λ (a : IsOneOf y.performed h). orderly.performed h a)
+      (λ (a : IsOneOf (k ∷ []) h). subst (WasHanded y.site said) (its_only k h a) (orderly.going k (one_right y.waiting y.running k runs)).was)
+      (split_one y.performed (k ∷ []) h one))
 
   ends : (k : Handing) → IsOrderly (yard_after y (Ends k)) said
-  ends k = record {
-    sane = orderly.sane;
-    closing = orderly.closing;
-    low = orderly.low;
-    names = orderly.names;
-    going = λ h one. ⊎_elim
-        (λ (a : IsOneOf y.waiting h). orderly.going h (one_left y.waiting y.running h a))
-        (λ (a : IsOneOf (without k y.running) h). orderly.going h (one_right y.waiting y.running h (without_some k y.running h a)))
-        (split_one y.waiting (without k y.running) h one);
-    begun = λ h one. let it = orderly.begun h one in record { name = it.name; waits = it.waits };
-    performed = orderly.performed;
-  }
+  ends k = acted y.waiting (without k y.running) y.begun y.performed
+      (λ h one. ⊎_elim
+      (λ (a : IsOneOf y.waiting h). orderly.going h (one_left y.waiting y.running h a))
+      (λ (a : IsOneOf (without k y.running) h). orderly.going h (one_right y.waiting y.running h (without_some k y.running h a)))
+      (split_one y.waiting (without k y.running) h one))
+      orderly.begun orderly.performed
 
   drops : (k : Handing) → IsOrderly (yard_after y (Drops k)) said
-  drops k = record {
-    sane = orderly.sane;
-    closing = orderly.closing;
-    low = orderly.low;
-    names = orderly.names;
-    going = λ h one. ⊎_elim
-        (λ (a : IsOneOf (without k y.waiting) h). orderly.going h (one_left y.waiting y.running h (without_some k y.waiting h a)))
-        (λ (a : IsOneOf y.running h). orderly.going h (one_right y.waiting y.running h a))
-        (split_one (without k y.waiting) y.running h one);
-    begun = λ h one. let it = orderly.begun h one in record { name = it.name; waits = without_less k y.waiting h.worker h.serial it.waits };
-    performed = orderly.performed;
-  }
+  drops k = acted (without k y.waiting) y.running y.begun y.performed
+      (λ h one. ⊎_elim
+      (λ (a : IsOneOf (without k y.waiting) h). orderly.going h (one_left y.waiting y.running h (without_some k y.waiting h a)))
+      (λ (a : IsOneOf y.running h). orderly.going h (one_right y.waiting y.running h a))
+      (split_one (without k y.waiting) y.running h one))
+      (λ h one. fewer_wait k h (orderly.begun h one)) orderly.performed
 
   -- where nothing is said
-  as_it_was : (s : Step) → said_by y s ≡ [] → IsOrderly (yard_after y s) said → IsOrderly (yard_after y s) (said ++ said_by y s)
-  as_it_was s none it = subst (IsOrderly (yard_after y s)) (sym (ap (λ l. said ++ l) none ∙ append-nil said)) it
+  as_it_was : (a : Action) → said_by y a ≡ [] → IsOrderly (yard_after y a) said → IsOrderly (yard_after y a) (said ++ said_by y a)
+  as_it_was a none it = subst (IsOrderly (yard_after y a)) (sym (ap (λ l. said ++ l) none ∙ append-nil said)) it
 
-  orderly_after : (s : Step) → MayStep IsOver y s → IsOrderly (yard_after y s) (said ++ said_by y s)
+  orderly_after : (a : Action) → MayFollow IsOver y a → IsOrderly (yard_after y a) (said ++ said_by y a)
   orderly_after (Happens e) may = happens e may
   orderly_after (Begins k) may = as_it_was (Begins k) refl (begins k may)
   orderly_after (Performs k) may = as_it_was (Performs k) refl (performs k may.0)
@@ -217,32 +211,28 @@ names_differ (x ∷ hs) k h none =
       names_differ hs k h.1 parts.1,
     )
 
-different_after : (y : Yard) (said : List (ℕ × ℕ)) → IsOrderly y said → AreDifferent (names_of y.begun) → (s : Step) → MayStep IsOver y s → AreDifferent (names_of (yard_after y s).begun)
+different_after : (y : Yard) (said : List (ℕ × ℕ)) → IsOrderly y said → AreDifferent (names_of y.begun) → (a : Action) → MayFollow IsOver y a → AreDifferent (names_of (yard_after y a).begun)
 different_after y said orderly h (Begins k) may = names_differ y.begun k h (false_from_ne_true (is_among (names_of y.begun) k.worker k.serial) (λ t.
     let it = named_one y.begun k.worker k.serial t in
     true≢false (sym (one_named y.waiting k may) ∙ ap (λ x. is_among (names_of y.waiting) x k.serial) it.worker ∙ ap (λ x. is_among (names_of y.waiting) it.it.worker x) it.serial
     ∙ (orderly.begun it.it it.one).waits)))
-different_after y said orderly h (Happens e) may = h
-different_after y said orderly h (Performs k) may = h
-different_after y said orderly h (Ends k) may = h
-different_after y said orderly h (Drops k) may = h
-different_after y said orderly h (Lists p n line) may = h
+different_after y said orderly h a may = h
 
-all_different : (y : Yard) (said : List (ℕ × ℕ)) (steps : List Step) → IsOrderly y said → AreDifferent (names_of y.begun) → AreStepsFrom IsOver y steps
-    → AreDifferent (names_of (yard_after_all y steps).begun)
+all_different : (y : Yard) (said : List (ℕ × ℕ)) (actions : List Action) → IsOrderly y said → AreDifferent (names_of y.begun) → AreActionsFrom IsOver y actions
+    → AreDifferent (names_of (yard_after_all y actions).begun)
 all_different y said [] orderly h may = h
-all_different y said (s ∷ steps) orderly h may =
-    all_different (yard_after y s) (said ++ said_by y s) steps (orderly_after y said orderly s may.0) (different_after y said orderly h s may.0) may.1
+all_different y said (a ∷ actions) orderly h may =
+    all_different (yard_after y a) (said ++ said_by y a) actions (orderly_after y said orderly a may.0) (different_after y said orderly h a may.0) may.1
 
-pub begun_once : (steps : List Step) → AreSteps steps → AreDifferent (names_of (yard_of steps).begun)
-begun_once steps may = all_different first_yard [] steps first_orderly tt may
+pub begun_once : (actions : List Action) → AreActions actions → AreDifferent (names_of (yard_of actions).begun)
+begun_once actions may = all_different first_yard [] actions first_orderly tt may
 
 -- what was performed is of different lines
 
 -- and was not said not to have been
-record IsSettled (y : Yard) (said : List (ℕ × ℕ)) : Type 0 where
-  pub unsaid : (h : Handing) → IsOneOf y.performed h → is_among said h.worker h.serial ≡ false
-  pub distinct : AreDistinct (lines_in y.performed)
+record IsSettled (performed : List Handing) (said : List (ℕ × ℕ)) : Type 0 where
+  pub unsaid : (h : Handing) → IsOneOf performed h → is_among said h.worker h.serial ≡ false
+  pub distinct : AreDistinct (lines_in performed)
 
 lines-append : (hs : List Handing) (k : Handing) → lines_in (hs ++ k ∷ []) ≡ lines_in hs ++ k.line ∷ []
 lines-append [] k = refl
@@ -253,23 +243,23 @@ none_of [] line none = refl
 none_of (h ∷ hs) line none = or_from (h.line == line) (has (lines_in hs) line) (ne_eqb h.line line (none h (inl refl))) (none_of hs line (λ k one. none k (inr one)))
 
 -- a command performs its line, which was not performed before
-none_before : (y : Yard) (said : List (ℕ × ℕ)) → IsOrderly y said → IsSettled y said → (k : Handing) → MayStep IsOver y (Performs k)
+none_before : (y : Yard) (said : List (ℕ × ℕ)) → IsOrderly y said → IsSettled y.performed said → (k : Handing) → MayFollow IsOver y (Performs k)
     → (h : Handing) → IsOneOf y.performed h → h.line ≡ k.line → ⊥
 none_before y said orderly settled k may h one same =
     let was = orderly.performed h one in
-    let read = entry_stays h.serial h.line (y.world.journals h.worker).kept (read_of (y.world.journals h.worker)) ((y.world.journals h.worker).loose, refl) was.entry in
+    let read = entry_stays h.serial h.line (y.site.journals h.worker).kept (read_of (y.site.journals h.worker)) ((y.site.journals h.worker).loose, refl) was.entry in
     let its = (orderly.going k (one_right y.waiting y.running k may.0)).alone h.worker h.serial was.number
-    (subst (λ l. HasEntry h.serial l (read_of (y.world.journals h.worker))) same read) (settled.unsaid h one) in
+    (subst (λ l. HasEntry h.serial l (read_of (y.site.journals h.worker))) same read) (settled.unsaid h one) in
     true≢false (sym (one_named y.performed h one) ∙ ap (λ x. is_among (names_of y.performed) x h.serial) its.0 ∙ ap (λ x. is_among (names_of y.performed) k.worker x) its.1 ∙ may.1)
 
-settled_after : (y : Yard) (said : List (ℕ × ℕ)) → IsOrderly y said → IsSettled y said → (s : Step) → MayStep IsOver y s → AreTrue y.performed (said_by y s)
-    → IsSettled (yard_after y s) (said ++ said_by y s)
+settled_after : (y : Yard) (said : List (ℕ × ℕ)) → IsOrderly y said → IsSettled y.performed said → (a : Action) → MayFollow IsOver y a → AreTrue y.performed (said_by y a)
+    → IsSettled (yard_after y a).performed (said ++ said_by y a)
 settled_after y said orderly settled (Happens e) may honest = record {
-  unsaid = λ h one. among_neither said (openings_by y.world e) h.worker h.serial (settled.unsaid h one)
-      (false_from_ne_true (is_among (openings_by y.world e) h.worker h.serial) (λ t. true≢false (sym (one_named y.performed h one) ∙ honest h.worker h.serial t)));
+  unsaid = λ h one. among_neither said (openings_by y.site e) h.worker h.serial (settled.unsaid h one)
+      (false_from_ne_true (is_among (openings_by y.site e) h.worker h.serial) (λ t. true≢false (sym (one_named y.performed h one) ∙ honest h.worker h.serial t)));
   distinct = settled.distinct;
 }
-settled_after y said orderly settled (Performs k) may honest = subst (IsSettled (yard_after y (Performs k))) (sym (append-nil said)) (record {
+settled_after y said orderly settled (Performs k) may honest = subst (IsSettled (y.performed ++ k ∷ [])) (sym (append-nil said)) (record {
   unsaid = λ h one. ⊎_elim
       (λ (a : IsOneOf y.performed h). settled.unsaid h a)
       (λ (a : IsOneOf (k ∷ []) h). subst (λ (x : Handing). is_among said x.worker x.serial ≡ false) (its_only k h a) (orderly.going k (one_right y.waiting y.running k may.0)).unsaid)
@@ -277,44 +267,41 @@ settled_after y said orderly settled (Performs k) may honest = subst (IsSettled 
   distinct = subst AreDistinct (sym (lines-append y.performed k))
       (distinct_push (lines_in y.performed) k.line settled.distinct (none_of y.performed k.line (none_before y said orderly settled k may)));
 })
-settled_after y said orderly settled (Begins k) may honest = subst (IsSettled (yard_after y (Begins k))) (sym (append-nil said)) (record { unsaid = settled.unsaid; distinct = settled.distinct })
-settled_after y said orderly settled (Ends k) may honest = subst (IsSettled (yard_after y (Ends k))) (sym (append-nil said)) (record { unsaid = settled.unsaid; distinct = settled.distinct })
-settled_after y said orderly settled (Drops k) may honest = subst (IsSettled (yard_after y (Drops k))) (sym (append-nil said)) (record { unsaid = settled.unsaid; distinct = settled.distinct })
-settled_after y said orderly settled (Lists p n line) may honest = subst (IsSettled y) (sym (append-nil said)) settled
+settled_after y said orderly settled a may honest = subst (IsSettled y.performed) (sym (append-nil said)) settled
 
-all_settled : (y : Yard) (said : List (ℕ × ℕ)) (steps : List Step) → IsOrderly y said → IsSettled y said → AreStepsFrom IsOver y steps → IsTruthfulFrom y steps
-    → AreDistinct (lines_in (yard_after_all y steps).performed)
+all_settled : (y : Yard) (said : List (ℕ × ℕ)) (actions : List Action) → IsOrderly y said → IsSettled y.performed said → AreActionsFrom IsOver y actions → IsTruthfulFrom y actions
+    → AreDistinct (lines_in (yard_after_all y actions).performed)
 all_settled y said [] orderly settled may honest = settled.distinct
-all_settled y said (s ∷ steps) orderly settled may honest =
-    all_settled (yard_after y s) (said ++ said_by y s) steps (orderly_after y said orderly s may.0) (settled_after y said orderly settled s may.0 honest.0) may.1 honest.1
+all_settled y said (a ∷ actions) orderly settled may honest =
+    all_settled (yard_after y a) (said ++ said_by y a) actions (orderly_after y said orderly a may.0) (settled_after y said orderly settled a may.0 honest.0) may.1 honest.1
 
-pub performed_once : (steps : List Step) → AreSteps steps → IsTruthful steps → AreDistinct (lines_in (yard_of steps).performed)
-performed_once steps may honest = all_settled first_yard [] steps first_orderly (record { unsaid = λ h one. refl; distinct = tt }) may honest
+pub performed_once : (actions : List Action) → AreActions actions → IsTruthful actions → AreDistinct (lines_in (yard_of actions).performed)
+performed_once actions may honest = all_settled first_yard [] actions first_orderly (record { unsaid = λ h one. refl; distinct = tt }) may honest
 
 -- The intent was listed: it stands in its journal, and no command of it begins or runs any more.
 record WasListed (y : Yard) (p n line : ℕ) : Type 0 where
   pub number : IsNumber p
-  pub entry : HasEntry n line (y.world.journals p).kept
-  pub name : WasNamed y.world (named p n)
+  pub entry : HasEntry n line (y.site.journals p).kept
+  pub name : WasNamed y.site (named p n)
   pub waits : is_among (names_of y.waiting) p n ≡ false
   pub runs : is_among (names_of y.running) p n ≡ false
 
 module _ (p n line : ℕ) where
-  listed_now : (y : Yard) (said : List (ℕ × ℕ)) → IsOrderly y said → MayStep IsOver y (Lists p n line) → WasListed y p n line
+  listed_now : (y : Yard) (said : List (ℕ × ℕ)) → IsOrderly y said → MayFollow IsOver y (Lists p n line) → WasListed y p n line
   listed_now y said orderly may = record {
     number = may.number;
     entry = may.kept;
-    name = not_due_named y.world said orderly.sane orderly.low p n
-        (let size = size_is y.world.lines (y.world.journals p).kept may.attempts may.journal in let there = may.there in omega (arith, size, there)) may.its_end.due;
+    name = not_due_named y.site said orderly.sane orderly.low p n
+        (let size = size_is y.site.lines (y.site.journals p).kept may.attempts may.journal in let there = may.there in omega (arith, size, there)) may.its_end.due;
     waits = may.its_end.waits;
     runs = may.its_end.runs;
   }
 
-  listed_after : (y : Yard) (said : List (ℕ × ℕ)) → IsOrderly y said → WasListed y p n line → (s : Step) → MayStep IsOver y s → WasListed (yard_after y s) p n line
+  listed_after : (y : Yard) (said : List (ℕ × ℕ)) → IsOrderly y said → WasListed y p n line → (a : Action) → MayFollow IsOver y a → WasListed (yard_after y a) p n line
   listed_after y said orderly was (Happens e) may = record {
     number = was.number;
-    entry = entry_stays n line (y.world.journals p).kept ((world_after y.world e).journals p).kept (kept_grows y.world e p) was.entry;
-    name = named_after y.world said orderly.sane (named p n) was.name e may.0;
+    entry = entry_stays n line (y.site.journals p).kept ((site_after y.site e).journals p).kept (kept_grows y.site e p) was.entry;
+    name = named_after y.site said orderly.sane (named p n) was.name e may.0;
     waits = waits_not y said orderly e may (named p n) was.name was.waits;
     runs = still_none e y.running p n was.runs;
   }
@@ -340,44 +327,40 @@ module _ (p n line : ℕ) where
   not_open y said orderly was h one same = ⊎_elim
       (λ (yes : is_among said p n ≡ true). yes)
       (λ (unsaid : is_among said p n ≡ false). absurd (
-      let read = entry_stays n line (y.world.journals p).kept (read_of (y.world.journals p)) ((y.world.journals p).loose, refl) was.entry in
-      let its = (orderly.going h one).alone p n was.number (subst (λ l. HasEntry n l (read_of (y.world.journals p))) (sym same) read) unsaid in
+      let read = entry_stays n line (y.site.journals p).kept (read_of (y.site.journals p)) ((y.site.journals p).loose, refl) was.entry in
+      let its = (orderly.going h one).alone p n was.number (subst (λ l. HasEntry n l (read_of (y.site.journals p))) (sym same) read) unsaid in
       let there = one_named (y.waiting ++ y.running) h one in
       true≢false (sym there ∙ ap (λ l. is_among l h.worker h.serial) (names-append y.waiting y.running)
       ∙ ap (λ x. is_among (names_of y.waiting ++ names_of y.running) x h.serial) (sym its.0) ∙ ap (λ x. is_among (names_of y.waiting ++ names_of y.running) p x) (sym its.1)
       ∙ among_neither (names_of y.waiting) (names_of y.running) p n was.waits was.runs)))
       (cases_Bool (is_among said p n))
 
-  listed_all : (y : Yard) (said : List (ℕ × ℕ)) (steps : List Step) → IsOrderly y said → WasListed y p n line → AreStepsFrom IsOver y steps
-      → (h : Handing) → IsOneOf ((yard_after_all y steps).waiting ++ (yard_after_all y steps).running) h → h.line ≡ line → is_among (said ++ said_from y steps) p n ≡ true
+  listed_all : (y : Yard) (said : List (ℕ × ℕ)) (actions : List Action) → IsOrderly y said → WasListed y p n line → AreActionsFrom IsOver y actions
+      → (h : Handing) → IsOneOf ((yard_after_all y actions).waiting ++ (yard_after_all y actions).running) h → h.line ≡ line → is_among (said ++ said_from y actions) p n ≡ true
   listed_all y said [] orderly was may h one same = subst (λ l. is_among l p n ≡ true) (sym (append-nil said)) (not_open y said orderly was h one same)
-  listed_all y said (s ∷ steps) orderly was may h one same =
-      subst (λ l. is_among l p n ≡ true) (append_assoc said (said_by y s) (said_from (yard_after y s) steps))
-      (listed_all (yard_after y s) (said ++ said_by y s) steps (orderly_after y said orderly s may.0) (listed_after y said orderly was s may.0) may.1 h one same)
+  listed_all y said (a ∷ actions) orderly was may h one same =
+      subst (λ l. is_among l p n ≡ true) (append_assoc said (said_by y a) (said_from (yard_after y a) actions))
+      (listed_all (yard_after y a) (said ++ said_by y a) actions (orderly_after y said orderly a may.0) (listed_after y said orderly was a may.0) may.1 h one same)
 
-  final_from : (y : Yard) (said : List (ℕ × ℕ)) (before after : List Step) → IsOrderly y said → AreStepsFrom IsOver y (before ++ Lists p n line ∷ after)
+  final_from : (y : Yard) (said : List (ℕ × ℕ)) (before after : List Action) → IsOrderly y said → AreActionsFrom IsOver y (before ++ Lists p n line ∷ after)
       → (h : Handing) → IsOneOf ((yard_after_all y (before ++ Lists p n line ∷ after)).waiting ++ (yard_after_all y (before ++ Lists p n line ∷ after)).running) h → h.line ≡ line
       → is_among (said ++ said_from y (before ++ Lists p n line ∷ after)) p n ≡ true
   final_from y said [] after orderly may h one same = listed_all y said after orderly (listed_now y said orderly may.0) may.1 h one same
-  final_from y said (s ∷ before) after orderly may h one same =
-      subst (λ l. is_among l p n ≡ true) (append_assoc said (said_by y s) (said_from (yard_after y s) (before ++ Lists p n line ∷ after)))
-      (final_from (yard_after y s) (said ++ said_by y s) before after (orderly_after y said orderly s may.0) may.1 h one same)
+  final_from y said (a ∷ before) after orderly may h one same =
+      subst (λ l. is_among l p n ≡ true) (append_assoc said (said_by y a) (said_from (yard_after y a) (before ++ Lists p n line ∷ after)))
+      (final_from (yard_after y a) (said ++ said_by y a) before after (orderly_after y said orderly a may.0) may.1 h one same)
 
-  pub listed_is_final : (before after : List Step) → AreSteps (before ++ Lists p n line ∷ after) → (h : Handing)
+  pub listed_is_final : (before after : List Action) → AreActions (before ++ Lists p n line ∷ after) → (h : Handing)
       → IsOneOf ((yard_of (before ++ Lists p n line ∷ after)).waiting ++ (yard_of (before ++ Lists p n line ∷ after)).running) h → h.line ≡ line
       → is_among (said_in (before ++ Lists p n line ∷ after)) p n ≡ true
   listed_is_final before after may h one same = final_from first_yard [] before after first_orderly may h one same
 
 -- without the commands it is a run
 
-run_from : (y : Yard) (steps : List Step) → AreStepsFrom IsOver y steps → IsRunFrom y.world (events_of steps) × ((yard_after_all y steps).world ≡ world_after_all y.world (events_of steps))
+run_from : (y : Yard) (actions : List Action) → AreActionsFrom IsOver y actions → IsRunFrom y.site (events_of actions) × ((yard_after_all y actions).site ≡ site_after_all y.site (events_of actions))
 run_from y [] may = (tt, refl)
-run_from y (Happens e ∷ steps) may = let rest = run_from (yard_after y (Happens e)) steps may.1 in ((may.0.0, rest.0), rest.1)
-run_from y (Begins h ∷ steps) may = run_from (yard_after y (Begins h)) steps may.1
-run_from y (Performs h ∷ steps) may = run_from (yard_after y (Performs h)) steps may.1
-run_from y (Ends h ∷ steps) may = run_from (yard_after y (Ends h)) steps may.1
-run_from y (Drops h ∷ steps) may = run_from (yard_after y (Drops h)) steps may.1
-run_from y (Lists p n line ∷ steps) may = run_from y steps may.1
+run_from y (Happens e ∷ actions) may = let rest = run_from (yard_after y (Happens e)) actions may.1 in ((may.0.0, rest.0), rest.1)
+run_from y (a ∷ actions) may = run_from (yard_after y a) actions may.1
 
-pub is_run : (steps : List Step) → AreSteps steps → IsRun (events_of steps) × ((yard_of steps).world ≡ world_of (events_of steps))
-is_run steps may = run_from first_yard steps may
+pub is_run : (actions : List Action) → AreActions actions → IsRun (events_of actions) × ((yard_of actions).site ≡ site_of (events_of actions))
+is_run actions may = run_from first_yard actions may

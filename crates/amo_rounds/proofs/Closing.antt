@@ -12,8 +12,8 @@ use Rattle.amo_history.specs.declared.model.Moment.{Moment}
 use Rattle.amo_history.specs.declared.model.Moment.TheVariants.{Does, Loses, Begins}
 use Rattle.amo_ledger.specs.Rounds.{seat_of}
 use Rattle.amo_rounds.specs.File.{read_of}
-use Rattle.amo_rounds.specs.World.{Place, Away, Before, Inside, Round, World, first_world, Event, Dies, Starts, RoundBegins, Joins, Acts, Misses, Says, SaysUnheard, SaysUnread, Stops, IsNumber, is_inside, with_at}
-use Rattle.amo_rounds.specs.Run.{left_in, place_after, place_missing, with_moment, with_moment_at, world_after, MayHappen, openings_by, is_among}
+use Rattle.amo_rounds.specs.Site.{Whereabouts, Away, Before, Inside, Round, Site, first_site, Event, Dies, Starts, RoundBegins, Joins, Acts, Misses, Says, SaysUnheard, SaysUnread, Stops, IsNumber, is_inside, with_at}
+use Rattle.amo_rounds.specs.Run.{left_in, whereabouts_after, whereabouts_missing, with_moment, with_moment_at, site_after, MayHappen, openings_by, is_among}
 use Rattle.amo_rounds.specs.Commands.{is_stop}
 use Rattle.amo_rounds.proofs.Openings.{among_more}
 use Rattle.amo_rounds.proofs.Entries.{HasEntry}
@@ -36,11 +36,11 @@ abbrev pub IsTaken : Option Round → (said : List (ℕ × ℕ)) → (p n line :
 IsTaken None said p n line = ⊤
 IsTaken (Some r) said p n line = (j : ℕ) → IsJob r.givens j → numbered 0 r.written.lines j ≡ line → (is_among said p n ≡ true) ⊎ HasTried r p n j
 
-pub record IsClosing (w : World) (said : List (ℕ × ℕ)) : Type 0 where
-  pub joinable : (p : ℕ) → is_inside (w.places p) ≡ true → w.joinable ≡ true
+pub record IsClosing (w : Site) (said : List (ℕ × ℕ)) : Type 0 where
+  pub joinable : (p : ℕ) → is_inside (w.whereabouts p) ≡ true → w.joinable ≡ true
   pub taken : w.joinable ≡ true → (p n line : ℕ) → IsNumber p → HasEntry n line (read_of (w.journals p)) → IsTaken (w.rounds w.last) said p n line
 
-pub first_closing : IsClosing first_world []
+pub first_closing : IsClosing first_site []
 first_closing = record { joinable = λ p h. absurd (true≢false (sym h)); taken = λ h p n line number has. tt }
 
 -- what is taken stays so
@@ -75,23 +75,23 @@ module _ (rounds : ℕ → Option Round) (last : ℕ) (said : List (ℕ × ℕ))
       (λ e. taken_moment (rounds k) m said p n line (subst (λ x. IsTaken (rounds x) said p n line) e h))
       (λ other. h)
 
-  taken_at : (place : Place) (moment : ℕ → Moment) → IsTaken (with_moment_at place moment rounds last) said p n line
+  taken_at : (whereabouts : Whereabouts) (moment : ℕ → Moment) → IsTaken (with_moment_at whereabouts moment rounds last) said p n line
   taken_at Away moment = h
   taken_at (Before s) moment = h
   taken_at (Inside k q) moment = taken_in k (moment q)
 
-inside_after : (place : Place) (d : Deed) → is_inside (place_after place d) ≡ is_inside place
+inside_after : (whereabouts : Whereabouts) (d : Deed) → is_inside (whereabouts_after whereabouts d) ≡ is_inside whereabouts
 inside_after Away d = refl
 inside_after (Before s) d = refl
 inside_after (Inside k q) d = refl
 
-inside_missing : (place : Place) → is_inside (place_missing place) ≡ is_inside place
+inside_missing : (whereabouts : Whereabouts) → is_inside (whereabouts_missing whereabouts) ≡ is_inside whereabouts
 inside_missing Away = refl
 inside_missing (Before s) = refl
 inside_missing (Inside k q) = refl
 
-module _ (w : World) (said : List (ℕ × ℕ)) (sane : IsSane w said) where
-  new_taken : (e : Event) → MayHappen w e → (p n line : ℕ) → TriesIntent w e p n line → IsTaken ((world_after w e).rounds (world_after w e).last) (said ++ openings_by w e) p n line
+module _ (w : Site) (said : List (ℕ × ℕ)) (sane : IsSane w said) where
+  new_taken : (e : Event) → MayHappen w e → (p n line : ℕ) → TriesIntent w e p n line → IsTaken ((site_after w e).rounds (site_after w e).last) (said ++ openings_by w e) p n line
   new_taken e may p n line tries =
       let it = intends_here w said sane e may p n line tries in
       subst (λ o. IsTaken o (said ++ openings_by w e) p n line) (sym (it.afterwards ∙ ap (with_moment it.moment) it.stands)) (λ j is same. inr (
@@ -100,24 +100,24 @@ module _ (w : World) (said : List (ℕ × ℕ)) (sane : IsSane w said) where
       record { before = it.round.moments; moment = it.moment; after = []; is = refl; tries = it.tries ∙ ap (λ k. Some (Intend n k)) one; seat = it.seat }))
 
   module _ (closing : IsClosing w said) where
-    joinable_after : (e : Event) → MayHappen w e → (p : ℕ) → is_inside ((world_after w e).places p) ≡ true → (world_after w e).joinable ≡ true
-    joinable_after (Dies q) may p h = at_number (λ place. is_inside place ≡ true → w.joinable ≡ true) w.places q Away p (λ e no. absurd (true≢false (sym no))) (λ n. closing.joinable p) h
+    joinable_after : (e : Event) → MayHappen w e → (p : ℕ) → is_inside ((site_after w e).whereabouts p) ≡ true → (site_after w e).joinable ≡ true
+    joinable_after (Dies q) may p h = at_number (λ whereabouts. is_inside whereabouts ≡ true → w.joinable ≡ true) w.whereabouts q Away p (λ e no. absurd (true≢false (sym no))) (λ n. closing.joinable p) h
     joinable_after (Starts q es) may p h =
-        at_number (λ place. is_inside place ≡ true → w.joinable ≡ true) w.places q (Before (Asking (left_in es))) p (λ e no. absurd (true≢false (sym no))) (λ n. closing.joinable p) h
+        at_number (λ whereabouts. is_inside whereabouts ≡ true → w.joinable ≡ true) w.whereabouts q (Before (Asking (left_in es))) p (λ e no. absurd (true≢false (sym no))) (λ n. closing.joinable p) h
     joinable_after (RoundBegins g r lines) may p h = refl
     joinable_after (Joins q seat n) may p h = may.joinable
-    joinable_after (Acts q time d) may p h = at_number (λ place. is_inside place ≡ true → w.joinable ≡ true) w.places q (place_after (w.places q) d) p
-        (λ e yes. closing.joinable q (sym (inside_after (w.places q) d) ∙ yes)) (λ n. closing.joinable p) h
-    joinable_after (Misses q time t) may p h = at_number (λ place. is_inside place ≡ true → w.joinable ≡ true) w.places q (place_missing (w.places q)) p
-        (λ e yes. closing.joinable q (sym (inside_missing (w.places q)) ∙ yes)) (λ n. closing.joinable p) h
+    joinable_after (Acts q time d) may p h = at_number (λ whereabouts. is_inside whereabouts ≡ true → w.joinable ≡ true) w.whereabouts q (whereabouts_after (w.whereabouts q) d) p
+        (λ e yes. closing.joinable q (sym (inside_after (w.whereabouts q) d) ∙ yes)) (λ n. closing.joinable p) h
+    joinable_after (Misses q time t) may p h = at_number (λ whereabouts. is_inside whereabouts ≡ true → w.joinable ≡ true) w.whereabouts q (whereabouts_missing (w.whereabouts q)) p
+        (λ e yes. closing.joinable q (sym (inside_missing (w.whereabouts q)) ∙ yes)) (λ n. closing.joinable p) h
     joinable_after (Says f) may p h = closing.joinable p h
     joinable_after (SaysUnheard f) may p h = closing.joinable p h
     joinable_after (SaysUnread f) may p h = closing.joinable p h
     joinable_after (Stops left n) may p h = absurd (true≢false (sym h))
 
     -- an intent that was read is taken as before
-    old_taken : (e : Event) → MayHappen w e → (world_after w e).joinable ≡ true → (p n line : ℕ) → IsNumber p → HasEntry n line (read_of (w.journals p))
-        → IsTaken ((world_after w e).rounds (world_after w e).last) (said ++ openings_by w e) p n line
+    old_taken : (e : Event) → MayHappen w e → (site_after w e).joinable ≡ true → (p n line : ℕ) → IsNumber p → HasEntry n line (read_of (w.journals p))
+        → IsTaken ((site_after w e).rounds (site_after w e).last) (said ++ openings_by w e) p n line
     old_taken (RoundBegins g r lines) may can p n line number has = at_number (λ o. IsTaken o (said ++ []) p n line) w.rounds (w.last + 1) (Some (record { givens = g; written = r; moments = [] })) (w.last + 1)
         (λ e j is same. inl (among_more said [] p n (opened_then w said p n line g r lines sane number has may j is same)))
         (λ other. absurd (other refl))
@@ -128,19 +128,19 @@ module _ (w : World) (said : List (ℕ × ℕ)) (sane : IsSane w said) where
         taken_in w.rounds w.last (said ++ []) p n line (taken_more (w.rounds w.last) said [] p n line (closing.taken can p n line number has)) w.last (Begins seat k)
     old_taken (Acts q time d) may can p n line number has =
         let more = openings_by w (Acts q time d) in
-        taken_at w.rounds w.last (said ++ more) p n line (taken_more (w.rounds w.last) said more p n line (closing.taken can p n line number has)) (w.places q) (λ seat. Does seat d)
+        taken_at w.rounds w.last (said ++ more) p n line (taken_more (w.rounds w.last) said more p n line (closing.taken can p n line number has)) (w.whereabouts q) (λ seat. Does seat d)
     old_taken (Misses q time t) may can p n line number has =
         let more = openings_by w (Misses q time t) in
-        taken_at w.rounds w.last (said ++ more) p n line (taken_more (w.rounds w.last) said more p n line (closing.taken can p n line number has)) (w.places q) (λ seat. Loses seat t)
+        taken_at w.rounds w.last (said ++ more) p n line (taken_more (w.rounds w.last) said more p n line (closing.taken can p n line number has)) (w.whereabouts q) (λ seat. Loses seat t)
     old_taken (Says f) may can p n line number has = taken_more (w.rounds w.last) said (openings_by w (Says f)) p n line (closing.taken can p n line number has)
     old_taken (SaysUnheard f) may can p n line number has = taken_more (w.rounds w.last) said (openings_by w (SaysUnheard f)) p n line (closing.taken can p n line number has)
     old_taken (SaysUnread f) may can p n line number has = taken_more (w.rounds w.last) said (openings_by w (SaysUnread f)) p n line (closing.taken can p n line number has)
 
-    goes_on : (e : Event) → (world_after w e).joinable ≡ true → is_stop e ≡ false
+    goes_on : (e : Event) → (site_after w e).joinable ≡ true → is_stop e ≡ false
     goes_on (Stops left n) can = absurd (true≢false (sym can))
     goes_on e can = refl
 
-    pub closing_after : (e : Event) → MayHappen w e → IsClosing (world_after w e) (said ++ openings_by w e)
+    pub closing_after : (e : Event) → MayHappen w e → IsClosing (site_after w e) (said ++ openings_by w e)
     closing_after e may = record {
       joinable = joinable_after e may;
       taken = λ can p n line number has. ⊎_elim

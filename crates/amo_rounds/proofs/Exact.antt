@@ -2,11 +2,11 @@
 use Rattle.std.proofs.Common.{◌≡◌, ⊎_elim, inl, inr, ℕ, suc, ◌+◌, ◌≤◌, Bool, true, false, ◌&&◌, ◌||◌, List, [], ◌∷◌, ◌++◌, length, refl, sym, ap, ◌∙◌, subst, arith, append_assoc}
 use Rattle.std.specs.Prelude.{⊤, ◌==◌, if◌then◌else◌}
 use Rattle.std.proofs.lemmas.Bool.{true≢false, false_from_ne_true, eq-eqb, eqb-true, and_parts, and_from, or_cases, or_parts, or_from, or_left, or_right}
-use Rattle.amo_rounds.specs.World.{World, first_world, Event}
-use Rattle.amo_rounds.specs.Run.{world_after, IsRunFrom, IsRun, Handing, handings_by, handings_from, handings, openings_by, openings_from, openings, is_among, IsOneOf, names_of, AreDifferent, common, names_of_line}
+use Rattle.amo_rounds.specs.Site.{Site, first_site, Event}
+use Rattle.amo_rounds.specs.Run.{site_after, IsRunFrom, IsRun, Handing, handings_by, handings_from, handings, openings_by, openings_from, openings, is_among, IsOneOf, names_of, AreDifferent, common, names_of_line}
 use Rattle.amo_rounds.proofs.Openings.{among_more}
 use Rattle.amo_rounds.proofs.Sane.{IsSane, first_sane}
-use Rattle.amo_rounds.proofs.Steps.{sane_after}
+use Rattle.amo_rounds.proofs.Events.{sane_after}
 use Rattle.amo_rounds.proofs.Handed.{WasHanded, handed_after, handed_now, now_handed, opened_before, one_at_most, split_one}
 use Rattle.amo_rounds.proofs.Named.{handed_once}
 
@@ -166,16 +166,16 @@ line_different line (k ∷ hs) h = by (k.line == line) (line_different line hs h
     by false rest = rest
 
 -- what was handed over, and is handed over again later, is said not to have been begun or done
-later_said : (w : World) (said : List (ℕ × ℕ)) (es : List Event) → IsSane w said → IsRunFrom w es → (h : Handing) → WasHanded w said h → (k : Handing) → IsOneOf (handings_from w es) k
+later_said : (w : Site) (said : List (ℕ × ℕ)) (es : List Event) → IsSane w said → IsRunFrom w es → (h : Handing) → WasHanded w said h → (k : Handing) → IsOneOf (handings_from w es) k
     → h.line ≡ k.line → is_among (said ++ openings_from w es) h.worker h.serial ≡ true
 later_said w said [] sane run h was k one same = absurd one
 later_said w said (e ∷ es) sane run h was k one same = ⊎_elim
     (λ (now : IsOneOf (handings_by w e) k).
     among_more said (openings_from w (e ∷ es)) h.worker h.serial (opened_before w said e h k was (handed_now w said sane e run.0 k now) same))
-    (λ (later : IsOneOf (handings_from (world_after w e) es) k).
-    subst (λ l. is_among l h.worker h.serial ≡ true) (append_assoc said (openings_by w e) (openings_from (world_after w e) es))
-    (later_said (world_after w e) (said ++ openings_by w e) es (sane_after w said sane e run.0) run.1 h (handed_after w said sane h was e run.0) k later same))
-    (split_one (handings_by w e) (handings_from (world_after w e) es) k one)
+    (λ (later : IsOneOf (handings_from (site_after w e) es) k).
+    subst (λ l. is_among l h.worker h.serial ≡ true) (append_assoc said (openings_by w e) (openings_from (site_after w e) es))
+    (later_said (site_after w e) (said ++ openings_by w e) es (sane_after w said sane e run.0) run.1 h (handed_after w said sane h was e run.0) k later same))
+    (split_one (handings_by w e) (handings_from (site_after w e) es) k one)
 
 -- the first of those of a line is one of them
 first_of_line : (line : ℕ) (hs : List Handing) (i : ℕ × ℕ) (is : List (ℕ × ℕ)) → names_of_line line hs ≡ i ∷ is → (k : Handing) × IsOneOf hs k × (k.line ≡ line)
@@ -191,31 +191,31 @@ first_of_line line (h ∷ hs) i is e = by (h.line == line) refl e (first_of_line
     by true at e rest = (h, inl refl, eqb-true h.line line at)
     by false at e rest = let (k, one, same) = rest e in (k, inr one, same)
 
-all_said : (w : World) (said : List (ℕ × ℕ)) (es : List Event) (line : ℕ) → IsSane w said → IsRunFrom w es → AllButLast (said ++ openings_from w es) (names_of_line line (handings_from w es))
+all_said : (w : Site) (said : List (ℕ × ℕ)) (es : List Event) (line : ℕ) → IsSane w said → IsRunFrom w es → AllButLast (said ++ openings_from w es) (names_of_line line (handings_from w es))
 all_said w said [] line sane run = tt
 all_said w said (e ∷ es) line sane run =
     let after = sane_after w said sane e run.0 in
-    let rest = subst (λ l. AllButLast l (names_of_line line (handings_from (world_after w e) es))) (append_assoc said (openings_by w e) (openings_from (world_after w e) es))
-    (all_said (world_after w e) (said ++ openings_by w e) es line after run.1) in
+    let rest = subst (λ l. AllButLast l (names_of_line line (handings_from (site_after w e) es))) (append_assoc said (openings_by w e) (openings_from (site_after w e) es))
+    (all_said (site_after w e) (said ++ openings_by w e) es line after run.1) in
     ⊎_elim
-    (λ (none : handings_by w e ≡ []). subst (λ l. AllButLast (said ++ openings_from w (e ∷ es)) (names_of_line line (l ++ handings_from (world_after w e) es))) (sym none) rest)
+    (λ (none : handings_by w e ≡ []). subst (λ l. AllButLast (said ++ openings_from w (e ∷ es)) (names_of_line line (l ++ handings_from (site_after w e) es))) (sym none) rest)
     (λ (one : (h : Handing) × (handings_by w e ≡ h ∷ [])).
     let was = now_handed w said e one.0 (handed_now w said sane e run.0 one.0 (subst (λ l. IsOneOf l one.0) (sym one.1) (inl refl))) in
-    subst (λ l. AllButLast (said ++ openings_from w (e ∷ es)) (names_of_line line (l ++ handings_from (world_after w e) es))) (sym one.1)
-    (by one.0 (one.0.line == line) refl (names_of_line line (handings_from (world_after w e) es)) refl rest
-    (λ k there same. subst (λ l. is_among l one.0.worker one.0.serial ≡ true) (append_assoc said (openings_by w e) (openings_from (world_after w e) es))
-    (later_said (world_after w e) (said ++ openings_by w e) es after run.1 one.0 was k there same))))
+    subst (λ l. AllButLast (said ++ openings_from w (e ∷ es)) (names_of_line line (l ++ handings_from (site_after w e) es))) (sym one.1)
+    (by one.0 (one.0.line == line) refl (names_of_line line (handings_from (site_after w e) es)) refl rest
+    (λ k there same. subst (λ l. is_among l one.0.worker one.0.serial ≡ true) (append_assoc said (openings_by w e) (openings_from (site_after w e) es))
+    (later_said (site_after w e) (said ++ openings_by w e) es after run.1 one.0 was k there same))))
     (one_at_most w e)
   where
-    by : (h : Handing) (b : Bool) → (h.line == line) ≡ b → (names : List (ℕ × ℕ)) → names_of_line line (handings_from (world_after w e) es) ≡ names
+    by : (h : Handing) (b : Bool) → (h.line == line) ≡ b → (names : List (ℕ × ℕ)) → names_of_line line (handings_from (site_after w e) es) ≡ names
         → AllButLast (said ++ openings_from w (e ∷ es)) names
-        → ((k : Handing) → IsOneOf (handings_from (world_after w e) es) k → h.line ≡ k.line → is_among (said ++ openings_from w (e ∷ es)) h.worker h.serial ≡ true)
+        → ((k : Handing) → IsOneOf (handings_from (site_after w e) es) k → h.line ≡ k.line → is_among (said ++ openings_from w (e ∷ es)) h.worker h.serial ≡ true)
         → AllButLast (said ++ openings_from w (e ∷ es)) (if b then (h.worker, h.serial) ∷ names else names)
     by h false at names is rest later = rest
     by h true at [] is rest later = tt
     by h true at (i ∷ is_rest) is rest later =
-        let (k, one, same) = first_of_line line (handings_from (world_after w e) es) i is_rest is in
+        let (k, one, same) = first_of_line line (handings_from (site_after w e) es) i is_rest is in
         (later k one (eqb-true h.line line at ∙ sym same), rest)
 
 pub handed_or_opened : (es : List Event) (line : ℕ) → IsRun es → length (names_of_line line (handings es)) ≤ length (common (names_of_line line (handings es)) (openings es)) + 1
-handed_or_opened es line run = counted (openings es) (names_of_line line (handings es)) (line_different line (handings es) (handed_once es run)) (all_said first_world [] es line first_sane run)
+handed_or_opened es line run = counted (openings es) (names_of_line line (handings es)) (line_different line (handings es) (handed_once es run)) (all_said first_site [] es line first_sane run)

@@ -3,6 +3,8 @@
 use Rattle.std.proofs.Common.{◌≡◌, ℕ, zero, suc, ◌≤◌, Bool, true, false, List, [], ◌∷◌, ◌++◌, Some, None, refl, arith, ⊎_elim, subst, sym}
 use Rattle.std.specs.Prelude.{⊤, ◌==◌, ◌&&◌, ◌||◌, if◌then◌else◌}
 use Rattle.std.proofs.lemmas.Bool.{cases_eq, and_parts, eqb-true}
+use Rattle.amo_sets.specs.Lists.{table}
+use Rattle.amo_sets.specs.Sets.{has}
 use Rattle.amo_kk.specs.Givens.{IsWorker}
 use Rattle.amo_kk.specs.Limits.{within_limits}
 use Rattle.amo_kk.specs.declared.givens.Givens.{Givens}
@@ -11,14 +13,19 @@ use Rattle.amo_course.specs.declared.answer.Reply.TheVariants.{Answered}
 use Rattle.amo_course.specs.declared.answer.Way.TheVariants.{Go, Leave}
 use Rattle.amo_course.specs.declared.model.Deed.TheVariants.{Loaded, Stored, Intended, Performed, Noted, Asked}
 use Rattle.amo_course.specs.declared.model.Try.TheVariants.{Intend, Perform}
+use Rattle.amo_history.proofs.Chains.{◌▸◌}
 use Rattle.amo_ledger.specs.declared.entry.Answer.TheVariants.{Doubt as NotedDoubt}
+use Rattle.amo_ledger.specs.declared.entry.Entry.{Entry}
 use Rattle.amo_ledger.specs.declared.entry.Entry.TheVariants.{Intent as IntentOf, Answer as AnswerTo}
 use Rattle.amo_ledger.specs.declared.finding.Finding.{Finding}
 use Rattle.amo_ledger.specs.declared.finding.Verdict.TheVariants.{NotDone}
 use Rattle.amo_ledger.specs.declared.journal.Attempt.{Attempt}
-use Rattle.amo_ledger.specs.Records.{RecordView}
-use Rattle.amo_rounds.specs.World.{Event, Dies, Starts, RoundBegins, Joins, Acts, Misses, Says, Stops, IsNumber}
-use Rattle.amo_rounds.specs.Run.{IsRun, handings, openings, AreUnperformed, performed_lines, names_of}
+use Rattle.amo_ledger.specs.Journals.{journal_of}
+use Rattle.amo_ledger.specs.Open.{open_lines}
+use Rattle.amo_ledger.specs.Records.{RecordView, is_sound}
+use Rattle.amo_rounds.specs.File.{read_of}
+use Rattle.amo_rounds.specs.Site.{Site, Event, Dies, Starts, RoundBegins, Joins, Acts, Misses, Says, Stops, IsNumber, is_inside}
+use Rattle.amo_rounds.specs.Run.{MayBegin, IsRun, handings, openings, AreUnperformed, performed_lines, names_of}
 
 -- what holds of each of 1..n
 abbrev AllUpTo : ℕ → (ℕ → Type 0) → Type 0
@@ -60,27 +67,26 @@ in_doubt = record { line = 1; time = 20; answer = Some NotedDoubt }
 abbrev pub undone : Finding
 undone = record { verdict = NotDone; worker = 1; serial = 1; time = 40 }
 
+-- the process of worker p begins, and a round of it alone, which it joins
+abbrev beginning : (p round : ℕ) → List Event
+beginning p round = Starts p [] ∷ RoundBegins one_job (record_by round p) 1 ∷ Joins p 1 1 ∷ []
+
+-- there it reads its own words, announces the job, and claims it
+abbrev claiming : (p time : ℕ) → List Event
+claiming p time =
+    Acts p time (Loaded 1 0) ∷
+    Acts p time (Loaded 2 0) ∷
+    Acts p time (Loaded 3 0) ∷
+    Acts p time (Stored 1 1) ∷
+    Acts p time (Stored 2 1) ∷ []
+
 -- an intent is lost; then one is kept
 abbrev pub intended : List Event
 intended =
-    Starts 1 [] ∷
-    RoundBegins one_job (record_by 1 1) 1 ∷
-    Joins 1 1 1 ∷
-    Acts 1 10 (Loaded 1 0) ∷
-    Acts 1 10 (Loaded 2 0) ∷
-    Acts 1 10 (Loaded 3 0) ∷
-    Acts 1 10 (Stored 1 1) ∷
-    Acts 1 10 (Stored 2 1) ∷
+    beginning 1 1 ++ claiming 1 10 ++
     Misses 1 10 (Intend 1 1) ∷
     Stops (λ p. 0) 0 ∷
-    Starts 1 [] ∷
-    RoundBegins one_job (record_by 2 1) 1 ∷
-    Joins 1 1 1 ∷
-    Acts 1 20 (Loaded 1 0) ∷
-    Acts 1 20 (Loaded 2 0) ∷
-    Acts 1 20 (Loaded 3 0) ∷
-    Acts 1 20 (Stored 1 1) ∷
-    Acts 1 20 (Stored 2 1) ∷
+    beginning 1 2 ++ claiming 1 20 ++
     Acts 1 20 (Intended 1 1) ∷ []
 
 -- and its line is handed over, while the process dies
@@ -98,14 +104,7 @@ asked =
 -- another worker has the line in another round, and performs it
 abbrev pub again : List Event
 again =
-    Starts 2 [] ∷
-    RoundBegins one_job (record_by 3 2) 1 ∷
-    Joins 2 1 1 ∷
-    Acts 2 50 (Loaded 1 0) ∷
-    Acts 2 50 (Loaded 2 0) ∷
-    Acts 2 50 (Loaded 3 0) ∷
-    Acts 2 50 (Stored 1 1) ∷
-    Acts 2 50 (Stored 2 1) ∷
+    beginning 2 3 ++ claiming 2 50 ++
     Acts 2 50 (Intended 1 1) ∷
     Acts 2 50 (Performed 1 1 (Answered 1 (Done 0) Go)) ∷
     Acts 2 50 (Noted 1 (Done 0)) ∷
@@ -118,155 +117,58 @@ events = handed ++ asked ++ Says undone ∷ again
 abbrev pub truly : ℕ → ℕ → Bool
 truly p n = p == 2
 
+-- a round may be begun by these findings and journals, each of which is all that is read
+module _ (w : Site) (findings : List Finding) (entries : ℕ → List Entry) (attempts : ℕ → List Attempt) where
+  abbrev IsReadAt : ℕ → Type 0
+  IsReadAt p = (is_inside (w.whereabouts p) ≡ false) × (read_of (w.journals p) ≡ entries p ++ []) × (journal_of 1 (entries p) ≡ Some (attempts p))
+
+  may_begin : (p round : ℕ) → read_of w.findings ≡ findings ++ [] → AllUpTo 16 IsReadAt
+      → ((line : ℕ) → has (1 ∷ []) line ≡ true → has (open_lines findings (table 16 attempts) 1) line ≡ true) → is_sound (record_by round p) ≡ true
+      → MayBegin w one_job (record_by round p) 1
+  may_begin p round read all lines sound = record {
+    nobody = λ q is. (each IsReadAt all q is).0;
+    findings = findings;
+    findings_seen = ([], read);
+    entries = entries;
+    entries_seen = λ q is. ([], (each IsReadAt all q is).1, tt);
+    attempts = attempts;
+    journals = λ q is. (each IsReadAt all q is).2;
+    are_open = lines;
+    sound = sound;
+    jobs = refl;
+    workers = refl;
+  }
+
 pub is_run : IsRun events
-is_run = (
-  (number_1, refl),
-  (
-    record {
-      nobody = each _ ((((((((((((((((tt, refl), refl), refl), refl), refl), refl), refl), refl), refl), refl), refl), refl), refl), refl), refl), refl);
-      findings = [];
-      findings_seen = ([], refl);
-      entries = λ p. [];
-      entries_seen = each _ ((((((((((((((((tt, ([], refl, tt)), ([], refl, tt)), ([], refl, tt)), ([], refl, tt)), ([], refl, tt)), ([], refl, tt)), ([], refl, tt)), ([], refl, tt)), ([], refl, tt)), ([], refl, tt)), ([], refl, tt)), ([], refl, tt)), ([], refl, tt)), ([], refl, tt)), ([], refl, tt)), ([], refl, tt));
-      attempts = λ p. [];
-      journals = each _ ((((((((((((((((tt, refl), refl), refl), refl), refl), refl), refl), refl), refl), refl), refl), refl), refl), refl), refl), refl);
-      are_open = λ line h. h;
-      sound = refl;
-      jobs = refl;
-      workers = refl;
-    },
-    (
-      record { asked = refl; joinable = refl; round = _; stands = refl; seat = refl; attempts = []; journal = refl; next = refl },
-      (
-        (number_1, (only_worker, refl, refl)),
-        (
-          (number_1, (only_worker, refl, refl)),
-          (
-            (number_1, (only_worker, refl, refl)),
-            (
-              (number_1, (only_worker, refl, tt)),
-              (
-                (number_1, (only_worker, refl, tt)),
-                (
-                  (number_1, (only_worker, refl)),
-                  (
-                    tt,
-                    (
-                      (number_1, refl),
-                      (
-                        record {
-                          nobody = each _ ((((((((((((((((tt, refl), refl), refl), refl), refl), refl), refl), refl), refl), refl), refl), refl), refl), refl), refl), refl);
-                          findings = [];
-                          findings_seen = ([], refl);
-                          entries = λ p. [];
-                          entries_seen = each _ ((((((((((((((((tt, ([], refl, tt)), ([], refl, tt)), ([], refl, tt)), ([], refl, tt)), ([], refl, tt)), ([], refl, tt)), ([], refl, tt)), ([], refl, tt)), ([], refl, tt)), ([], refl, tt)), ([], refl, tt)), ([], refl, tt)), ([], refl, tt)), ([], refl, tt)), ([], refl, tt)), ([], refl, tt));
-                          attempts = λ p. [];
-                          journals = each _ ((((((((((((((((tt, refl), refl), refl), refl), refl), refl), refl), refl), refl), refl), refl), refl), refl), refl), refl), refl);
-                          are_open = λ line h. h;
-                          sound = refl;
-                          jobs = refl;
-                          workers = refl;
-                        },
-                        (
-                          record { asked = refl; joinable = refl; round = _; stands = refl; seat = refl; attempts = []; journal = refl; next = refl },
-                          (
-                            (number_1, (only_worker, refl, refl)),
-                            (
-                              (number_1, (only_worker, refl, refl)),
-                              (
-                                (number_1, (only_worker, refl, refl)),
-                                (
-                                  (number_1, (only_worker, refl, tt)),
-                                  (
-                                    (number_1, (only_worker, refl, tt)),
-                                    (
-                                      (number_1, (only_worker, refl, tt)),
-                                      (
-                                        (number_1, (only_worker, refl)),
-                                        (
-                                          (number_1, refl),
-                                          (
-                                            (number_1, refl),
-                                            (
-                                              (number_1, refl),
-                                              (
-                                                tt,
-                                                (
-                                                  record { attempts = in_doubt ∷ []; journal = refl; high = omega arith },
-                                                  (
-                                                    (number_2, refl),
-                                                    (
-                                                      record {
-                                                        nobody = each _ ((((((((((((((((tt, refl), refl), refl), refl), refl), refl), refl), refl), refl), refl), refl), refl), refl), refl), refl), refl);
-                                                        findings = undone ∷ [];
-                                                        findings_seen = ([], refl);
-                                                        entries = λ p. if p == 1 then IntentOf 1 1 20 ∷ AnswerTo 1 NotedDoubt ∷ [] else [];
-                                                        entries_seen = each _ ((((((((((((((((tt, ([], refl, tt)), ([], refl, tt)), ([], refl, tt)), ([], refl, tt)), ([], refl, tt)), ([], refl, tt)), ([], refl, tt)), ([], refl, tt)), ([], refl, tt)), ([], refl, tt)), ([], refl, tt)), ([], refl, tt)), ([], refl, tt)), ([], refl, tt)), ([], refl, tt)), ([], refl, tt));
-                                                        attempts = λ p. if p == 1 then in_doubt ∷ [] else [];
-                                                        journals = each _ ((((((((((((((((tt, refl), refl), refl), refl), refl), refl), refl), refl), refl), refl), refl), refl), refl), refl), refl), refl);
-                                                        are_open = λ line h. h;
-                                                        sound = refl;
-                                                        jobs = refl;
-                                                        workers = refl;
-                                                      },
-                                                      (
-                                                        record { asked = refl; joinable = refl; round = _; stands = refl; seat = refl; attempts = []; journal = refl; next = refl },
-                                                        (
-                                                          (number_2, (only_worker, refl, refl)),
-                                                          (
-                                                            (number_2, (only_worker, refl, refl)),
-                                                            (
-                                                              (number_2, (only_worker, refl, refl)),
-                                                              (
-                                                                (number_2, (only_worker, refl, tt)),
-                                                                (
-                                                                  (number_2, (only_worker, refl, tt)),
-                                                                  (
-                                                                    (number_2, (only_worker, refl, tt)),
-                                                                    (
-                                                                      (number_2, (only_worker, refl, tt)),
-                                                                      (
-                                                                        (number_2, (only_worker, refl, tt)),
-                                                                        (
-                                                                          (number_2, (only_worker, refl, tt)),
-                                                                          tt,
-                                                                        ),
-                                                                      ),
-                                                                    ),
-                                                                  ),
-                                                                ),
-                                                              ),
-                                                            ),
-                                                          ),
-                                                        ),
-                                                      ),
-                                                    ),
-                                                  ),
-                                                ),
-                                              ),
-                                            ),
-                                          ),
-                                        ),
-                                      ),
-                                    ),
-                                  ),
-                                ),
-                              ),
-                            ),
-                          ),
-                        ),
-                      ),
-                    ),
-                  ),
-                ),
-              ),
-            ),
-          ),
-        ),
-      ),
-    ),
-  ),
-)
+is_run =
+    (number_1, refl) ▸
+    may_begin _ [] (λ p. []) (λ p. []) 1 1 refl ((((((((((((((((tt, (refl, refl, refl)), (refl, refl, refl)), (refl, refl, refl)), (refl, refl, refl)), (refl, refl, refl)), (refl, refl, refl)), (refl, refl, refl)), (refl, refl, refl)), (refl, refl, refl)), (refl, refl, refl)), (refl, refl, refl)), (refl, refl, refl)), (refl, refl, refl)), (refl, refl, refl)), (refl, refl, refl)), (refl, refl, refl)) (λ line h. h) refl ▸
+    record { asked = refl; joinable = refl; round = _; stands = refl; seat = refl; attempts = []; journal = refl; next = refl } ▸
+    (number_1, (only_worker, refl, refl)) ▸ (number_1, (only_worker, refl, refl)) ▸ (number_1, (only_worker, refl, refl)) ▸
+    (number_1, (only_worker, refl, tt)) ▸ (number_1, (only_worker, refl, tt)) ▸
+    (number_1, (only_worker, refl)) ▸
+    tt ▸
+    (number_1, refl) ▸
+    may_begin _ [] (λ p. []) (λ p. []) 1 2 refl ((((((((((((((((tt, (refl, refl, refl)), (refl, refl, refl)), (refl, refl, refl)), (refl, refl, refl)), (refl, refl, refl)), (refl, refl, refl)), (refl, refl, refl)), (refl, refl, refl)), (refl, refl, refl)), (refl, refl, refl)), (refl, refl, refl)), (refl, refl, refl)), (refl, refl, refl)), (refl, refl, refl)), (refl, refl, refl)), (refl, refl, refl)) (λ line h. h) refl ▸
+    record { asked = refl; joinable = refl; round = _; stands = refl; seat = refl; attempts = []; journal = refl; next = refl } ▸
+    (number_1, (only_worker, refl, refl)) ▸ (number_1, (only_worker, refl, refl)) ▸ (number_1, (only_worker, refl, refl)) ▸
+    (number_1, (only_worker, refl, tt)) ▸ (number_1, (only_worker, refl, tt)) ▸
+    (number_1, (only_worker, refl, tt)) ▸
+    (number_1, (only_worker, refl)) ▸
+    (number_1, refl) ▸
+    (number_1, refl) ▸
+    (number_1, refl) ▸
+    tt ▸
+    record { attempts = in_doubt ∷ []; journal = refl; high = omega arith } ▸
+    (number_2, refl) ▸
+    may_begin _ (undone ∷ []) (λ p. if p == 1 then IntentOf 1 1 20 ∷ AnswerTo 1 NotedDoubt ∷ [] else []) (λ p. if p == 1 then in_doubt ∷ [] else []) 2 3 refl ((((((((((((((((tt, (refl, refl, refl)), (refl, refl, refl)), (refl, refl, refl)), (refl, refl, refl)), (refl, refl, refl)), (refl, refl, refl)), (refl, refl, refl)), (refl, refl, refl)), (refl, refl, refl)), (refl, refl, refl)), (refl, refl, refl)), (refl, refl, refl)), (refl, refl, refl)), (refl, refl, refl)), (refl, refl, refl)), (refl, refl, refl)) (λ line h. h) refl ▸
+    record { asked = refl; joinable = refl; round = _; stands = refl; seat = refl; attempts = []; journal = refl; next = refl } ▸
+    (number_2, (only_worker, refl, refl)) ▸ (number_2, (only_worker, refl, refl)) ▸ (number_2, (only_worker, refl, refl)) ▸
+    (number_2, (only_worker, refl, tt)) ▸ (number_2, (only_worker, refl, tt)) ▸
+    (number_2, (only_worker, refl, tt)) ▸
+    (number_2, (only_worker, refl, tt)) ▸
+    (number_2, (only_worker, refl, tt)) ▸
+    (number_2, (only_worker, refl, tt)) ▸ tt
 
 pub names : names_of (handings events) ≡ (1, 1) ∷ (2, 1) ∷ []
 names = refl

@@ -11,7 +11,7 @@ use Rattle.amo_kk.specs.declared.givens.Givens.{Givens}
 use Rattle.amo_process.specs.Stepped.{ProcessView}
 use Rattle.amo_course.specs.declared.model.Deed.{Deed}
 use Rattle.amo_course.specs.declared.model.Try.{Try}
-use Rattle.amo_course.specs.declared.model.Try.TheVariants.{Load, Store, Find, Intend, Perform, Note, Ask}
+use Rattle.amo_course.specs.declared.model.Try.TheVariants.{Perform}
 use Rattle.amo_course.specs.Stage.{Stage, Performing}
 use Rattle.amo_course.specs.Course.{try_of, due}
 use Rattle.amo_history.specs.Scene.{stage_at, scene_of, MayBe, handed_by, handed_by_try, handed_jobs}
@@ -26,8 +26,8 @@ use Rattle.amo_ledger.specs.Grammar.{intents}
 use Rattle.amo_ledger.specs.Open.{OpensNot, NoneOpens, is_open}
 use Rattle.amo_ledger.specs.Records.{RecordView}
 use Rattle.amo_rounds.specs.File.{File, read_of, settled, with_unheard, after_put}
-use Rattle.amo_rounds.specs.World.{Place, Away, Before, Inside, Round, World, Event, Dies, Starts, RoundBegins, Joins, Acts, Misses, Says, SaysUnheard, SaysUnread, Stops, IsNumber, with_at, lines_of, lines_at}
-use Rattle.amo_rounds.specs.Run.{entries_of_try, has_fallen, with_moment, with_moment_at, world_after, MayBegin, MayBeIn, MayAct, MayMiss, MayHappen, IsRunFrom, world_after_all, Handing, handings_of_try, handings_by, openings_by, openings_from, is_among, IsOneOf}
+use Rattle.amo_rounds.specs.Site.{Whereabouts, Away, Before, Inside, Round, Site, Event, Dies, Starts, RoundBegins, Joins, Acts, Misses, Says, SaysUnheard, SaysUnread, Stops, IsNumber, with_at, lines_of, lines_at}
+use Rattle.amo_rounds.specs.Run.{entries_of_try, has_fallen, with_moment, with_moment_at, site_after, MayBegin, MayBeIn, MayAct, MayMiss, MayHappen, IsRunFrom, site_after_all, Handing, handings_of_try, handings_by, openings_by, openings_from, is_among, IsOneOf}
 use Rattle.amo_rounds.proofs.Files.{Grows, grows_none, after_grows}
 use Rattle.amo_rounds.proofs.Openings.{among_more, all_left, undone_left}
 use Rattle.amo_rounds.proofs.Entries.{HasEntry, entry_stays, entry_before, stays_closed, among_table, open_there}
@@ -36,7 +36,7 @@ use Rattle.amo_rounds.proofs.Records.{one_job, line_there}
 use Rattle.amo_rounds.proofs.Stages.{IsPut, asks_only}
 use Rattle.amo_rounds.proofs.Counted.{IsCounted}
 use Rattle.amo_rounds.proofs.Sane.{at_number, IsGood, IsGoodIf, Fits, FitsIn, IsSane}
-use Rattle.amo_rounds.proofs.Steps.{sane_after}
+use Rattle.amo_rounds.proofs.Events.{sane_after}
 
 -- In the round that stands, each job of its line was handed over already, unless it was said that the intent wasn't begun or done.
 abbrev pub IsPast : Option Round → List (ℕ × ℕ) → Handing → Type 0
@@ -44,14 +44,14 @@ IsPast None said h = ⊤
 IsPast (Some r) said h = (j : ℕ) → IsJob r.givens j → numbered 0 r.written.lines j ≡ h.line → (is_among said h.worker h.serial ≡ true) ⊎ (has (handed_jobs r.moments) j ≡ true)
 
 -- It was handed over: its intent is kept.
-pub record WasHanded (w : World) (said : List (ℕ × ℕ)) (h : Handing) : Type 0 where
+pub record WasHanded (w : Site) (said : List (ℕ × ℕ)) (h : Handing) : Type 0 where
   pub number : IsNumber h.worker
   pub entry : HasEntry h.serial h.line (w.journals h.worker).kept
   pub past : IsPast (w.rounds w.last) said h
 
 -- what is kept stays
 
-pub kept_grows : (w : World) (e : Event) (p : ℕ) → Grows (w.journals p).kept ((world_after w e).journals p).kept
+pub kept_grows : (w : Site) (e : Event) (p : ℕ) → Grows (w.journals p).kept ((site_after w e).journals p).kept
 kept_grows w (Dies o) p = grows_none (w.journals p).kept
 kept_grows w (Starts o es) p = at_number (λ (f : File Entry). Grows (w.journals p).kept f.kept) w.journals o (settled (w.journals o)) p
     (λ e. subst (λ x. Grows (w.journals x).kept (settled (w.journals o)).kept) (sym e) ((w.journals o).loose, refl))
@@ -59,13 +59,13 @@ kept_grows w (Starts o es) p = at_number (λ (f : File Entry). Grows (w.journals
 kept_grows w (RoundBegins g r lines) p = grows_none (w.journals p).kept
 kept_grows w (Joins o q n) p = grows_none (w.journals p).kept
 kept_grows w (Acts o time d) p =
-    let es = entries_of_try (lines_at w.rounds (w.places o)) time (try_of d) in
+    let es = entries_of_try (lines_at w.rounds (w.whereabouts o)) time (try_of d) in
     let f = after_put (has_fallen d) (w.journals o) es in
     at_number (λ (f : File Entry). Grows (w.journals p).kept f.kept) w.journals o f p
     (λ e. subst (λ x. Grows (w.journals x).kept f.kept) (sym e) (after_grows (has_fallen d) (w.journals o) es))
     (λ n. grows_none (w.journals p).kept)
 kept_grows w (Misses o time t) p =
-    let f = with_unheard (w.journals o) (entries_of_try (lines_at w.rounds (w.places o)) time t) in
+    let f = with_unheard (w.journals o) (entries_of_try (lines_at w.rounds (w.whereabouts o)) time t) in
     at_number (λ (f : File Entry). Grows (w.journals p).kept f.kept) w.journals o f p
     (λ e. subst (λ x. Grows (w.journals x).kept f.kept) (sym e) (grows_none (w.journals o).kept))
     (λ n. grows_none (w.journals p).kept)
@@ -95,13 +95,13 @@ past_in rounds k m last said h past = at_number (λ o. IsPast o said h) rounds k
     (λ e. past_moment (rounds k) m said h (subst (λ x. IsPast (rounds x) said h) e past))
     (λ n. past)
 
-past_at : (place : Place) (moment : ℕ → Moment) (rounds : ℕ → Option Round) (last : ℕ) (said : List (ℕ × ℕ)) (h : Handing) → IsPast (rounds last) said h → IsPast (with_moment_at place moment rounds last) said h
+past_at : (whereabouts : Whereabouts) (moment : ℕ → Moment) (rounds : ℕ → Option Round) (last : ℕ) (said : List (ℕ × ℕ)) (h : Handing) → IsPast (rounds last) said h → IsPast (with_moment_at whereabouts moment rounds last) said h
 past_at Away moment rounds last said h past = past
 past_at (Before s) moment rounds last said h past = past
 past_at (Inside k q) moment rounds last said h past = past_in rounds k (moment q) last said h past
 
 -- a line that is in a new round was opened, by each intent of it that can be read
-pub opened_then : (w : World) (said : List (ℕ × ℕ)) (p n line : ℕ) (g : Givens) (r : RecordView) (lines : ℕ) → IsSane w said → IsNumber p → HasEntry n line (read_of (w.journals p))
+pub opened_then : (w : Site) (said : List (ℕ × ℕ)) (p n line : ℕ) (g : Givens) (r : RecordView) (lines : ℕ) → IsSane w said → IsNumber p → HasEntry n line (read_of (w.journals p))
     → MayBegin w g r lines → (j : ℕ) → IsJob g j → numbered 0 r.lines j ≡ line → is_among said p n ≡ true
 opened_then w said p n line g r lines sane number has_entry may j is same = ⊎_elim
     (λ (yes : is_among said p n ≡ true). yes)
@@ -122,11 +122,11 @@ opened_then w said p n line g r lines sane number has_entry may j is same = ⊎_
     true≢false (sym opened ∙ ap (λ l. is_open may.findings l line) at.is ∙ closed)))
     (cases_Bool (is_among said p n))
 
-module _ (w : World) (said : List (ℕ × ℕ)) (sane : IsSane w said) (h : Handing) (was : WasHanded w said h) where
+module _ (w : Site) (said : List (ℕ × ℕ)) (sane : IsSane w said) (h : Handing) (was : WasHanded w said h) where
   still : (more : List (ℕ × ℕ)) → IsPast (w.rounds w.last) (said ++ more) h
   still more = past_more (w.rounds w.last) said more h was.past
 
-  past_after : (e : Event) → MayHappen w e → IsPast ((world_after w e).rounds (world_after w e).last) (said ++ openings_by w e) h
+  past_after : (e : Event) → MayHappen w e → IsPast ((site_after w e).rounds (site_after w e).last) (said ++ openings_by w e) h
   past_after (Dies p) may = still []
   past_after (Starts p es) may = still []
   past_after (RoundBegins g r lines) may = at_number (λ o. IsPast o (said ++ []) h) w.rounds (w.last + 1) (Some (record { givens = g; written = r; moments = [] })) (w.last + 1)
@@ -134,22 +134,22 @@ module _ (w : World) (said : List (ℕ × ℕ)) (sane : IsSane w said) (h : Hand
       (entry_stays h.serial h.line (w.journals h.worker).kept (read_of (w.journals h.worker)) ((w.journals h.worker).loose, refl) was.entry) may j is line)))
       (λ n. absurd (n refl))
   past_after (Joins p q n) may = past_in w.rounds w.last (Begins q n) w.last (said ++ []) h (still [])
-  past_after (Acts p time d) may = past_at (w.places p) (λ q. Does q d) w.rounds w.last (said ++ openings_by w (Acts p time d)) h (still (openings_by w (Acts p time d)))
-  past_after (Misses p time t) may = past_at (w.places p) (λ q. Loses q t) w.rounds w.last (said ++ openings_by w (Misses p time t)) h (still (openings_by w (Misses p time t)))
+  past_after (Acts p time d) may = past_at (w.whereabouts p) (λ q. Does q d) w.rounds w.last (said ++ openings_by w (Acts p time d)) h (still (openings_by w (Acts p time d)))
+  past_after (Misses p time t) may = past_at (w.whereabouts p) (λ q. Loses q t) w.rounds w.last (said ++ openings_by w (Misses p time t)) h (still (openings_by w (Misses p time t)))
   past_after (Says f) may = still (openings_by w (Says f))
   past_after (SaysUnheard f) may = still (openings_by w (SaysUnheard f))
   past_after (SaysUnread f) may = still (openings_by w (SaysUnread f))
   past_after (Stops left n) may = still []
 
-  pub handed_after : (e : Event) → MayHappen w e → WasHanded (world_after w e) (said ++ openings_by w e) h
+  pub handed_after : (e : Event) → MayHappen w e → WasHanded (site_after w e) (said ++ openings_by w e) h
   handed_after e may = record {
     number = was.number;
-    entry = entry_stays h.serial h.line (w.journals h.worker).kept ((world_after w e).journals h.worker).kept (kept_grows w e h.worker) was.entry;
+    entry = entry_stays h.serial h.line (w.journals h.worker).kept ((site_after w e).journals h.worker).kept (kept_grows w e h.worker) was.entry;
     past = past_after e may;
   }
 
 -- Here worker p hands job j of the last round over, by intent n, in this moment.
-pub record IsHere (w : World) (p n j : ℕ) (m : Moment) : Type 0 where
+pub record IsHere (w : Site) (p n j : ℕ) (m : Moment) : Type 0 where
   pub round : Round
   pub stands : w.rounds w.last ≡ Some round
   pub good : IsGood round
@@ -161,7 +161,7 @@ pub record IsHere (w : World) (p n j : ℕ) (m : Moment) : Type 0 where
   -- where its process stands, and the number of its journal's intents
   pub seat : ℕ
   pub of : worker_of m ≡ seat
-  pub inside : w.places p ≡ Inside w.last seat
+  pub inside : w.whereabouts p ≡ Inside w.last seat
   pub process : ProcessView
   pub stage : stage_at (scene_of round.givens round.moments) seat ≡ Performing n process j
   pub counted : n ≡ intents (w.journals p).kept
@@ -172,7 +172,7 @@ hands_it (Does q d) n j is = ap handed_by_try (same_Some (try_of d) (Perform n j
 hands_it (Loses q t) n j is = ap handed_by_try (same_Some t (Perform n j) is)
 hands_it (Begins q k) n j is = absurd (none-some (Perform n j) is)
 
-here_at : (o : Option Round) (w : World) (p q n j : ℕ) (m : Moment) → w.rounds w.last ≡ o → w.places p ≡ Inside w.last q → IsGoodIf o → FitsIn o (w.journals p) p q → MayBeIn o m
+here_at : (o : Option Round) (w : Site) (p q n j : ℕ) (m : Moment) → w.rounds w.last ≡ o → w.whereabouts p ≡ Inside w.last q → IsGoodIf o → FitsIn o (w.journals p) p q → MayBeIn o m
     → worker_of m ≡ q → tried_in m ≡ Some (Perform n j) → IsHere w p n j m
 here_at None w p q n j m is inside good fits may of tries = absurd may
 here_at (Some r) w p q n j m is inside good fits may of tries =
@@ -208,36 +208,19 @@ pub record IsOfTry (p : ℕ) (lines : List ℕ) (t : Try) (h : Handing) : Type 0
   pub is : handing p lines serial job ≡ h
 
 pub of_try : (p : ℕ) (lines : List ℕ) (t : Try) (h : Handing) → IsOneOf (handings_of_try p lines t) h → IsOfTry p lines t h
-of_try p lines (Load a) h one = absurd one
-of_try p lines (Store a b) h one = absurd one
-of_try p lines (Find j) h one = absurd one
-of_try p lines (Intend n j) h one = absurd one
 of_try p lines (Perform n j) h one = record { serial = n; job = j; try_is = refl; is = ⊎_elim (λ (e : handing p lines n j ≡ h). e) (λ none. absurd none) one }
-of_try p lines (Note n c) h one = absurd one
-of_try p lines (Ask n line) h one = absurd one
+of_try p lines t h one = absurd one
 
 -- an event hands over one at most
 
 one_by_try : (p : ℕ) (lines : List ℕ) (t : Try) → (handings_of_try p lines t ≡ []) ⊎ ((h : Handing) × (handings_of_try p lines t ≡ h ∷ []))
-one_by_try p lines (Load a) = inl refl
-one_by_try p lines (Store a b) = inl refl
-one_by_try p lines (Find j) = inl refl
-one_by_try p lines (Intend n j) = inl refl
 one_by_try p lines (Perform n j) = inr (_, refl)
-one_by_try p lines (Note n c) = inl refl
-one_by_try p lines (Ask n line) = inl refl
+one_by_try p lines t = inl refl
 
-pub one_at_most : (w : World) (e : Event) → (handings_by w e ≡ []) ⊎ ((h : Handing) × (handings_by w e ≡ h ∷ []))
-one_at_most w (Dies p) = inl refl
-one_at_most w (Starts p es) = inl refl
-one_at_most w (RoundBegins g r lines) = inl refl
-one_at_most w (Joins p q n) = inl refl
-one_at_most w (Acts p time d) = one_by_try p (lines_at w.rounds (w.places p)) (try_of d)
-one_at_most w (Misses p time t) = one_by_try p (lines_at w.rounds (w.places p)) t
-one_at_most w (Says f) = inl refl
-one_at_most w (SaysUnheard f) = inl refl
-one_at_most w (SaysUnread f) = inl refl
-one_at_most w (Stops left n) = inl refl
+pub one_at_most : (w : Site) (e : Event) → (handings_by w e ≡ []) ⊎ ((h : Handing) × (handings_by w e ≡ h ∷ []))
+one_at_most w (Acts p time d) = one_by_try p (lines_at w.rounds (w.whereabouts p)) (try_of d)
+one_at_most w (Misses p time t) = one_by_try p (lines_at w.rounds (w.whereabouts p)) t
+one_at_most w e = inl refl
 
 -- what is among two lists is in one of them
 pub split_one : (xs ys : List Handing) (h : Handing) → IsOneOf (xs ++ ys) h → IsOneOf xs h ⊎ IsOneOf ys h
@@ -248,13 +231,13 @@ split_one (x ∷ xs) ys h one = ⊎_elim
     one
 
 -- What an event hands over: it is handed over in the last round.
-pub record IsNow (w : World) (e : Event) (h : Handing) : Type 0 where
+pub record IsNow (w : Site) (e : Event) (h : Handing) : Type 0 where
   pub number : IsNumber h.worker
   pub job : ℕ
   pub moment : Moment
   pub here : IsHere w h.worker h.serial job moment
   pub line : numbered 0 here.round.written.lines job ≡ h.line
-  pub afterwards : (world_after w e).rounds (world_after w e).last ≡ with_moment moment (w.rounds w.last)
+  pub afterwards : (site_after w e).rounds (site_after w e).last ≡ with_moment moment (w.rounds w.last)
 
 -- the round of this number after this moment
 pub moment_there : (rounds : ℕ → Option Round) (k last : ℕ) → k ≡ last → (m : Moment) → with_at rounds k (with_moment m (rounds k)) last ≡ with_moment m (rounds last)
@@ -262,17 +245,17 @@ moment_there rounds k last e m = at_number (λ o. o ≡ with_moment m (rounds la
     (λ same. ap (λ x. with_moment m (rounds x)) e)
     (λ n. absurd (n (sym e)))
 
-module _ (w : World) (said : List (ℕ × ℕ)) (sane : IsSane w said) (p : ℕ) where
-  record Found (place : Place) (moment : ℕ → Moment) (n j : ℕ) : Type 0 where
+module _ (w : Site) (said : List (ℕ × ℕ)) (sane : IsSane w said) (p : ℕ) where
+  record Found (whereabouts : Whereabouts) (moment : ℕ → Moment) (n j : ℕ) : Type 0 where
     pub seat : ℕ
     pub here : IsHere w p n j (moment seat)
-    pub lines : lines_at w.rounds place ≡ here.round.written.lines
-    pub afterwards : with_moment_at place moment w.rounds w.last ≡ with_moment (moment seat) (w.rounds w.last)
+    pub lines : lines_at w.rounds whereabouts ≡ here.round.written.lines
+    pub afterwards : with_moment_at whereabouts moment w.rounds w.last ≡ with_moment (moment seat) (w.rounds w.last)
 
-  found : (k q : ℕ) → w.places p ≡ Inside k q → (moment : ℕ → Moment) (n j : ℕ) → MayBeIn (w.rounds k) (moment q) → worker_of (moment q) ≡ q → tried_in (moment q) ≡ Some (Perform n j)
+  found : (k q : ℕ) → w.whereabouts p ≡ Inside k q → (moment : ℕ → Moment) (n j : ℕ) → MayBeIn (w.rounds k) (moment q) → worker_of (moment q) ≡ q → tried_in (moment q) ≡ Some (Perform n j)
       → Found (Inside k q) moment n j
   found k q at moment n j may of tries =
-      let fits : Fits w.rounds w.last (w.journals p) p (Inside k q) = subst (λ place. Fits w.rounds w.last (w.journals p) p place) at (sane.places p) in
+      let fits : Fits w.rounds w.last (w.journals p) p (Inside k q) = subst (λ whereabouts. Fits w.rounds w.last (w.journals p) p whereabouts) at (sane.whereabouts p) in
       let here = here_at (w.rounds w.last) w p q n j (moment q) refl (at ∙ ap (λ x. Inside x q) fits.0) (sane.rounds w.last)
       (subst (λ x. FitsIn (w.rounds x) (w.journals p) p q) fits.0 fits.1) (subst (λ x. MayBeIn (w.rounds x) (moment q)) fits.0 may) of tries in
       record {
@@ -282,64 +265,49 @@ module _ (w : World) (said : List (ℕ × ℕ)) (sane : IsSane w said) (p : ℕ)
         afterwards = moment_there w.rounds k w.last fits.0 (moment q);
       }
 
-  asks_nothing : (s : Stage) → w.places p ≡ Before s → (n j : ℕ) → due s ≡ Some (Perform n j) → ⊥
+  asks_nothing : (s : Stage) → w.whereabouts p ≡ Before s → (n j : ℕ) → due s ≡ Some (Perform n j) → ⊥
   asks_nothing s at n j e =
-      let fits : Fits w.rounds w.last (w.journals p) p (Before s) = subst (λ place. Fits w.rounds w.last (w.journals p) p place) at (sane.places p) in
+      let fits : Fits w.rounds w.last (w.journals p) p (Before s) = subst (λ whereabouts. Fits w.rounds w.last (w.journals p) p whereabouts) at (sane.whereabouts p) in
       asks_only s n j fits.0 e
 
-  acts_here : (place : Place) → w.places p ≡ place → (d : Deed) (n j : ℕ) → try_of d ≡ Perform n j → MayAct w.rounds place d → Found place (λ q. Does q d) n j
+  acts_here : (whereabouts : Whereabouts) → w.whereabouts p ≡ whereabouts → (d : Deed) (n j : ℕ) → try_of d ≡ Perform n j → MayAct w.rounds whereabouts d → Found whereabouts (λ q. Does q d) n j
   acts_here Away at d n j is may = absurd may
   acts_here (Before s) at d n j is may = absurd (asks_nothing s at n j (may ∙ ap (λ t. Some t) is))
   acts_here (Inside k q) at d n j is may = found k q at (λ q. Does q d) n j may refl (ap (λ t. Some t) is)
 
-  misses_here : (place : Place) → w.places p ≡ place → (t : Try) (n j : ℕ) → t ≡ Perform n j → MayMiss w.rounds place t → Found place (λ q. Loses q t) n j
+  misses_here : (whereabouts : Whereabouts) → w.whereabouts p ≡ whereabouts → (t : Try) (n j : ℕ) → t ≡ Perform n j → MayMiss w.rounds whereabouts t → Found whereabouts (λ q. Loses q t) n j
   misses_here Away at t n j is may = absurd may
   misses_here (Before s) at t n j is may = absurd (asks_nothing s at n j (may ∙ ap (λ t. Some t) is))
   misses_here (Inside k q) at t n j is may = found k q at (λ q. Loses q t) n j may refl (ap (λ t. Some t) is)
 
-  now_acted : (time : ℕ) (d : Deed) (h : Handing) → IsNumber p → (of : IsOfTry p (lines_at w.rounds (w.places p)) (try_of d) h) → Found (w.places p) (λ q. Does q d) of.serial of.job → IsNow w (Acts p time d) h
-  now_acted time d h number of it = subst (λ x. IsNow w (Acts p time d) x) of.is (record {
+  -- in an event that is this moment of its round
+  now_by : (e : Event) (t : Try) (moment : ℕ → Moment) (h : Handing) → IsNumber p → (of : IsOfTry p (lines_at w.rounds (w.whereabouts p)) t h)
+      → Found (w.whereabouts p) moment of.serial of.job → (site_after w e).rounds (site_after w e).last ≡ with_moment_at (w.whereabouts p) moment w.rounds w.last → IsNow w e h
+  now_by e t moment h number of it after = subst (λ x. IsNow w e x) of.is (record {
     number = number;
     job = of.job;
-    moment = Does it.seat d;
+    moment = moment it.seat;
     here = it.here;
     line = ap (λ l. numbered 0 l of.job) (sym it.lines);
-    afterwards = it.afterwards;
+    afterwards = after ∙ it.afterwards;
   })
 
-  now_missed : (time : ℕ) (t : Try) (h : Handing) → IsNumber p → (of : IsOfTry p (lines_at w.rounds (w.places p)) t h) → Found (w.places p) (λ q. Loses q t) of.serial of.job → IsNow w (Misses p time t) h
-  now_missed time t h number of it = subst (λ x. IsNow w (Misses p time t) x) of.is (record {
-    number = number;
-    job = of.job;
-    moment = Loses it.seat t;
-    here = it.here;
-    line = ap (λ l. numbered 0 l of.job) (sym it.lines);
-    afterwards = it.afterwards;
-  })
-
-pub handed_now : (w : World) (said : List (ℕ × ℕ)) → IsSane w said → (e : Event) → MayHappen w e → (h : Handing) → IsOneOf (handings_by w e) h → IsNow w e h
-handed_now w said sane (Dies p) may h one = absurd one
-handed_now w said sane (Starts p es) may h one = absurd one
-handed_now w said sane (RoundBegins g r lines) may h one = absurd one
-handed_now w said sane (Joins p q n) may h one = absurd one
+pub handed_now : (w : Site) (said : List (ℕ × ℕ)) → IsSane w said → (e : Event) → MayHappen w e → (h : Handing) → IsOneOf (handings_by w e) h → IsNow w e h
 handed_now w said sane (Acts p time d) may h one =
-    let of = of_try p (lines_at w.rounds (w.places p)) (try_of d) h one in
-    now_acted w said sane p time d h may.0 of (acts_here w said sane p (w.places p) refl d of.serial of.job of.try_is may.1)
+    let of = of_try p (lines_at w.rounds (w.whereabouts p)) (try_of d) h one in
+    now_by w said sane p (Acts p time d) (try_of d) (λ q. Does q d) h may.0 of (acts_here w said sane p (w.whereabouts p) refl d of.serial of.job of.try_is may.1) refl
 handed_now w said sane (Misses p time t) may h one =
-    let of = of_try p (lines_at w.rounds (w.places p)) t h one in
-    now_missed w said sane p time t h may.0 of (misses_here w said sane p (w.places p) refl t of.serial of.job of.try_is may.1)
-handed_now w said sane (Says f) may h one = absurd one
-handed_now w said sane (SaysUnheard f) may h one = absurd one
-handed_now w said sane (SaysUnread f) may h one = absurd one
-handed_now w said sane (Stops left n) may h one = absurd one
+    let of = of_try p (lines_at w.rounds (w.whereabouts p)) t h one in
+    now_by w said sane p (Misses p time t) t (λ q. Loses q t) h may.0 of (misses_here w said sane p (w.whereabouts p) refl t of.serial of.job of.try_is may.1) refl
+handed_now w said sane e may h one = absurd one
 
 -- what is handed over now was handed over afterwards
-pub now_handed : (w : World) (said : List (ℕ × ℕ)) (e : Event) (h : Handing) → IsNow w e h → WasHanded (world_after w e) (said ++ openings_by w e) h
+pub now_handed : (w : Site) (said : List (ℕ × ℕ)) (e : Event) (h : Handing) → IsNow w e h → WasHanded (site_after w e) (said ++ openings_by w e) h
 now_handed w said e h now =
     let here = now.here in
     record {
       number = now.number;
-      entry = entry_stays h.serial h.line (w.journals h.worker).kept ((world_after w e).journals h.worker).kept (kept_grows w e h.worker)
+      entry = entry_stays h.serial h.line (w.journals h.worker).kept ((site_after w e).journals h.worker).kept (kept_grows w e h.worker)
           (subst (λ l. HasEntry h.serial l (w.journals h.worker).kept) now.line here.entry);
       past = subst (λ o. IsPast o (said ++ openings_by w e) h) (sym (now.afterwards ∙ ap (with_moment now.moment) here.stands)) (λ j is line. inr (
           let same = one_job here.round.written here.good.sound j now.job is.low (subst (λ k. j ≤ k) here.good.jobs is.high)
@@ -352,7 +320,7 @@ now_handed w said e h now =
     }
 
 -- a line that was handed over is handed over again only where it was opened
-pub opened_before : (w : World) (said : List (ℕ × ℕ)) (e : Event) (h k : Handing) → WasHanded w said h → IsNow w e k → h.line ≡ k.line → is_among said h.worker h.serial ≡ true
+pub opened_before : (w : Site) (said : List (ℕ × ℕ)) (e : Event) (h k : Handing) → WasHanded w said h → IsNow w e k → h.line ≡ k.line → is_among said h.worker h.serial ≡ true
 opened_before w said e h k was now same =
     let here = now.here in
     let past : IsPast (Some here.round) said h = subst (λ o. IsPast o said h) here.stands was.past in
@@ -361,9 +329,9 @@ opened_before w said e h k was now same =
     (λ (b : has (handed_jobs here.round.moments) now.job ≡ true). absurd (true≢false (sym b ∙ here.fresh)))
     (past now.job here.job (now.line ∙ sym same))
 
-pub handed_after_all : (w : World) (said : List (ℕ × ℕ)) (es : List Event) (h : Handing) → IsSane w said → IsRunFrom w es → WasHanded w said h
-    → WasHanded (world_after_all w es) (said ++ openings_from w es) h
+pub handed_after_all : (w : Site) (said : List (ℕ × ℕ)) (es : List Event) (h : Handing) → IsSane w said → IsRunFrom w es → WasHanded w said h
+    → WasHanded (site_after_all w es) (said ++ openings_from w es) h
 handed_after_all w said [] h sane run was = subst (λ l. WasHanded w l h) (sym (append-nil said)) was
 handed_after_all w said (e ∷ es) h sane run was =
-    subst (λ l. WasHanded (world_after_all (world_after w e) es) l h) (append_assoc said (openings_by w e) (openings_from (world_after w e) es))
-    (handed_after_all (world_after w e) (said ++ openings_by w e) es h (sane_after w said sane e run.0) run.1 (handed_after w said sane h was e run.0))
+    subst (λ l. WasHanded (site_after_all (site_after w e) es) l h) (append_assoc said (openings_by w e) (openings_from (site_after w e) es))
+    (handed_after_all (site_after w e) (said ++ openings_by w e) es h (sane_after w said sane e run.0) run.1 (handed_after w said sane h was e run.0))

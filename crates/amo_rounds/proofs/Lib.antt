@@ -7,7 +7,7 @@ mod Stages
 mod Counted
 mod Sane
 mod Acting
-mod Steps
+mod Events
 mod Handed
 mod Reading
 mod Intending

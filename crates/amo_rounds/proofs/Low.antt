@@ -14,13 +14,12 @@ use Rattle.amo_course.specs.declared.model.Try.TheVariants.{Note}
 use Rattle.amo_course.specs.declared.past.Intent.{Intent}
 use Rattle.amo_course.specs.Stage.{Stage, Going, Noting, Asking, Settling, Dismissed, Unanswered, Broken}
 use Rattle.amo_course.specs.Course.{due, stage_asking, stage_asked, stage_after}
-use Rattle.amo_history.proofs.Stages.{serial_in}
-use Rattle.amo_history.proofs.Courses.{is_note, no_note}
+use Rattle.amo_history.proofs.Stages.{serial_in, no_other}
 use Rattle.amo_ledger.specs.declared.journal.Attempt.{Attempt}
 use Rattle.amo_ledger.specs.Journals.{pending_from}
 use Rattle.amo_rounds.specs.File.{read_of, settled}
-use Rattle.amo_rounds.specs.World.{Place, Away, Before, Inside, World, first_world, Event, Dies, Starts, RoundBegins, Joins, Acts, Misses, Says, SaysUnheard, SaysUnread, Stops}
-use Rattle.amo_rounds.specs.Run.{intent_of, left_in, place_after, place_missing, world_after, MayHappen}
+use Rattle.amo_rounds.specs.Site.{Whereabouts, Away, Before, Inside, Site, first_site, Event, Dies, Starts, RoundBegins, Joins, Acts, Misses, Says, SaysUnheard, SaysUnread, Stops}
+use Rattle.amo_rounds.specs.Run.{intent_of, left_in, whereabouts_after, whereabouts_missing, site_after, MayHappen}
 use Rattle.amo_rounds.proofs.Stages.{is_asking}
 use Rattle.amo_rounds.proofs.Counted.{size_is, intents_grow, IsCounted}
 use Rattle.amo_rounds.proofs.Sane.{at_number, at_both, Fits, IsSane}
@@ -92,52 +91,52 @@ left_low first (e ∷ es) k few = by (is_none e.answer) (left_low (first + 1) es
     by false rest = rest
 
 -- who is here and asks, asks for intents of its journal
-abbrev pub LowAt : ℕ → Place → Type 0
+abbrev pub LowAt : ℕ → Whereabouts → Type 0
 LowAt k Away = ⊤
 LowAt k (Before s) = IsLow k s
 LowAt k (Inside r q) = ⊤
 
-higher_at : (k m : ℕ) → k ≤ m → (place : Place) → LowAt k place → LowAt m place
+higher_at : (k m : ℕ) → k ≤ m → (whereabouts : Whereabouts) → LowAt k whereabouts → LowAt m whereabouts
 higher_at k m more Away h = tt
 higher_at k m more (Before s) h = higher k m more s h
 higher_at k m more (Inside r q) h = tt
 
-low_after : (k : ℕ) (place : Place) (d : Deed) → ((s : Stage) → place ≡ Before s → is_asking s ≡ true) → LowAt k place → LowAt k (place_after place d)
+low_after : (k : ℕ) (whereabouts : Whereabouts) (d : Deed) → ((s : Stage) → whereabouts ≡ Before s → is_asking s ≡ true) → LowAt k whereabouts → LowAt k (whereabouts_after whereabouts d)
 low_after k Away d asks h = tt
 low_after k (Before s) d asks h = low_then k s d (asks s refl) h
 low_after k (Inside r q) d asks h = tt
 
-low_missing : (k : ℕ) (place : Place) → LowAt k (place_missing place)
+low_missing : (k : ℕ) (whereabouts : Whereabouts) → LowAt k (whereabouts_missing whereabouts)
 low_missing k Away = tt
 low_missing k (Before s) = tt
 low_missing k (Inside r q) = tt
 
-abbrev pub AreAllLow : World → Type 0
-AreAllLow w = (p : ℕ) → LowAt (intents (w.journals p).kept) (w.places p)
+abbrev pub AreAllLow : Site → Type 0
+AreAllLow w = (p : ℕ) → LowAt (intents (w.journals p).kept) (w.whereabouts p)
 
-pub first_low : AreAllLow first_world
+pub first_low : AreAllLow first_site
 first_low p = tt
 
-module _ (w : World) (said : List (ℕ × ℕ)) (sane : IsSane w said) (low : AreAllLow w) where
-  asks : (q : ℕ) (s : Stage) → w.places q ≡ Before s → is_asking s ≡ true
-  asks q s e = (subst (λ place. Fits w.rounds w.last (w.journals q) q place) e (sane.places q)).0
+module _ (w : Site) (said : List (ℕ × ℕ)) (sane : IsSane w said) (low : AreAllLow w) where
+  asks : (q : ℕ) (s : Stage) → w.whereabouts q ≡ Before s → is_asking s ≡ true
+  asks q s e = (subst (λ whereabouts. Fits w.rounds w.last (w.journals q) q whereabouts) e (sane.whereabouts q)).0
 
-  -- at the place as it was, by the journal as it is
-  grown : (e : Event) (p : ℕ) → LowAt (intents ((world_after w e).journals p).kept) (w.places p)
-  grown e p = higher_at (intents (w.journals p).kept) (intents ((world_after w e).journals p).kept) (intents_grow (w.journals p).kept ((world_after w e).journals p).kept (kept_grows w e p)) (w.places p) (low p)
+  -- at the whereabouts as they were, by the journal as it is
+  grown : (e : Event) (p : ℕ) → LowAt (intents ((site_after w e).journals p).kept) (w.whereabouts p)
+  grown e p = higher_at (intents (w.journals p).kept) (intents ((site_after w e).journals p).kept) (intents_grow (w.journals p).kept ((site_after w e).journals p).kept (kept_grows w e p)) (w.whereabouts p) (low p)
 
-  pub low_then_all : (e : Event) → MayHappen w e → AreAllLow (world_after w e)
-  low_then_all (Dies q) may p = at_number (λ place. LowAt (intents (w.journals p).kept) place) w.places q Away p (λ e. tt) (λ n. low p)
-  low_then_all (Starts q es) may p = at_both (λ f place. LowAt (intents f.kept) place) w.journals w.places q (settled (w.journals q)) (Before (Asking (left_in es))) p
+  pub low_then_all : (e : Event) → MayHappen w e → AreAllLow (site_after w e)
+  low_then_all (Dies q) may p = at_number (λ whereabouts. LowAt (intents (w.journals p).kept) whereabouts) w.whereabouts q Away p (λ e. tt) (λ n. low p)
+  low_then_all (Starts q es) may p = at_both (λ f whereabouts. LowAt (intents f.kept) whereabouts) w.journals w.whereabouts q (settled (w.journals q)) (Before (Asking (left_in es))) p
       (λ e. let size = size_is w.lines (read_of (w.journals q)) es may.1 in left_low 1 es (intents (read_of (w.journals q))) (omega (arith, size)))
       (λ n. low p)
   low_then_all (RoundBegins g r lines) may p = low p
-  low_then_all (Joins q seat n) may p = at_number (λ place. LowAt (intents (w.journals p).kept) place) w.places q (Inside w.last seat) p (λ e. tt) (λ n. low p)
-  low_then_all (Acts q time d) may p = at_number (λ place. LowAt (intents ((world_after w (Acts q time d)).journals p).kept) place) w.places q (place_after (w.places q) d) p
-      (λ e. low_after (intents ((world_after w (Acts q time d)).journals p).kept) (w.places q) d (asks q) (subst (λ x. LowAt (intents ((world_after w (Acts q time d)).journals p).kept) (w.places x)) e (grown (Acts q time d) p)))
+  low_then_all (Joins q seat n) may p = at_number (λ whereabouts. LowAt (intents (w.journals p).kept) whereabouts) w.whereabouts q (Inside w.last seat) p (λ e. tt) (λ n. low p)
+  low_then_all (Acts q time d) may p = at_number (λ whereabouts. LowAt (intents ((site_after w (Acts q time d)).journals p).kept) whereabouts) w.whereabouts q (whereabouts_after (w.whereabouts q) d) p
+      (λ e. low_after (intents ((site_after w (Acts q time d)).journals p).kept) (w.whereabouts q) d (asks q) (subst (λ x. LowAt (intents ((site_after w (Acts q time d)).journals p).kept) (w.whereabouts x)) e (grown (Acts q time d) p)))
       (λ n. grown (Acts q time d) p)
-  low_then_all (Misses q time t) may p = at_number (λ place. LowAt (intents ((world_after w (Misses q time t)).journals p).kept) place) w.places q (place_missing (w.places q)) p
-      (λ e. low_missing (intents ((world_after w (Misses q time t)).journals p).kept) (w.places q))
+  low_then_all (Misses q time t) may p = at_number (λ whereabouts. LowAt (intents ((site_after w (Misses q time t)).journals p).kept) whereabouts) w.whereabouts q (whereabouts_missing (w.whereabouts q)) p
+      (λ e. low_missing (intents ((site_after w (Misses q time t)).journals p).kept) (w.whereabouts q))
       (λ n. grown (Misses q time t) p)
   low_then_all (Says f) may p = low p
   low_then_all (SaysUnheard f) may p = low p
@@ -148,16 +147,16 @@ module _ (w : World) (said : List (ℕ × ℕ)) (sane : IsSane w said) (low : Ar
 
 pub noted_low : (k : ℕ) (s : Stage) (n : ℕ) (c : Answer) → due s ≡ Some (Note n c) → is_asking s ≡ true → IsLow k s → n ≤ k
 noted_low k (Settling m a way rest) n c e asks h = let same = ap serial_in e in let low = h.0 in omega (arith, same, low)
-noted_low k (Asking []) n c e asks h = absurd (true≢false (sym (ap is_note e)))
-noted_low k (Asking (i ∷ rest)) n c e asks h = absurd (true≢false (sym (ap is_note e)))
-noted_low k (Dismissed rest) n c e asks h = absurd (true≢false (sym (ap is_note e)))
-noted_low k (Unanswered m reply) n c e asks h = absurd (true≢false (sym (ap is_note e)))
-noted_low k Broken n c e asks h = absurd (true≢false (sym (ap is_note e)))
+noted_low k (Asking []) n c e asks h = cc
+noted_low k (Asking (i ∷ rest)) n c e asks h = cc
+noted_low k (Dismissed rest) n c e asks h = cc
+noted_low k (Unanswered m reply) n c e asks h = cc
+noted_low k Broken n c e asks h = cc
 noted_low k s n c e asks h = absurd (true≢false (sym asks))
 
 pub noted_counted : (k : ℕ) (s : Stage) (n : ℕ) (c : Answer) → due s ≡ Some (Note n c) → IsCounted k s → n ≤ k
 noted_counted k (Noting m a z way) n c e h = let same = ap serial_in e in omega (arith, same, h)
-noted_counted k (Going m a way) n c e h = absurd (true≢false (no_note (access_of a.givens a.number a.standing) n c e))
+noted_counted k (Going m a way) n c e h = absurd (no_other (access_of a.givens a.number a.standing) (Note n c) refl e)
 noted_counted k (Asking intents) n c e h = absurd h
 noted_counted k (Settling m a way rest) n c e h = absurd h
-noted_counted k s n c e h = absurd (true≢false (sym (ap is_note e)))
+noted_counted k s n c e h = cc

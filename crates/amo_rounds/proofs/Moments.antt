@@ -80,7 +80,7 @@ module _ (g : Givens) (ms : List Moment) (h : IsHistory g ms) where
   told_job : (q j : ℕ) → IsWorker g q → IsTold g q (numbered [] (shared_of g shows.0).lists q) (stage_at (scene_of g ms) q) j → IsJob g j
   told_job q j o told =
       let heard = numbered [] (shared_of g shows.0).lists q in
-      let holds = told_holds j told.low (standing_of g q heard) told.told in
+      let holds = told_holds j told.low (standing_of g q heard) told.job in
       let sound = going_sound g q heard holds.machine false o holds.stands in
       (subst (λ x. FitsPhase g q holds.machine.state x) holds.phase sound.stands).0
 

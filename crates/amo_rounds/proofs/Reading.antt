@@ -8,8 +8,8 @@ use Rattle.amo_course.specs.Course.{try_of}
 use Rattle.amo_ledger.specs.declared.entry.Entry.{Entry}
 use Rattle.amo_ledger.specs.declared.entry.Entry.TheVariants.{Intent as IntentOf, Answer as AnswerTo}
 use Rattle.amo_rounds.specs.File.{File, read_of, settled, behind, with_unheard, after_put}
-use Rattle.amo_rounds.specs.World.{World, Event, Dies, Starts, RoundBegins, Joins, Acts, Misses, Says, SaysUnheard, SaysUnread, Stops, lines_at}
-use Rattle.amo_rounds.specs.Run.{entries_of_try, has_fallen, world_after}
+use Rattle.amo_rounds.specs.Site.{Site, Event, Dies, Starts, RoundBegins, Joins, Acts, Misses, Says, SaysUnheard, SaysUnread, Stops, lines_at}
+use Rattle.amo_rounds.specs.Run.{entries_of_try, has_fallen, site_after}
 use Rattle.amo_rounds.specs.Commands.{is_stop}
 use Rattle.amo_rounds.proofs.Files.{read_settled}
 use Rattle.amo_rounds.proofs.Entries.{HasEntry, head_or, tail_of, entry_in_either}
@@ -74,12 +74,12 @@ put_by lines time (Perform m j) n line has = absurd (none_in_none n line has)
 put_by lines time (Ask m l) n line has = absurd (none_in_none n line has)
 
 -- In this event the process of worker p tries this intent.
-abbrev pub TriesIntent : World → Event → (p n line : ℕ) → Type 0
-TriesIntent w (Acts q time d) p n line = (p ≡ q) × IsIntent (lines_at w.rounds (w.places q)) (try_of d) n line
-TriesIntent w (Misses q time t) p n line = (p ≡ q) × IsIntent (lines_at w.rounds (w.places q)) t n line
+abbrev pub TriesIntent : Site → Event → (p n line : ℕ) → Type 0
+TriesIntent w (Acts q time d) p n line = (p ≡ q) × IsIntent (lines_at w.rounds (w.whereabouts q)) (try_of d) n line
+TriesIntent w (Misses q time t) p n line = (p ≡ q) × IsIntent (lines_at w.rounds (w.whereabouts q)) t n line
 TriesIntent w e p n line = ⊥
 
-pub entry_was : (w : World) (e : Event) → is_stop e ≡ false → (p n line : ℕ) → HasEntry n line (read_of ((world_after w e).journals p))
+pub entry_was : (w : Site) (e : Event) → is_stop e ≡ false → (p n line : ℕ) → HasEntry n line (read_of ((site_after w e).journals p))
     → HasEntry n line (read_of (w.journals p)) ⊎ TriesIntent w e p n line
 entry_was w (Dies q) on p n line has = inl has
 entry_was w (Starts q es) on p n line has = inl (at_number (λ f. HasEntry n line (read_of f) → HasEntry n line (read_of (w.journals p))) w.journals q (settled (w.journals q)) p
@@ -88,7 +88,7 @@ entry_was w (Starts q es) on p n line has = inl (at_number (λ f. HasEntry n lin
 entry_was w (RoundBegins g r lines) on p n line has = inl has
 entry_was w (Joins q s k) on p n line has = inl has
 entry_was w (Acts q time d) on p n line has =
-    let lines = lines_at w.rounds (w.places q) in
+    let lines = lines_at w.rounds (w.whereabouts q) in
     let es = entries_of_try lines time (try_of d) in
     at_number (λ f. HasEntry n line (read_of f) → HasEntry n line (read_of (w.journals p)) ⊎ TriesIntent w (Acts q time d) p n line) w.journals q (after_put (has_fallen d) (w.journals q) es) p
     (λ e there. ⊎_elim
@@ -97,7 +97,7 @@ entry_was w (Acts q time d) on p n line has =
     (read_after (has_fallen d) (w.journals q) es n line there))
     (λ m there. inl there) has
 entry_was w (Misses q time t) on p n line has =
-    let lines = lines_at w.rounds (w.places q) in
+    let lines = lines_at w.rounds (w.whereabouts q) in
     let es = entries_of_try lines time t in
     at_number (λ f. HasEntry n line (read_of f) → HasEntry n line (read_of (w.journals p)) ⊎ TriesIntent w (Misses q time t) p n line) w.journals q (with_unheard (w.journals q) es) p
     (λ e there. ⊎_elim

@@ -7,8 +7,8 @@ use Rattle.amo_sets.specs.Lists.{numbered}
 use Rattle.amo_sets.specs.Sets.{has}
 use Rattle.amo_sets.proofs.Numbers.{has-get_or}
 use Rattle.amo_ledger.specs.Records.{RecordView, ascends_from, is_sound}
-use Rattle.amo_ledger.specs.Rounds.{place_of, seat_of}
-use Rattle.amo_rounds.specs.World.{IsNumber}
+use Rattle.amo_ledger.specs.Rounds.{turn_of, seat_of}
+use Rattle.amo_rounds.specs.Site.{IsNumber}
 
 pub record HasParts (r : RecordView) : Type 0 where
   pub jobs : r.givens.jobs ≡ length r.lines
@@ -61,7 +61,7 @@ line_there r h (suc j) a b = let parts = sound_parts r h in let all = parts.jobs
 -- who has a seat has a number
 pub seated_number : (r : RecordView) → is_sound r ≡ true → (p q : ℕ) → seat_of p r.first r.workers r.givens.workers ≡ Some q → IsNumber p
 seated_number r h p q seat =
-    let whole = cond_some ((nat_le 1 p && nat_le p r.workers) && nat_le (place_of p r.first r.workers) r.givens.workers) (place_of p r.first r.workers) q seat in
+    let whole = cond_some ((nat_le 1 p && nat_le p r.workers) && nat_le (turn_of p r.first r.workers) r.givens.workers) (turn_of p r.first r.workers) q seat in
     let parts = and_parts _ _ (and_parts _ _ whole.0).0 in
     let low = leb-true 1 p parts.0 in
     let high = leb-true p r.workers parts.1 in

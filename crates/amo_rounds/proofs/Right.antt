@@ -9,24 +9,24 @@ use Rattle.amo_history.specs.Scene.{scene_of, IsTrue}
 use Rattle.amo_history.specs.declared.model.Moment.TheVariants.{Does, Loses}
 use Rattle.amo_history.proofs.Logs.{call_may_be, deed_may_be}
 use Rattle.amo_ledger.proofs.Seats.{in_range}
-use Rattle.amo_rounds.specs.World.{Inside, Round, Event}
-use Rattle.amo_rounds.specs.Run.{MayBeIn, MayAct, MayMiss, IsRun, world_of}
+use Rattle.amo_rounds.specs.Site.{Inside, Round, Event}
+use Rattle.amo_rounds.specs.Run.{MayBeIn, MayAct, MayMiss, IsRun, site_of}
 use Rattle.amo_rounds.proofs.Records.{sound_parts}
 use Rattle.amo_rounds.proofs.Sane.{IsGood, IsGoodIf, FitsIn}
 use Rattle.amo_rounds.proofs.Once.{sane_of, fits_there}
 
-module _ (es : List Event) (run : IsRun es) (p k q : ℕ) (at : (world_of es).places p ≡ Inside k q) (r : Round) (is : (world_of es).rounds k ≡ Some r) (l : Log) (log : log_of q r.moments ≡ Some l) where
+module _ (es : List Event) (run : IsRun es) (p k q : ℕ) (at : (site_of es).whereabouts p ≡ Inside k q) (r : Round) (is : (site_of es).rounds k ≡ Some r) (l : Log) (log : log_of q r.moments ≡ Some l) where
   good : IsGood r
   good = subst IsGoodIf is ((sane_of es run).rounds k)
 
   worker : IsWorker r.givens q
   worker =
-      let fits : FitsIn (Some r) ((world_of es).journals p) p q = subst (λ o. FitsIn o ((world_of es).journals p) p q) is (fits_there es run p k q at).1 in
+      let fits : FitsIn (Some r) ((site_of es).journals p) p q = subst (λ o. FitsIn o ((site_of es).journals p) p q) is (fits_there es run p k q at).1 in
       let range = in_range p r.written.first r.written.workers r.written.givens.workers q (sound_parts r.written good.sound).first fits.0 in
       record { low = range.0; high = subst (λ n. q ≤ n) (sym good.workers) range.1 }
 
-  pub call_may_come : (t : Try) → MayTry (first_stage r.givens q l.serial) (Some l.deeds) t → MayMiss (world_of es).rounds (Inside k q) t
+  pub call_may_come : (t : Try) → MayTry (first_stage r.givens q l.serial) (Some l.deeds) t → MayMiss (site_of es).rounds (Inside k q) t
   call_may_come t may = subst (λ o. MayBeIn o (Loses q t)) (sym is) (call_may_be r.givens q worker r.moments l t good.history log may)
 
-  pub deed_may_come : (d : Deed) → AreDue (first_stage r.givens q l.serial) (l.deeds ++ d ∷ []) → IsTrue (scene_of r.givens r.moments).words d → MayAct (world_of es).rounds (Inside k q) d
+  pub deed_may_come : (d : Deed) → AreDue (first_stage r.givens q l.serial) (l.deeds ++ d ∷ []) → IsTrue (scene_of r.givens r.moments).words d → MayAct (site_of es).rounds (Inside k q) d
   deed_may_come d due true_there = subst (λ o. MayBeIn o (Does q d)) (sym is) (deed_may_be r.givens q worker r.moments l d good.history log due true_there)

@@ -13,8 +13,8 @@ use Rattle.amo_ledger.specs.Findings.{is_not_done}
 use Rattle.amo_ledger.specs.Grammar.{intents}
 use Rattle.amo_ledger.specs.Open.{opens}
 use Rattle.amo_ledger.proofs.Seats.{in_range}
-use Rattle.amo_rounds.specs.World.{Place, Away, Before, Inside, Round, World, Event, Acts, Misses, Says, SaysUnheard, SaysUnread, lines_at}
-use Rattle.amo_rounds.specs.Run.{entries_of_try, as_noted, world_after, IsOfIntent, MayBeIn, MayAct, MayMiss, MayHappen, Handing, opened_by_entries, opened_by_finding, openings_by, is_among}
+use Rattle.amo_rounds.specs.Site.{Whereabouts, Away, Before, Inside, Round, Site, Event, Acts, Misses, Says, SaysUnheard, SaysUnread, lines_at}
+use Rattle.amo_rounds.specs.Run.{entries_of_try, as_noted, site_after, IsOfIntent, MayBeIn, MayAct, MayMiss, MayHappen, Handing, opened_by_entries, opened_by_finding, openings_by, is_among}
 use Rattle.amo_rounds.proofs.Openings.{among_either}
 use Rattle.amo_rounds.proofs.Records.{sound_parts}
 use Rattle.amo_rounds.proofs.Counted.{size_is, IsCounted, IsBehind}
@@ -27,12 +27,12 @@ abbrev pub named : (p n : ℕ) → Handing
 named p n = record { worker = p; serial = n; line = 0 }
 
 -- each of these has its number, and what its worker is still to hand over has another
-abbrev pub AreNamed : World → List (ℕ × ℕ) → Type 0
+abbrev pub AreNamed : Site → List (ℕ × ℕ) → Type 0
 AreNamed w said = (p n : ℕ) → is_among said p n ≡ true → WasNamed w (named p n)
 
 -- nobody is about to hand it over
-abbrev pub IsNotDue : World → (p n : ℕ) → Type 0
-IsNotDue w p n = (j : ℕ) → MayMiss w.rounds (w.places p) (Perform n j) → ⊥
+abbrev pub IsNotDue : Site → (p n : ℕ) → Type 0
+IsNotDue w p n = (j : ℕ) → MayMiss w.rounds (w.whereabouts p) (Perform n j) → ⊥
 
 -- what is said of an intent by an entry
 
@@ -66,7 +66,7 @@ found_by f p n h = by (is_not_done f.verdict) h
     by true h = one_among f.worker f.serial p n h
     by false h = absurd (true≢false (sym h))
 
-module _ (w : World) (said : List (ℕ × ℕ)) (sane : IsSane w said) (low : AreAllLow w) where
+module _ (w : Site) (said : List (ℕ × ℕ)) (sane : IsSane w said) (low : AreAllLow w) where
   -- a note is of an intent of the journal
 
   note_in : (o : Option Round) (q seat n : ℕ) → FitsIn o (w.journals q) q seat → ((r : Round) → o ≡ Some r → (c : _) × (due (stage_at (scene_of r.givens r.moments) seat) ≡ Some (Note n c))) → n ≤ intents (w.journals q).kept
@@ -75,15 +75,15 @@ module _ (w : World) (said : List (ℕ × ℕ)) (sane : IsSane w said) (low : Ar
       let it = noted r refl in
       noted_counted (intents (w.journals q).kept) (stage_at (scene_of r.givens r.moments) seat) n it.0 it.1 fits.1.2
 
-  note_at : (place : Place) (q n : ℕ) → w.places q ≡ place → (place ≡ Away → ⊥) → ((s : Stage) → place ≡ Before s → (c : _) × (due s ≡ Some (Note n c)))
-      → ((k seat : ℕ) (r : Round) → place ≡ Inside k seat → w.rounds k ≡ Some r → (c : _) × (due (stage_at (scene_of r.givens r.moments) seat) ≡ Some (Note n c))) → n ≤ intents (w.journals q).kept
+  note_at : (whereabouts : Whereabouts) (q n : ℕ) → w.whereabouts q ≡ whereabouts → (whereabouts ≡ Away → ⊥) → ((s : Stage) → whereabouts ≡ Before s → (c : _) × (due s ≡ Some (Note n c)))
+      → ((k seat : ℕ) (r : Round) → whereabouts ≡ Inside k seat → w.rounds k ≡ Some r → (c : _) × (due (stage_at (scene_of r.givens r.moments) seat) ≡ Some (Note n c))) → n ≤ intents (w.journals q).kept
   note_at Away q n at away asks being = absurd (away refl)
   note_at (Before s) q n at away asks being =
       let it = asks s refl in
-      let fits : Fits w.rounds w.last (w.journals q) q (Before s) = subst (λ place. Fits w.rounds w.last (w.journals q) q place) at (sane.places q) in
+      let fits : Fits w.rounds w.last (w.journals q) q (Before s) = subst (λ whereabouts. Fits w.rounds w.last (w.journals q) q whereabouts) at (sane.whereabouts q) in
       noted_low (intents (w.journals q).kept) s n it.0 it.1 fits.0 (subst (LowAt (intents (w.journals q).kept)) at (low q))
   note_at (Inside k seat) q n at away asks being =
-      let fits : Fits w.rounds w.last (w.journals q) q (Inside k seat) = subst (λ place. Fits w.rounds w.last (w.journals q) q place) at (sane.places q) in
+      let fits : Fits w.rounds w.last (w.journals q) q (Inside k seat) = subst (λ whereabouts. Fits w.rounds w.last (w.journals q) q whereabouts) at (sane.whereabouts q) in
       note_in (w.rounds k) q seat n fits.1 (λ r is. being k seat r refl is)
 
   of_intent : (f : Finding) → IsOfIntent w f → f.serial ≤ intents (w.journals f.worker).kept
@@ -91,19 +91,19 @@ module _ (w : World) (said : List (ℕ × ℕ)) (sane : IsSane w said) (low : Ar
 
   said_low : (e : Event) → MayHappen w e → (p n : ℕ) → is_among (openings_by w e) p n ≡ true → n ≤ intents (w.journals p).kept
   said_low (Acts q time d) may p n h =
-      let it = noted_by q (lines_at w.rounds (w.places q)) time (try_of d) p n h in
+      let it = noted_by q (lines_at w.rounds (w.whereabouts q)) time (try_of d) p n h in
       subst (λ x. n ≤ intents (w.journals x).kept) (sym it.worker)
-      (note_at (w.places q) q n refl
-      (λ e. subst (λ place. MayAct w.rounds place d) e may.1)
-      (λ s e. (it.answer, subst (λ place. MayAct w.rounds place d) e may.1 ∙ ap (λ x. Some x) it.is))
-      (λ k seat r e is. (it.answer, (subst (λ o. MayBeIn o (Does seat d)) is (subst (λ place. MayAct w.rounds place d) e may.1)).1 ∙ ap (λ x. Some x) it.is)))
+      (note_at (w.whereabouts q) q n refl
+      (λ e. subst (λ whereabouts. MayAct w.rounds whereabouts d) e may.1)
+      (λ s e. (it.answer, subst (λ whereabouts. MayAct w.rounds whereabouts d) e may.1 ∙ ap (λ x. Some x) it.is))
+      (λ k seat r e is. (it.answer, (subst (λ o. MayBeIn o (Does seat d)) is (subst (λ whereabouts. MayAct w.rounds whereabouts d) e may.1)).1 ∙ ap (λ x. Some x) it.is)))
   said_low (Misses q time t) may p n h =
-      let it = noted_by q (lines_at w.rounds (w.places q)) time t p n h in
+      let it = noted_by q (lines_at w.rounds (w.whereabouts q)) time t p n h in
       subst (λ x. n ≤ intents (w.journals x).kept) (sym it.worker)
-      (note_at (w.places q) q n refl
-      (λ e. subst (λ place. MayMiss w.rounds place t) e may.1)
-      (λ s e. (it.answer, subst (λ place. MayMiss w.rounds place t) e may.1 ∙ ap (λ x. Some x) it.is))
-      (λ k seat r e is. (it.answer, (subst (λ o. MayBeIn o (Loses seat t)) is (subst (λ place. MayMiss w.rounds place t) e may.1)).1 ∙ ap (λ x. Some x) it.is)))
+      (note_at (w.whereabouts q) q n refl
+      (λ e. subst (λ whereabouts. MayMiss w.rounds whereabouts t) e may.1)
+      (λ s e. (it.answer, subst (λ whereabouts. MayMiss w.rounds whereabouts t) e may.1 ∙ ap (λ x. Some x) it.is))
+      (λ k seat r e is. (it.answer, (subst (λ o. MayBeIn o (Loses seat t)) is (subst (λ whereabouts. MayMiss w.rounds whereabouts t) e may.1)).1 ∙ ap (λ x. Some x) it.is)))
   said_low (Says f) may p n h = let at = found_by f p n h in subst (λ x. n ≤ intents (w.journals x).kept) (sym at.0) (subst (λ k. k ≤ intents (w.journals f.worker).kept) (sym at.1) (of_intent f may))
   said_low (SaysUnheard f) may p n h = let at = found_by f p n h in subst (λ x. n ≤ intents (w.journals x).kept) (sym at.0) (subst (λ k. k ≤ intents (w.journals f.worker).kept) (sym at.1) (of_intent f may))
   said_low (SaysUnread f) may p n h = let at = found_by f p n h in subst (λ x. n ≤ intents (w.journals x).kept) (sym at.0) (subst (λ k. k ≤ intents (w.journals f.worker).kept) (sym at.1) (of_intent f may))
@@ -126,17 +126,17 @@ module _ (w : World) (said : List (ℕ × ℕ)) (sane : IsSane w said) (low : Ar
       behind_stage (stage_at (scene_of r.givens r.moments) seat) n (intents (w.journals p).kept) few fits.1.2
       (λ j e. none j (record { low = range.0; high = subst (λ k. seat ≤ k) (sym good.workers) range.1 }, e))
 
-  behind_at : (place : Place) (p n : ℕ) → w.places p ≡ place → n ≤ intents (w.journals p).kept → ((j : ℕ) → MayMiss w.rounds place (Perform n j) → ⊥) → BehindAt w.rounds place n
+  behind_at : (whereabouts : Whereabouts) (p n : ℕ) → w.whereabouts p ≡ whereabouts → n ≤ intents (w.journals p).kept → ((j : ℕ) → MayMiss w.rounds whereabouts (Perform n j) → ⊥) → BehindAt w.rounds whereabouts n
   behind_at Away p n at few none = tt
   behind_at (Before s) p n at few none = tt
   behind_at (Inside k seat) p n at few none =
-      let fits : Fits w.rounds w.last (w.journals p) p (Inside k seat) = subst (λ place. Fits w.rounds w.last (w.journals p) p place) at (sane.places p) in
+      let fits : Fits w.rounds w.last (w.journals p) p (Inside k seat) = subst (λ whereabouts. Fits w.rounds w.last (w.journals p) p whereabouts) at (sane.whereabouts p) in
       behind_in (w.rounds k) (sane.rounds k) p seat n few fits.1 none
 
   pub not_due_named : (p n : ℕ) → n ≤ intents (w.journals p).kept → IsNotDue w p n → WasNamed w (named p n)
-  not_due_named p n few none = record { few = few; behind = behind_at (w.places p) p n refl few none }
+  not_due_named p n few none = record { few = few; behind = behind_at (w.whereabouts p) p n refl few none }
 
-  pub named_then : AreNamed w said → (e : Event) → MayHappen w e → ((p n : ℕ) → is_among (openings_by w e) p n ≡ true → IsNotDue w p n) → AreNamed (world_after w e) (said ++ openings_by w e)
+  pub named_then : AreNamed w said → (e : Event) → MayHappen w e → ((p n : ℕ) → is_among (openings_by w e) p n ≡ true → IsNotDue w p n) → AreNamed (site_after w e) (said ++ openings_by w e)
   named_then before e may over p n h = ⊎_elim
       (λ (old : is_among said p n ≡ true). named_after w said sane (named p n) (before p n old) e may)
       (λ (new : is_among (openings_by w e) p n ≡ true). named_after w said sane (named p n) (not_due_named p n (said_low e may p n new) (over p n new)) e may)

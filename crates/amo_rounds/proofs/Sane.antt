@@ -14,7 +14,7 @@ use Rattle.amo_ledger.specs.Records.{is_sound}
 use Rattle.amo_ledger.specs.Rounds.{seat_of}
 use Rattle.amo_ledger.proofs.Seats.{one_each}
 use Rattle.amo_rounds.specs.File.{File}
-use Rattle.amo_rounds.specs.World.{Place, Away, Before, Inside, Round, World, first_world, IsNumber, is_inside, with_at}
+use Rattle.amo_rounds.specs.Site.{Whereabouts, Away, Before, Inside, Round, Site, first_site, IsNumber, is_inside, with_at}
 use Rattle.amo_rounds.specs.Run.{with_moment, is_among}
 use Rattle.amo_rounds.proofs.Files.{all_of}
 use Rattle.amo_rounds.proofs.Moments.{others_stand}
@@ -72,23 +72,23 @@ number_in None good f p q h = absurd h
 number_in (Some r) good f p q h = seated_number r.written good.sound p q h.0
 
 -- the process of worker p, whose journal this is, may be here; if it is in a round, that is the last one
-abbrev pub Fits : (ℕ → Option Round) → (last : ℕ) → File Entry → ℕ → Place → Type 0
+abbrev pub Fits : (ℕ → Option Round) → (last : ℕ) → File Entry → ℕ → Whereabouts → Type 0
 Fits rounds last f p Away = ⊤
 Fits rounds last f p (Before s) = (is_asking s ≡ true) × (is_broken s ≡ false → f.loose ≡ [])
 Fits rounds last f p (Inside k q) = (k ≡ last) × FitsIn (rounds k) f p q
 
-pub record IsSane (w : World) (said : List (ℕ × ℕ)) : Type 0 where
+pub record IsSane (w : Site) (said : List (ℕ × ℕ)) : Type 0 where
   pub answers : (p n : ℕ) → is_among said p n ≡ false → NoneOpens n (all_of (w.journals p))
   pub findings : (p n : ℕ) → is_among said p n ≡ false → is_undone (all_of w.findings) p n ≡ false
   pub rounds : (k : ℕ) → IsGoodIf (w.rounds k)
-  pub places : (p : ℕ) → Fits w.rounds w.last (w.journals p) p (w.places p)
+  pub whereabouts : (p : ℕ) → Fits w.rounds w.last (w.journals p) p (w.whereabouts p)
 
-pub first_sane : IsSane first_world []
-first_sane = record { answers = λ p n h. tt; findings = λ p n h. refl; rounds = λ k. tt; places = λ p. tt }
+pub first_sane : IsSane first_site []
+first_sane = record { answers = λ p n h. tt; findings = λ p n h. refl; rounds = λ k. tt; whereabouts = λ p. tt }
 
 -- where nobody was in a round, all may be where they are, whichever rounds there are
-pub fits_any : (rounds others : ℕ → Option Round) (last next : ℕ) → ((k : ℕ) → IsGoodIf (rounds k)) → (f : File Entry) (p : ℕ) (place : Place) → (IsNumber p → is_inside place ≡ false)
-    → Fits rounds last f p place → Fits others next f p place
+pub fits_any : (rounds others : ℕ → Option Round) (last next : ℕ) → ((k : ℕ) → IsGoodIf (rounds k)) → (f : File Entry) (p : ℕ) (whereabouts : Whereabouts) → (IsNumber p → is_inside whereabouts ≡ false)
+    → Fits rounds last f p whereabouts → Fits others next f p whereabouts
 fits_any rounds others last next good f p Away nobody h = tt
 fits_any rounds others last next good f p (Before s) nobody h = h
 fits_any rounds others last next good f p (Inside k q) nobody h = absurd (true≢false (nobody (number_in (rounds k) (good k) f p q h.1)))
@@ -106,7 +106,7 @@ in_still None good m p seat other n f q h = absurd h
 in_still (Some r) good m p seat other n f q h = (h.0, subst (λ s. IsReady r.written.lines f s) (sym (stands_still r good m p seat other n q h.0)) h.1)
 
 module _ (rounds : ℕ → Option Round) (last : ℕ) (good : (k : ℕ) → IsGoodIf (rounds k)) (k : ℕ) (m : Moment) (p : ℕ) (seat : HasSeat (rounds k) p (worker_of m)) where
-  pub fits_still : (other : ℕ) → (other ≡ p → ⊥) → (f : File Entry) (place : Place) → Fits rounds last f other place → Fits (with_at rounds k (with_moment m (rounds k))) last f other place
+  pub fits_still : (other : ℕ) → (other ≡ p → ⊥) → (f : File Entry) (whereabouts : Whereabouts) → Fits rounds last f other whereabouts → Fits (with_at rounds k (with_moment m (rounds k))) last f other whereabouts
   fits_still other n f Away h = tt
   fits_still other n f (Before s) h = h
   fits_still other n f (Inside i q) h = (

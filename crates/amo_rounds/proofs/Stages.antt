@@ -1,6 +1,6 @@
 -- Where a process may hand a job over, its intent is in the journal; and who asks for intents hands nothing over.
 use Rattle.std.proofs.Common.{◌≡◌, ℕ, zero, suc, ◌+◌, Bool, true, false, List, [], ◌∷◌, ◌++◌, Some, refl, sym, ap, ◌∙◌, subst}
-use Rattle.std.specs.Prelude.{⊤, ◌==◌, if◌then◌else◌}
+use Rattle.std.specs.Prelude.{⊤, if◌then◌else◌}
 use Rattle.std.proofs.lemmas.Bool.{true≢false}
 use Rattle.std.proofs.lemmas.Option.{none-some}
 use Rattle.amo_sets.specs.Lists.{numbered}
@@ -8,7 +8,6 @@ use Rattle.amo_process.specs.Heard.{told_by, doubted_by}
 use Rattle.amo_process.specs.Stepped.{ProcessView, process_after, may_leave, is_refused}
 use Rattle.amo_course.specs.declared.answer.Answer.{Answer}
 use Rattle.amo_course.specs.declared.answer.Reply.{Reply}
-use Rattle.amo_course.specs.declared.answer.Reply.TheVariants.{Answered, Running, Garbled, Closed}
 use Rattle.amo_course.specs.declared.answer.Way.{Way}
 use Rattle.amo_course.specs.declared.answer.Way.TheVariants.{Go, Leave}
 use Rattle.amo_course.specs.declared.model.Deed.{Deed}
@@ -18,7 +17,7 @@ use Rattle.amo_course.specs.declared.model.Try.TheVariants.{Intend, Perform}
 use Rattle.amo_course.specs.declared.past.Intent.{Intent}
 use Rattle.amo_course.specs.Stage.{Stage, Going, Finding, Intending, Performing, Noting, Leaving, Asking, Settling, Dismissed, Gone, Unanswered, Refused, Broken}
 use Rattle.amo_course.specs.Course.{try_of, due, stage_by_jobs, stage_heard, stage_told, stage_replied, stage_asking, stage_asked, stage_after}
-use Rattle.amo_history.proofs.Stages.{performing_only, serial_in, job_in}
+use Rattle.amo_history.proofs.Stages.{after_reply, after_settling, after_question, performing_only, serial_in, job_in}
 use Rattle.amo_ledger.specs.declared.entry.Entry.{Entry}
 use Rattle.amo_ledger.specs.declared.entry.Entry.TheVariants.{Intent as IntentOf}
 use Rattle.amo_rounds.specs.Run.{entries_of_try, has_fallen}
@@ -45,23 +44,10 @@ is_asking Broken = true
 is_asking s = false
 
 asking_then : (way : Way) (rest : List Intent) → is_asking (stage_asking way rest) ≡ true
-asking_then Go rest = refl
-asking_then Leave rest = refl
+asking_then way rest = after_settling (λ z. is_asking z ≡ true) (λ left. refl) (λ left. refl) way rest
 
 asked_then : (intents : List Intent) (reply : Reply) → is_asking (stage_asked intents reply) ≡ true
-asked_then [] reply = refl
-asked_then (i ∷ rest) (Answered n c way) = by (n == i.serial)
-  where
-    by : (b : Bool) → is_asking (if b then Settling i.serial c way rest else Unanswered i.serial (Answered n c way)) ≡ true
-    by true = refl
-    by false = refl
-asked_then (i ∷ rest) (Running n way) = by (n == i.serial)
-  where
-    by : (b : Bool) → is_asking (if b then stage_asking way rest else Unanswered i.serial (Running n way)) ≡ true
-    by true = asking_then way rest
-    by false = refl
-asked_then (i ∷ rest) Garbled = refl
-asked_then (i ∷ rest) Closed = refl
+asked_then intents reply = after_question (λ z. is_asking z ≡ true) (λ left. refl) (λ left. refl) intents reply (λ s c way left. refl) (λ s r. refl)
 
 loaded_asks : (s : Stage) (w v : ℕ) → is_asking s ≡ true → is_asking (stage_after s (Loaded w v)) ≡ true
 loaded_asks (Going n a way) w v h = absurd (true≢false (sym h))
@@ -125,26 +111,15 @@ by_way n Leave a = by (may_leave a.standing)
     by true = refl
     by false = refl
 
-told : (w v n : ℕ) (way : Way) (a : ProcessView) → is_performing (stage_told w v n way a) ≡ false
-told w v n way a = by (is_refused a.standing)
+by_value : (w v n : ℕ) (way : Way) (a : ProcessView) → is_performing (stage_told w v n way a) ≡ false
+by_value w v n way a = by (is_refused a.standing)
   where
     by : (b : Bool) → is_performing (if b then Refused w v else stage_heard n way a) ≡ false
     by true = refl
     by false = by_way n way a
 
-replied : (n : ℕ) (a : ProcessView) (reply : Reply) → is_performing (stage_replied n a reply) ≡ false
-replied n a (Answered m c way) = by (m == n)
-  where
-    by : (b : Bool) → is_performing (if b then Noting n a c way else Unanswered n (Answered m c way)) ≡ false
-    by true = refl
-    by false = refl
-replied n a (Running m way) = by (m == n)
-  where
-    by : (b : Bool) → is_performing (if b then Going (n + 1) a way else Unanswered n (Running m way)) ≡ false
-    by true = refl
-    by false = refl
-replied n a Garbled = refl
-replied n a Closed = refl
+by_reply : (n : ℕ) (a : ProcessView) (reply : Reply) → is_performing (stage_replied n a reply) ≡ false
+by_reply n a reply = after_reply (λ z. is_performing z ≡ false) n a reply (λ c way. refl) (λ way. refl) (λ r. refl)
 
 asks_no : (s : Stage) → is_asking s ≡ true → is_performing s ≡ false
 asks_no (Performing n a j) h = absurd (true≢false (sym h))
@@ -154,11 +129,11 @@ asks_no s h = refl
 -- after a deed if it does after an intent.
 module _ (Q R : Stage → Type 0) (unless : (s : Stage) → is_performing s ≡ false → R s) (stays : (s : Stage) → Q s → R s) where
   loaded_then : (s : Stage) (w v : ℕ) → Q s → R (stage_after s (Loaded w v))
-  loaded_then (Going n a way) w v h = unless (stage_told w v n way (process_after a v)) (told w v n way (process_after a v))
+  loaded_then (Going n a way) w v h = unless (stage_told w v n way (process_after a v)) (by_value w v n way (process_after a v))
   loaded_then s w v h = stays s h
 
   stored_then : (s : Stage) (w v : ℕ) → Q s → R (stage_after s (Stored w v))
-  stored_then (Going n a way) w v h = unless (stage_told w v n way (process_after a 0)) (told w v n way (process_after a 0))
+  stored_then (Going n a way) w v h = unless (stage_told w v n way (process_after a 0)) (by_value w v n way (process_after a 0))
   stored_then (Leaving a) w v h = unless Gone refl
   stored_then s w v h = stays s h
 
@@ -167,7 +142,7 @@ module _ (Q R : Stage → Type 0) (unless : (s : Stage) → is_performing s ≡ 
   found_then s j h = stays s h
 
   performed_then : (s : Stage) (n j : ℕ) (reply : Reply) → Q s → R (stage_after s (Performed n j reply))
-  performed_then (Performing m a i) n j reply h = unless (stage_replied m a reply) (replied m a reply)
+  performed_then (Performing m a i) n j reply h = unless (stage_replied m a reply) (by_reply m a reply)
   performed_then s n j reply h = stays s h
 
   noted_then : (s : Stage) (n : ℕ) (c : Answer) → Q s → R (stage_after s (Noted n c))

@@ -1,8 +1,8 @@
--- Lists of what was handed over, and what a step leaves of them.
+-- Lists of what was handed over, and what an action leaves of them.
 use Rattle.std.proofs.Common.{◌≡◌, ◌⊎◌, inl, inr, ⊎_elim, ℕ, Bool, true, false, ◌&&◌, List, [], ◌∷◌, ◌++◌, refl, ap, sym}
 use Rattle.std.specs.Prelude.{◌==◌, if◌then◌else◌}
 use Rattle.std.proofs.lemmas.Bool.{eq-eqb, and_from, or_parts, or_from, or_left, or_right, true≢false, eqb-true, and_parts, or_cases}
-use Rattle.amo_rounds.specs.World.{Event}
+use Rattle.amo_rounds.specs.Site.{Event}
 use Rattle.amo_rounds.specs.Run.{Handing, is_among, IsOneOf, names_of}
 use Rattle.amo_rounds.specs.Commands.{without, is_stop, unless_stopped}
 use Rattle.amo_rounds.proofs.Handed.{split_one}

@@ -3,7 +3,7 @@ use Rattle.std.specs.Prelude.{ℕ, List, [], ◌∷◌, ◌++◌, Option, Some, 
 use Rattle.amo_course.specs.declared.model.Deed.{Deed}
 use Rattle.amo_course.specs.declared.model.Deed.TheVariants.{Fell}
 use Rattle.amo_ledger.specs.declared.journal.Attempt.{Attempt}
-use Rattle.amo_rounds.specs.World.{Event, Starts, Acts, Misses}
+use Rattle.amo_rounds.specs.Site.{Event, Starts, Acts, Misses}
 
 -- What its journal said as it began, and what it has done since.
 pub record Asker : Type 0 where
@@ -22,6 +22,7 @@ asker_after p a (Acts q time d) = if p == q then with_more a d else a
 asker_after p a (Misses q time t) = if p == q then with_more a (Fell t) else a
 asker_after p a e = a
 
+-- the same after all of these, in their order
 abbrev pub asker_after_all : ℕ → Option Asker → List Event → Option Asker
 asker_after_all p a [] = a
 asker_after_all p a (e ∷ es) = asker_after_all p (asker_after p a e) es

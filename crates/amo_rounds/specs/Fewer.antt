@@ -11,10 +11,10 @@ pub record IsOverButForProcesses (y : Yard) (p n : ℕ) : Type 0 where
 
 -- those of the journal and of the command, but not that of the runner: it may be about to begin the command
 pub record IsOverButForRunners (y : Yard) (p n : ℕ) : Type 0 where
-  pub due : (j : ℕ) → MayMiss y.world.rounds (y.world.places p) (Perform n j) → ⊥
+  pub due : (j : ℕ) → MayMiss y.site.rounds (y.site.whereabouts p) (Perform n j) → ⊥
   pub runs : is_among (names_of y.running) p n ≡ false
 
 -- those of the journal and of the runner, but not that of the command: something of it may be left
 pub record IsOverButForCommands (y : Yard) (p n : ℕ) : Type 0 where
-  pub due : (j : ℕ) → MayMiss y.world.rounds (y.world.places p) (Perform n j) → ⊥
+  pub due : (j : ℕ) → MayMiss y.site.rounds (y.site.whereabouts p) (Perform n j) → ⊥
   pub waits : is_among (names_of y.waiting) p n ≡ false

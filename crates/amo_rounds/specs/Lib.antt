@@ -1,5 +1,5 @@
 pub mod File
-pub mod World
+pub mod Site
 pub mod Run
 pub mod Asked
 pub mod Shown

@@ -28,7 +28,7 @@ use Rattle.amo_ledger.specs.Open.{opens, open_lines, IsAnswer}
 use Rattle.amo_ledger.specs.Records.{RecordView, is_sound}
 use Rattle.amo_ledger.specs.Rounds.{seat_of}
 use Rattle.amo_rounds.specs.File.{read_of, settled, with_put, with_unheard, with_unread, after_put, after_stop}
-use Rattle.amo_rounds.specs.World.{Place, Away, Before, Inside, Round, World, first_world, Event, Dies, Starts, RoundBegins, Joins, Acts, Misses, Says, SaysUnheard, SaysUnread, Stops, IsNumber, is_inside, with_at, lines_at}
+use Rattle.amo_rounds.specs.Site.{Whereabouts, Away, Before, Inside, Round, Site, first_site, Event, Dies, Starts, RoundBegins, Joins, Acts, Misses, Says, SaysUnheard, SaysUnread, Stops, IsNumber, is_inside, with_at, lines_at}
 
 -- what comes into a journal
 
@@ -61,16 +61,16 @@ abbrev pub left_in : List Attempt → List Intent
 left_in es = map intent_of (pending_from 1 es)
 
 -- where the process is after this deed; in a round the history says where it stands
-abbrev pub place_after : Place → Deed → Place
-place_after Away d = Away
-place_after (Before s) d = Before (stage_after s d)
-place_after (Inside k q) d = Inside k q
+abbrev pub whereabouts_after : Whereabouts → Deed → Whereabouts
+whereabouts_after Away d = Away
+whereabouts_after (Before s) d = Before (stage_after s d)
+whereabouts_after (Inside k q) d = Inside k q
 
 -- where it is that never hears what came of its try
-abbrev pub place_missing : Place → Place
-place_missing Away = Away
-place_missing (Before s) = Before Broken
-place_missing (Inside k q) = Inside k q
+abbrev pub whereabouts_missing : Whereabouts → Whereabouts
+whereabouts_missing Away = Away
+whereabouts_missing (Before s) = Before Broken
+whereabouts_missing (Inside k q) = Inside k q
 
 -- the round with one moment more
 abbrev pub with_moment : Moment → Option Round → Option Round
@@ -78,39 +78,40 @@ with_moment m None = None
 with_moment m (Some r) = Some (record r { moments = r.moments ++ m ∷ [] })
 
 -- the rounds, where this happens to a process that is here; by the worker as which it acts
-abbrev pub with_moment_at : Place → (ℕ → Moment) → (ℕ → Option Round) → ℕ → Option Round
+abbrev pub with_moment_at : Whereabouts → (ℕ → Moment) → (ℕ → Option Round) → ℕ → Option Round
 with_moment_at Away moment rounds = rounds
 with_moment_at (Before s) moment rounds = rounds
 with_moment_at (Inside k q) moment rounds = with_at rounds k (with_moment (moment q) (rounds k))
 
-abbrev pub world_after : World → Event → World
-world_after w (Dies p) = record w { places = with_at w.places p Away }
-world_after w (Starts p es) = record w { journals = with_at w.journals p (settled (w.journals p)); places = with_at w.places p (Before (Asking (left_in es))) }
-world_after w (RoundBegins g r lines) = record w {
+-- the site after the next event
+abbrev pub site_after : Site → Event → Site
+site_after w (Dies p) = record w { whereabouts = with_at w.whereabouts p Away }
+site_after w (Starts p es) = record w { journals = with_at w.journals p (settled (w.journals p)); whereabouts = with_at w.whereabouts p (Before (Asking (left_in es))) }
+site_after w (RoundBegins g r lines) = record w {
   lines = lines;
   rounds = with_at w.rounds (w.last + 1) (Some (record { givens = g; written = r; moments = [] }));
   last = w.last + 1;
   joinable = true;
 }
-world_after w (Joins p q n) = record w { rounds = with_at w.rounds w.last (with_moment (Begins q n) (w.rounds w.last)); places = with_at w.places p (Inside w.last q) }
-world_after w (Acts p time d) = record w {
-  journals = with_at w.journals p (after_put (has_fallen d) (w.journals p) (entries_of_try (lines_at w.rounds (w.places p)) time (try_of d)));
-  rounds = with_moment_at (w.places p) (λ q. Does q d) w.rounds;
-  places = with_at w.places p (place_after (w.places p) d);
+site_after w (Joins p q n) = record w { rounds = with_at w.rounds w.last (with_moment (Begins q n) (w.rounds w.last)); whereabouts = with_at w.whereabouts p (Inside w.last q) }
+site_after w (Acts p time d) = record w {
+  journals = with_at w.journals p (after_put (has_fallen d) (w.journals p) (entries_of_try (lines_at w.rounds (w.whereabouts p)) time (try_of d)));
+  rounds = with_moment_at (w.whereabouts p) (λ q. Does q d) w.rounds;
+  whereabouts = with_at w.whereabouts p (whereabouts_after (w.whereabouts p) d);
 }
-world_after w (Misses p time t) = record w {
-  journals = with_at w.journals p (with_unheard (w.journals p) (entries_of_try (lines_at w.rounds (w.places p)) time t));
-  rounds = with_moment_at (w.places p) (λ q. Loses q t) w.rounds;
-  places = with_at w.places p (place_missing (w.places p));
+site_after w (Misses p time t) = record w {
+  journals = with_at w.journals p (with_unheard (w.journals p) (entries_of_try (lines_at w.rounds (w.whereabouts p)) time t));
+  rounds = with_moment_at (w.whereabouts p) (λ q. Loses q t) w.rounds;
+  whereabouts = with_at w.whereabouts p (whereabouts_missing (w.whereabouts p));
 }
-world_after w (Says f) = record w { findings = with_put (settled w.findings) (f ∷ []) }
-world_after w (SaysUnheard f) = record w { findings = with_unheard (settled w.findings) (f ∷ []) }
-world_after w (SaysUnread f) = record w { findings = with_unread (settled w.findings) (f ∷ []) }
-world_after w (Stops left n) = record w {
+site_after w (Says f) = record w { findings = with_put (settled w.findings) (f ∷ []) }
+site_after w (SaysUnheard f) = record w { findings = with_unheard (settled w.findings) (f ∷ []) }
+site_after w (SaysUnread f) = record w { findings = with_unread (settled w.findings) (f ∷ []) }
+site_after w (Stops left n) = record w {
   journals = λ p. after_stop (left p) (w.journals p);
   findings = after_stop n w.findings;
   joinable = false;
-  places = λ p. Away;
+  whereabouts = λ p. Away;
 }
 
 -- what may happen
@@ -126,8 +127,8 @@ MissesSome seen all = (missed : List Finding) × (all ≡ seen ++ missed)
 -- Nobody is in a round: who begins one holds its lock alone. It has read the findings and then each journal, and answers and findings
 -- may have come since; no intents, since those come of who is in a round. Each journal can be read, and by what all 16 say, and what
 -- persons said, each line of the record is open. Which of the open lines it has, who begins it, and its threshold are free.
-pub record MayBegin (w : World) (g : Givens) (r : RecordView) (lines : ℕ) : Type 0 where
-  pub nobody : (p : ℕ) → IsNumber p → is_inside (w.places p) ≡ false
+pub record MayBegin (w : Site) (g : Givens) (r : RecordView) (lines : ℕ) : Type 0 where
+  pub nobody : (p : ℕ) → IsNumber p → is_inside (w.whereabouts p) ≡ false
   pub findings : List Finding
   pub findings_seen : MissesSome findings (read_of w.findings)
   pub entries : ℕ → List Entry
@@ -140,8 +141,8 @@ pub record MayBegin (w : World) (g : Givens) (r : RecordView) (lines : ℕ) : Ty
   pub workers : g.workers ≡ r.givens.workers
 
 -- The process has asked for all that was left, the last round is of this boot, and it has its seat by the record. Its next intent is the next of its journal.
-pub record MayJoin (w : World) (p q n : ℕ) : Type 0 where
-  pub asked : w.places p ≡ Before (Asking [])
+pub record MayJoin (w : Site) (p q n : ℕ) : Type 0 where
+  pub asked : w.whereabouts p ≡ Before (Asking [])
   pub joinable : w.joinable ≡ true
   pub round : Round
   pub stands : w.rounds w.last ≡ Some round
@@ -156,51 +157,53 @@ MayBeIn None m = ⊥
 MayBeIn (Some r) m = MayBe r.givens (scene_of r.givens r.moments) m
 
 -- a process that is there may do this: what is due, and in a round what is true of its words
-abbrev pub MayAct : (ℕ → Option Round) → Place → Deed → Type 0
+abbrev pub MayAct : (ℕ → Option Round) → Whereabouts → Deed → Type 0
 MayAct rounds Away d = ⊥
 MayAct rounds (Before s) d = due s ≡ Some (try_of d)
 MayAct rounds (Inside k q) d = MayBeIn (rounds k) (Does q d)
 
 -- this may come about behind its back: what is due
-abbrev pub MayMiss : (ℕ → Option Round) → Place → Try → Type 0
+abbrev pub MayMiss : (ℕ → Option Round) → Whereabouts → Try → Type 0
 MayMiss rounds Away t = ⊥
 MayMiss rounds (Before s) t = due s ≡ Some t
 MayMiss rounds (Inside k q) t = MayBeIn (rounds k) (Loses q t)
 
 -- A person speaks of an intent of which it is known that every stop leaves it: the journal was settled behind it.
-pub record IsOfIntent (w : World) (f : Finding) : Type 0 where
+pub record IsOfIntent (w : Site) (f : Finding) : Type 0 where
   pub attempts : List Attempt
   pub journal : journal_of w.lines (w.journals f.worker).kept ≡ Some attempts
   pub high : f.serial ≤ length attempts
 
-abbrev pub MayHappen : World → Event → Type 0
+-- this event may be the next
+abbrev pub MayHappen : Site → Event → Type 0
 MayHappen w (Dies p) = ⊤
 MayHappen w (Starts p es) = IsNumber p × (journal_of w.lines (read_of (w.journals p)) ≡ Some es)
 MayHappen w (RoundBegins g r lines) = MayBegin w g r lines
 MayHappen w (Joins p q n) = MayJoin w p q n
-MayHappen w (Acts p time d) = IsNumber p × MayAct w.rounds (w.places p) d
-MayHappen w (Misses p time t) = IsNumber p × MayMiss w.rounds (w.places p) t
+MayHappen w (Acts p time d) = IsNumber p × MayAct w.rounds (w.whereabouts p) d
+MayHappen w (Misses p time t) = IsNumber p × MayMiss w.rounds (w.whereabouts p) t
 MayHappen w (Says f) = IsOfIntent w f
 MayHappen w (SaysUnheard f) = IsOfIntent w f
 MayHappen w (SaysUnread f) = IsOfIntent w f
 MayHappen w (Stops left n) = ⊤
 
 -- these may happen, one after the other, from here on
-abbrev pub IsRunFrom : World → List Event → Type 0
+abbrev pub IsRunFrom : Site → List Event → Type 0
 IsRunFrom w [] = ⊤
-IsRunFrom w (e ∷ es) = MayHappen w e × IsRunFrom (world_after w e) es
+IsRunFrom w (e ∷ es) = MayHappen w e × IsRunFrom (site_after w e) es
 
 -- these may happen from the first on
 abbrev pub IsRun : List Event → Type 0
-IsRun es = IsRunFrom first_world es
+IsRun es = IsRunFrom first_site es
 
-abbrev pub world_after_all : World → List Event → World
-world_after_all w [] = w
-world_after_all w (e ∷ es) = world_after_all (world_after w e) es
+-- the site after all of these, in their order
+abbrev pub site_after_all : Site → List Event → Site
+site_after_all w [] = w
+site_after_all w (e ∷ es) = site_after_all (site_after w e) es
 
 -- what there is after these
-abbrev pub world_of : List Event → World
-world_of es = world_after_all first_world es
+abbrev pub site_of : List Event → Site
+site_of es = site_after_all first_site es
 
 -- what was handed over, and what was said not to have been performed
 
@@ -216,18 +219,19 @@ handings_of_try p lines (Perform n j) = record { worker = p; serial = n; line = 
 handings_of_try p lines t = []
 
 -- what is handed over in an event: whether the partner answers, the call fails, or the process dies in it
-abbrev pub handings_by : World → Event → List Handing
-handings_by w (Acts p time d) = handings_of_try p (lines_at w.rounds (w.places p)) (try_of d)
-handings_by w (Misses p time t) = handings_of_try p (lines_at w.rounds (w.places p)) t
+abbrev pub handings_by : Site → Event → List Handing
+handings_by w (Acts p time d) = handings_of_try p (lines_at w.rounds (w.whereabouts p)) (try_of d)
+handings_by w (Misses p time t) = handings_of_try p (lines_at w.rounds (w.whereabouts p)) t
 handings_by w e = []
 
-abbrev pub handings_from : World → List Event → List Handing
+-- what is handed over in these, from here on
+abbrev pub handings_from : Site → List Event → List Handing
 handings_from w [] = []
-handings_from w (e ∷ es) = handings_by w e ++ handings_from (world_after w e) es
+handings_from w (e ∷ es) = handings_by w e ++ handings_from (site_after w e) es
 
 -- all that is handed over, in its order
 abbrev pub handings : List Event → List Handing
-handings es = handings_from first_world es
+handings es = handings_from first_site es
 
 -- The intents of worker p that these entries say were not begun. An intent is named by its worker and its serial number.
 abbrev pub opened_by_entries : (p : ℕ) → List Entry → List (ℕ × ℕ)
@@ -240,21 +244,22 @@ abbrev pub opened_by_finding : Finding → List (ℕ × ℕ)
 opened_by_finding f = if is_not_done f.verdict then (f.worker, f.serial) ∷ [] else []
 
 -- the intents of which an event says so, whether it is heard, lost, or fails
-abbrev pub openings_by : World → Event → List (ℕ × ℕ)
-openings_by w (Acts p time d) = opened_by_entries p (entries_of_try (lines_at w.rounds (w.places p)) time (try_of d))
-openings_by w (Misses p time t) = opened_by_entries p (entries_of_try (lines_at w.rounds (w.places p)) time t)
+abbrev pub openings_by : Site → Event → List (ℕ × ℕ)
+openings_by w (Acts p time d) = opened_by_entries p (entries_of_try (lines_at w.rounds (w.whereabouts p)) time (try_of d))
+openings_by w (Misses p time t) = opened_by_entries p (entries_of_try (lines_at w.rounds (w.whereabouts p)) time t)
 openings_by w (Says f) = opened_by_finding f
 openings_by w (SaysUnheard f) = opened_by_finding f
 openings_by w (SaysUnread f) = opened_by_finding f
 openings_by w e = []
 
-abbrev pub openings_from : World → List Event → List (ℕ × ℕ)
+-- the intents of which it is said in these, from here on
+abbrev pub openings_from : Site → List Event → List (ℕ × ℕ)
 openings_from w [] = []
-openings_from w (e ∷ es) = openings_by w e ++ openings_from (world_after w e) es
+openings_from w (e ∷ es) = openings_by w e ++ openings_from (site_after w e) es
 
 -- all intents of which it is ever said, noted by a process as `unbegun` or by a person as `not-done`
 abbrev pub openings : List Event → List (ℕ × ℕ)
-openings es = openings_from first_world es
+openings es = openings_from first_site es
 
 -- whether the intent of this worker and serial number is among these
 abbrev pub is_among : List (ℕ × ℕ) → (p n : ℕ) → Bool
@@ -296,5 +301,5 @@ names_of_line line [] = []
 names_of_line line (h ∷ hs) = if h.line == line then (h.worker, h.serial) ∷ names_of_line line hs else names_of_line line hs
 
 -- its intent is in the journal, and every stop leaves it there
-abbrev pub IsKept : World → Handing → Type 0
+abbrev pub IsKept : Site → Handing → Type 0
 IsKept w h = (front : List Entry) × (time : ℕ) × (back : List Entry) × ((w.journals h.worker).kept ≡ front ++ IntentOf h.serial h.line time ∷ back)

@@ -16,9 +16,9 @@ ghost use Rattle.amo_ledger.specs.Puts.{entries_of, findings_of, StandsForOneMor
 ghost use Rattle.amo_rounds.specs.File.{read_of, with_unheard, with_unread, after_stop};
 ghost use Rattle.amo_rounds.specs.Shown.{all_kept, IsShownBy};
 ghost use Rattle.amo_rounds.specs.Asked.{Asker, asker_of};
-ghost use Rattle.amo_rounds.specs.World.{Before, Inside, Round, Event};
-ghost use Rattle.amo_rounds.specs.Run.{left_in, MayAct, MayMiss, IsRun, world_of, Handing, handings_by, handings, openings, is_among, AreUnperformed, performed_lines, IsOneOf, names_of, AreDifferent, common, names_of_line, IsKept};
-ghost use Rattle.amo_rounds.specs.Commands.{Step, Lists, AreStepsBy, AreSteps, yard_of, said_in, IsTruthful, lines_in, events_of};
+ghost use Rattle.amo_rounds.specs.Site.{Before, Inside, Round, Event};
+ghost use Rattle.amo_rounds.specs.Run.{left_in, MayAct, MayMiss, IsRun, site_of, Handing, handings_by, handings, openings, is_among, AreUnperformed, performed_lines, IsOneOf, names_of, AreDifferent, common, names_of_line, IsKept};
+ghost use Rattle.amo_rounds.specs.Commands.{Action, Lists, AreActionsBy, AreActions, yard_of, said_in, IsTruthful, lines_in, events_of};
 ghost use Rattle.amo_rounds.specs.Fewer.{IsOverButForProcesses, IsOverButForRunners, IsOverButForCommands};
 
 use amo_journal::Device;
@@ -35,7 +35,7 @@ pub fn each_line_is_performed_at_most_once()
 /// done. Nothing is supposed of what is said.
 pub fn a_line_is_handed_over_again_only_when_opened()
     ensures { (before after : List Event) (e : Event) (earlier later : Handing) → IsRun (before ++ e ∷ after)
-        → IsOneOf (handings before) earlier → IsOneOf (handings_by (world_of before) e) later → earlier.line ≡ later.line
+        → IsOneOf (handings before) earlier → IsOneOf (handings_by (site_of before) e) later → earlier.line ≡ later.line
         → is_among (openings before) earlier.worker earlier.serial ≡ true }
 {}
 
@@ -48,7 +48,7 @@ pub fn a_line_is_handed_over_once_more_than_opened()
 
 /// The intent by which a line was handed over stays in its journal, whatever happens then: no stop of the machine takes it.
 pub fn what_is_handed_over_is_kept()
-    ensures { (es : List Event) (handing : Handing) → IsRun es → IsOneOf (handings es) handing → IsKept (world_of es) handing }
+    ensures { (es : List Event) (handing : Handing) → IsRun es → IsOneOf (handings es) handing → IsKept (site_of es) handing }
 {}
 
 /// No intent is handed over twice, and no two that are handed over, ever, have one worker and one serial number. So what is said of
@@ -60,17 +60,17 @@ pub fn an_intent_is_handed_over_once()
 
 /// What happens in a round is a history of its workers over one list of words: so each law of histories is one of rounds.
 pub fn rounds_are_histories()
-    ensures { (es : List Event) (k : ℕ) (r : Round) → IsRun es → (world_of es).rounds k ≡ Some r → IsHistory r.givens r.moments }
+    ensures { (es : List Event) (k : ℕ) (r : Round) → IsRun es → (site_of es).rounds k ≡ Some r → IsHistory r.givens r.moments }
 {}
 
 /// No two processes act as one worker of a round.
 pub fn no_two_have_one_seat()
-    ensures { (es : List Event) (p o k q : ℕ) → IsRun es → (world_of es).places p ≡ Inside k q → (world_of es).places o ≡ Inside k q → p ≡ o }
+    ensures { (es : List Event) (p o k q : ℕ) → IsRun es → (site_of es).whereabouts p ≡ Inside k q → (site_of es).whereabouts o ≡ Inside k q → p ≡ o }
 {}
 
 /// Who is in a round is in the last one that was begun: so nobody works in a round while another is begun, or afterwards.
 pub fn nobody_is_in_a_former_round()
-    ensures { (es : List Event) (p k q : ℕ) → IsRun es → (world_of es).places p ≡ Inside k q → k ≡ (world_of es).last }
+    ensures { (es : List Event) (p k q : ℕ) → IsRun es → (site_of es).whereabouts p ≡ Inside k q → k ≡ (site_of es).last }
 {}
 
 /// There are runs in which the machine stops while an intent is put, so that it is lost; in which a process dies while its partner
@@ -86,53 +86,53 @@ pub fn runs_there_are()
 /// it is over, and truly of what was performed until then. That nothing performs it afterwards isn't supposed: it follows. And no
 /// command begins twice, whatever is said.
 pub fn commands_perform_each_line_at_most_once()
-    ensures lines { (steps : List Step) → AreSteps steps → IsTruthful steps → AreDistinct (lines_in (yard_of steps).performed) }
-    ensures commands { (steps : List Step) → AreSteps steps → AreDifferent (names_of (yard_of steps).begun) }
+    ensures lines { (actions : List Action) → AreActions actions → IsTruthful actions → AreDistinct (lines_in (yard_of actions).performed) }
+    ensures commands { (actions : List Action) → AreActions actions → AreDifferent (names_of (yard_of actions).begun) }
 {}
 
 /// Once an intent was listed as in doubt, no command of its line may begin, and nothing of one is left: not until it is said of that
 /// intent, by a `not-done` or an `unbegun`, that it may. So who does the job by hand, and then says `done`, does it alone.
 pub fn a_listed_doubt_is_final()
-    ensures { (p n line : ℕ) (before after : List Step) (h : Handing) → AreSteps (before ++ Lists p n line ∷ after)
+    ensures { (p n line : ℕ) (before after : List Action) (h : Handing) → AreActions (before ++ Lists p n line ∷ after)
         → IsOneOf ((yard_of (before ++ Lists p n line ∷ after)).waiting ++ (yard_of (before ++ Lists p n line ∷ after)).running) h → h.line ≡ line
         → is_among (said_in (before ++ Lists p n line ∷ after)) p n ≡ true }
 {}
 
 /// Without the runners and their commands it is a run: so each law of runs is one of these.
 pub fn commands_stand_over_runs()
-    ensures { (steps : List Step) → AreSteps steps → IsRun (events_of steps) × ((yard_of steps).world ≡ world_of (events_of steps)) }
+    ensures { (actions : List Action) → AreActions actions → IsRun (events_of actions) × ((yard_of actions).site ≡ site_of (events_of actions)) }
 {}
 
-/// There are such steps: in the run of `runs_there_are` the first command begins and does nothing, its intent is listed as in doubt,
+/// There are such actions: in the run of `runs_there_are` the first command begins and does nothing, its intent is listed as in doubt,
 /// and a person says truly that it wasn't done; then another worker's command performs the line.
 pub fn commands_there_are()
-    ensures { (steps : List Step) × AreSteps steps × IsTruthful steps × (names_of (yard_of steps).begun ≡ (1, 1) ∷ (2, 1) ∷ [])
-        × (names_of (yard_of steps).performed ≡ (2, 1) ∷ []) }
+    ensures { (actions : List Action) × AreActions actions × IsTruthful actions × (names_of (yard_of actions).begun ≡ (1, 1) ∷ (2, 1) ∷ [])
+        × (names_of (yard_of actions).performed ≡ (2, 1) ∷ []) }
 {}
 
 /// None of the three locks can be done without: by the other two a line is performed twice, though all that is said is true when it
 /// is said. Nor can the truth: by all three a line is performed twice where a person says of what was performed that it wasn't.
 pub fn each_lock_is_needed()
-    ensures journal { (steps : List Step) × AreStepsBy IsOverButForProcesses steps × IsTruthful steps × (lines_in (yard_of steps).performed ≡ 1 ∷ 1 ∷ []) }
-    ensures runner { (steps : List Step) × AreStepsBy IsOverButForRunners steps × IsTruthful steps × (lines_in (yard_of steps).performed ≡ 1 ∷ 1 ∷ []) }
-    ensures command { (steps : List Step) × AreStepsBy IsOverButForCommands steps × IsTruthful steps × (lines_in (yard_of steps).performed ≡ 1 ∷ 1 ∷ []) }
-    ensures truth { (steps : List Step) × AreSteps steps × (lines_in (yard_of steps).performed ≡ 1 ∷ 1 ∷ []) }
+    ensures journal { (actions : List Action) × AreActionsBy IsOverButForProcesses actions × IsTruthful actions × (lines_in (yard_of actions).performed ≡ 1 ∷ 1 ∷ []) }
+    ensures runner { (actions : List Action) × AreActionsBy IsOverButForRunners actions × IsTruthful actions × (lines_in (yard_of actions).performed ≡ 1 ∷ 1 ∷ []) }
+    ensures command { (actions : List Action) × AreActionsBy IsOverButForCommands actions × IsTruthful actions × (lines_in (yard_of actions).performed ≡ 1 ∷ 1 ∷ []) }
+    ensures truth { (actions : List Action) × AreActions actions × (lines_in (yard_of actions).performed ≡ 1 ∷ 1 ∷ []) }
 {}
 
 /// What the contract of `work` says of a log is what a run asks of a process that is in a round: a call that it may make may come
 /// about, also where the process dies in it, and a deed that was due, and is true of the words, may be done.
 pub fn processes_do_right()
-    ensures calls { (es : List Event) (p k q : ℕ) (r : Round) (l : Log) (t : Try) → IsRun es → (world_of es).places p ≡ Inside k q → (world_of es).rounds k ≡ Some r
-        → log_of q r.moments ≡ Some l → MayTry (first_stage r.givens q l.serial) (Some l.deeds) t → MayMiss (world_of es).rounds (Inside k q) t }
-    ensures deeds { (es : List Event) (p k q : ℕ) (r : Round) (l : Log) (d : Deed) → IsRun es → (world_of es).places p ≡ Inside k q → (world_of es).rounds k ≡ Some r
+    ensures calls { (es : List Event) (p k q : ℕ) (r : Round) (l : Log) (t : Try) → IsRun es → (site_of es).whereabouts p ≡ Inside k q → (site_of es).rounds k ≡ Some r
+        → log_of q r.moments ≡ Some l → MayTry (first_stage r.givens q l.serial) (Some l.deeds) t → MayMiss (site_of es).rounds (Inside k q) t }
+    ensures deeds { (es : List Event) (p k q : ℕ) (r : Round) (l : Log) (d : Deed) → IsRun es → (site_of es).whereabouts p ≡ Inside k q → (site_of es).rounds k ≡ Some r
         → log_of q r.moments ≡ Some l → AreDue (first_stage r.givens q l.serial) (l.deeds ++ d ∷ []) → IsTrue (scene_of r.givens r.moments).words d
-        → MayAct (world_of es).rounds (Inside k q) d }
+        → MayAct (site_of es).rounds (Inside k q) d }
 {}
 
 /// Where a process stands that is in no round is where what it has done since it began leads, each deed of which was due. So what
 /// the contract of `ask_pending` says is what a run asks of it: it has begun with all intents that are pending in its journal.
 pub fn who_asks_does_right()
-    ensures { (es : List Event) (p : ℕ) (s : Stage) (a : Asker) → IsRun es → (world_of es).places p ≡ Before s → asker_of p es ≡ Some a
+    ensures { (es : List Event) (p : ℕ) (s : Stage) (a : Asker) → IsRun es → (site_of es).whereabouts p ≡ Before s → asker_of p es ≡ Some a
         → Stands (Asking (left_in a.attempts)) (Some a.deeds) s }
 {}
 

@@ -5,13 +5,13 @@ use Rattle.std.proofs.lemmas.Bool.{cases_lt, cases_eq}
 use Rattle.std.proofs.lemmas.List.{get_or_read}
 use Rattle.amo_sets.specs.declared.job_set.JobSet.TheInside.{Inside}
 use Rattle.amo_sets.specs.contracts.job_set.JobSet.{the_view, the_invariant}
-use Rattle.amo_sets.specs.Bits.{bit}
+use Rattle.amo_sets.specs.Bits.{is_one, bit}
 use Rattle.amo_sets.specs.Lists.{numbered, put, table}
 use Rattle.amo_sets.specs.Rank.{count}
-use Rattle.amo_sets.proofs.Numbers.{numbered-put_same, numbered-put_other, length-put, length-table}
+use Rattle.amo_sets.proofs.Numbers.{numbered-put_same, numbered-put_other, length-put, length-table, count_pos}
 use Rattle.amo_sets.proofs.Tables.{numbered-table, numbered_past, table_is}
-use Rattle.amo_sets.proofs.Tally.{count_same, count_gain}
-use Rattle.amo_sets.proofs.Words.{IsWritten, written_set, written_cleared, bit_written, bit_kept}
+use Rattle.amo_sets.proofs.Tally.{count_same, count_gain, count_lt}
+use Rattle.amo_sets.proofs.Words.{bit_in, IsWritten, written_set, written_cleared, bit_written, bit_kept}
 
 pub length_of : (a : Inside) (s : List Bool) → the_view a ≡ s → length s ≡ a.range
 length_of a s e = ap length (sym e) ∙ length-table (bit a.words.items) a.range
@@ -27,10 +27,23 @@ bits_are a s e inv (suc k) = let len = length_of a s e in ⊎_elim
     (λ (h : suc k ≤ a.range). sym (member_of a s e (suc k) (omega arith) (omega arith)))
     (cases_lt a.range (suc k))
 
+-- and so does each bit of a word that was read
+pub bit_read : (a : Inside) (s : List Bool) → the_view a ≡ s → the_invariant a → (q x : ℕ) → q < length a.words.items → x ≡ get_or a.words.items q x
+    → (r : ℕ) → 1 ≤ r → r ≤ 64 → is_one x r ≡ numbered false s (64 * q + r)
+bit_read a s e inv q x lt read r low high =
+    ap (λ (w : ℕ). is_one w r) (get_or_read a.words.items q x lt read 0) ∙ sym (bit_in a.words.items q r low high) ∙ bits_are a s e inv (64 * q + r)
+
 -- the length that is kept
 pub kept_is : (a : Inside) (s : List Bool) → the_view a ≡ s → the_invariant a → a.len ≡ count (length s) (numbered false s)
 kept_is a s e inv =
     inv.kept ∙ ap (λ (m : ℕ). count m (bit a.words.items)) (sym (length_of a s e)) ∙ count_same (length s) (bit a.words.items) (numbered false s) (λ j l h. sym (member_of a s e j l h))
+
+-- where there is a stranger, there are fewer members than jobs; and where there is a member, there is one at least
+pub with_stranger : (a : Inside) (s : List Bool) (j : ℕ) → the_view a ≡ s → the_invariant a → 1 ≤ j → j ≤ length s → numbered false s j ≡ false → a.len < a.range
+with_stranger a s j e inv l h is = let n = length_of a s e in let kept = kept_is a s e inv in let few = count_lt (length s) (numbered false s) j l h is in omega arith
+
+pub with_member : (a : Inside) (s : List Bool) (j : ℕ) → the_view a ≡ s → the_invariant a → 1 ≤ j → j ≤ length s → numbered false s j ≡ true → 1 ≤ a.len
+with_member a s j e inv l h is = let kept = kept_is a s e inv in let some = count_pos (length s) (numbered false s) j l h is in omega arith
 
 -- job j has its word
 pub word_of : (a : Inside) (s : List Bool) → the_view a ≡ s → the_invariant a → (j : ℕ) → 1 ≤ j → j ≤ length s → (j - 1) / 64 < length a.words.items

@@ -17,6 +17,11 @@ pub numbered-table : {X : Type 0} (d : X) (f : ℕ → X) (n j : ℕ) → 1 ≤ 
 numbered-table d f n zero l h = absurd (omega arith)
 numbered-table d f n (suc k) l h = get_or-table d f n k (omega arith)
 
+-- a table of one value gives that everywhere
+pub numbered-table_same : {X : Type 0} (d : X) (n p : ℕ) → numbered d (table n (λ _. d)) p ≡ d
+numbered-table_same d n zero = refl
+numbered-table_same d n (suc k) = ⊎_elim (λ (l : k < n). get_or-table d (λ _. d) n k l) (λ (l : n ≤ k). get_or_past (table n (λ _. d)) k d (let e = length-table (λ _. d) n in omega arith)) (cases_lt k n)
+
 -- the table is the list whose items are the same
 pub table_is : {X : Type 0} (d : X) (f : ℕ → X) (n : ℕ) (xs : List X) → length xs ≡ n → ((j : ℕ) → 1 ≤ j → j ≤ n → f j ≡ numbered d xs j) → table n f ≡ xs
 table_is d f n xs len same =

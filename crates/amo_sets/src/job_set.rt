@@ -1,5 +1,5 @@
 //! A set of jobs within 1..=n, one bit a job.
-ghost use Rattle.std.specs.Prelude.{◌≡◌, ◌↔◌, ◌⊎◌, ℕ, ◌+◌, ◌/◌, ◌<◌, ◌≤◌, true, false, IsTrue, IsNone, IfOk, IfSome, count_ones, length, replicate, unwrap_or};
+ghost use Rattle.std.specs.Prelude.{◌≡◌, ◌↔◌, ◌⊎◌, ℕ, ◌+◌, ◌*◌, ◌/◌, ◌<◌, ◌≤◌, true, false, IsTrue, IsNone, IfOk, IfSome, count_ones, length, replicate, unwrap_or};
 ghost use Rattle.amo_sets.specs.Bits.{bit, is_one, is_without};
 ghost use Rattle.amo_sets.specs.Lists.{numbered, put};
 ghost use Rattle.amo_sets.specs.Rank.{count, has_rank, number_of_rank};
@@ -118,6 +118,15 @@ impl JobSet {
         self.len() == 0
     }
 
+    /// The members of word q, from 0, that the other set lacks, as its bits.
+    fn word_without(&self, other: &JobSet, q: usize) -> u64
+        requires same { length self.now ≡ length other.now }
+        requires within { q < (length self.now + 63) / 64 }
+        ensures { (r : ℕ) → 1 ≤ r → r ≤ 64 → is_one result r ≡ is_without self.now other.now (64 * q + r) }
+    {
+        self.words[q] & !other.words[q]
+    }
+
     /// How many members the other set lacks.
     pub fn count_without(&self, other: &JobSet) -> u32
         requires { length self.now ≡ length other.now }
@@ -125,7 +134,7 @@ impl JobSet {
     {
         let mut total = 0;
         for q in 0..self.words.len() {
-            total += (self.words[q] & !other.words[q]).count_ones();
+            total += self.word_without(other, q).count_ones();
         }
         total
     }
@@ -143,7 +152,7 @@ impl JobSet {
         }
         let mut left = i;
         for q in 0..self.words.len() {
-            let word = self.words[q] & !other.words[q];
+            let word = self.word_without(other, q);
             let ones = word.count_ones();
             if left <= ones {
                 return Some(64 * q as u32 + place_of(word, left));

@@ -1,9 +1,6 @@
 //! What the words of a command line ask for, and how it is done.
-ghost use Rattle.std.specs.Prelude.{◌≡◌, Some, None, false, map, string_bytes, OnOk, IfErr};
-ghost use Rattle.amo_program.specs.Endings.{change};
-ghost use Rattle.amo_program.specs.Statuses.{IsDone, IsFault, IsPassedOn};
+ghost use Rattle.std.specs.Prelude.{◌≡◌, map, string_bytes};
 ghost use Rattle.amo_show_work.specs.Words.{text_asked, asked_after_name};
-ghost use Rattle.amo_show_work.specs.Shows.{writes, refuses, others};
 
 use amo_program::{Command, Fault};
 use amo_streams::{Sink, Source};
@@ -42,28 +39,6 @@ fn asked(words: &[String]) -> Option<Show>
     }
 }
 
-/// Writes what is asked for.
-#[tactic(auto, using(crate::proofs::Endings::of_text, amo_program::proofs::Endings::texts_pass))]
-fn carry_out<S: Source, W: Sink>(
-    alloc: Global,
-    show: Show,
-    reader: &mut S,
-    out: &mut W,
-) -> Result<(), Fault>
-    requires reader { S.failed reader.old ≡ false }
-    requires out { W.failed out.old ≡ false }
-    ensures done { OnOk result (IsDone writes (Some show)
-        (change (S.remaining reader.old) (S.remaining reader.new) (S.failed reader.new))
-        (change (W.contents out.old) (W.contents out.new) (W.failed out.new))) }
-    ensures passed { OnOk result (W.waiting out.new ≡ false) }
-    ensures fault { IfErr result (λ fault. IsFault refuses others fault (Some show)
-        (change (S.remaining reader.old) (S.remaining reader.new) (S.failed reader.new))
-        (change (W.contents out.old) (W.contents out.new) (W.failed out.new))) }
-    ensures passed_on { IfErr result (λ fault. IsPassedOn fault (W.waiting out.new)) }
-{
-    Ok(write_of(alloc, &show.shown, reader, out)?)
-}
-
 impl<R: Sync> Command<R> for Show {
     ghost use Rattle.amo_show_work.specs.Words.{asked_after_name};
     ghost use Rattle.amo_show_work.specs.Shows.{writes, refuses, others, plan_keeps};
@@ -82,6 +57,7 @@ impl<R: Sync> Command<R> for Show {
         asked(words).ok_or(Fault::NoCommand)
     }
 
+    #[tactic(auto, using(amo_program::proofs::Endings::of_text, crate::proofs::Endings::memory_keeps, amo_program::proofs::Endings::texts_pass))]
     fn carry_out<S: Source, W: Sink>(
         &self,
         _rt: &R,
@@ -89,7 +65,7 @@ impl<R: Sync> Command<R> for Show {
         reader: &mut S,
         out: &mut W,
     ) -> Result<(), Fault> {
-        carry_out(alloc, *self, reader, out)
+        Ok(write_of(alloc, &self.shown, reader, out)?)
     }
 
     ghost plan_keeps = { plan_keeps };

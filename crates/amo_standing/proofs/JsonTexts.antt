@@ -1,5 +1,5 @@
 -- A text as JSON: a string, or null where the bytes are no text.
-use Rattle.std.proofs.Common.{◌≡◌, ℕ, cond, true, List, codes, sym, ap, ◌∙◌}
+use Rattle.std.proofs.Common.{◌≡◌, ℕ, cond, List, codes, sym, ap, ◌∙◌}
 use Rattle.std.specs.Str.{IsUtf8, is_utf8}
 use Rattle.std.proofs.lemmas.Bool.{false_from_ne_true}
 use Rattle.std.proofs.lemmas.Str.{IsUtf8-from_is_utf8, is_utf8-from_IsUtf8}

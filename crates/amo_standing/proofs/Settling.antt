@@ -67,6 +67,24 @@ module _ (findings : List Finding) (worker serial time : ℕ) where
       list_any-append (λ (f : Finding). not (is_not_done f.verdict) && is_of w s f) findings (record { verdict = NotDone; worker = worker; serial = serial; time = time } ∷ [])
       ∙ or_none (is_found_done findings w s) false refl
 
+-- what a finding more makes of the standings by one intent it makes of those by all
+
+module _ (findings more : List Finding) (finals : List Intent) (line : ℕ) (change : List Standing → List Standing) (of_none : change [] ≡ []) (of_both : (xs ys : List Standing) → change (xs ++ ys) ≡ change xs ++ change ys)
+    (of_one : (w s : ℕ) (e : Attempt) → if_closing more finals w s e line ≡ change (if_closing findings finals w s e line)) where
+  in_one : (w s : ℕ) (es : List Attempt) → closing_in more finals w s es line ≡ change (closing_in findings finals w s es line)
+  in_one w s [] = sym of_none
+  in_one w s (e ∷ es) =
+      ap (λ l. l ++ closing_in more finals w (s + 1) es line) (of_one w s e)
+      ∙ ap (λ l. change (if_closing findings finals w s e line) ++ l) (in_one w (s + 1) es)
+      ∙ sym (of_both (if_closing findings finals w s e line) (closing_in findings finals w (s + 1) es line))
+
+  all_after : (w : ℕ) (journals : List (List Attempt)) → closing more finals w journals line ≡ change (closing findings finals w journals line)
+  all_after w [] = sym of_none
+  all_after w (es ∷ journals) =
+      ap (λ l. l ++ closing more finals (w + 1) journals line) (in_one w 1 es)
+      ∙ ap (λ l. change (closing_in findings finals w 1 es line) ++ l) (all_after (w + 1) journals)
+      ∙ sym (of_both (closing_in findings finals w 1 es line) (closing findings finals (w + 1) journals line))
+
 -- a finding that it was done: the intent goes on closing its line, and stands done
 
 module _ (findings : List Finding) (finals : List Intent) (worker serial time line : ℕ) where
@@ -92,19 +110,8 @@ module _ (findings : List Finding) (finals : List Intent) (worker serial time li
       by_test true false false false is_so =
           sym (ap (λ b. cond b (stood Done w s e) (stood (state_by (is_among finals w s) e.answer) w s e) ∷ []) is_so)
 
-  in_settled : (w s : ℕ) (es : List Attempt) → closing_in (done_too findings worker serial time) finals w s es line ≡ map settled (closing_in findings finals w s es line)
-  in_settled w s [] = refl
-  in_settled w s (e ∷ es) =
-      ap (λ l. l ++ closing_in (done_too findings worker serial time) finals w (s + 1) es line) (if_settled w s e)
-      ∙ ap (λ l. map settled (if_closing findings finals w s e line) ++ l) (in_settled w (s + 1) es)
-      ∙ sym (map-append settled (if_closing findings finals w s e line) (closing_in findings finals w (s + 1) es line))
-
   pub all_settled : (w : ℕ) (journals : List (List Attempt)) → closing (done_too findings worker serial time) finals w journals line ≡ map settled (closing findings finals w journals line)
-  all_settled w [] = refl
-  all_settled w (es ∷ journals) =
-      ap (λ l. l ++ closing (done_too findings worker serial time) finals (w + 1) journals line) (in_settled w 1 es)
-      ∙ ap (λ l. map settled (closing_in findings finals w 1 es line) ++ l) (all_settled (w + 1) journals)
-      ∙ sym (map-append settled (closing_in findings finals w 1 es line) (closing findings finals (w + 1) journals line))
+  all_settled = all_after findings (done_too findings worker serial time) finals line (map settled) refl (map-append settled) if_settled
 
   -- where none runs, none runs then
   none_runs : (xs : List Standing) → filter runs xs ≡ [] → filter runs (map settled xs) ≡ []
@@ -172,19 +179,8 @@ module _ (findings : List Finding) (finals : List Intent) (worker serial time li
       by_test true false false found false is_so =
           sym (ap (λ b. cond (not b) (stood (cond found Done (state_by (is_among finals w s) e.answer)) w s e ∷ []) []) is_so)
 
-  in_opened : (w s : ℕ) (es : List Attempt) → closing_in (undone_too findings worker serial time) finals w s es line ≡ filter others (closing_in findings finals w s es line)
-  in_opened w s [] = refl
-  in_opened w s (e ∷ es) =
-      ap (λ l. l ++ closing_in (undone_too findings worker serial time) finals w (s + 1) es line) (if_opened w s e)
-      ∙ ap (λ l. filter others (if_closing findings finals w s e line) ++ l) (in_opened w (s + 1) es)
-      ∙ sym (filter-append others (if_closing findings finals w s e line) (closing_in findings finals w (s + 1) es line))
-
   pub all_opened : (w : ℕ) (journals : List (List Attempt)) → closing (undone_too findings worker serial time) finals w journals line ≡ filter others (closing findings finals w journals line)
-  all_opened w [] = refl
-  all_opened w (es ∷ journals) =
-      ap (λ l. l ++ closing (undone_too findings worker serial time) finals (w + 1) journals line) (in_opened w 1 es)
-      ∙ ap (λ l. filter others (closing_in findings finals w 1 es line) ++ l) (all_opened (w + 1) journals)
-      ∙ sym (filter-append others (closing_in findings finals w 1 es line) (closing findings finals (w + 1) journals line))
+  all_opened = all_after findings (undone_too findings worker serial time) finals line (filter others) refl (filter-append others) if_opened
 
 -- an intent that a person is asked about
 

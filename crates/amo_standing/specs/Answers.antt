@@ -12,7 +12,7 @@ use Rattle.amo_standing.specs.declared.refusal.Refusal.{Refusal}
 use Rattle.amo_standing.specs.declared.refusal.Refusal.TheVariants.{NoIntent, OtherLine, NotClosing, NotAsked, Running as StillRunning, AnsweredOtherwise, AnsweredSo}
 use Rattle.amo_standing.specs.declared.state.Intent.{Intent}
 use Rattle.amo_standing.specs.declared.state.State.{State}
-use Rattle.amo_standing.specs.declared.state.State.TheVariants.{Open, Done, Failed, Doubt, Untouched, Running}
+use Rattle.amo_standing.specs.declared.state.State.TheVariants.{Open, Done, Running}
 use Rattle.amo_standing.specs.States.{is_among, is_found_done, state_of}
 use Rattle.amo_standing.specs.Standings.{attempt_of, standing_of}
 
@@ -31,9 +31,7 @@ abbrev pub refusal_at : State → Bool → Option Refusal
 refusal_at Open closing_now = Some NotAsked
 refusal_at Done closing_now = Some NotAsked
 refusal_at Running closing_now = Some StillRunning
-refusal_at Failed closing_now = if closing_now then None else Some NotClosing
-refusal_at Doubt closing_now = if closing_now then None else Some NotClosing
-refusal_at Untouched closing_now = if closing_now then None else Some NotClosing
+refusal_at state closing_now = if closing_now then None else Some NotClosing
 
 -- whether it is by this intent that the line is closed now
 abbrev pub is_closed_by : List Finding → List (List Attempt) → List Intent → ℕ → ℕ → ℕ → Bool
@@ -79,11 +77,8 @@ with_answer findings verdict worker serial time = findings ++ record { verdict =
 
 -- whether it did nothing
 abbrev pub is_idle : Option Answer → Bool
-is_idle None = false
-is_idle (Some (Ended code time)) = false
-is_idle (Some Unknown) = false
-is_idle (Some Unbegun) = false
 is_idle (Some (Idle code)) = true
+is_idle answer = false
 
 -- the intents of a journal that did nothing and that no person answered, the first of them of this serial number
 abbrev pub untouched_in : List Finding → ℕ → ℕ → List Attempt → List Intent

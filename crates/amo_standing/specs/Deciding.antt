@@ -1,4 +1,4 @@
--- Which intent decides, as they are come by one after the other.
+-- Within this crate: which intent decides, as they are come by one after the other.
 use Rattle.std.specs.Prelude.{◌&&◌, ◌||◌, not, List, [], ◌∷◌, if◌then◌else◌}
 use Rattle.amo_standing.specs.declared.standing.Standing.{Standing}
 use Rattle.amo_standing.specs.declared.state.State.TheVariants.{Open, Running}

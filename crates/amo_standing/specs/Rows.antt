@@ -33,9 +33,7 @@ abbrev pub is_listed : State → Bool
 is_listed Open = false
 is_listed Done = false
 is_listed Failed = false
-is_listed Doubt = true
-is_listed Untouched = true
-is_listed Running = true
+is_listed state = true
 
 -- `STATE P.S LINE `
 abbrev pub status_head : ℕ → Standing → List ℕ

@@ -3,6 +3,7 @@ ghost use Rattle.std.specs.Prelude.{◌≡◌, ◌<◌, ◌≤◌, ◌||◌, IfO
 ghost use Rattle.std.specs.Io.KnownBytes.{Appends, Consumes, IsAtEnd};
 ghost use Rattle.amo_streams.specs.Streams.{AppendsFront};
 ghost use Rattle.amo_streams.specs.ReadFaults.{is_failure};
+ghost use Rattle.amo_streams.specs.declared.copying.TheConstants.{MOST_READ};
 
 use super::streams::{Failed, Sink, Source};
 use std::alloc::{AllocError, Global};
@@ -23,8 +24,8 @@ pub const MOST_READ: usize = 1_048_577;
 /// taken from what remains.
 pub fn read_all<R: Source>(alloc: Global, reader: &mut R) -> Result<Vec<u8>, ReadFault>
     ensures ok { IfOk result (λ v. Consumes (R.remaining reader.old) (R.remaining reader.new) v.items) }
-    ensures most { IfOk result (λ v. vec_len v ≤ 1048577) }
-    ensures end { IfOk result (λ v. vec_len v < 1048577 → IsAtEnd (R.remaining reader.new)) }
+    ensures most { IfOk result (λ v. vec_len v ≤ MOST_READ) }
+    ensures end { IfOk result (λ v. vec_len v < MOST_READ → IsAtEnd (R.remaining reader.new)) }
     ensures calm { OnOk result (R.failed reader.new ≡ R.failed reader.old) }
     ensures fails { IfErr result (λ e. R.failed reader.new ≡ (R.failed reader.old || is_failure e)) }
 {

@@ -51,7 +51,7 @@ impl<S> Streamed<S> {
     }
 
     /// What the reader or the writer answered, as a source or sink tells it: it has failed just where that is an error.
-    fn told<T>(&mut self, answer: io::Result<T>) -> Result<T, Failed>
+    fn answered<T>(&mut self, answer: io::Result<T>) -> Result<T, Failed>
         ensures value { IfOk result (λ x. answer ≡ Ok x) }
         ensures fails { is_err result ≡ is_err answer }
         ensures mark { self.new ≡ record self.old { failed = (self.old.failed || is_err answer) } }
@@ -73,7 +73,7 @@ impl<S: Read> Source for Streamed<S> {
 
     fn read(&mut self, buf: &mut [u8]) -> Result<usize, Failed> {
         let answer = self.inner.read(buf);
-        self.told(answer)
+        self.answered(answer)
     }
 }
 
@@ -93,7 +93,7 @@ impl<S: Write> Sink for Streamed<S> {
         ensures fails { self.new.failed ≡ (self.old.failed || is_err result) }
     {
         let answer = self.inner.write(buf);
-        let count = self.told(answer)?;
+        let count = self.answered(answer)?;
         if count == 0 && !buf.is_empty() {
             self.failed = true;
             return Err(Failed);
@@ -110,7 +110,7 @@ impl<S: Write> Sink for Streamed<S> {
         ensures fails { self.new.failed ≡ (self.old.failed || is_err result) }
     {
         let answer = self.inner.flush();
-        self.told(answer)?;
+        self.answered(answer)?;
         self.waiting = false;
         Ok(())
     }

@@ -1,5 +1,5 @@
 -- What is said in answer is heard, and what is heard was said so.
-use Rattle.std.proofs.Common.{◌≡◌, ◌≢◌, inl, inr, ℕ, ◌^◌, ◌<◌, Bool, true, false, cond, List, ◌∷◌, ◌++◌, Option, Some, None, refl, sym, ap, subst, ◌∙◌, arith}
+use Rattle.std.proofs.Common.{◌≡◌, ◌≢◌, inl, inr, ⊎_elim, ℕ, ◌^◌, ◌<◌, Bool, true, false, cond, List, ◌∷◌, ◌++◌, Option, Some, None, refl, sym, ap, subst, ◌∙◌, arith}
 use Rattle.std.specs.Prelude.{not, ◌==◌, codes, option_and_then, unwrap_or, IfSome}
 use Rattle.std.specs.Fmt.{decimal}
 use Rattle.std.specs.List.{list_all}
@@ -18,22 +18,11 @@ use Rattle.amo_ledger.specs.Numbers.{number_in, has_blank, first_word, other_wor
 use Rattle.amo_ledger.specs.Entries.{code_in}
 use Rattle.amo_ledger.proofs.EntryTexts.{code_reads, code_printed}
 use Rattle.amo_ledger.proofs.NumberTexts.{reads_printed, printed_of_read}
-use Rattle.amo_ledger.proofs.Words.{lacks_by_test, decimal_lacks, AreWords, words, split, and_then_some, blank_and, either_way, ascii_by_test}
+use Rattle.amo_ledger.proofs.Readings.{none_some, some_is}
+use Rattle.amo_ledger.proofs.Words.{word_reads, either_word, decimal_lacks, AreWords, words, split, and_then_some, blank_and, either_way, ascii_by_test}
 use Rattle.amo_talk.specs.Replies.{word_of, text_of_answer, text_of, FitsAnswer, Fits, way_in, number_and_way_in, code_and_way_in, reply_of_word, said_in, reply_in}
 
-some_is : {A : Type 0} {x y : A} → Some x ≡ Some y → x ≡ y
-some_is e = cc
-
-none_some : {A : Type 0} {x : A} → None ≡ Some x → ⊥
-none_some e = cc
-
 -- what is said is heard
-
-word_reads : (w r : List ℕ) → list_all (λ b. not (b == 32)) w ≡ true → said_in (w ++ 32 ∷ r) ≡ reply_of_word w r
-word_reads w r lacks =
-    let text = w ++ 32 ∷ r in
-    let p : AreWords text w r = words w r (lacks_by_test 32 w lacks) in
-    ap (λ t. cond t (reply_of_word (first_word text) (other_words text)) None) p.blank ∙ ap (λ f. reply_of_word f (other_words text)) p.first ∙ ap (reply_of_word w) p.rest
 
 way_reads : (way : Way) → way_in (word_of way) ≡ Some way
 way_reads Go = refl
@@ -69,19 +58,19 @@ code_and_way_reads n c way fits small =
 
 answer_reads : (s : ℕ) (a : Answer) (way : Way) → s < 2 ^ 64 → FitsAnswer a → said_in (text_of_answer s a way) ≡ Some (Answered s a way)
 answer_reads s (Done c) way fits small =
-    word_reads (codes "done") (decimal s ++ 32 ∷ (decimal c ++ 32 ∷ word_of way)) refl
+    word_reads reply_of_word (codes "done") (decimal s ++ 32 ∷ (decimal c ++ 32 ∷ word_of way)) refl
     ∙ ap (λ o. option_and_then (λ (n : ℕ × ℕ × Way). Some (Answered n.0 (Done n.1) n.2)) o) (code_and_way_reads s c way fits small)
 answer_reads s Doubt way fits any =
-    word_reads (codes "doubt") (decimal s ++ 32 ∷ word_of way) refl ∙ ap (λ o. option_and_then (λ (n : ℕ × Way). Some (Answered n.0 Doubt n.1)) o) (number_reads s way fits)
+    word_reads reply_of_word (codes "doubt") (decimal s ++ 32 ∷ word_of way) refl ∙ ap (λ o. option_and_then (λ (n : ℕ × Way). Some (Answered n.0 Doubt n.1)) o) (number_reads s way fits)
 answer_reads s Unbegun way fits any =
-    word_reads (codes "unbegun") (decimal s ++ 32 ∷ word_of way) refl ∙ ap (λ o. option_and_then (λ (n : ℕ × Way). Some (Answered n.0 Unbegun n.1)) o) (number_reads s way fits)
+    word_reads reply_of_word (codes "unbegun") (decimal s ++ 32 ∷ word_of way) refl ∙ ap (λ o. option_and_then (λ (n : ℕ × Way). Some (Answered n.0 Unbegun n.1)) o) (number_reads s way fits)
 answer_reads s (Untouched c) way fits small =
-    word_reads (codes "untouched") (decimal s ++ 32 ∷ (decimal c ++ 32 ∷ word_of way)) refl
+    word_reads reply_of_word (codes "untouched") (decimal s ++ 32 ∷ (decimal c ++ 32 ∷ word_of way)) refl
     ∙ ap (λ o. option_and_then (λ (n : ℕ × ℕ × Way). Some (Answered n.0 (Untouched n.1) n.2)) o) (code_and_way_reads s c way fits small)
 
 running_reads : (s : ℕ) (way : Way) → s < 2 ^ 64 → said_in (codes "running " ++ (decimal s ++ 32 ∷ word_of way)) ≡ Some (Running s way)
 running_reads s way fits =
-    word_reads (codes "running") (decimal s ++ 32 ∷ word_of way) refl ∙ ap (λ o. option_and_then (λ (n : ℕ × Way). Some (Running n.0 n.1)) o) (number_reads s way fits)
+    word_reads reply_of_word (codes "running") (decimal s ++ 32 ∷ word_of way) refl ∙ ap (λ o. option_and_then (λ (n : ℕ × Way). Some (Running n.0 n.1)) o) (number_reads s way fits)
 
 reply_reads : (reply : Reply) (text : List ℕ) → Fits reply → text_of reply ≡ Some text → said_in text ≡ Some reply
 reply_reads (Answered s a way) text fits said = ap said_in (sym (some_is said)) ∙ answer_reads s a way fits.0 fits.1
@@ -95,13 +84,7 @@ abbrev IsSaid : List ℕ → Reply → Type 0
 IsSaid text reply = (text_of reply ≡ Some text) × Fits reply
 
 way_printed : (w : List ℕ) (way : Way) → way_in w ≡ Some way → w ≡ word_of way
-way_printed w way h = elim (either_way (bytes_eq w (codes "go")) _ _ (Some way) h) [
-  | inl t ↦ let is : Go ≡ way = cc in (bytes_eq-Decides w (codes "go")).0 t.0 ∙ ap word_of is
-  | inr f ↦ elim (either_way (bytes_eq w (codes "leave")) _ _ (Some way) f.1) [
-    | inl t ↦ let is : Leave ≡ way = cc in (bytes_eq-Decides w (codes "leave")).0 t.0 ∙ ap word_of is
-    | inr z ↦ absurd (none_some z.1)
-  ]
-]
+way_printed w way h = ⊎_elim (λ p. p.0 ∙ ap word_of p.1) (λ p. p.0 ∙ ap word_of p.1) (either_word w (codes "go") (codes "leave") Go Leave way h)
 
 number_printed : (text : List ℕ) (n : ℕ × Way) → number_and_way_in text ≡ Some n → (decimal n.0 ++ 32 ∷ word_of n.1 ≡ text) × (n.0 < 2 ^ 64)
 number_printed text n h =
@@ -135,21 +118,24 @@ word_is w r word e is said =
     let same : w ≡ word = (bytes_eq-Decides w word).0 is in
     subst (λ (v : List ℕ). IsSaid (v ++ 32 ∷ r) e) (sym same) said
 
+-- what was read of what stands behind the word is what is said there
+with_parts : {N : Type 0} (word r : List ℕ) (print : N → List ℕ) (reply : N → Reply) (n : N) (e : Reply) → print n ≡ r → Some (reply n) ≡ Some e → IsSaid (word ++ 32 ∷ print n) (reply n) → IsSaid (word ++ 32 ∷ r) e
+with_parts word r print reply n e printed same said =
+    subst (λ (x : Reply). IsSaid (word ++ 32 ∷ r) x) (some_is same) (subst (λ (x : List ℕ). IsSaid (word ++ 32 ∷ x) (reply n)) printed said)
+
 coded : (word r : List ℕ) (answer : ℕ → Answer) (n : ℕ × ℕ × Way) (e : Reply) → code_and_way_in r ≡ Some n → Some (Answered n.0 (answer n.1) n.2) ≡ Some e
     → ((s c : ℕ) (way : Way) → s < 2 ^ 64 → c < 2 ^ 8 → IsSaid (word ++ 32 ∷ (decimal s ++ 32 ∷ (decimal c ++ 32 ∷ word_of way))) (Answered s (answer c) way))
     → IsSaid (word ++ 32 ∷ r) e
 coded word r answer n e read same says =
     let (printed, fits, small) = code_and_way_printed r n read in
-    let is : Answered n.0 (answer n.1) n.2 ≡ e = some_is same in
-    subst (λ (x : Reply). IsSaid (word ++ 32 ∷ r) x) is (subst (λ (x : List ℕ). IsSaid (word ++ 32 ∷ x) (Answered n.0 (answer n.1) n.2)) printed (says n.0 n.1 n.2 fits small))
+    with_parts word r (λ (m : ℕ × ℕ × Way). decimal m.0 ++ 32 ∷ (decimal m.1 ++ 32 ∷ word_of m.2)) (λ m. Answered m.0 (answer m.1) m.2) n e printed same (says n.0 n.1 n.2 fits small)
 
 numbered : (word r : List ℕ) (reply : ℕ → Way → Reply) (n : ℕ × Way) (e : Reply) → number_and_way_in r ≡ Some n → Some (reply n.0 n.1) ≡ Some e
     → ((s : ℕ) (way : Way) → s < 2 ^ 64 → IsSaid (word ++ 32 ∷ (decimal s ++ 32 ∷ word_of way)) (reply s way))
     → IsSaid (word ++ 32 ∷ r) e
 numbered word r reply n e read same says =
     let (printed, fits) = number_printed r n read in
-    let is : reply n.0 n.1 ≡ e = some_is same in
-    subst (λ (x : Reply). IsSaid (word ++ 32 ∷ r) x) is (subst (λ (x : List ℕ). IsSaid (word ++ 32 ∷ x) (reply n.0 n.1)) printed (says n.0 n.1 fits))
+    with_parts word r (λ (m : ℕ × Way). decimal m.0 ++ 32 ∷ word_of m.1) (λ m. reply m.0 m.1) n e printed same (says n.0 n.1 fits)
 
 word_said : (w r : List ℕ) (e : Reply) → reply_of_word w r ≡ Some e → IsSaid (w ++ 32 ∷ r) e
 word_said w r e h = elim (either_way (bytes_eq w (codes "done")) _ _ (Some e) h) [

@@ -6,7 +6,7 @@ use Rattle.amo_journal.specs.Texts.{IsOneLine}
 use Rattle.amo_ledger.specs.Numbers.{number_in, first_word, other_words}
 use Rattle.amo_ledger.proofs.NumberTexts.{reads_printed}
 use Rattle.amo_ledger.proofs.Words.{Lacks, lacks_append, decimal_lacks, AreWords, words}
-use Rattle.amo_talk.specs.Sayings.{told, perform_text, was_text, IsOneEndedLine}
+use Rattle.amo_talk.specs.Sayings.{job_line, perform_text, was_text, IsOneEndedLine}
 
 some_is : {A : Type 0} {x y : A} → Some x ≡ Some y → x ≡ y
 some_is e = cc
@@ -23,7 +23,7 @@ front_is a b r q fa fb e =
     let same : decimal a ≡ decimal b = sym one.first ∙ ap first_word e ∙ other.first in
     (some_is (sym (reads_printed a fa) ∙ ap number_in same ∙ reads_printed b fb), sym one.rest ∙ ap other_words e ∙ other.rest)
 
-pub told_apart : (word : List ℕ) (s l k m : ℕ) (t u : List ℕ) → s < 2 ^ 64 → l < 2 ^ 64 → k < 2 ^ 64 → m < 2 ^ 64 → told word s l t ≡ told word k m u → (s ≡ k) × (l ≡ m) × (t ≡ u)
+pub told_apart : (word : List ℕ) (s l k m : ℕ) (t u : List ℕ) → s < 2 ^ 64 → l < 2 ^ 64 → k < 2 ^ 64 → m < 2 ^ 64 → job_line word s l t ≡ job_line word k m u → (s ≡ k) × (l ≡ m) × (t ≡ u)
 told_apart word s l k m t u fs fl fk fm e =
     let behind : 32 ∷ (decimal s ++ 32 ∷ (decimal l ++ 32 ∷ (t ++ 10 ∷ []))) ≡ 32 ∷ (decimal k ++ 32 ∷ (decimal m ++ 32 ∷ (u ++ 10 ∷ []))) =
     append_cancel_left word (32 ∷ (decimal s ++ 32 ∷ (decimal l ++ 32 ∷ (t ++ 10 ∷ [])))) (32 ∷ (decimal k ++ 32 ∷ (decimal m ++ 32 ∷ (u ++ 10 ∷ [])))) e in
@@ -37,7 +37,7 @@ words_differ s l k m t u e = differ 112 119 (omega arith) (ap (λ (bytes : List 
     differ : (a b : ℕ) → a < b → a ≡ b → ⊥
     differ a b lt same = omega arith
 
-pub is_one_line : (word : List ℕ) (s l : ℕ) (t : List ℕ) → Lacks 10 word → s < 2 ^ 64 → l < 2 ^ 64 → IsOneLine t → IsOneEndedLine (told word s l t)
+pub is_one_line : (word : List ℕ) (s l : ℕ) (t : List ℕ) → Lacks 10 word → s < 2 ^ 64 → l < 2 ^ 64 → IsOneLine t → IsOneEndedLine (job_line word s l t)
 is_one_line word s l t w fs fl one = (
   word ++ 32 ∷ (decimal s ++ 32 ∷ (decimal l ++ 32 ∷ t)),
   simp append_assoc,

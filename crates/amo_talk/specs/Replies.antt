@@ -2,7 +2,7 @@
 use Rattle.std.specs.Prelude.{ℕ, ◌<◌, ◌^◌, List, ◌++◌, codes, Option, Some, None, option_and_then, unwrap_or, if◌then◌else◌}
 use Rattle.std.specs.Fmt.{decimal}
 use Rattle.std.specs.Str.{bytes_eq}
-use Rattle.amo_ledger.specs.Numbers.{has_blank, first_word, other_words, number_in}
+use Rattle.amo_ledger.specs.Numbers.{both_in, has_blank, first_word, other_words, number_in}
 use Rattle.amo_ledger.specs.Entries.{code_in}
 use Rattle.amo_course.specs.declared.answer.Answer.{Answer}
 use Rattle.amo_course.specs.declared.answer.Answer.TheVariants.{Done, Doubt, Unbegun, Untouched}
@@ -48,12 +48,9 @@ Fits Closed = Unit {0}
 abbrev pub way_in : List ℕ → Option Way
 way_in word = if bytes_eq word (codes "go") then Some Go else (if bytes_eq word (codes "leave") then Some Leave else None)
 
--- a number and a way, one blank between them
+-- a number and a way
 abbrev pub number_and_way_in : List ℕ → Option (ℕ × Way)
-number_and_way_in text =
-    if has_blank text
-    then option_and_then (λ n. option_and_then (λ way. Some (n, way)) (way_in (other_words text))) (number_in (first_word text))
-    else None
+number_and_way_in text = both_in number_in way_in text
 
 -- a number, a code and a way, one blank between each two
 abbrev pub code_and_way_in : List ℕ → Option (ℕ × ℕ × Way)

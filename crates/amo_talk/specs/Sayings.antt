@@ -4,16 +4,16 @@ use Rattle.std.specs.Fmt.{decimal}
 use Rattle.amo_journal.specs.Texts.{IsOneLine}
 
 -- a word, the serial number of an intent, the number of its line, and the text of it, one blank between each two; then a line feed
-abbrev pub told : List ℕ → ℕ → ℕ → List ℕ → List ℕ
-told word serial line text = word ++ (codes " " ++ (decimal serial ++ (codes " " ++ (decimal line ++ (codes " " ++ (text ++ 10 ∷ []))))))
+abbrev pub job_line : List ℕ → ℕ → ℕ → List ℕ → List ℕ
+job_line word serial line text = word ++ (codes " " ++ (decimal serial ++ (codes " " ++ (decimal line ++ (codes " " ++ (text ++ 10 ∷ []))))))
 
 -- perform this job
 abbrev pub perform_text : ℕ → ℕ → List ℕ → List ℕ
-perform_text serial line text = told (codes "perform") serial line text
+perform_text serial line text = job_line (codes "perform") serial line text
 
 -- what became of this job?
 abbrev pub was_text : ℕ → ℕ → List ℕ → List ℕ
-was_text serial line text = told (codes "was") serial line text
+was_text serial line text = job_line (codes "was") serial line text
 
 -- one line, and its end
 abbrev pub IsOneEndedLine : List ℕ → Type 0

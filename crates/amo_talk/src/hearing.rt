@@ -1,11 +1,10 @@
 //! What a worker hears from its partner.
 ghost use Rattle.std.specs.Prelude.{◌≡◌, ◌≢◌, Some, IfSome};
 ghost use Rattle.amo_course.specs.declared.answer.Reply.{Reply as ReplyView};
-ghost use Rattle.amo_ledger.specs.Entries.{code_in};
 ghost use Rattle.amo_talk.specs.Replies.{text_of, Fits, way_in, number_and_way_in, code_and_way_in, reply_of_word, said_in, reply_in};
 
 use amo_course::{Answer, Reply, Way};
-use amo_ledger::number;
+use amo_ledger::{code_of, number};
 use std::str;
 
 /// What a line says in answer; it is given without its end. What is no answer is garbled.
@@ -96,14 +95,4 @@ fn way_of(word: &str) -> Option<Way>
         "leave" => Some(Way::Leave),
         _ => None,
     }
-}
-
-/// The number as the code of a command.
-fn code_of(number: u64) -> Option<u8>
-    ensures { result ≡ code_in number }
-{
-    if number > 255 {
-        return None;
-    }
-    Some(number as u8)
 }

@@ -1,6 +1,6 @@
 //! What a worker says to its partner.
 ghost use Rattle.std.specs.Prelude.{◌≡◌, IfOk};
-ghost use Rattle.amo_talk.specs.Sayings.{told, perform_text, was_text};
+ghost use Rattle.amo_talk.specs.Sayings.{job_line, perform_text, was_text};
 
 use std::alloc::{AllocError, Global};
 
@@ -14,25 +14,25 @@ pub fn perform_text(
 ) -> Result<Vec<u8>, AllocError>
     ensures { IfOk result (λ said. said.items ≡ perform_text serial line text.now) }
 {
-    told(alloc, "perform", serial, line, text)
+    job_line(alloc, "perform", serial, line, text)
 }
 
 /// The line that asks the partner what became of a job which a former process of the worker has begun, its end with it.
 pub fn was_text(alloc: Global, serial: u64, line: u64, text: &[u8]) -> Result<Vec<u8>, AllocError>
     ensures { IfOk result (λ said. said.items ≡ was_text serial line text.now) }
 {
-    told(alloc, "was", serial, line, text)
+    job_line(alloc, "was", serial, line, text)
 }
 
 /// A line that begins with this word.
-fn told(
+fn job_line(
     alloc: Global,
     word: &str,
     serial: u64,
     line: u64,
     text: &[u8],
 ) -> Result<Vec<u8>, AllocError>
-    ensures { IfOk result (λ said. said.items ≡ told word.now serial line text.now) }
+    ensures { IfOk result (λ said. said.items ≡ job_line word.now serial line text.now) }
 {
     let head = format!(in alloc; "{word} {serial} {line} ")?;
     let mut said = head.into_bytes();

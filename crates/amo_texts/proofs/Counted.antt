@@ -3,40 +3,28 @@ use Rattle.std.proofs.Common.{◌≡◌, ◌+◌, Bool, true, false, cond, List,
 use Rattle.std.proofs.lemmas.List.Recursion.{is_count_by}
 use Rattle.amo_kk.specs.Run.{claimed_jobs, done_jobs}
 use Rattle.amo_kk.specs.declared.event.Event.{Event}
-use Rattle.amo_kk.specs.declared.event.Event.TheVariants.{Claimed, Done, Ended, Halted, Left}
+use Rattle.amo_kk.specs.declared.event.Event.TheVariants.{Claimed, Done}
 
 -- a claim
 abbrev pub is_claim : Event → Bool
 is_claim (Claimed p j) = true
-is_claim (Done p j) = false
-is_claim (Ended p) = false
-is_claim (Halted p) = false
-is_claim (Left p) = false
+is_claim event = false
 
 -- a performance
 abbrev pub is_done : Event → Bool
-is_done (Claimed p j) = false
 is_done (Done p j) = true
-is_done (Ended p) = false
-is_done (Halted p) = false
-is_done (Left p) = false
+is_done event = false
 
 pub claims_counted : (es : List Event) → length (claimed_jobs es) ≡ count_by is_claim es
 claims_counted = is_count_by (λ es. length (claimed_jobs es)) is_claim refl one
   where
     one : (e : Event) (es : List Event) → length (claimed_jobs (e ∷ es)) ≡ cond (is_claim e) (1 + length (claimed_jobs es)) (length (claimed_jobs es))
     one (Claimed p j) es = omega arith
-    one (Done p j) es = refl
-    one (Ended p) es = refl
-    one (Halted p) es = refl
-    one (Left p) es = refl
+    one event es = refl
 
 pub dones_counted : (es : List Event) → length (done_jobs es) ≡ count_by is_done es
 dones_counted = is_count_by (λ es. length (done_jobs es)) is_done refl one
   where
     one : (e : Event) (es : List Event) → length (done_jobs (e ∷ es)) ≡ cond (is_done e) (1 + length (done_jobs es)) (length (done_jobs es))
-    one (Claimed p j) es = refl
     one (Done p j) es = omega arith
-    one (Ended p) es = refl
-    one (Halted p) es = refl
-    one (Left p) es = refl
+    one event es = refl

@@ -4,7 +4,7 @@ use Rattle.std.specs.Result.{IsOkAnd}
 use Rattle.std.specs.Io.KnownBytes.{Keeps, Appends}
 use Rattle.amo_plan.specs.declared.fault.PlanFault.{PlanFault}
 use Rattle.amo_plan.specs.declared.fault.PlanFault.TheVariants as fault
-use Rattle.amo_plan.specs.Steps.{◌>>=◌}
+use Rattle.amo_plan.specs.Passing.{◌>>=◌}
 use Rattle.amo_plan.specs.Plan.{PlanSeen, plan_of}
 use Rattle.amo_texts.specs.declared.writing.ReplayFault.{ReplayFault}
 use Rattle.amo_texts.specs.declared.writing.ReplayFault.TheVariants.{Plan, Read, Write, NoMemory}
@@ -12,19 +12,13 @@ use Rattle.amo_streams.specs.Streams.{AppendsFront}
 
 -- the answer is that the source has failed
 abbrev pub is_failed_read : {A : Type 0} → Result A ReplayFault → Bool
-is_failed_read (Ok x) = false
-is_failed_read (Err (Plan f)) = false
 is_failed_read (Err Read) = true
-is_failed_read (Err Write) = false
-is_failed_read (Err NoMemory) = false
+is_failed_read answer = false
 
 -- the answer is that the sink has failed
 abbrev pub is_failed_write : {A : Type 0} → Result A ReplayFault → Bool
-is_failed_write (Ok x) = false
-is_failed_write (Err (Plan f)) = false
-is_failed_write (Err Read) = false
 is_failed_write (Err Write) = true
-is_failed_write (Err NoMemory) = false
+is_failed_write answer = false
 
 -- What is made of a plan is its text, or a fault for which it has none. This is made of the plan that these bytes are,
 -- or there is no plan for this fault.

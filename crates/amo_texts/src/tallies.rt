@@ -6,6 +6,7 @@ ghost use Rattle.amo_texts.specs.Tallies.{jobs_words, blocks_words, tally_words,
 
 use crate::counting::count_performances;
 use amo_kk::Event;
+use amo_plan::Heads;
 use std::alloc::AllocError;
 
 /// How many jobs the block with this number has, of so many jobs.
@@ -76,32 +77,24 @@ pub fn push_tally(out: &mut String, version: u32, dones: usize, jobs: u64) -> Re
 /// Appends what a history performs. The only error is out of memory. What the text is then isn't said: a caller drops it.
 pub fn push_performed_words(
     out: &mut String,
-    version: u32,
-    block: u32,
-    jobs: usize,
+    heads: &Heads,
     history: &[Event],
 ) -> Result<(), AllocError>
     requires { length history.now < 2 ^ 32 }
-    ensures { OnOk result (string_bytes out.new ≡ string_bytes out.old ++ performed_words version block jobs (done_jobs history.now)) }
+    ensures { OnOk result (string_bytes out.new ≡ string_bytes out.old ++ performed_words heads.now.version heads.now.block (length heads.now.names) (done_jobs history.now)) }
 {
     let dones = count_performances(history);
-    let done_jobs = count_jobs(block, jobs, history);
-    push_tally_words(out, version, dones, done_jobs)
+    let done_jobs = count_jobs(heads.block, heads.names.as_slice().len(), history);
+    push_tally_words(out, heads.version, dones, done_jobs)
 }
 
 /// Appends the line of what a history performs. The only error is out of memory. What the text is then isn't said: a caller
 /// drops it.
 #[tactic(auto, unfolding(crate::specs::Tallies::tally_line))]
-pub fn push_performed(
-    out: &mut String,
-    version: u32,
-    block: u32,
-    jobs: usize,
-    history: &[Event],
-) -> Result<(), AllocError>
+pub fn push_performed(out: &mut String, heads: &Heads, history: &[Event]) -> Result<(), AllocError>
     requires { length history.now < 2 ^ 32 }
-    ensures { OnOk result (string_bytes out.new ≡ string_bytes out.old ++ performed_line version block jobs (done_jobs history.now)) }
+    ensures { OnOk result (string_bytes out.new ≡ string_bytes out.old ++ performed_line heads.now.version heads.now.block (length heads.now.names) (done_jobs history.now)) }
 {
-    push_performed_words(out, version, block, jobs, history)?;
+    push_performed_words(out, heads, history)?;
     out.push_str("\n")
 }

@@ -17,7 +17,7 @@ use Rattle.amo_kk.specs.declared.phase.Phase.TheVariants.{Announcing, Trying, Re
 use Rattle.amo_kk.proofs.Choice.{choice_cases, to_row_cases, to_announcement_cases}
 use Rattle.amo_kk.proofs.FirstChoice.{choice_finds}
 use Rattle.amo_kk.proofs.Kept.{noted_length, others_room}
-use Rattle.amo_trace.specs.Steps.{has_chosen, job_of}
+use Rattle.amo_trace.specs.Transitions.{has_chosen, job_of}
 use Rattle.amo_trace.specs.Attempts.{has_met_by, looks_on}
 
 -- what holds between steps: the job to be announced is open, and in an attempt the job isn't open just where it was met

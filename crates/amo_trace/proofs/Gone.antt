@@ -9,7 +9,7 @@ use Rattle.amo_kk.specs.declared.event.Move.{Move}
 use Rattle.amo_kk.specs.declared.event.Move.TheVariants.{Turn, Halt, Leave}
 use Rattle.amo_kk.specs.declared.givens.Givens.{Givens}
 use Rattle.amo_kk.specs.declared.model.World.{World}
-use Rattle.amo_trace.specs.Steps.{are_gone, all_gone, steps}
+use Rattle.amo_trace.specs.Transitions.{are_gone, all_gone, transitions}
 
 split_last : (k n : ℕ) → k < suc n → (k ≡ n) ⊎ (k < n)
 split_last k n l = grind arith
@@ -51,7 +51,7 @@ moves_of_gone g w (m ∷ ms) h within =
     let stays = move_of_gone g w m (each_is_gone w g.workers (worker_of m) h p.0 p.1) in
     ap (λ (x : World). world_after_moves g x ms) stays ∙ moves_of_gone g w ms h parts.1
 
--- and are no steps
-pub steps_of_gone : (g : Givens) (w : World) (i : ℕ) (ms : List Move) → all_gone g w ≡ true → steps g w i ms ≡ []
-steps_of_gone g w i [] h = refl
-steps_of_gone g w i (m ∷ ms) h = rw h refl
+-- and are no transitions
+pub transitions_of_gone : (g : Givens) (w : World) (i : ℕ) (ms : List Move) → all_gone g w ≡ true → transitions g w i ms ≡ []
+transitions_of_gone g w i [] h = refl
+transitions_of_gone g w i (m ∷ ms) h = rw h refl

@@ -24,11 +24,11 @@ use Rattle.amo_kk.proofs.Choice.{choice_cases}
 use Rattle.amo_kk.proofs.Moves.{turned_local, move_other}
 use Rattle.amo_kk.proofs.Shows.{idle}
 use Rattle.amo_kk.proofs.Worlds.{here_is_worker, put_here, move_lawful}
-use Rattle.amo_trace.specs.declared.step.Act.{Act}
-use Rattle.amo_trace.specs.declared.step.Act.TheVariants.{Turned, Leaves, Stops, Stays, Idles}
-use Rattle.amo_trace.specs.declared.step.Step.{Step}
+use Rattle.amo_trace.specs.declared.transition.Act.{Act}
+use Rattle.amo_trace.specs.declared.transition.Act.TheVariants.{Turned, Leaves, Stops, Stays, Idles}
+use Rattle.amo_trace.specs.declared.transition.Transition.{Transition}
 use Rattle.amo_trace.specs.Attempts.{has_met_in, has_met_after, has_met_since, looks_on}
-use Rattle.amo_trace.specs.Steps.{act_of, step_of, all_gone, steps, job_of, loads, fails, has_chosen}
+use Rattle.amo_trace.specs.Transitions.{act_of, transition_of, all_gone, transitions, job_of, loads, fails, has_chosen}
 use Rattle.amo_trace.proofs.Attempts.{Stands, Decides, chosen_if_met, step_decides}
 
 -- what holds of the record of a worker after an act of its own, j being its job before
@@ -88,17 +88,17 @@ module _ (g : Givens) (w : World) (law : IsLawful g w) where
 abbrev pub AllStand : World → (ℕ → Bool) → Type 0
 AllStand w met = (p : ℕ) → (let r = (process w p).local in Stands (met p) r.known r.tried r.phase)
 
--- the step s after those before ends its attempt by what was met in it
-abbrev pub IsDecided : List Step → (ℕ → Bool) → Step → Type 0
+-- the transition s after those before ends its attempt by what was met in it
+abbrev pub IsDecided : List Transition → (ℕ → Bool) → Transition → Type 0
 IsDecided before met s = loads s.act ≡ true → looks_on s.after ≡ false → fails s ≡ has_met_since s.worker (met s.worker) (before ++ s ∷ [])
 
-no_steps : {X : Type 0} (before after : List Step) (s : Step) → [] ≡ before ++ s ∷ after → X
-no_steps [] after s e = absurd cc
-no_steps (b ∷ bs) after s e = absurd cc
+no_transitions : {X : Type 0} (before after : List Transition) (s : Transition) → [] ≡ before ++ s ∷ after → X
+no_transitions [] after s e = absurd cc
+no_transitions (b ∷ bs) after s e = absurd cc
 
 module _ (g : Givens) (w : World) (law : IsLawful g w) (met : ℕ → Bool) (all : AllStand w met) (i : ℕ) (m : Move) where
-  abbrev this : Step
-  this = step_of g w i m
+  abbrev this : Transition
+  this = transition_of g w i m
 
   abbrev p : ℕ
   p = worker_of m
@@ -122,32 +122,32 @@ module _ (g : Givens) (w : World) (law : IsLawful g w) (met : ℕ → Bool) (all
   decided_here l over =
       ap (λ b. b && has_chosen this.after) l ∙ chosen_if_met (has_met_in (met p) (job_of this.before) this.act) this.after (own.1 l) over ∙ sym itself
 
-  -- this step is the one, or one of the steps after it is
-  this_or_later : (ms : List Move) (before after : List Step) (s : Step)
-      → ((bs : List Step) → steps g (world_after_move g w m) (i + 1) ms ≡ bs ++ s ∷ after → IsDecided bs (λ q. has_met_after q (met q) this) s)
-      → steps g w i (m ∷ ms) ≡ before ++ s ∷ after → IsDecided before met s
+  -- this transition is the one, or one of the transitions after it is
+  this_or_later : (ms : List Move) (before after : List Transition) (s : Transition)
+      → ((bs : List Transition) → transitions g (world_after_move g w m) (i + 1) ms ≡ bs ++ s ∷ after → IsDecided bs (λ q. has_met_after q (met q) this) s)
+      → transitions g w i (m ∷ ms) ≡ before ++ s ∷ after → IsDecided before met s
   this_or_later ms before after s later = go (all_gone g w)
     where
-      rest : List Step
-      rest = steps g (world_after_move g w m) (i + 1) ms
+      rest : List Transition
+      rest = transitions g (world_after_move g w m) (i + 1) ms
 
-      split : (bs : List Step) → this ∷ rest ≡ bs ++ s ∷ after → IsDecided bs met s
-      split [] f = let same : this ≡ s = cc in subst (λ (x : Step). IsDecided [] met x) same decided_here
+      split : (bs : List Transition) → this ∷ rest ≡ bs ++ s ∷ after → IsDecided bs met s
+      split [] f = let same : this ≡ s = cc in subst (λ (x : Transition). IsDecided [] met x) same decided_here
       split (b ∷ bs) f =
           let same : this ≡ b = cc in
           let more : rest ≡ bs ++ s ∷ after = cc in
-          subst (λ (x : Step). IsDecided (x ∷ bs) met s) same (later bs more)
+          subst (λ (x : Transition). IsDecided (x ∷ bs) met s) same (later bs more)
 
       go : (b : Bool) → (if b then [] else this ∷ rest) ≡ before ++ s ∷ after → IsDecided before met s
-      go true f = no_steps before after s f
+      go true f = no_transitions before after s f
       go false f = split before f
 
 pub decided : (g : Givens) (w : World) (i : ℕ) (ms : List Move) → AreGivens g → IsLawful g w → (met : ℕ → Bool) → AllStand w met
-    → (before after : List Step) (s : Step) → steps g w i ms ≡ before ++ s ∷ after → IsDecided before met s
-decided g w i [] ok law met all before after s e = no_steps before after s e
+    → (before after : List Transition) (s : Transition) → transitions g w i ms ≡ before ++ s ∷ after → IsDecided before met s
+decided g w i [] ok law met all before after s e = no_transitions before after s e
 decided g w i (m ∷ ms) ok law met all before after s e =
     this_or_later g w law met all i m ms before after s
-    (λ bs f. decided g (world_after_move g w m) (i + 1) ms ok (move_lawful g w m ok law) (λ q. has_met_after q (met q) (step_of g w i m)) (stand_after g w law met all i m) bs after s f) e
+    (λ bs f. decided g (world_after_move g w m) (i + 1) ms ok (move_lawful g w m ok law) (λ q. has_met_after q (met q) (transition_of g w i m)) (stand_after g w law met all i m) bs after s f) e
 
 -- ---- the opening world
 

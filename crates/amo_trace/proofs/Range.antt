@@ -5,12 +5,11 @@ use Rattle.std.proofs.lemmas.Bool.Decides.{nat_tests}
 use Rattle.amo_sets.specs.Lists.{table}
 use Rattle.amo_kk.specs.Object.{is_within}
 use Rattle.amo_kk.specs.Givens.{IsWorker}
-use Rattle.amo_kk.specs.World.{worker_of, are_in_range}
+use Rattle.amo_kk.specs.World.{worker_of, are_in_range, round, rounds}
 use Rattle.amo_kk.specs.declared.event.Move.{Move}
 use Rattle.amo_kk.specs.declared.event.Move.TheVariants.{Turn}
 use Rattle.amo_kk.specs.declared.givens.Givens.{Givens}
 use Rattle.amo_plan.proofs.WithinLemmas.{in_range-append}
-use Rattle.amo_report.specs.Texts.{round, rounds}
 
 within : (n p : ℕ) → 1 ≤ p → p ≤ n → is_within n p ≡ true
 within n p low high = grind (arith, nat_tests)

@@ -27,8 +27,8 @@ unfoldable pub unclaimed_words : PlanSeen → World → List ℕ
 unclaimed_words p w = codes "unclaimed " ++ decimal (length (object_of p.givens w).unclaimed)
 
 -- what the report tells of the run: its first line, its lines of workers, and the line of what was performed
-unfoldable pub told : PlanSeen → World → List ℕ
-told p w =
+unfoldable pub heading : PlanSeen → World → List ℕ
+heading p w =
     first_line p.version p.block (length p.names) p.givens ++ worker_lines w.history 1 (turns_of p.givens w)
     ++ performed_line p.version p.block (length p.names) (done_jobs w.history)
 
@@ -41,7 +41,7 @@ more = codes "\nThe moves as text: amo_show trace</desc>\n"
 
 unfoldable pub description : PlanSeen → World → List ℕ
 description p w =
-    title ++ told p w ++ unclaimed_words p w ++ more
+    title ++ heading p w ++ unclaimed_words p w ++ more
 
 -- the colours, and those for a reader who wants a dark ground
 unfoldable pub light_style : List ℕ

@@ -1,4 +1,4 @@
-pub mod Steps
+pub mod Transitions
 pub mod Trace
 pub mod Attempts
 pub mod Elements

@@ -1,4 +1,4 @@
--- What a picture shows of a step.
+-- What a picture shows of a transition.
 use Rattle.std.specs.Prelude.{ℕ, ◌+◌, ◌-◌, ◌*◌, Bool, true, false, ◌&&◌, List, [], ◌++◌, length, nat_lt, ◌==◌, if◌then◌else◌, codes}
 use Rattle.std.specs.Fmt.{decimal}
 use Rattle.std.specs.List.{position_or_len}
@@ -6,11 +6,11 @@ use Rattle.amo_kk.specs.declared.phase.Want.{Want}
 use Rattle.amo_kk.specs.declared.phase.Want.TheVariants.{StoreNext, LoadNext, LoadDone, StoreClaim, StoreDone, Nothing}
 use Rattle.amo_trace.specs.declared.marks.Mark.{Mark}
 use Rattle.amo_trace.specs.declared.marks.Mark.TheVariants.{Stop, Fail, Zero, Own, Other, Leave, Announcement, Claim, Filing, Still}
-use Rattle.amo_trace.specs.declared.step.Act.{Act}
-use Rattle.amo_trace.specs.declared.step.Act.TheVariants.{Turned, Leaves, Stops, Stays, Idles}
-use Rattle.amo_trace.specs.declared.step.Step.{Step}
+use Rattle.amo_trace.specs.declared.transition.Act.{Act}
+use Rattle.amo_trace.specs.declared.transition.Act.TheVariants.{Turned, Leaves, Stops}
+use Rattle.amo_trace.specs.declared.transition.Transition.{Transition}
 use Rattle.amo_trace.specs.Elements.{stroke_start, dotted_start, at_place, area_at, stroke_at, down}
-use Rattle.amo_trace.specs.Steps.{fails, job_of}
+use Rattle.amo_trace.specs.Transitions.{fails, job_of}
 use Rattle.amo_trace.specs.Trace.{next_word, done_word, equals}
 
 -- the mark of a load that gives v, by the worker's own job j
@@ -29,43 +29,32 @@ abbrev pub mark_of_act : ℕ → Act → Mark
 mark_of_act j (Turned want v) = mark_of_want j want v
 mark_of_act j Leaves = Leave
 mark_of_act j Stops = Stop
-mark_of_act j Stays = Still
-mark_of_act j Idles = Still
+mark_of_act j act = Still
 
--- the mark of a step
-abbrev pub mark_of : Step → Mark
+-- the mark of a transition
+abbrev pub mark_of : Transition → Mark
 mark_of s = if fails s then Fail (job_of s.before) else mark_of_act (job_of s.before) s.act
 
 -- the colour of a mark's words
 abbrev pub class_of : Mark → List ℕ
-class_of Stop = codes "i"
 class_of (Fail j) = codes "x"
 class_of (Zero want) = codes "f"
 class_of (Own want v) = codes "x"
 class_of (Other want v) = codes "f"
-class_of Leave = codes "i"
-class_of (Announcement j) = codes "i"
 class_of (Claim j) = codes "c"
 class_of (Filing j) = codes "c"
-class_of Still = codes "i"
+class_of mark = codes "i"
 
 -- the word that is loaded
 abbrev pub loaded_word : Want → List ℕ
-loaded_word (StoreNext i) = []
 loaded_word (LoadNext q) = next_word q
 loaded_word (LoadDone q k) = done_word q k
-loaded_word (StoreClaim c i) = []
-loaded_word (StoreDone k i) = []
-loaded_word Nothing = []
+loaded_word want = []
 
 -- a load of a row sees what was done
 abbrev pub sees_more : Want → List ℕ
-sees_more (StoreNext i) = []
-sees_more (LoadNext q) = []
 sees_more (LoadDone q k) = codes " done"
-sees_more (StoreClaim c i) = []
-sees_more (StoreDone k i) = []
-sees_more Nothing = []
+sees_more want = []
 
 abbrev pub sees : Want → ℕ → List ℕ
 sees want v = codes "sees " ++ decimal v ++ sees_more want
@@ -95,65 +84,36 @@ lane p = 176 * p - 100
 abbrev pub row : ℕ → ℕ
 row r = 72 + 18 * r
 
--- 1, and the number of steps of these before the first of worker p that passes, or all where none does
-abbrev pub until : (Step → Bool) → ℕ → List Step → ℕ
+-- 1, and the number of transitions of these before the first of worker p that passes, or all where none does
+abbrev pub until : (Transition → Bool) → ℕ → List Transition → ℕ
 until test p rest = position_or_len (λ s. (s.worker == p) && test s) rest + 1
 
 -- it stores to its announcement
 abbrev pub is_announcement : Mark → Bool
-is_announcement Stop = false
-is_announcement (Fail j) = false
-is_announcement (Zero want) = false
-is_announcement (Own want v) = false
-is_announcement (Other want v) = false
 is_announcement Leave = true
 is_announcement (Announcement j) = true
-is_announcement (Claim j) = false
-is_announcement (Filing j) = false
-is_announcement Still = false
+is_announcement mark = false
 
 -- it stores a claim
 abbrev pub is_claim : Mark → Bool
-is_claim Stop = false
-is_claim (Fail j) = false
-is_claim (Zero want) = false
-is_claim (Own want v) = false
-is_claim (Other want v) = false
-is_claim Leave = false
-is_claim (Announcement j) = false
 is_claim (Claim j) = true
-is_claim (Filing j) = false
-is_claim Still = false
+is_claim mark = false
 
 -- it stores a performance
 abbrev pub is_filing : Mark → Bool
-is_filing Stop = false
-is_filing (Fail j) = false
-is_filing (Zero want) = false
-is_filing (Own want v) = false
-is_filing (Other want v) = false
-is_filing Leave = false
-is_filing (Announcement j) = false
-is_filing (Claim j) = false
 is_filing (Filing j) = true
-is_filing Still = false
+is_filing mark = false
 
 -- whose word is loaded, and where its bar or its lifeline is
 abbrev pub loaded_of : Want → ℕ
-loaded_of (StoreNext i) = 0
 loaded_of (LoadNext q) = q
 loaded_of (LoadDone q k) = q
-loaded_of (StoreClaim c i) = 0
-loaded_of (StoreDone k i) = 0
-loaded_of Nothing = 0
+loaded_of want = 0
 
 abbrev pub seen_at : Want → ℕ
-seen_at (StoreNext i) = 0
 seen_at (LoadNext q) = lane q - 12
 seen_at (LoadDone q k) = lane q
-seen_at (StoreClaim c i) = 0
-seen_at (StoreDone k i) = 0
-seen_at Nothing = 0
+seen_at want = 0
 
 -- a level line to this place, which ends in a stop
 unfoldable pub level_to : ℕ → List ℕ
@@ -166,19 +126,14 @@ line_start p want label = if nat_lt (loaded_of want) p then lane p else lane p +
 abbrev pub line_to : ℕ → ℕ → Want → List ℕ → List ℕ
 line_to p y want label = at_place (line_start p want label) y ++ level_to (seen_at want)
 
--- what leads up to the mark of worker p in a row at height y, the steps after it being these: the line of a load, the bar of an
+-- what leads up to the mark of worker p in a row at height y, the transitions after it being these: the line of a load, the bar of an
 -- announcement, which is as long as it stands, and the bar of a claim, which is as long as the job is in hand
-unfoldable pub lead_at : ℕ → ℕ → List ℕ → List Step → Mark → List ℕ
-lead_at p y label rest Stop = []
-lead_at p y label rest (Fail j) = []
-lead_at p y label rest (Zero want) = []
+unfoldable pub lead_at : ℕ → ℕ → List ℕ → List Transition → Mark → List ℕ
 lead_at p y label rest (Own want v) = stroke_start (codes "x") 2 ++ line_to p y want label
 lead_at p y label rest (Other want v) = dotted_start (codes "f") ++ line_to p y want label
-lead_at p y label rest Leave = []
 lead_at p y label rest (Announcement j) = down (codes "b") 6 (lane p - 12) (y - 5) (18 * until (λ s. is_announcement (mark_of s)) p rest - 3)
 lead_at p y label rest (Claim j) = down (codes "c") 4 (lane p) y (18 * until (λ s. is_filing (mark_of s)) p rest)
-lead_at p y label rest (Filing j) = []
-lead_at p y label rest Still = []
+lead_at p y label rest mark = []
 
 -- the shape of a mark at its place
 unfoldable pub shape_at : ℕ → ℕ → Mark → List ℕ
@@ -192,7 +147,3 @@ shape_at x y (Announcement j) = area_at (codes "i") x y (codes "m-5 0a5 5 0 0 0 
 shape_at x y (Claim j) = area_at (codes "c") x y (codes "m-5 -5h10v10h-10z")
 shape_at x y (Filing j) = area_at (codes "c") x y (codes "m-5 -5h10v10h-10z")
 shape_at x y Still = []
-
--- the whole mark
-abbrev pub mark_at : ℕ → ℕ → List ℕ → List Step → Mark → List ℕ
-mark_at p y label rest mark = lead_at p y label rest mark ++ shape_at (lane p) y mark

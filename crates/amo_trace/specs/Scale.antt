@@ -1,19 +1,24 @@
 -- The scale of a picture of jobs: down are the moves, to the right the jobs. `last` is the number of the last row.
 use Rattle.std.specs.Prelude.{ℕ, ◌+◌, ◌-◌, ◌*◌, ◌/◌, max, List, length, Option, Some, None, slice_get, nat_lt, if◌then◌else◌}
-use Rattle.amo_trace.specs.declared.step.Step.{Step}
+use Rattle.amo_trace.specs.declared.transition.Transition.{Transition}
 
--- the number of a step, or 1 where there is none
-abbrev pub number_in : Option Step → ℕ
+-- the number of a transition, or 1 where there is none
+abbrev pub number_in : Option Transition → ℕ
 number_in None = 1
 number_in (Some s) = s.number
 
 -- the number of the last row, at least 1
-abbrev pub last_number : List Step → ℕ
+abbrev pub last_number : List Transition → ℕ
 last_number rows = max (number_in (slice_get rows (length rows - 1))) 1
 
 -- how far down move i is
 abbrev pub at : ℕ → ℕ → ℕ
 at last i = 72 + 960 * i / last
+
+-- how far down what a transition ends goes: so far below its move, or to the foot where there is none
+abbrev pub end_of : ℕ → ℕ → Option Transition → ℕ
+end_of last below None = 1032
+end_of last below (Some s) = at last s.number + below
 
 -- how far to the right the middle of the column of job j of n is
 abbrev pub place : ℕ → ℕ → ℕ

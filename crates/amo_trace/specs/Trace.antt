@@ -1,4 +1,4 @@
--- The trace of a plan: where its workers open, and a line for each step.
+-- The trace of a plan: where its workers open, and a line for each transition.
 use Rattle.std.specs.Prelude.{ℕ, zero, suc, Bool, not, ◌&&◌, List, [], ◌∷◌, ◌++◌, length, if◌then◌else◌, codes}
 use Rattle.std.specs.Fmt.{decimal}
 use Rattle.amo_kk.specs.Record.{wants_nothing}
@@ -11,12 +11,12 @@ use Rattle.amo_kk.specs.declared.phase.Want.{Want}
 use Rattle.amo_kk.specs.declared.phase.Want.TheVariants.{StoreNext, LoadNext, LoadDone, StoreClaim, StoreDone, Nothing}
 use Rattle.amo_plan.specs.Plan.{PlanSeen}
 use Rattle.amo_texts.specs.Numbers.{first_line}
-use Rattle.amo_trace.specs.declared.step.Act.{Act}
-use Rattle.amo_trace.specs.declared.step.Act.TheVariants.{Turned, Leaves, Stops, Stays, Idles}
-use Rattle.amo_trace.specs.declared.step.Fact.{Fact}
-use Rattle.amo_trace.specs.declared.step.Fact.TheVariants.{Plain, Tried, Known, Failed, Claimed, Done}
-use Rattle.amo_trace.specs.declared.step.Step.{Step}
-use Rattle.amo_trace.specs.Steps.{fact_of, steps_of}
+use Rattle.amo_trace.specs.declared.transition.Act.{Act}
+use Rattle.amo_trace.specs.declared.transition.Act.TheVariants.{Turned, Leaves, Stops, Stays, Idles}
+use Rattle.amo_trace.specs.declared.transition.Fact.{Fact}
+use Rattle.amo_trace.specs.declared.transition.Fact.TheVariants.{Plain, Tried, Known, Failed, Claimed, Done}
+use Rattle.amo_trace.specs.declared.transition.Transition.{Transition}
+use Rattle.amo_trace.specs.Transitions.{fact_of, transitions_of}
 
 -- `next[P]`, `claim[P]`
 unfoldable pub next_word : ℕ → List ℕ
@@ -83,19 +83,19 @@ opening_lines w zero = []
 opening_lines w (suc n) = opening_lines w n ++ opening_line (suc n) (process w (suc n))
 
 -- `N worker P ACT FACT now STATE`
-unfoldable pub step_words : Step → List ℕ
-step_words s =
+unfoldable pub transition_words : Transition → List ℕ
+transition_words s =
     decimal s.number ++ codes " worker " ++ decimal s.worker ++ codes " "
     ++ act_words s.worker s.act ++ fact_words (fact_of s) ++ codes " now " ++ state_words s.after s.gone
 
--- a line for each step
-abbrev pub step_lines : List Step → List ℕ
-step_lines [] = []
-step_lines (s ∷ ss) = step_words s ++ codes "\n" ++ step_lines ss
+-- a line for each transition
+abbrev pub transition_lines : List Transition → List ℕ
+transition_lines [] = []
+transition_lines (s ∷ ss) = transition_words s ++ codes "\n" ++ transition_lines ss
 
 -- these after the first line of a report
 unfoldable pub trace_of : PlanSeen → List ℕ
 trace_of p =
     first_line p.version p.block (length p.names) p.givens
     ++ opening_lines (opening_world p.givens) p.givens.workers
-    ++ step_lines (steps_of p)
+    ++ transition_lines (transitions_of p)

@@ -30,7 +30,12 @@ fn push_width(out: &mut String, width: u128) -> Result<(), AllocError>
 
 /// Appends the start of words that begin at a place.
 #[tactic(auto, unfolding(crate::specs::Elements::text_start))]
-pub fn push_text_start(out: &mut String, class: &str, x: u128, y: u128) -> Result<(), AllocError>
+pub(crate) fn push_text_start(
+    out: &mut String,
+    class: &str,
+    x: u128,
+    y: u128,
+) -> Result<(), AllocError>
     ensures { OnOk result (string_bytes out.new ≡ string_bytes out.old ++ text_start class.now x y) }
 {
     out.push_str("<text class=\"")?;
@@ -52,7 +57,7 @@ fn push_before_start(out: &mut String, class: &str, x: u128, y: u128) -> Result<
 }
 
 /// Appends words that begin at a place.
-pub fn push_text(
+pub(crate) fn push_text(
     out: &mut String,
     class: &str,
     x: u128,
@@ -67,7 +72,7 @@ pub fn push_text(
 }
 
 /// Appends a number that ends at a place.
-pub fn push_number_before(
+pub(crate) fn push_number_before(
     out: &mut String,
     class: &str,
     x: u128,
@@ -82,7 +87,7 @@ pub fn push_number_before(
 
 /// Appends the start of a filled path.
 #[tactic(auto, unfolding(crate::specs::Elements::area_start))]
-pub fn push_area_start(out: &mut String, class: &str) -> Result<(), AllocError>
+pub(crate) fn push_area_start(out: &mut String, class: &str) -> Result<(), AllocError>
     ensures { OnOk result (string_bytes out.new ≡ string_bytes out.old ++ area_start class.now) }
 {
     out.push_str("<path class=\"")?;
@@ -92,7 +97,11 @@ pub fn push_area_start(out: &mut String, class: &str) -> Result<(), AllocError>
 
 /// Appends the start of a line of this width.
 #[tactic(auto, unfolding(crate::specs::Elements::stroke_start))]
-pub fn push_stroke_start(out: &mut String, class: &str, width: u128) -> Result<(), AllocError>
+pub(crate) fn push_stroke_start(
+    out: &mut String,
+    class: &str,
+    width: u128,
+) -> Result<(), AllocError>
     ensures { OnOk result (string_bytes out.new ≡ string_bytes out.old ++ stroke_start class.now width) }
 {
     out.push_str("<path class=\"l")?;
@@ -103,7 +112,7 @@ pub fn push_stroke_start(out: &mut String, class: &str, width: u128) -> Result<(
 
 /// Appends the start of a dotted line.
 #[tactic(auto, unfolding(crate::specs::Elements::dotted_start))]
-pub fn push_dotted_start(out: &mut String, class: &str) -> Result<(), AllocError>
+pub(crate) fn push_dotted_start(out: &mut String, class: &str) -> Result<(), AllocError>
     ensures { OnOk result (string_bytes out.new ≡ string_bytes out.old ++ dotted_start class.now) }
 {
     out.push_str("<path class=\"l")?;
@@ -113,14 +122,14 @@ pub fn push_dotted_start(out: &mut String, class: &str) -> Result<(), AllocError
 
 /// Appends a place.
 #[tactic(auto, unfolding(crate::specs::Elements::at_place))]
-pub fn push_place(out: &mut String, x: u128, y: u128) -> Result<(), AllocError>
+pub(crate) fn push_place(out: &mut String, x: u128, y: u128) -> Result<(), AllocError>
     ensures { OnOk result (string_bytes out.new ≡ string_bytes out.old ++ at_place x y) }
 {
     write!(out, "M{x} {y}")
 }
 
 /// Appends a filled shape at a place.
-pub fn push_area(
+pub(crate) fn push_area(
     out: &mut String,
     class: &str,
     x: u128,
@@ -136,7 +145,7 @@ pub fn push_area(
 }
 
 /// Appends a shape at a place, drawn by a line of this width.
-pub fn push_stroke(
+pub(crate) fn push_stroke(
     out: &mut String,
     class: &str,
     width: u128,
@@ -153,7 +162,7 @@ pub fn push_stroke(
 }
 
 /// Appends a line of this width from a place so far down.
-pub fn push_down(
+pub(crate) fn push_down(
     out: &mut String,
     class: &str,
     width: u128,

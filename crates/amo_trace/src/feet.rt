@@ -67,7 +67,7 @@ fn push_lane_foot(out: &mut String, world: &World, y: u128, worker: u32) -> Resu
 }
 
 /// Appends the foot of each worker's lane, below this height.
-pub fn push_lane_feet(out: &mut String, world: &World, y: u128) -> Result<(), AllocError>
+pub(crate) fn push_lane_feet(out: &mut String, world: &World, y: u128) -> Result<(), AllocError>
     requires { y < 2 ^ 100 }
     ensures { OnOk result (string_bytes out.new ≡ string_bytes out.old ++ lane_feet world.now.world y world.now.givens.workers) }
 {
@@ -134,7 +134,7 @@ fn push_key_of_marks(out: &mut String, y: u128) -> Result<(), AllocError>
 
 /// Appends what the marks say, below this height, and the end of the picture.
 #[tactic(auto, unfolding(crate::specs::Feet::rows_key))]
-pub fn push_rows_key(out: &mut String, y: u128) -> Result<(), AllocError>
+pub(crate) fn push_rows_key(out: &mut String, y: u128) -> Result<(), AllocError>
     requires { y < 2 ^ 100 }
     ensures { OnOk result (string_bytes out.new ≡ string_bytes out.old ++ rows_key y) }
 {

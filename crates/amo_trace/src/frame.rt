@@ -1,7 +1,7 @@
 //! Writes what stands above and below the lanes of a picture.
 ghost use Rattle.std.specs.Prelude.{◌≡◌, ◌++◌, ◌<◌, ◌^◌, OnOk, string_bytes, length};
 ghost use Rattle.amo_plan.specs.PlanSeen.{plan_seen};
-ghost use Rattle.amo_trace.specs.Frame.{size_part, svg_open, svg_start, title, more, unclaimed_words, told, description, light_style, dark_style, style, ground_end, ground, first_text, head, performed_text, unclaimed_text, foot};
+ghost use Rattle.amo_trace.specs.Frame.{size_part, svg_open, svg_start, title, more, unclaimed_words, heading, description, light_style, dark_style, style, ground_end, ground, first_text, head, performed_text, unclaimed_text, foot};
 
 use crate::elements::{push_area_start, push_text_start};
 use amo_kk::laws::runs_are_short;
@@ -51,10 +51,15 @@ fn push_unclaimed_words(out: &mut String, plan: &Plan, world: &World) -> Result<
 }
 
 /// Appends what the report tells of the run, besides its history and its results.
-#[tactic(auto, unfolding(crate::specs::Frame::told))]
-fn push_told(alloc: Global, out: &mut String, plan: &Plan, world: &World) -> Result<(), AllocError>
+#[tactic(auto, unfolding(crate::specs::Frame::heading))]
+fn push_heading(
+    alloc: Global,
+    out: &mut String,
+    plan: &Plan,
+    world: &World,
+) -> Result<(), AllocError>
     requires { world.now.givens ≡ plan.now.heads.givens }
-    ensures { OnOk result (string_bytes out.new ≡ string_bytes out.old ++ told (plan_seen plan.now) world.now.world) }
+    ensures { OnOk result (string_bytes out.new ≡ string_bytes out.old ++ heading (plan_seen plan.now) world.now.world) }
 {
     runs_are_short();
     let heads = &plan.heads;
@@ -62,13 +67,7 @@ fn push_told(alloc: Global, out: &mut String, plan: &Plan, world: &World) -> Res
     let turns = all_turns(alloc, world)?;
     push_first_line(out, heads)?;
     push_workers(out, history, &turns)?;
-    push_performed(
-        out,
-        heads.version,
-        heads.block,
-        heads.names.as_slice().len(),
-        history,
-    )
+    push_performed(out, heads, history)
 }
 
 /// The title of each picture.
@@ -99,7 +98,7 @@ fn push_description(
     ensures { OnOk result (string_bytes out.new ≡ string_bytes out.old ++ description (plan_seen plan.now) world.now.world) }
 {
     out.push_str(title())?;
-    push_told(alloc, out, plan, world)?;
+    push_heading(alloc, out, plan, world)?;
     push_unclaimed_words(out, plan, world)?;
     out.push_str(more())
 }
@@ -160,7 +159,7 @@ fn push_first_text(out: &mut String, plan: &Plan) -> Result<(), AllocError>
 
 /// Appends what stands above the lanes of a picture of this width and height.
 #[tactic(auto, unfolding(crate::specs::Frame::head))]
-pub fn push_head(
+pub(crate) fn push_head(
     alloc: Global,
     out: &mut String,
     plan: &Plan,
@@ -189,10 +188,8 @@ fn push_performed_text(
     ensures { OnOk result (string_bytes out.new ≡ string_bytes out.old ++ performed_text (plan_seen plan.now) world.now.world y) }
 {
     runs_are_short();
-    let heads = &plan.heads;
-    let jobs = heads.names.as_slice().len();
     push_text_start(out, "i", 16, y)?;
-    push_performed_words(out, heads.version, heads.block, jobs, world.history())?;
+    push_performed_words(out, &plan.heads, world.history())?;
     out.push_str("</text>\n")
 }
 
@@ -214,7 +211,12 @@ fn push_unclaimed_text(
 
 /// Appends at this height what came of the run.
 #[tactic(auto, unfolding(crate::specs::Frame::foot))]
-pub fn push_foot(out: &mut String, plan: &Plan, world: &World, y: u128) -> Result<(), AllocError>
+pub(crate) fn push_foot(
+    out: &mut String,
+    plan: &Plan,
+    world: &World,
+    y: u128,
+) -> Result<(), AllocError>
     requires near { y < 2 ^ 100 }
     requires same { world.now.givens ≡ plan.now.heads.givens }
     ensures { OnOk result (string_bytes out.new ≡ string_bytes out.old ++ foot (plan_seen plan.now) world.now.world y) }

@@ -1,7 +1,7 @@
 //! Writes what the picture of a long run has besides its frame: a column for each job, and a narrow lane for each worker.
 ghost use Rattle.std.specs.Prelude.{◌≡◌, ◌++◌, ◌<◌, ◌≤◌, ◌^◌, OnOk, string_bytes};
 ghost use Rattle.amo_plan.specs.PlanSeen.{plan_seen};
-ghost use Rattle.amo_trace.specs.Jobs.{worker_class, worker_columns, worker_ticks, going, lane_end, going_shape, going_mark, lifeline, lane_number, lane_numbers, worker_title, worker_drawn, workers_drawn, level_line, grid_line, grid_line_in, grid, what_columns_are, jobs_head, columns_words, lanes_words, jobs_key, jobs_ground, columns_of, jobs_width};
+ghost use Rattle.amo_trace.specs.Jobs.{worker_class, worker_paths, going, going_shape, lifeline, lane_number, lane_numbers, worker_title, worker_drawn, workers_drawn, level_line, grid_line, grid_line_in, grid, what_columns_are, jobs_head, columns_words, lanes_words, jobs_key, jobs_ground, columns_of, jobs_width};
 ghost use Rattle.amo_trace.specs.Scale.{last_number};
 
 use crate::elements::{
@@ -9,8 +9,8 @@ use crate::elements::{
 };
 use crate::pieces::{Kind, push_path};
 use crate::rows::until_gone;
-use crate::scale::{at, grid_step, last_number, narrow_lane, wide};
-use crate::step::{Step, step_at};
+use crate::scale::{at, end_of, grid_step, last_number, narrow_lane, wide};
+use crate::transition::{Transition, transition_at};
 use amo_kk::{Event, Phase};
 use amo_plan::Plan;
 use amo_texts::dones_of;
@@ -23,62 +23,29 @@ fn worker_class(worker: u32) -> &'static str
     if worker % 2 == 1 { "c" } else { "i" }
 }
 
-/// Appends what a worker did, in the columns of the jobs.
-#[tactic(auto, unfolding(crate::specs::Jobs::worker_columns))]
-fn push_worker_columns(
+/// Appends what a worker claimed and where it failed, by paths of these kinds and this width.
+#[tactic(auto, unfolding(crate::specs::Jobs::worker_paths))]
+fn push_worker_paths(
     out: &mut String,
+    width: u128,
+    claims: Kind,
+    failures: Kind,
     jobs: u32,
     worker: u32,
-    rows: &[Step],
+    rows: &[Transition],
 ) -> Result<(), AllocError>
     requires { 1 ≤ jobs }
-    ensures { OnOk result (string_bytes out.new ≡ string_bytes out.old ++ worker_columns jobs worker rows.now) }
+    ensures { OnOk result (string_bytes out.new ≡ string_bytes out.old ++ worker_paths width claims failures jobs worker rows.now) }
 {
-    let class = worker_class(worker);
-    let width = wide(jobs) + 1;
-    push_path(out, class, width, Kind::Stays, jobs, worker, rows)?;
-    push_path(out, "x", width, Kind::Failures, jobs, worker, rows)
-}
-
-/// Appends what a worker did, beside its lane.
-#[tactic(auto, unfolding(crate::specs::Jobs::worker_ticks))]
-fn push_worker_ticks(
-    out: &mut String,
-    jobs: u32,
-    worker: u32,
-    rows: &[Step],
-) -> Result<(), AllocError>
-    requires { 1 ≤ jobs }
-    ensures { OnOk result (string_bytes out.new ≡ string_bytes out.old ++ worker_ticks jobs worker rows.now) }
-{
-    push_path(
-        out,
-        worker_class(worker),
-        2,
-        Kind::Ticks,
-        jobs,
-        worker,
-        rows,
-    )?;
-    push_path(out, "x", 2, Kind::Crosses, jobs, worker, rows)
+    push_path(out, worker_class(worker), width, claims, jobs, worker, rows)?;
+    push_path(out, "x", width, failures, jobs, worker, rows)
 }
 
 /// The row after which the worker is gone.
-fn going(worker: u32, rows: &[Step]) -> Option<Step>
+fn going(worker: u32, rows: &[Transition]) -> Option<Transition>
     ensures { result ≡ going worker rows.now }
 {
-    step_at(rows, until_gone(worker, rows))
-}
-
-/// How far down a lane goes.
-fn lane_end(last: usize, gone: Option<Step>) -> u128
-    requires { 1 ≤ last }
-    ensures { result ≡ lane_end last gone }
-{
-    match gone {
-        Some(step) => at(last, step.number),
-        None => 1032,
-    }
+    transition_at(rows, until_gone(worker, rows))
 }
 
 /// The mark of a worker that is gone in this phase.
@@ -96,41 +63,28 @@ fn going_shape(phase: Phase) -> &'static str
     }
 }
 
-/// Appends how a lane ends.
-fn push_going_mark(
-    out: &mut String,
-    last: usize,
-    worker: u32,
-    gone: Option<Step>,
-) -> Result<(), AllocError>
-    requires { 1 ≤ last }
-    ensures { OnOk result (string_bytes out.new ≡ string_bytes out.old ++ going_mark last worker gone) }
-{
-    match gone {
-        None => Ok(()),
-        Some(step) => {
-            let y = at(last, step.number);
-            push_stroke(out, "i", 2, narrow_lane(worker), y, going_shape(step.after))
-        }
-    }
-}
-
-/// Appends the line of a lane.
+/// Appends the line of a lane, and how it ends.
 #[tactic(auto, unfolding(crate::specs::Jobs::lifeline))]
 fn push_lifeline(
     out: &mut String,
     last: usize,
     worker: u32,
-    gone: Option<Step>,
+    gone: Option<Transition>,
 ) -> Result<(), AllocError>
     requires { 1 ≤ last }
     ensures { OnOk result (string_bytes out.new ≡ string_bytes out.old ++ lifeline last worker gone) }
 {
     let x = narrow_lane(worker);
-    let end = lane_end(last, gone);
+    let end = end_of(last, 0, gone);
     push_stroke_start(out, "b", 2)?;
     write!(out, "M{x} 72V{end}\"/>\n")?;
-    push_going_mark(out, last, worker, gone)
+    match gone {
+        None => Ok(()),
+        Some(transition) => {
+            let y = at(last, transition.number);
+            push_stroke(out, "i", 2, x, y, going_shape(transition.after))
+        }
+    }
 }
 
 /// Appends a number at a worker's lane.
@@ -167,7 +121,7 @@ fn push_worker_drawn(
     out: &mut String,
     history: &[Event],
     jobs: u32,
-    rows: &[Step],
+    rows: &[Transition],
     worker: u32,
 ) -> Result<(), AllocError>
     requires { 1 ≤ jobs }
@@ -175,18 +129,26 @@ fn push_worker_drawn(
 {
     let last = last_number(rows);
     push_worker_title(out, worker)?;
-    push_worker_columns(out, jobs, worker, rows)?;
-    push_worker_ticks(out, jobs, worker, rows)?;
+    push_worker_paths(
+        out,
+        wide(jobs) + 1,
+        Kind::Stays,
+        Kind::Failures,
+        jobs,
+        worker,
+        rows,
+    )?;
+    push_worker_paths(out, 2, Kind::Ticks, Kind::Crosses, jobs, worker, rows)?;
     push_lifeline(out, last, worker, going(worker, rows))?;
     push_lane_numbers(out, history, worker)
 }
 
 /// Appends the marks of so many workers.
-pub fn push_workers_drawn(
+pub(crate) fn push_workers_drawn(
     out: &mut String,
     history: &[Event],
     jobs: u32,
-    rows: &[Step],
+    rows: &[Transition],
     workers: u32,
 ) -> Result<(), AllocError>
     requires { 1 ≤ jobs }
@@ -287,7 +249,7 @@ fn lanes_words() -> &'static str
 
 /// Appends what the marks say, and the end of the picture.
 #[tactic(auto, unfolding(crate::specs::Jobs::jobs_key))]
-pub fn push_jobs_key(out: &mut String) -> Result<(), AllocError>
+pub(crate) fn push_jobs_key(out: &mut String) -> Result<(), AllocError>
     ensures { OnOk result (string_bytes out.new ≡ string_bytes out.old ++ jobs_key) }
 {
     push_text(out, "f", 16, 1136, columns_words())?;
@@ -296,7 +258,7 @@ pub fn push_jobs_key(out: &mut String) -> Result<(), AllocError>
 }
 
 /// How many jobs the columns are placed by.
-pub fn columns_of(plan: &Plan) -> u32
+pub(crate) fn columns_of(plan: &Plan) -> u32
     ensures value { result ≡ columns_of (plan_seen plan.now) }
     ensures some { 1 ≤ result }
 {
@@ -304,7 +266,7 @@ pub fn columns_of(plan: &Plan) -> u32
 }
 
 /// How wide the picture is.
-pub fn jobs_width(plan: &Plan) -> u128
+pub(crate) fn jobs_width(plan: &Plan) -> u128
     ensures value { result ≡ jobs_width (plan_seen plan.now) }
 {
     880 + 36 * plan.heads.givens.workers.max(2) as u128
@@ -312,7 +274,11 @@ pub fn jobs_width(plan: &Plan) -> u128
 
 /// Appends what is behind the workers' marks.
 #[tactic(auto, unfolding(crate::specs::Jobs::jobs_ground))]
-pub fn push_jobs_ground(out: &mut String, plan: &Plan, rows: &[Step]) -> Result<(), AllocError>
+pub(crate) fn push_jobs_ground(
+    out: &mut String,
+    plan: &Plan,
+    rows: &[Transition],
+) -> Result<(), AllocError>
     ensures { OnOk result (string_bytes out.new ≡ string_bytes out.old ++ jobs_ground (plan_seen plan.now) rows.now) }
 {
     let jobs = columns_of(plan);

@@ -1,5 +1,5 @@
-//! The trace of a run: what each move of a plan loads or stores, and where it leaves its worker; and its picture. The module
-//! `laws` has the theorem over steps: when an attempt fails.
+//! How the run of a plan is shown, by what each of its moves does: as lines, the trace, or drawn, the picture. The module `laws` has
+//! the theorem over these transitions: when an attempt fails.
 #![tactic(auto)]
 
 mod elements;
@@ -14,12 +14,12 @@ mod pieces;
 mod rows;
 mod scale;
 mod shown;
-mod step;
-mod steps;
 mod tracing;
+mod transition;
+mod transitions;
 
 pub use picturing::picture_text;
 pub use shown::Shown;
-pub use step::{Act, Fact, Step};
-pub use steps::steps_of;
 pub use tracing::trace_text;
+pub use transition::{Act, Fact, Transition};
+pub use transitions::transitions_of;

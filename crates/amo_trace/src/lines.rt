@@ -2,16 +2,16 @@
 ghost use Rattle.std.specs.Prelude.{◌≡◌, ◌++◌, OnOk, string_bytes};
 ghost use Rattle.amo_kk.specs.Givens.{IsWorker};
 ghost use Rattle.amo_kk.specs.World.{process};
-ghost use Rattle.amo_trace.specs.Trace.{next_word, claim_word, done_word, equals, want_words, act_words, fact_words, phase_words, state_words, opening_line, opening_lines, step_words, step_lines};
+ghost use Rattle.amo_trace.specs.Trace.{next_word, claim_word, done_word, equals, want_words, act_words, fact_words, phase_words, state_words, opening_line, opening_lines, transition_words, transition_lines};
 
-use crate::step::{Act, Fact, Step};
+use crate::transition::{Act, Fact, Transition};
 use amo_kk::{Phase, Want};
 use amo_world::World;
 use std::alloc::AllocError;
 
 /// Appends the name of a worker's announcement.
 #[tactic(auto, unfolding(crate::specs::Trace::next_word))]
-pub fn push_next(out: &mut String, worker: u32) -> Result<(), AllocError>
+pub(crate) fn push_next(out: &mut String, worker: u32) -> Result<(), AllocError>
     ensures { OnOk result (string_bytes out.new ≡ string_bytes out.old ++ next_word worker) }
 {
     write!(out, "next[{worker}]")
@@ -27,7 +27,7 @@ fn push_claim(out: &mut String, worker: u32) -> Result<(), AllocError>
 
 /// Appends the name of a place in a worker's row.
 #[tactic(auto, unfolding(crate::specs::Trace::done_word))]
-pub fn push_done(out: &mut String, worker: u32, place: u32) -> Result<(), AllocError>
+pub(crate) fn push_done(out: &mut String, worker: u32, place: u32) -> Result<(), AllocError>
     ensures { OnOk result (string_bytes out.new ≡ string_bytes out.old ++ done_word worker place) }
 {
     write!(out, "done[{worker}][{place}]")
@@ -35,7 +35,7 @@ pub fn push_done(out: &mut String, worker: u32, place: u32) -> Result<(), AllocE
 
 /// Appends what a word has.
 #[tactic(auto, unfolding(crate::specs::Trace::equals))]
-pub fn push_equals(out: &mut String, value: u32) -> Result<(), AllocError>
+pub(crate) fn push_equals(out: &mut String, value: u32) -> Result<(), AllocError>
     ensures { OnOk result (string_bytes out.new ≡ string_bytes out.old ++ equals value) }
 {
     write!(out, " = {value}")
@@ -89,7 +89,7 @@ fn push_act(out: &mut String, worker: u32, act: Act) -> Result<(), AllocError>
     }
 }
 
-/// Appends what a step comes to.
+/// Appends what a transition comes to.
 #[tactic(auto, unfolding(crate::specs::Trace::fact_words))]
 fn push_fact(out: &mut String, fact: Fact) -> Result<(), AllocError>
     ensures { OnOk result (string_bytes out.new ≡ string_bytes out.old ++ fact_words fact) }
@@ -142,7 +142,7 @@ fn push_opening(out: &mut String, world: &World, worker: u32) -> Result<(), Allo
 }
 
 /// Appends such a line for each worker.
-pub fn push_openings(out: &mut String, world: &World) -> Result<(), AllocError>
+pub(crate) fn push_openings(out: &mut String, world: &World) -> Result<(), AllocError>
     ensures { OnOk result (string_bytes out.new ≡ string_bytes out.old ++ opening_lines world.now.world world.now.givens.workers) }
 {
     for before in 0..world.givens().workers {
@@ -151,26 +151,29 @@ pub fn push_openings(out: &mut String, world: &World) -> Result<(), AllocError>
     Ok(())
 }
 
-/// Appends the line of a step, without its end.
-#[tactic(auto, unfolding(crate::specs::Trace::step_words))]
-pub fn push_step(out: &mut String, step: &Step) -> Result<(), AllocError>
-    ensures { OnOk result (string_bytes out.new ≡ string_bytes out.old ++ step_words step.now) }
+/// Appends the line of a transition, without its end.
+#[tactic(auto, unfolding(crate::specs::Trace::transition_words))]
+pub(crate) fn push_transition(out: &mut String, transition: &Transition) -> Result<(), AllocError>
+    ensures { OnOk result (string_bytes out.new ≡ string_bytes out.old ++ transition_words transition.now) }
 {
-    let number = step.number;
-    let worker = step.worker;
+    let number = transition.number;
+    let worker = transition.worker;
     write!(out, "{number} worker {worker} ")?;
-    push_act(out, worker, step.act)?;
-    push_fact(out, step.fact())?;
+    push_act(out, worker, transition.act)?;
+    push_fact(out, transition.fact())?;
     out.push_str(" now ")?;
-    push_state(out, step.after, step.gone)
+    push_state(out, transition.after, transition.gone)
 }
 
-/// Appends a line for each step.
-pub fn push_steps(out: &mut String, steps: &[Step]) -> Result<(), AllocError>
-    ensures { OnOk result (string_bytes out.new ≡ string_bytes out.old ++ step_lines steps.now) }
+/// Appends a line for each transition.
+pub(crate) fn push_transitions(
+    out: &mut String,
+    transitions: &[Transition],
+) -> Result<(), AllocError>
+    ensures { OnOk result (string_bytes out.new ≡ string_bytes out.old ++ transition_lines transitions.now) }
 {
-    for step in steps {
-        push_step(out, step)?;
+    for transition in transitions {
+        push_transition(out, transition)?;
         out.push_str("\n")?;
     }
     Ok(())

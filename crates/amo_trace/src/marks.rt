@@ -1,20 +1,21 @@
-//! What a picture shows of a step.
+//! What a picture shows of a transition.
 ghost use Rattle.std.specs.Prelude.{◌≡◌, ◌++◌, ◌<◌, ◌≤◌, ◌^◌, ◌&&◌, ◌==◌, OnOk, IfOk, string_bytes, length};
 ghost use Rattle.std.specs.List.{position_or_len};
 ghost use Rattle.amo_kk.specs.Record.{is_over};
-ghost use Rattle.amo_trace.specs.Marks.{mark_of_load, mark_of_want, mark_of_act, mark_of, class_of, loaded_word, sees_more, sees, ends, label_of, lane, row, until, is_announcement, is_claim, is_filing, loaded_of, seen_at, line_start, level_to, line_to, lead_at, shape_at, mark_at};
+ghost use Rattle.amo_trace.specs.declared.picturing.TheConstants.{MOST_ROWS};
+ghost use Rattle.amo_trace.specs.Marks.{mark_of_load, mark_of_want, mark_of_act, mark_of, class_of, loaded_word, sees_more, sees, ends, label_of, lane, row, until, is_announcement, is_claim, is_filing, loaded_of, seen_at, line_start, level_to, line_to, lead_at, shape_at};
 
 use crate::elements::{
     push_area, push_dotted_start, push_down, push_place, push_stroke, push_stroke_start,
 };
 use crate::lines::{push_done, push_equals, push_next};
-use crate::step::{Act, Step, job_of};
+use crate::transition::{Act, Transition, job_of};
 use amo_kk::Want;
 use std::alloc::{AllocError, Global};
 
-/// What is drawn of a step.
+/// What is drawn of a transition.
 #[derive(Clone, Copy, Debug)]
-pub enum Mark {
+pub(crate) enum Mark {
     /// It is stopped.
     Stop,
     /// The attempt on this job has failed.
@@ -75,19 +76,19 @@ fn mark_of_act(job: u32, act: Act) -> Mark
     }
 }
 
-/// The mark of a step.
-pub fn mark_of(step: &Step) -> Mark
-    ensures { result ≡ mark_of step.now }
+/// The mark of a transition.
+pub(crate) fn mark_of(transition: &Transition) -> Mark
+    ensures { result ≡ mark_of transition.now }
 {
-    let job = job_of(step.before);
-    if step.fails() {
+    let job = job_of(transition.before);
+    if transition.fails() {
         return Mark::Fail(job);
     }
-    mark_of_act(job, step.act)
+    mark_of_act(job, transition.act)
 }
 
 /// The colour of a mark's words.
-pub fn class_of(mark: Mark) -> &'static str
+pub(crate) fn class_of(mark: Mark) -> &'static str
     ensures { result.now ≡ class_of mark }
 {
     match mark {
@@ -142,7 +143,7 @@ fn ends(over: bool) -> &'static str
 
 /// Appends the words of a mark, given whether the worker has ended.
 #[tactic(auto, unfolding(crate::specs::Marks::label_of))]
-pub fn push_label(out: &mut String, mark: Mark, over: bool) -> Result<(), AllocError>
+pub(crate) fn push_label(out: &mut String, mark: Mark, over: bool) -> Result<(), AllocError>
     ensures { OnOk result (string_bytes out.new ≡ string_bytes out.old ++ label_of mark over) }
 {
     match mark {
@@ -168,64 +169,66 @@ pub fn push_label(out: &mut String, mark: Mark, over: bool) -> Result<(), AllocE
 }
 
 /// Where the lifeline of a worker is.
-pub fn lane(worker: u32) -> u128
+pub(crate) fn lane(worker: u32) -> u128
     ensures value { result ≡ lane worker }
     ensures near { result < 2 ^ 40 }
 {
     (176 * worker as u128).saturating_sub(100)
 }
 
-/// Whether the step stores to the worker's announcement.
-pub fn is_announcement(step: &Step) -> bool
-    ensures { result ≡ is_announcement (mark_of step.now) }
+/// Whether the transition stores to the worker's announcement.
+pub(crate) fn is_announcement(transition: &Transition) -> bool
+    ensures { result ≡ is_announcement (mark_of transition.now) }
 {
-    matches!(mark_of(step), Mark::Announcement(_) | Mark::Leave)
+    matches!(mark_of(transition), Mark::Announcement(_) | Mark::Leave)
 }
 
-/// Whether the step stores a claim.
-pub fn is_claim(step: &Step) -> bool
-    ensures { result ≡ is_claim (mark_of step.now) }
+/// Whether the transition stores a claim.
+pub(crate) fn is_claim(transition: &Transition) -> bool
+    ensures { result ≡ is_claim (mark_of transition.now) }
 {
-    matches!(mark_of(step), Mark::Claim(_))
+    matches!(mark_of(transition), Mark::Claim(_))
 }
 
-/// Whether the step stores a performance.
-pub fn is_filing(step: &Step) -> bool
-    ensures { result ≡ is_filing (mark_of step.now) }
+/// Whether the transition stores a performance.
+pub(crate) fn is_filing(transition: &Transition) -> bool
+    ensures { result ≡ is_filing (mark_of transition.now) }
 {
-    matches!(mark_of(step), Mark::Filing(_))
+    matches!(mark_of(transition), Mark::Filing(_))
 }
 
-/// Whether the step is the worker's, and stores to its announcement.
-fn announces(worker: u32, step: &Step) -> bool
-    ensures { result ≡ ((step.now.worker == worker) && is_announcement (mark_of step.now)) }
+/// Whether the transition is the worker's, and stores to its announcement.
+fn announces(worker: u32, transition: &Transition) -> bool
+    ensures { result ≡ ((transition.now.worker == worker) && is_announcement (mark_of transition.now)) }
 {
-    step.worker == worker && is_announcement(step)
+    transition.worker == worker && is_announcement(transition)
 }
 
-/// Whether the step is the worker's, and stores a performance.
-fn files(worker: u32, step: &Step) -> bool
-    ensures { result ≡ ((step.now.worker == worker) && is_filing (mark_of step.now)) }
+/// Whether the transition is the worker's, and stores a performance.
+fn files(worker: u32, transition: &Transition) -> bool
+    ensures { result ≡ ((transition.now.worker == worker) && is_filing (mark_of transition.now)) }
 {
-    step.worker == worker && is_filing(step)
+    transition.worker == worker && is_filing(transition)
 }
 
-/// How many of these steps come before the worker's next store to its announcement.
-fn until_announcement(worker: u32, rest: &[Step]) -> usize
+/// How many of these transitions come before the worker's next store to its announcement.
+fn until_announcement(worker: u32, rest: &[Transition]) -> usize
     ensures value { result ≡ position_or_len (λ s. (s.worker == worker) && is_announcement (mark_of s)) rest.now }
     ensures few { result ≤ length rest.now }
 {
     rest.iter()
-        .take_while(|step| !announces(worker, step))
+        .take_while(|transition| !announces(worker, transition))
         .count()
 }
 
-/// How many of these steps come before the worker's next performance.
-pub fn until_filing(worker: u32, rest: &[Step]) -> usize
+/// How many of these transitions come before the worker's next performance.
+pub(crate) fn until_filing(worker: u32, rest: &[Transition]) -> usize
     ensures value { result ≡ position_or_len (λ s. (s.worker == worker) && is_filing (mark_of s)) rest.now }
     ensures few { result ≤ length rest.now }
 {
-    rest.iter().take_while(|step| !files(worker, step)).count()
+    rest.iter()
+        .take_while(|transition| !files(worker, transition))
+        .count()
 }
 
 /// Whose word is loaded.
@@ -282,17 +285,17 @@ fn push_line(
     push_level(out, seen_at(want))
 }
 
-/// Appends what leads up to a mark, the steps after it being these.
+/// Appends what leads up to a mark in a row at this height, the transitions after it being these.
 #[tactic(auto, unfolding(crate::specs::Marks::lead_at))]
-fn push_lead(
+pub(crate) fn push_lead(
     out: &mut String,
     worker: u32,
     y: u128,
     label: &str,
-    rest: &[Step],
+    rest: &[Transition],
     mark: Mark,
 ) -> Result<(), AllocError>
-    requires { length rest.now ≤ 400 }
+    requires { length rest.now ≤ MOST_ROWS }
     ensures { OnOk result (string_bytes out.new ≡ string_bytes out.old ++ lead_at worker y label.now rest.now mark) }
 {
     let x = lane(worker);
@@ -320,7 +323,7 @@ fn push_lead(
 
 /// Appends the shape of a mark.
 #[tactic(auto, unfolding(crate::specs::Marks::shape_at))]
-fn push_shape(out: &mut String, x: u128, y: u128, mark: Mark) -> Result<(), AllocError>
+pub(crate) fn push_shape(out: &mut String, x: u128, y: u128, mark: Mark) -> Result<(), AllocError>
     ensures { OnOk result (string_bytes out.new ≡ string_bytes out.old ++ shape_at x y mark) }
 {
     match mark {
@@ -334,20 +337,4 @@ fn push_shape(out: &mut String, x: u128, y: u128, mark: Mark) -> Result<(), Allo
         Mark::Claim(_) | Mark::Filing(_) => push_area(out, "c", x, y, "m-5 -5h10v10h-10z"),
         Mark::Still => Ok(()),
     }
-}
-
-/// Appends a mark in a row at this height, the steps after it being these.
-pub fn push_mark(
-    out: &mut String,
-    worker: u32,
-    y: u128,
-    label: &str,
-    rest: &[Step],
-    mark: Mark,
-) -> Result<(), AllocError>
-    requires { length rest.now ≤ 400 }
-    ensures { OnOk result (string_bytes out.new ≡ string_bytes out.old ++ mark_at worker y label.now rest.now mark) }
-{
-    push_lead(out, worker, y, label, rest, mark)?;
-    push_shape(out, lane(worker), y, mark)
 }

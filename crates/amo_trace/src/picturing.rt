@@ -2,6 +2,7 @@
 ghost use Rattle.std.specs.Prelude.{◌≡◌, ◌++◌, ◌≤◌, OnOk, IfOk, string_bytes, length};
 ghost use Rattle.std.specs.List.{filter};
 ghost use Rattle.amo_plan.specs.PlanSeen.{plan_seen};
+ghost use Rattle.amo_trace.specs.declared.picturing.TheConstants.{MOST_ROWS};
 ghost use Rattle.amo_trace.specs.Jobs.{jobs_picture};
 ghost use Rattle.amo_trace.specs.Picture.{rows_picture, picture_in, picture_of};
 ghost use Rattle.amo_trace.specs.Rows.{acts};
@@ -10,8 +11,8 @@ use crate::feet::{push_lane_feet, push_rows_key};
 use crate::frame::{push_foot, push_head};
 use crate::jobs::{columns_of, jobs_width, push_jobs_ground, push_jobs_key, push_workers_drawn};
 use crate::rows::{changes, push_lane_heads, push_rows};
-use crate::step::Step;
-use crate::steps::run_of;
+use crate::transition::Transition;
+use crate::transitions::run_of;
 use amo_plan::Plan;
 use amo_world::World;
 use std::alloc::{AllocError, Global};
@@ -19,32 +20,38 @@ use std::alloc::{AllocError, Global};
 /// The most rows of a picture; of a longer run the jobs are drawn.
 const MOST_ROWS: usize = 400;
 
-/// The steps that change something. The only error is out of memory.
-fn rows_of(alloc: Global, steps: &[Step]) -> Result<Vec<Step>, AllocError>
-    ensures { IfOk result (λ v. v.items ≡ filter (λ s. acts s.act) steps.now) }
+/// What a picture is drawn of.
+#[derive(Clone, Copy)]
+struct Scene<'a> {
+    /// The plan.
+    plan: &'a Plan,
+    /// The world to which its moves lead.
+    world: &'a World,
+    /// The transitions that change something.
+    rows: &'a [Transition],
+}
+
+/// The transitions that change something. The only error is out of memory.
+fn rows_of(alloc: Global, transitions: &[Transition]) -> Result<Vec<Transition>, AllocError>
+    ensures { IfOk result (λ v. v.items ≡ filter (λ s. acts s.act) transitions.now) }
 {
     let mut rows = Vec::new(alloc);
-    for step in steps {
-        if changes(step) {
-            rows.push(*step)?;
+    for transition in transitions {
+        if changes(transition) {
+            rows.push(*transition)?;
         }
     }
     Ok(rows)
 }
 
-/// Appends the picture with a row for each of these steps.
+/// Appends the picture with a row for each of these transitions.
 #[tactic(auto, unfolding(crate::specs::Picture::rows_picture))]
-fn push_rows_picture(
-    alloc: Global,
-    out: &mut String,
-    plan: &Plan,
-    world: &World,
-    rows: &[Step],
-) -> Result<(), AllocError>
-    requires short { length rows.now ≤ 400 }
-    requires same { world.now.givens ≡ plan.now.heads.givens }
-    ensures { OnOk result (string_bytes out.new ≡ string_bytes out.old ++ rows_picture (plan_seen plan.now) world.now.world rows.now) }
+fn push_rows_picture(alloc: Global, out: &mut String, scene: &Scene<'_>) -> Result<(), AllocError>
+    requires short { length scene.now.rows.now ≤ MOST_ROWS }
+    requires same { scene.now.world.now.givens ≡ scene.now.plan.now.heads.givens }
+    ensures { OnOk result (string_bytes out.new ≡ string_bytes out.old ++ rows_picture (plan_seen scene.now.plan.now) scene.now.world.now.world scene.now.rows.now) }
 {
+    let Scene { plan, world, rows } = *scene;
     let workers = plan.heads.givens.workers;
     let end = 72 + 18 * (rows.len() as u128 + 1);
     let width = 56 + 176 * workers.max(3) as u128;
@@ -58,16 +65,11 @@ fn push_rows_picture(
 
 /// Appends the picture with a column for each job.
 #[tactic(auto, unfolding(crate::specs::Jobs::jobs_picture))]
-fn push_jobs_picture(
-    alloc: Global,
-    out: &mut String,
-    plan: &Plan,
-    world: &World,
-    rows: &[Step],
-) -> Result<(), AllocError>
-    requires { world.now.givens ≡ plan.now.heads.givens }
-    ensures { OnOk result (string_bytes out.new ≡ string_bytes out.old ++ jobs_picture (plan_seen plan.now) world.now.world rows.now) }
+fn push_jobs_picture(alloc: Global, out: &mut String, scene: &Scene<'_>) -> Result<(), AllocError>
+    requires { scene.now.world.now.givens ≡ scene.now.plan.now.heads.givens }
+    ensures { OnOk result (string_bytes out.new ≡ string_bytes out.old ++ jobs_picture (plan_seen scene.now.plan.now) scene.now.world.now.world scene.now.rows.now) }
 {
+    let Scene { plan, world, rows } = *scene;
     let workers = plan.heads.givens.workers;
     push_head(alloc, out, plan, world, jobs_width(plan), 1176)?;
     push_jobs_ground(out, plan, rows)?;
@@ -77,30 +79,29 @@ fn push_jobs_picture(
 }
 
 /// Appends the picture of a run with these rows.
-fn push_picture(
-    alloc: Global,
-    out: &mut String,
-    plan: &Plan,
-    world: &World,
-    rows: &[Step],
-) -> Result<(), AllocError>
-    requires { world.now.givens ≡ plan.now.heads.givens }
-    ensures { OnOk result (string_bytes out.new ≡ string_bytes out.old ++ picture_in (plan_seen plan.now) world.now.world rows.now) }
+fn push_picture(alloc: Global, out: &mut String, scene: &Scene<'_>) -> Result<(), AllocError>
+    requires { scene.now.world.now.givens ≡ scene.now.plan.now.heads.givens }
+    ensures { OnOk result (string_bytes out.new ≡ string_bytes out.old ++ picture_in (plan_seen scene.now.plan.now) scene.now.world.now.world scene.now.rows.now) }
 {
-    if rows.len() <= MOST_ROWS {
-        return push_rows_picture(alloc, out, plan, world, rows);
+    if scene.rows.len() <= MOST_ROWS {
+        return push_rows_picture(alloc, out, scene);
     }
-    push_jobs_picture(alloc, out, plan, world, rows)
+    push_jobs_picture(alloc, out, scene)
 }
 
-/// The picture of a plan, an SVG: a row for each move that changes something where they are at most 400, else a column for
+/// The picture of a plan, an SVG: a row for each move that changes something where they are at most `MOST_ROWS`, else a column for
 /// each job. The only error is out of memory.
 pub fn picture_text(alloc: Global, plan: &Plan) -> Result<String, AllocError>
     ensures { IfOk result (λ s. string_bytes s ≡ picture_of (plan_seen plan.now)) }
 {
     let run = run_of(alloc, plan)?;
-    let rows = rows_of(alloc, &run.steps)?;
+    let rows = rows_of(alloc, &run.transitions)?;
     let mut out = String::new(alloc);
-    push_picture(alloc, &mut out, plan, &run.world, &rows)?;
+    let scene = Scene {
+        plan,
+        world: &run.world,
+        rows: &rows,
+    };
+    push_picture(alloc, &mut out, &scene)?;
     Ok(out)
 }

@@ -1,22 +1,22 @@
 //! Where a picture of jobs has its moves, its jobs and its workers.
 ghost use Rattle.std.specs.Prelude.{◌≡◌, ◌≤◌, ◌<◌, ◌^◌};
-ghost use Rattle.amo_trace.specs.Scale.{last_number, at, place, wide, power, grid_step, narrow_lane};
+ghost use Rattle.amo_trace.specs.Scale.{last_number, at, end_of, place, wide, power, grid_step, narrow_lane};
 
-use crate::step::Step;
+use crate::transition::Transition;
 
 /// The number of the last row, at least 1.
-pub fn last_number(rows: &[Step]) -> usize
+pub(crate) fn last_number(rows: &[Transition]) -> usize
     ensures value { result ≡ last_number rows.now }
     ensures some { 1 ≤ result }
 {
     match rows.last() {
-        Some(step) => step.number.max(1),
+        Some(transition) => transition.number.max(1),
         None => 1,
     }
 }
 
 /// How far down a move is.
-pub fn at(last: usize, number: usize) -> u128
+pub(crate) fn at(last: usize, number: usize) -> u128
     requires { 1 ≤ last }
     ensures value { result ≡ at last number }
     ensures near { result < 2 ^ 100 }
@@ -24,8 +24,20 @@ pub fn at(last: usize, number: usize) -> u128
     72 + 960 * number as u128 / last as u128
 }
 
+/// How far down what a transition ends goes: so far below its move, or to the foot where there is none.
+pub(crate) fn end_of(last: usize, below: u128, end: Option<Transition>) -> u128
+    requires last { 1 ≤ last }
+    requires near { below ≤ 2 }
+    ensures { result ≡ end_of last below end }
+{
+    match end {
+        Some(transition) => at(last, transition.number) + below,
+        None => 1032,
+    }
+}
+
 /// How far to the right the middle of a job's column is.
-pub fn place(jobs: u32, job: u32) -> u128
+pub(crate) fn place(jobs: u32, job: u32) -> u128
     requires { 1 ≤ jobs }
     ensures { result ≡ place jobs job }
 {
@@ -33,7 +45,7 @@ pub fn place(jobs: u32, job: u32) -> u128
 }
 
 /// How wide a column is.
-pub fn wide(jobs: u32) -> u128
+pub(crate) fn wide(jobs: u32) -> u128
     requires { 1 ≤ jobs }
     ensures value { result ≡ wide jobs }
     ensures narrow { result < 1000 }
@@ -61,7 +73,7 @@ fn power(number: usize) -> usize
 }
 
 /// How many moves there are from one level line to the next.
-pub fn grid_step(last: usize) -> u128
+pub(crate) fn grid_step(last: usize) -> u128
     ensures value { result ≡ grid_step last }
     ensures some { 1 ≤ result }
 {
@@ -70,7 +82,7 @@ pub fn grid_step(last: usize) -> u128
 }
 
 /// Where a worker's lane is.
-pub fn narrow_lane(worker: u32) -> u128
+pub(crate) fn narrow_lane(worker: u32) -> u128
     ensures value { result ≡ narrow_lane worker }
     ensures wide { 848 ≤ result }
     ensures near { result < 2 ^ 40 }

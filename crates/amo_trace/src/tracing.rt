@@ -3,8 +3,8 @@ ghost use Rattle.std.specs.Prelude.{◌≡◌, IfOk, string_bytes};
 ghost use Rattle.amo_plan.specs.PlanSeen.{plan_seen};
 ghost use Rattle.amo_trace.specs.Trace.{trace_of};
 
-use crate::lines::{push_openings, push_steps};
-use crate::steps::steps_of;
+use crate::lines::{push_openings, push_transitions};
+use crate::transitions::transitions_of;
 use amo_plan::Plan;
 use amo_texts::push_first_line;
 use amo_world::World;
@@ -16,11 +16,11 @@ use std::alloc::{AllocError, Global};
 pub fn trace_text(alloc: Global, plan: &Plan) -> Result<String, AllocError>
     ensures { IfOk result (λ s. string_bytes s ≡ trace_of (plan_seen plan.now)) }
 {
-    let steps = steps_of(alloc, plan)?;
+    let transitions = transitions_of(alloc, plan)?;
     let opening = World::new(alloc, plan.heads.givens)?;
     let mut out = String::new(alloc);
     push_first_line(&mut out, &plan.heads)?;
     push_openings(&mut out, &opening)?;
-    push_steps(&mut out, &steps)?;
+    push_transitions(&mut out, &transitions)?;
     Ok(out)
 }

@@ -10,7 +10,8 @@ use Rattle.amo_words.specs.declared.rule.Spot.{Spot}
 use Rattle.amo_words.specs.declared.rule.Spot.TheVariants.{Home, Out}
 use Rattle.amo_words.specs.declared.rule.View.{View}
 use Rattle.amo_words.specs.declared.rule.Key.{Key}
-use Rattle.amo_words.specs.Logs.{word_count, AreOwn}
+use Rattle.amo_kk.specs.Words.{word_count}
+use Rattle.amo_words.specs.Logs.{AreOwn}
 use Rattle.amo_words.specs.Rule.{Stands, AllStand, placing_view, open_view, open_role, first_view}
 use Rattle.amo_words.specs.Plays.{role_of_hired, without_hired, book_left, worker_right}
 use Rattle.amo_words.specs.Faces.{machine_of, spots_of, IsBook}
@@ -26,7 +27,7 @@ stands_out g log spots p low h = (
   λ q x lq at. ⊎_elim (λ t. subst (Stands g log q) t.1 tt) (λ t. h.1 q x lq t.1) (at_set spots (p - 1) (q - 1) Out x at),
 )
 
--- the book's records stand, as its view says it
+-- the book's machines stand, as its view says it
 module _ {P : Type 0} (v : View P) (id : TableId) (g : Givens) (spots : List Spot) (room : ℕ) (is : IsBook v id g spots room) where
   pub book_turns : AreOwn v.givens v.seen
   book_turns = subst (λ gg. AreOwn gg v.seen) (sym is.givens) is.turns
@@ -43,7 +44,7 @@ module _ {P : Type 0} (v : View P) (id : TableId) (seat : ℕ) (g : Givens) (spo
     givens = ap (λ (u : View P). u.givens) now ∙ is.givens;
     words = ap (λ t. t.words) same ∙ is.words;
     slots = ap (λ t. t.slots) same ∙ is.slots;
-    told = ap (λ (u : View P). u.told) now ∙ is.told;
+    moves = ap (λ (u : View P). u.moves) now ∙ is.moves;
     turns = subst (AreOwn g) (sym (ap (λ (u : View P). u.seen) now)) is.turns;
     stand = subst (λ log. AllStand g log (set spots (p - 1) Out)) (sym (ap (λ (u : View P). u.seen) now)) (stands_out g v.seen spots p low is.stand);
     exact = is.exact;
@@ -71,19 +72,19 @@ module _ {P : Type 0} (v : View P) (id : TableId) (seat : ℕ) (g : Givens) (spo
 module _ {P : Type 0} (k : Key P) (v : View P) (id : TableId) (seat : ℕ) (spots : List Spot) (room : ℕ)
     (words : id.words ≡ word_count k.givens) (slots : id.slots ≡ k.givens.jobs) (home : spots ≡ replicate k.givens.workers Home) (exact : room ≡ k.givens.workers)
     (now : v ≡ open_view k) where
-  pub book_opened : IsBook v id k.givens spots room
+  book_opened : IsBook v id k.givens spots room
   book_opened = record {
     role = ap (λ (u : View P). u.role) now ∙ ap Keeping (sym home);
     givens = ap (λ (u : View P). u.givens) now;
     words = words;
     slots = slots;
-    told = ap (λ (u : View P). u.told) now;
+    moves = ap (λ (u : View P). u.moves) now;
     turns = subst (AreOwn k.givens) (sym (ap (λ (u : View P). u.seen) now)) (own_none k.givens);
     stand = subst (λ (z : List Move × List Spot). AllStand k.givens z.0 z.1) (λ c. (sym (ap (λ (u : View P). u.seen) now) c, sym home c)) (home_stand k.givens);
     exact = exact;
   }
 
-  pub has_opened : (id' : TableId) → id ≡ id' → HasOpened k.givens k.payloads.value.items (record { table_id = id'; givens = k.givens }) (record { table_id = id; id = seat; view = v })
+  has_opened : (id' : TableId) → id ≡ id' → HasOpened k.givens k.payloads.value.items (record { table_id = id'; givens = k.givens }) (record { table_id = id; id = seat; view = v })
   has_opened id' same = record {
     table = same;
     floor_givens = refl;
@@ -96,9 +97,37 @@ module _ {P : Type 0} (k : Key P) (v : View P) (id : TableId) (seat : ℕ) (spot
   }
 
 -- the first view, once all payloads are placed
-pub opened_view : {P : Type 0} (k : Key P) → (let v : View P = first_view k in record v { role = open_role v.givens }) ≡ open_view k
+opened_view : {P : Type 0} (k : Key P) → (let v : View P = first_view k in record v { role = open_role v.givens }) ≡ open_view k
 opened_view {P} k = go (nat_lt 0 k.givens.jobs)
   where
     go : (b : Bool) → (let v : View P = if b then placing_view k 0 false else open_view k in record v { role = open_role v.givens }) ≡ open_view k
     go true = refl
     go false = refl
+
+-- What comes of a new table whose first view is that of the key, once all payloads are placed: its book, and the answer.
+pub all_opened : {P : Type 0} (k : Key P) (first v : View P) (id id' : TableId) (seat : ℕ) (spots : List Spot) (room workers : ℕ)
+    → id'.words ≡ word_count k.givens → id'.slots ≡ k.givens.jobs → id ≡ id' → first ≡ first_view k → v ≡ record first { role = open_role first.givens }
+    → workers ≡ k.givens.workers → spots ≡ replicate workers Home → room ≡ workers
+    → IsBook v id k.givens spots room × HasOpened k.givens k.payloads.value.items (record { table_id = id'; givens = k.givens }) (record { table_id = id; id = seat; view = v })
+all_opened {P} k first v id id' seat spots room workers words slots same begins placed count home exact = (
+  book_opened k v id seat spots room wide deep home_is exact_is now,
+  has_opened k v id seat spots room wide deep home_is exact_is now id' same,
+)
+  where
+    after : View P → View P
+    after u = record u { role = open_role u.givens }
+
+    now : v ≡ open_view k
+    now = placed ∙ ap after begins ∙ opened_view k
+
+    wide : id.words ≡ word_count k.givens
+    wide = ap (λ t. t.words) same ∙ words
+
+    deep : id.slots ≡ k.givens.jobs
+    deep = ap (λ t. t.slots) same ∙ slots
+
+    home_is : spots ≡ replicate k.givens.workers Home
+    home_is = home ∙ ap (λ n. replicate n Home) count
+
+    exact_is : room ≡ k.givens.workers
+    exact_is = exact ∙ count

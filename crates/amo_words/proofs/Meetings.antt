@@ -7,7 +7,7 @@ use lib.ListN.{get_elem?}
 use Rattle.amo_sets.specs.Sets.{has}
 use Rattle.amo_kk.specs.Givens.{IsWorker, bound}
 use Rattle.amo_kk.specs.Record.{is_over}
-use Rattle.amo_kk.specs.World.{process, done_count}
+use Rattle.amo_kk.specs.World.{process, done_count, world_of}
 use Rattle.amo_kk.specs.Machine.{LocalView}
 use Rattle.amo_kk.specs.declared.givens.Givens.{Givens}
 use Rattle.amo_kk.specs.declared.event.Move.{Move}
@@ -16,7 +16,7 @@ use Rattle.amo_kk.proofs.RowSums.{total, someone, rows_fit}
 use Rattle.amo_sets.proofs.Numbers.{count_le_all}
 use Rattle.amo_words.specs.declared.rule.Spot.{Spot}
 use Rattle.amo_words.specs.declared.rule.Spot.TheVariants.{Home, Out, Back}
-use Rattle.amo_words.specs.Logs.{world_after, machine_after}
+use Rattle.amo_words.specs.Logs.{machine_after}
 use Rattle.amo_words.specs.Rule.{AllStand, Stands}
 use Rattle.amo_words.specs.declared.floor.looking.Place.TheVariants.{Back as CameBack}
 use Rattle.amo_words.specs.Looking.{where_is, HasSpotOf, IsBack, done_in, back_count}
@@ -43,14 +43,14 @@ module _ (g : Givens) (log : List Move) (spots : List Spot) (stand : AllStand g 
       (ap (λ (x : LocalView). has x.state.claimed j) (sym (stands_back p l lp)) ∙ claimed)
 
   -- where one of them has ended, enough jobs are done
-  pub late_back : (p : ℕ) (l : LocalView) → IsBack spots p l → is_over l.state.phase ≡ true → bound g ≤ done_count (world_after g log)
+  pub late_back : (p : ℕ) (l : LocalView) → IsBack spots p l → is_over l.state.phase ≡ true → bound g ≤ done_count (world_of g log)
   late_back p l back ended =
-      enough_done g (world_after g log) p (lawful g log) (worker_back p l back) (ap (λ (m : LocalView). is_over m.state.phase) (sym (stands_back p l back)) ∙ ended)
+      enough_done g (world_of g log) p (lawful g log) (worker_back p l back) (ap (λ (m : LocalView). is_over m.state.phase) (sym (stands_back p l back)) ∙ ended)
 
   -- how many jobs they have done together
 
   abbrev rows : ℕ → ℕ
-  rows q = length (process (world_after g log) q).local.dones
+  rows q = length (process (world_of g log) q).local.dones
 
   done_few : (p : ℕ) (x : Spot) → Stands g log p x → done_in x ≤ rows p
   done_few p Home h = omega arith
@@ -76,8 +76,8 @@ module _ (g : Givens) (log : List Move) (spots : List Spot) (stand : AllStand g 
   back_few =
       let wide = stand.0 in
       let sums = subst (λ l. sum_by done_in l ≤ total (length spots) rows) (take_all (length spots) spots (omega arith)) (first_few (length spots) (omega arith)) in
-      let fit = rows_fit g (world_after g log) (lawful g log) (length spots) (omega arith) in
-      let all = count_le_all (someone (process (world_after g log)) (length spots)) g.jobs in
+      let fit = rows_fit g (world_of g log) (lawful g log) (length spots) (omega arith) in
+      let all = count_le_all (someone (process (world_of g log)) (length spots)) g.jobs in
       omega (arith, sums, fit, all)
 
 -- a worker whose place is said to be Back has a machine in the book

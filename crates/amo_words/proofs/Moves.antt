@@ -43,8 +43,8 @@ module _ {P : Type 0} (k : Key P) where
   pub sheds : (id : ℕ) (v : View P) (l : LocalView) → v.role ≡ Working l → Splits (IsKept k) id v (shed_left v) (shed_right v)
   sheds id v l is = lift_splits k id v (shed_left v) (shed_right v) (ap is_placing is) (seats.sheds k id v l is)
 
-  pub joins : (id : ℕ) (v : View P) (spots : List Spot) (other : ℕ) (w : View P) (l : LocalView) → v.role ≡ Keeping spots → v.told ≡ [] → w.role ≡ Working l → Joins (IsKept k) id v other w (both_views v w) spent_view
-  joins id v spots other w l is told js = lift_joins k id v other w (both_views v w) spent_view (ap is_placing is) (seats.joins k id v spots other w l is told js)
+  pub joins : (id : ℕ) (v : View P) (spots : List Spot) (other : ℕ) (w : View P) (l : LocalView) → v.role ≡ Keeping spots → v.moves ≡ [] → w.role ≡ Working l → Joins (IsKept k) id v other w (both_views v w) spent_view
+  joins id v spots other w l is moves js = lift_joins k id v other w (both_views v w) spent_view (ap is_placing is) (seats.joins k id v spots other w l is moves js)
 
   pub meets : (slots id : ℕ) (me : Me (Option P) (View P)) (spots : List Spot) → me.0.role ≡ Keeping spots → Allows (IsKept k) slots id me 0 (λ n. n) (told_by_meeting (step slots 0 0 0 none) me)
   meets slots id me spots is = lift_allows k slots id me 0 (λ n. n) (told_by_meeting (step slots 0 0 0 none) me) (ap is_placing is) (seats.meets k slots id me spots is)

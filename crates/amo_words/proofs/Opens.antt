@@ -1,5 +1,5 @@
 -- How the table is opened: the words of the opening world, and what the two kinds of opening step owe.
-use Rattle.std.proofs.Common.{◌≡◌, ◌≢◌, ℕ, zero, suc, ◌+◌, ◌-◌, ◌*◌, ◌<◌, ◌==◌, ◌&&◌, List, [], ◌∷◌, ◌++◌, length, replicate, get_or, set, map, sym, refl, ap, ◌∙◌, subst, inl, inr, arith, Option, Some, None, Bool, true, false, cond, ltb, lt-ltb, le-ltb, ltb-true, ltb-false, eq-eqb, ne_eqb, length-set, append_assoc, append-nil, suc-mul}
+use Rattle.std.proofs.Common.{◌≡◌, ◌≢◌, ℕ, zero, suc, ◌+◌, ◌-◌, ◌*◌, ◌<◌, ◌==◌, ◌&&◌, List, [], ◌∷◌, ◌++◌, length, replicate, get_or, set, map, sym, refl, ap, ◌∙◌, subst, inl, inr, arith, Option, Some, None, Bool, true, false, cond, ltb, lt-ltb, le-ltb, ltb-true, ltb-false, eq-eqb, ne_eqb, length-set, append-nil, suc-mul}
 use Rattle.std.specs.List.{flat_map}
 use Rattle.std.proofs.lemmas.List.{set-get_or, length-map, map-append, replicate-append-replicate}
 use mathlib.Core.Logic.{dite}
@@ -9,6 +9,7 @@ use native.Mathlib.Decide.{ℕ_discrete, dec_lt}
 use lib.ListN.{get_elem?, length-replicate}
 use Rattle.atomic_table.specs.Table.{State, Me, step, takes, gives, put_back, rest, opening, Allows}
 use Rattle.atomic_table.proofs.Lists.{set_here, set_else, at_map}
+use Rattle.std.proofs.lemmas.Grind.{flat_map-append}
 use Rattle.amo_sets.specs.Lists.{table}
 use Rattle.amo_sets.specs.Sets.{has}
 use Rattle.amo_sets.proofs.Numbers.{length-table}
@@ -16,19 +17,19 @@ use Rattle.amo_sets.proofs.Tables.{numbered-table}
 use Rattle.amo_kk.specs.Givens.{IsWorker}
 use Rattle.amo_kk.specs.Record.{empty_record}
 use Rattle.amo_kk.specs.Choice.{first_record}
-use Rattle.amo_kk.specs.Words.{words_of}
-use Rattle.amo_kk.specs.World.{nobody, process, first_process, opening_world}
+use Rattle.amo_kk.specs.Words.{words_of, word_count}
+use Rattle.amo_kk.specs.World.{nobody, process, first_process, opening_world, world_of}
 use Rattle.amo_kk.specs.Machine.{LocalView}
 use Rattle.amo_kk.specs.declared.givens.Givens.{Givens}
 use Rattle.amo_kk.specs.declared.model.Process.{Process}
 use Rattle.amo_kk.proofs.Choice.{choice_cases}
 use Rattle.amo_words.specs.declared.rule.Role.{Role}
-use Rattle.amo_words.specs.declared.rule.Role.TheVariants.{Opening, Keeping, Working, Spent}
+use Rattle.amo_words.specs.declared.rule.Role.TheVariants.{Opening, Keeping}
 use Rattle.amo_words.specs.declared.rule.Spot.{Spot}
 use Rattle.amo_words.specs.declared.rule.Spot.TheVariants.{Home}
 use Rattle.amo_words.specs.declared.rule.View.{View}
 use Rattle.amo_words.specs.declared.rule.Key.{Key}
-use Rattle.amo_words.specs.Logs.{word_count, world_after, machine_after, first_machine, is_claimed}
+use Rattle.amo_words.specs.Logs.{machine_after, first_machine, is_claimed}
 use Rattle.amo_words.specs.Rule.{Stands, AllStand, IsSeated, Fits, IsOf, IsOpen, IsPlacing, IsKept, open_view, placing_view, placed_home, first_view, home_of}
 use Rattle.amo_words.specs.Plays.{next_role, PickedBy, PlacedBy, told_by_picking, told_by_placing}
 use Rattle.amo_words.proofs.Worlds.{unclaimed_by, own_none}
@@ -53,15 +54,11 @@ map_table : {X : Type 0} (f : X → ℕ) (h : ℕ → X) → ((k : ℕ) → f (h
 map_table f h zeros zero = refl
 map_table f h zeros (suc n) = map-append f (table n h) (h (suc n) ∷ []) ∙ (λ i. map_table f h zeros n i ++ zeros (suc n) i ∷ []) ∙ replicate-append-replicate n 1 0 ∙ (let e : n + 1 ≡ suc n = omega arith in ap (λ k. replicate k 0) e)
 
-flat_more : {X : Type 0} (f : X → List ℕ) (xs ys : List X) → flat_map f (xs ++ ys) ≡ flat_map f xs ++ flat_map f ys
-flat_more f [] ys = refl
-flat_more f (x ∷ xs) ys = ap (λ l. f x ++ l) (flat_more f xs ys) ∙ sym (append_assoc (f x) (flat_map f xs) (flat_map f ys))
-
 flat_table : {X : Type 0} (f : X → List ℕ) (h : ℕ → X) (size : ℕ) → ((k : ℕ) → f (h k) ≡ replicate size 0) → (n : ℕ) → flat_map f (table n h) ≡ replicate (n * size) 0
 flat_table f h size rows zero = let e : 0 ≡ 0 * size = omega arith in ap (λ k. replicate k 0) e
-flat_table f h size rows (suc n) = flat_more f (table n h) (h (suc n) ∷ []) ∙ (λ i. flat_table f h size rows n i ++ (rows (suc n) i ++ [])) ∙ ap (λ l. replicate (n * size) 0 ++ l) (append-nil (replicate size 0)) ∙ replicate-append-replicate (n * size) size 0 ∙ (let e : n * size + size ≡ suc n * size = sym (suc-mul n size) in ap (λ k. replicate k 0) e)
+flat_table f h size rows (suc n) = flat_map-append f (table n h) (h (suc n) ∷ []) ∙ (λ i. flat_table f h size rows n i ++ (rows (suc n) i ++ [])) ∙ ap (λ l. replicate (n * size) 0 ++ l) (append-nil (replicate size 0)) ∙ replicate-append-replicate (n * size) size 0 ∙ (let e : n * size + size ≡ suc n * size = sym (suc-mul n size) in ap (λ k. replicate k 0) e)
 
-pub opening_words : (g : Givens) → words_of (world_after g []).processes ≡ replicate (word_count g) 0
+pub opening_words : (g : Givens) → words_of (world_of g []).processes ≡ replicate (word_count g) 0
 opening_words g =
     (λ i. 0 ∷ map_table (λ (a : Process). a.next) (first_process g) (λ k. refl) g.workers i ++ (map_table (λ (a : Process). a.claim) (first_process g) (λ k. refl) g.workers i ++ flat_table (λ (a : Process). a.row) (first_process g) (g.jobs + 1) (λ k. refl) g.workers i))
     ∙ ap (λ l. 0 ∷ replicate g.workers 0 ++ l) (replicate-append-replicate g.workers (g.workers * (g.jobs + 1)) 0)
@@ -71,7 +68,7 @@ opening_words g =
     all : (m n : ℕ) → suc (m + (m + m * (n + 1))) ≡ m * (n + 3) + 1
     all m n = grind arith
 
-opening_process : (g : Givens) (p : ℕ) → IsWorker g p → process (world_after g []) p ≡ first_process g p
+opening_process : (g : Givens) (p : ℕ) → IsWorker g p → process (world_of g []) p ≡ first_process g p
 opening_process g p o = numbered-table nobody (first_process g) g.workers p o.low o.high
 
 pub opening_machine : (g : Givens) (p : ℕ) → IsWorker g p → first_machine g p ≡ machine_after g [] p
@@ -80,7 +77,7 @@ opening_machine g p o = ap (λ (a : Process). let x : LocalView = record { given
 first_claims : (g : Givens) (p : ℕ) → (first_record g p).claimed ≡ []
 first_claims g p = choice_cases g p (empty_record g) (λ r. r.claimed ≡ []) (λ few. refl) (λ many. refl)
 
-pub opening_claims : (g : Givens) (j : ℕ) → is_claimed (world_after g []).processes j ≡ false
+pub opening_claims : (g : Givens) (j : ℕ) → is_claimed (world_of g []).processes j ≡ false
 opening_claims g j =
     unclaimed_by j (opening_world g).processes (λ p low high. let size = length-table (first_process g) g.workers in
     ap (λ (a : Process). has a.local.claimed j) (numbered-table nobody (first_process g) g.workers p low (omega (arith, high, size))) ∙ ap (λ l. has l j) (first_claims g p))
@@ -96,14 +93,11 @@ home_stand g = (
 )
 
 module _ {P : Type 0} (k : Key P) where
-  abbrev St : Type 0
-  St = State (Option P) (View P)
-
   abbrev xs : List P
   xs = k.payloads.value.items
 
   -- the table shows the opening world, once each payload is placed
-  pub opened : (s : St) → s.words ≡ replicate (word_count k.givens) 0 → s.views ≡ open_view k ∷ [] → length xs ≡ k.givens.jobs → length s.homes ≡ length xs
+  pub opened : (s : State (Option P) (View P)) → s.words ≡ replicate (word_count k.givens) 0 → s.views ≡ open_view k ∷ [] → length xs ≡ k.givens.jobs → length s.homes ≡ length xs
       → ((j : ℕ) (x : P) → get_elem? xs j ≡ some x → get_elem? s.homes j ≡ some (some (Some x))) → IsOpen k s
   opened s blank alone deep size full = let g = k.givens in record {
     log = [];
@@ -135,23 +129,19 @@ module _ {P : Type 0} (k : Key P) where
   high_home n j true x h = ap (λ c. cond c (let y : maybe.Option (Option P) = some (Some x) in y) (cond (j == n) none (some None))) (le-ltb j n (omega arith)) ∙ ap (λ c. cond c none (some None)) (ne_eqb j n (λ e. omega arith))
   high_home n j false x h = ap (λ c. cond c (let y : maybe.Option (Option P) = some (Some x) in y) (some None)) (le-ltb j n (omega arith))
 
-  abbrev pub place_of : Role → ℕ
-  place_of (Opening n b) = n
-  place_of (Keeping spots) = 0
-  place_of (Working l) = 0
-  place_of Spent = 0
+  abbrev placed_of : Role → ℕ
+  placed_of (Opening n b) = n
+  placed_of role = 0
 
-  abbrev pub out_of : Role → Bool
+  abbrev out_of : Role → Bool
   out_of (Opening n b) = b
-  out_of (Keeping spots) = false
-  out_of (Working l) = false
-  out_of Spent = false
+  out_of role = false
 
   -- while the book places, its view is the only one
-  placing : (s : St) → IsKept k s → (id : ℕ) (v : View P) (n : ℕ) (b : Bool) → get_elem? s.views id ≡ some v → v.role ≡ Opening n b → (h : IsPlacing k s) × (id ≡ 0) × (v ≡ placing_view k n b) × (h.placed ≡ n) × (h.out ≡ b)
+  placing : (s : State (Option P) (View P)) → IsKept k s → (id : ℕ) (v : View P) (n : ℕ) (b : Bool) → get_elem? s.views id ≡ some v → v.role ≡ Opening n b → (h : IsPlacing k s) × (id ≡ 0) × (v ≡ placing_view k n b) × (h.placed ≡ n) × (h.out ≡ b)
   placing s (inl h) id v n b at is = absurd (subst (λ ro. IsOf k.givens xs h.log v ro) is (h.views id v at).0)
   placing s (inr h) id v n b at is = let o = only id (placing_view k h.placed h.out) v (ap (λ vs. get_elem? vs id) (sym h.views) ∙ at) in
-      let n' : h.placed ≡ n = ap (λ (z : View P). place_of z.role) o.1 ∙ ap place_of is in
+      let n' : h.placed ≡ n = ap (λ (z : View P). placed_of z.role) o.1 ∙ ap placed_of is in
       let b' : h.out ≡ b = ap (λ (z : View P). out_of z.role) o.1 ∙ ap out_of is in
       (h, o.0, sym o.1 ∙ (λ c. placing_view k (n' c) (b' c)), n', b')
 
@@ -194,8 +184,8 @@ module _ {P : Type 0} (k : Key P) where
       let given : me.0.givens ≡ g = ap (λ (v : View P). v.givens) t.2 in
       let old : (j : ℕ) (y : P) → get_elem? xs j ≡ some y → get_elem? s.homes j ≡ some (placed_home n true j y) = λ j y a. h.slots j y a ∙ (λ c. some (placed_home (t.3 c) (t.4 c) j y)) in
       let w : View P = record me.0 { role = next_role me.0.givens n } in
-      let plain : (role : Role) → next_role g n ≡ role → w ≡ record { givens = g; payloads = xs; seen = []; told = []; role = role } = λ role e.
-      (let next : View P → View P = λ v. record v { role = next_role v.givens n } in ap next t.2) ∙ (let with_role : Role → View P = λ ro. record { givens = g; payloads = xs; seen = []; told = []; role = ro } in ap with_role e) in
+      let plain : (role : Role) → next_role g n ≡ role → w ≡ record { givens = g; payloads = xs; seen = []; moves = []; role = role } = λ role e.
+      (let next : View P → View P = λ v. record v { role = next_role v.givens n } in ap next t.2) ∙ (let with_role : Role → View P = λ ro. record { givens = g; payloads = xs; seen = []; moves = []; role = ro } in ap with_role e) in
       let words' : set s.words 0 (get_or s.words 0 0) ≡ replicate (word_count g) 0 = set-get_or s.words 0 0 ∙ h.words in
       let views' : (v : View P) → w ≡ v → set s.views id w ≡ v ∷ [] = λ v e. (λ c. set (h.views c) (t.1 c) w) ∙ ap (λ z. z ∷ []) e in
       let long' : length homes' ≡ length xs = length-set s.homes n (some (Some x)) ∙ h.size in

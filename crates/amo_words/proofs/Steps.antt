@@ -8,7 +8,7 @@ use Rattle.amo_kk.specs.Alone.{is_claiming}
 use Rattle.amo_kk.specs.Givens.{IsJob, IsWorker}
 use Rattle.amo_kk.specs.Record.{wants_nothing, can_leave}
 use Rattle.amo_kk.specs.Step.{want, is_load, is_store, MayLoad}
-use Rattle.amo_kk.specs.World.{process, loaded_value, world_after_turn, world_after_leave, opening_world}
+use Rattle.amo_kk.specs.World.{process, loaded_value, world_after_turn, world_after_leave, opening_world, world_of}
 use Rattle.amo_kk.specs.Words.{words_of, next_word, loaded_word, words_after}
 use Rattle.amo_kk.specs.Lawful.{IsLawful}
 use Rattle.amo_kk.specs.Machine.{LocalView}
@@ -23,7 +23,7 @@ use Rattle.amo_kk.proofs.Words.{turn_writes, leave_writes, turn_loads}
 use Rattle.amo_words.specs.declared.rule.Role.TheVariants.{Working}
 use Rattle.amo_words.specs.declared.rule.View.{View}
 use Rattle.amo_words.specs.declared.rule.Key.{Key}
-use Rattle.amo_words.specs.Logs.{world_after, machine_in, machine_after, is_claimed, AreOwn}
+use Rattle.amo_words.specs.Logs.{machine_in, machine_after, is_claimed, AreOwn}
 use Rattle.amo_words.specs.Rule.{IsOpen, home_of}
 use Rattle.amo_words.specs.Plays.{machine_turned, machine_left, view_after, TurnedBy, MayLoadBy, LeftBy, TakesIn, TakenBy, told_by_store, told_by_load, told_by_claim, told_by_leave}
 use Rattle.amo_kk.proofs.Loads.{may_load, store_zero}
@@ -44,9 +44,6 @@ left_machine : (g : Givens) (w : World) (p : ℕ) → IsLawful g w → (process 
 left_machine g w p law here may = λ i. record { givens = g; number = p; state = (left_process g w p law here may i).local }
 
 module _ {P : Type 0} (k : Key P) (slots id : ℕ) (me : Me (Option P) (View P)) (l : LocalView) (is : me.0.role ≡ Working l) where
-  abbrev St : Type 0
-  St = State (Option P) (View P)
-
   abbrev g : Givens
   g = k.givens
 
@@ -57,11 +54,11 @@ module _ {P : Type 0} (k : Key P) (slots id : ℕ) (me : Me (Option P) (View P))
   p = l.number
 
   -- where the worker goes on
-  module _ (s : St) (h : IsOpen k s) (at : get_elem? s.views id ≡ some me.0) where
+  module _ (s : State (Option P) (View P)) (h : IsOpen k s) (at : get_elem? s.views id ≡ some me.0) where
     abbrev w0 : World
-    w0 = world_after g h.log
+    w0 = world_of g h.log
 
-    abbrev law : IsLawful g (world_after g h.log)
+    abbrev law : IsLawful g (world_of g h.log)
     law = lawful g h.log
 
     o : IsWorker g p
@@ -73,8 +70,8 @@ module _ {P : Type 0} (k : Key P) (slots id : ℕ) (me : Me (Option P) (View P))
     abbrev b : List Move
     b = turns.between g xs s h id me.0 l at is
 
-    met : world_after me.0.givens (me.0.seen ++ b) ≡ w0
-    met = let mine = turns.mine g xs s h id me.0 l at is in (λ c. world_after (mine.0.0 c) (sym (turns.split g xs s h id me.0 l at is) c))
+    met : world_of me.0.givens (me.0.seen ++ b) ≡ w0
+    met = let mine = turns.mine g xs s h id me.0 l at is in (λ c. world_of (mine.0.0 c) (sym (turns.split g xs s h id me.0 l at is) c))
 
     seen_own : AreOwn me.0.givens (me.0.seen ++ b)
     seen_own = let mine = turns.mine g xs s h id me.0 l at is in subst (λ (z : Givens × List Move). AreOwn z.0 z.1) (λ c. (sym mine.0.0 c, turns.split g xs s h id me.0 l at is c)) h.own
@@ -90,7 +87,7 @@ module _ {P : Type 0} (k : Key P) (slots id : ℕ) (me : Me (Option P) (View P))
     now x saw goes = ap (λ (w : World). machine_in g w p) (world_more g (opening_world g) h.log (Turn p)) ∙ turned_machine g w0 p law (here goes)
         ∙ (λ c. machine_turned (sym machine c) (loaded_value w0 (want (sym machine c).state))) ∙ ap (machine_turned l) (sym saw)
 
-    words_now : wants_nothing l.state.phase ≡ false → words_of (world_after g (h.log ++ Turn p ∷ [])).processes ≡ words_after l.givens p (want l.state) s.words
+    words_now : wants_nothing l.state.phase ≡ false → words_of (world_of g (h.log ++ Turn p ∷ [])).processes ≡ words_after l.givens p (want l.state) s.words
     words_now goes = ap (λ (w : World). words_of w.processes) (world_more g (opening_world g) h.log (Turn p)) ∙ turn_writes g w0 law p (here goes)
         ∙ (λ c. words_after (sym machine c).givens (sym machine c).number (want (sym machine c).state) (sym h.words c))
 
@@ -98,21 +95,21 @@ module _ {P : Type 0} (k : Key P) (slots id : ℕ) (me : Me (Option P) (View P))
     turned_by x saw = subst (λ ro. TurnedBy me.0 ro x (view_after me.0 b (Turn p) (machine_turned l x))) (sym is)
         (record { between = b; others = turns.others_only g xs s h id me.0 l at is; own = seen_own; loads = saw ∙ ap (λ w. loaded_value w (want l.state)) (sym met); leads = refl })
 
-    still : is_claiming l.state.phase ≡ false → wants_nothing l.state.phase ≡ false → (j : ℕ) → is_claimed (world_after g (h.log ++ Turn p ∷ [])).processes j ≡ is_claimed w0.processes j
+    still : is_claiming l.state.phase ≡ false → wants_nothing l.state.phase ≡ false → (j : ℕ) → is_claimed (world_of g (h.log ++ Turn p ∷ [])).processes j ≡ is_claimed w0.processes j
     still quiet goes j = ap (λ (w : World). is_claimed w.processes j) (world_more g (opening_world g) h.log (Turn p)) ∙ quiet_claims g w0 p law (here goes) (ap is_claiming (sym phase_is) ∙ quiet) j
 
-  -- an announcement or a performance is stored
+  -- an announcement is stored, or a job is filed
   pub stores : (i new : ℕ) (x : Want) → want l.state ≡ x → is_store x ≡ true → is_claim x ≡ false → ((words : List ℕ) → set words i new ≡ words_after l.givens p x words)
       → Allows (IsOpen k) slots id me i (λ _. new) (λ _. told_by_store (step slots i new 0 none) me new)
   stores i new x wants store quiet wrote s h deep at _ =
       let goes : wants_nothing l.state.phase ≡ false = nothing_is l.state l.state.phase ∙ ap is_nothing wants ∙ store_goes x store in
       let calm : is_claiming l.state.phase ≡ false = claiming_is l.state l.state.phase ∙ ap is_claim wants ∙ quiet in
-      let saw : 0 ≡ loaded_value (world_after g h.log) (want l.state) = sym (ap (loaded_value (world_after g h.log)) wants ∙ store_zero (world_after g h.log) x (store_loads x store)) in (
+      let saw : 0 ≡ loaded_value (world_of g h.log) (want l.state) = sym (ap (loaded_value (world_of g h.log)) wants ∙ store_zero (world_of g h.log) x (store_loads x store)) in (
         view_after me.0 (b s h at) (Turn p) (machine_turned l 0),
         keeps,
         tt,
         turns.move_kept g xs s h id me.0 l at is (Turn p) refl refl (machine_turned l 0) (now s h at 0 saw goes) refl (set s.words i new)
-            (wrote s.words ∙ ap (λ y. words_after l.givens p y s.words) (sym wants) ∙ sym (words_now s h at goes)) s.homes (slots_as g xs (world_after g h.log) (world_after g (h.log ++ Turn p ∷ [])) s.homes (still s h at calm goes) h.slots),
+            (wrote s.words ∙ ap (λ y. words_after l.givens p y s.words) (sym wants) ∙ sym (words_now s h at goes)) s.homes (slots_as g xs (world_of g h.log) (world_of g (h.log ++ Turn p ∷ [])) s.homes (still s h at calm goes) h.slots),
         (turned_by s h at 0 saw, refl, refl),
       )
 
@@ -123,16 +120,16 @@ module _ {P : Type 0} (k : Key P) (slots id : ℕ) (me : Me (Option P) (View P))
       let calm : is_claiming l.state.phase ≡ false = claiming_is l.state l.state.phase ∙ load_quiet (want l.state) load in
       let x : ℕ = get_or s.words i 0 in
       let m : l ≡ machine_after g h.log p = machine s h at in
-      let saw : x ≡ loaded_value (world_after g h.log) (want l.state) =
+      let saw : x ≡ loaded_value (world_of g h.log) (want l.state) =
       (λ c. get_or (h.words c) ((wants ∙ ap (λ (y : LocalView). loaded_word y.givens (want y.state)) m) c) 0)
-      ∙ sym (turn_loads g (world_after g h.log) (lawful g h.log) p (o s h at)) ∙ ap (λ (y : LocalView). loaded_value (world_after g h.log) (want y.state)) (sym m) in
+      ∙ sym (turn_loads g (world_of g h.log) (lawful g h.log) p (o s h at)) ∙ ap (λ (y : LocalView). loaded_value (world_of g h.log) (want y.state)) (sym m) in
       let may : MayLoad l.givens x (want l.state) = subst (λ n. MayLoad l.givens n (want l.state)) (sym saw)
-      (subst (λ (y : LocalView). MayLoad y.givens (loaded_value (world_after g h.log) (want y.state)) (want y.state)) (sym m) (may_load g (world_after g h.log) (lawful g h.log) p (o s h at))) in (
+      (subst (λ (y : LocalView). MayLoad y.givens (loaded_value (world_of g h.log) (want y.state)) (want y.state)) (sym m) (may_load g (world_of g h.log) (lawful g h.log) p (o s h at))) in (
         view_after me.0 (b s h at) (Turn p) (machine_turned l x),
         keeps,
         tt,
         turns.move_kept g xs s h id me.0 l at is (Turn p) refl refl (machine_turned l x) (now s h at x saw goes) refl (set s.words i x)
-            (set-get_or s.words i 0 ∙ sym (load_writes l.givens p (want l.state) s.words load) ∙ sym (words_now s h at goes)) s.homes (slots_as g xs (world_after g h.log) (world_after g (h.log ++ Turn p ∷ [])) s.homes (still s h at calm goes) h.slots),
+            (set-get_or s.words i 0 ∙ sym (load_writes l.givens p (want l.state) s.words load) ∙ sym (words_now s h at goes)) s.homes (slots_as g xs (world_of g h.log) (world_of g (h.log ++ Turn p ∷ [])) s.homes (still s h at calm goes) h.slots),
         (turned_by s h at x saw, subst (λ ro. MayLoadBy ro x) (sym is) may, refl),
       )
 
@@ -140,7 +137,7 @@ module _ {P : Type 0} (k : Key P) (slots id : ℕ) (me : Me (Option P) (View P))
   pub claims : (i c j : ℕ) → want l.state ≡ StoreClaim c j → ((words : List ℕ) → set words i c ≡ words_after l.givens p (StoreClaim c j) words)
       → Allows (IsOpen k) slots id me i (λ _. c) (λ _. told_by_claim (step slots i c 0 none) me c)
   claims i c j wants wrote s h deep at _ =
-      let w : World = world_after g h.log in
+      let w : World = world_of g h.log in
       let phase : l.state.phase ≡ Claiming j = claiming_job l.state l.state.phase c j wants in
       let goes : wants_nothing l.state.phase ≡ false = ap wants_nothing phase in
       let there : (process w p).local.phase ≡ Claiming j = sym (phase_is s h at) ∙ phase in
@@ -152,13 +149,13 @@ module _ {P : Type 0} (k : Key P) (slots id : ℕ) (me : Me (Option P) (View P))
       let back : j - 1 + 1 ≡ j = omega arith in
       let mine = turns.mine g xs s h id me.0 l at is in
       let free : is_claimed w.processes j ≡ false = claim_free g w p (lawful g h.log) still_here j there in
-      let more : world_after g (h.log ++ Turn p ∷ []) ≡ world_after_turn g w p = world_more g (opening_world g) h.log (Turn p) in (
+      let more : world_of g (h.log ++ Turn p ∷ []) ≡ world_after_turn g w p = world_more g (opening_world g) h.log (Turn p) in (
         view_after me.0 (b s h at) (Turn p) (machine_turned l 0),
         takes (j - 1) (Some y.0),
         h.slots.1 (j - 1) y.0 y.1 ∙ ap (λ b. some (home_of b y.0)) (ap (is_claimed w.processes) back ∙ free),
         turns.move_kept g xs s h id me.0 l at is (Turn p) refl refl (machine_turned l 0) (now s h at 0 saw goes) refl (set s.words i c)
             (wrote s.words ∙ ap (λ y. words_after l.givens p y s.words) (sym wants) ∙ sym (words_now s h at goes)) (set s.homes (j - 1) none)
-            (slot_goes g xs w (world_after g (h.log ++ Turn p ∷ [])) s.homes j low (omega arith) (ap (λ (u : World). is_claimed u.processes j) more ∙ claim_new g w p (lawful g h.log) still_here j there)
+            (slot_goes g xs w (world_of g (h.log ++ Turn p ∷ [])) s.homes j low (omega arith) (ap (λ (u : World). is_claimed u.processes j) more ∙ claim_new g w p (lawful g h.log) still_here j there)
             (λ e n. ap (λ (u : World). is_claimed u.processes e) more ∙ claim_else g w p (lawful g h.log) still_here j there e n) h.slots),
         (
           turned_by s h at 0 saw,
@@ -170,10 +167,10 @@ module _ {P : Type 0} (k : Key P) (slots id : ℕ) (me : Me (Option P) (View P))
   -- 0 is stored to the announcement, and the worker has left
   pub leaves : (i : ℕ) → can_leave l.state.phase ≡ true → i ≡ next_word p → Allows (IsOpen k) slots id me i (λ _. 0) (λ _. told_by_leave (step slots i 0 0 none) me 0)
   leaves i may word s h deep at _ =
-      let w : World = world_after g h.log in
+      let w : World = world_of g h.log in
       let there : (process w p).gone ≡ false = here s h at (leave_goes l.state.phase may) in
       let can : can_leave (process w p).local.phase ≡ true = ap can_leave (sym (phase_is s h at)) ∙ may in
-      let more : world_after g (h.log ++ Leave p ∷ []) ≡ world_after_leave w p = world_more g (opening_world g) h.log (Leave p) in
+      let more : world_of g (h.log ++ Leave p ∷ []) ≡ world_after_leave w p = world_more g (opening_world g) h.log (Leave p) in
       let m : l ≡ machine_after g h.log p = machine s h at in (
         view_after me.0 (b s h at) (Leave p) (machine_left l),
         keeps,
@@ -181,6 +178,6 @@ module _ {P : Type 0} (k : Key P) (slots id : ℕ) (me : Me (Option P) (View P))
         turns.move_kept g xs s h id me.0 l at is (Leave p) refl refl (machine_left l)
             (ap (λ (u : World). machine_in g u p) more ∙ left_machine g w p (lawful g h.log) there can ∙ (λ c. machine_left (sym m c))) refl (set s.words i 0)
             (sym (ap (λ (u : World). words_of u.processes) more ∙ leave_writes g w (lawful g h.log) p there can ∙ (λ c. set (sym h.words c) (sym word c) 0))) s.homes
-            (slots_as g xs w (world_after g (h.log ++ Leave p ∷ [])) s.homes (λ j. ap (λ (u : World). is_claimed u.processes j) more ∙ left_claims g w p (lawful g h.log) there can j) h.slots),
+            (slots_as g xs w (world_of g (h.log ++ Leave p ∷ [])) s.homes (λ j. ap (λ (u : World). is_claimed u.processes j) more ∙ left_claims g w p (lawful g h.log) there can j) h.slots),
         (subst (λ ro. LeftBy me.0 ro (view_after me.0 (b s h at) (Leave p) (machine_left l))) (sym is) (record { between = b s h at; others = turns.others_only g xs s h id me.0 l at is; own = seen_own s h at; leads = refl }), refl, refl),
       )

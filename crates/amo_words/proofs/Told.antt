@@ -1,12 +1,12 @@
 -- What the closed words say of each worker is what it has done and claimed.
-use Rattle.std.proofs.Common.{◌≡◌, ℕ, zero, suc, ◌+◌, ◌<◌, ◌≤◌, Bool, ⊎_elim, List, [], ◌∷◌, ◌++◌, length, get_or, take, map, refl, sym, ap, ◌∙◌, subst, arith, eq-eqb, ne_eqb, Vec, Global}
+use Rattle.std.proofs.Common.{◌≡◌, ℕ, zero, suc, ◌+◌, ◌<◌, ◌≤◌, Bool, ⊎_elim, List, [], ◌∷◌, ◌++◌, length, get_or, map, refl, sym, ap, ◌∙◌, subst, arith, eq-eqb, ne_eqb, Vec, Global}
 use Rattle.std.specs.Prelude.{if◌then◌else◌}
 use Rattle.std.proofs.lemmas.Bool.{cases_lt}
-use Rattle.std.proofs.lemmas.List.{take_more, take_all, length-map, get_or-map, append-nil, length_push}
+use Rattle.std.proofs.lemmas.List.{length-map, get_or-map, append-nil, length_push}
 use Rattle.amo_sets.specs.Lists.{numbered, table}
 use Rattle.amo_sets.proofs.Tables.{numbered-table, table_is}
 use Rattle.amo_kk.specs.Givens.{IsWorker}
-use Rattle.amo_kk.specs.World.{nobody}
+use Rattle.amo_kk.specs.World.{nobody, world_of}
 use Rattle.amo_kk.specs.Words.{next_word, claim_word, done_word}
 use Rattle.amo_kk.specs.declared.givens.Givens.{Givens}
 use Rattle.amo_kk.specs.declared.model.Process.{Process}
@@ -17,7 +17,6 @@ use Rattle.amo_kk.specs.Givens.{bound}
 use Rattle.amo_kk.specs.declared.event.Move.{Move}
 use Rattle.amo_words.specs.declared.rule.Spot.{Spot}
 use Rattle.amo_words.specs.declared.floor.settling.Settlement.{Settlement}
-use Rattle.amo_words.specs.Logs.{world_after}
 use Rattle.amo_words.specs.Faces.{AreShown, ClosedView}
 use Rattle.amo_words.specs.Settling.{HasClosed, HasFree, IsReadFrom, IsWhole, end_of, job_count, unless_zero, row_from, row_in, hand_in_words, dones_in_words, claims_in_words, dones_of, claims_of}
 use Rattle.amo_words.proofs.Whole.{enough}
@@ -79,7 +78,7 @@ word_at {P} a b same f i v e at = get_or_at a.words i v 0 at ∙ ap (λ n. get_o
 pub whole_of : {P : Type 0} (g : Givens) (payloads : List P) (seen : List Move) (spots : List Spot) (c : ClosedView P) (s : Settlement P)
     → HasClosed g payloads seen spots c → IsReadFrom c s → IsWhole g payloads seen spots s
 whole_of {P} g payloads seen spots c s h r = let w = h.world in
-    let all : List Process = (world_after g w.log).processes in
+    let all : List Process = (world_of g w.log).processes in
     let shown : AreShown c.givens all c.words = subst (λ (x : Givens). AreShown x all c.words) (sym h.givens) w.shown in
     let claims = r.claims ∙ claims_told c.givens all c.words shown in
     let dones = r.dones ∙ dones_told c.givens all c.words shown in

@@ -9,7 +9,7 @@ use lib.ListN.{get_elem?}
 use Rattle.atomic_table.specs.Table.{State}
 use Rattle.atomic_table.proofs.Lists.{at_set, set_here, set_else}
 use Rattle.amo_kk.specs.Givens.{IsWorker}
-use Rattle.amo_kk.specs.World.{worker_of, is_halt, opening_world}
+use Rattle.amo_kk.specs.World.{worker_of, is_halt, opening_world, world_of}
 use Rattle.amo_kk.specs.Words.{words_of}
 use Rattle.amo_kk.specs.Machine.{LocalView}
 use Rattle.amo_kk.specs.declared.givens.Givens.{Givens}
@@ -21,7 +21,7 @@ use Rattle.amo_words.specs.declared.rule.Role.TheVariants.{Opening, Keeping, Wor
 use Rattle.amo_words.specs.declared.rule.Spot.{Spot}
 use Rattle.amo_words.specs.declared.rule.Spot.TheVariants.{Home, Out, Back}
 use Rattle.amo_words.specs.declared.rule.View.{View}
-use Rattle.amo_words.specs.Logs.{world_after, machine_in, machine_after, moves_of, StartsWith, is_claimed}
+use Rattle.amo_words.specs.Logs.{machine_in, machine_after, moves_of, StartsWith, is_claimed}
 use Rattle.amo_words.specs.Rule.{Stands, IsSeated, HoldsAll, Has, Found, IsOf, Fits, SlotsFit, IsShown, home_of}
 use Rattle.amo_words.specs.Plays.{view_after}
 use Rattle.amo_kk.proofs.Moves.{move_other, world_more}
@@ -45,15 +45,15 @@ module _ {P : Type 0} (g : Givens) (payloads : List P) where
   of_more log more v Spent h = h
   of_more log more v (Opening n b) h = absurd h
   of_more log more v (Working l) h = (h.0, h.1, starts_more log v.seen more h.2, h.3)
-  of_more log more v (Keeping spots) h = (h.0, h.1, starts_more log v.seen more h.2, starts_more log v.told more h.3)
+  of_more log more v (Keeping spots) h = (h.0, h.1, starts_more log v.seen more h.2, starts_more log v.moves more h.3)
 
-  -- a move leaves the record of another
+  -- a move leaves the machine of another
   stands_on : (log : List Move) (m : Move) (q : ℕ) (x : Spot) → q ≢ worker_of m → machine_after g (log ++ m ∷ []) q ≡ machine_after g log q → Stands g log q x → Stands g (log ++ m ∷ []) q x
   stands_on log m q Home other same h = (h.0 ∙ sym same, moves_other q m log (λ e. other (sym e)) ∙ h.1)
   stands_on log m q Out other same h = h
   stands_on log m q (Back l) other same h = h ∙ sym same
 
-  -- what another seat has is untouched by a move of a worker whose record the seat `id` has
+  -- what another seat has is untouched by a move of a worker whose machine the seat `id` has
   others_hold : (log seen : List Move) (seat : ℕ → ℕ) (m : Move) (id j : ℕ) (role : Role) → seat (worker_of m) ≡ id → j ≢ id
       → ((q : ℕ) → q ≢ worker_of m → machine_after g (log ++ m ∷ []) q ≡ machine_after g log q)
       → HoldsAll g log seen seat j role → HoldsAll g (log ++ m ∷ []) seen seat j role
@@ -71,7 +71,7 @@ module _ {P : Type 0} (g : Givens) (payloads : List P) where
   -- a seat with the machine l
   module _ (s : State (Option P) (View P)) (h : IsShown g payloads s) (id : ℕ) (v : View P) (l : LocalView) (at : get_elem? s.views id ≡ some v) (is : v.role ≡ Working l) where
     abbrev pub before : World
-    before = world_after g h.log
+    before = world_of g h.log
 
     pub mine : IsOf g payloads h.log v (Working l) × HoldsAll g h.log v.seen h.seat id (Working l)
     mine = subst (λ ro. IsOf g payloads h.log v ro × HoldsAll g h.log v.seen h.seat id ro) is (h.views id v at)
@@ -92,7 +92,7 @@ module _ {P : Type 0} (g : Givens) (payloads : List P) where
     -- its move m, after which its machine is l'
     module _ (m : Move) (of_it : worker_of m ≡ l.number) (own : is_halt m ≡ false) (l' : LocalView) (now : machine_after g (h.log ++ m ∷ []) l.number ≡ l') (number : l'.number ≡ l.number) where
       abbrev pub behind : World
-      behind = world_after g (h.log ++ m ∷ [])
+      behind = world_of g (h.log ++ m ∷ [])
 
       others_after : (q : ℕ) → q ≢ worker_of m → machine_after g (h.log ++ m ∷ []) q ≡ machine_after g h.log q
       others_after q apart = ap (λ (w : World). machine_in g w q) (world_more g (opening_world g) h.log m) ∙ ap (λ (a : Process). let x : LocalView = record { givens = g; number = q; state = a.local } in x) (move_other g before m q apart)

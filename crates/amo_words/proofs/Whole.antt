@@ -16,7 +16,7 @@ use Rattle.amo_sets.specs.Sets.{has}
 use Rattle.amo_sets.proofs.Numbers.{has-append}
 use Rattle.amo_kk.specs.Givens.{bound}
 use Rattle.amo_kk.specs.Record.{is_over}
-use Rattle.amo_kk.specs.World.{nobody}
+use Rattle.amo_kk.specs.World.{nobody, world_of}
 use Rattle.amo_kk.specs.Words.{words_of}
 use Rattle.amo_kk.specs.Lawful.{IsLawful}
 use Rattle.amo_kk.specs.Machine.{LocalView}
@@ -27,7 +27,7 @@ use Rattle.amo_words.specs.declared.rule.Role.TheVariants.{Keeping}
 use Rattle.amo_words.specs.declared.rule.Spot.{Spot}
 use Rattle.amo_words.specs.declared.rule.View.{View}
 use Rattle.amo_words.specs.declared.rule.Key.{Key}
-use Rattle.amo_words.specs.Logs.{world_after, is_claimed}
+use Rattle.amo_words.specs.Logs.{is_claimed}
 use Rattle.amo_words.specs.Rule.{AllStand, HoldsAll, IsOf, IsKept, home_of}
 use Rattle.amo_words.specs.Looking.{IsBack}
 use Rattle.amo_words.specs.Settling.{HasFree, AreMarked, IsClosed, any_has, claims_of, dones_of, free_of, job_count, book_view}
@@ -70,12 +70,12 @@ passes {P} g marks slots i slot claimed acc acc' inside here tells taken free al
     one_more all i acc acc' payloads y.0 (free_of all 1 payloads) y.1 (λ e. taken (same ∙ e)) (λ e. free y.0 (same ∙ e) (some-injective slot (Some y.0) (sym here ∙ s.1 i y.0 y.1 e))) h
 
 -- what all processes of a log show
-pub all_shown : (g : Givens) (log : List Move) (words : List ℕ) → words ≡ words_of (world_after g log).processes → AreShown g (world_after g log).processes words
-all_shown g log words is = let law : IsLawful g (world_after g log) = lawful g log in record { size = law.size; sound = λ p o. law.lawful.sound p o; shown = is }
+pub all_shown : (g : Givens) (log : List Move) (words : List ℕ) → words ≡ words_of (world_of g log).processes → AreShown g (world_of g log).processes words
+all_shown g log words is = let law : IsLawful g (world_of g log) = lawful g log in record { size = law.size; sound = λ p o. law.lawful.sound p o; shown = is }
 
 module _ {P : Type 0} (k : Key P) where
   -- the closed table, where the book's view was v
-  pub settles : (id : ℕ) (v : View P) (spots : List Spot) (words : List ℕ) (slots : List (Option P)) → v.role ≡ Keeping spots → v.told ≡ [] → Final (Seen (IsKept k) id v) words slots
+  pub settles : (id : ℕ) (v : View P) (spots : List Spot) (words : List ℕ) (slots : List (Option P)) → v.role ≡ Keeping spots → v.moves ≡ [] → Final (Seen (IsKept k) id v) words slots
       → (v.givens ≡ k.givens) × IsClosed v.givens v.payloads v.seen spots words slots × Final (Seen (IsKept k) id (book_view v.givens v.payloads v.seen spots)) words slots
   settles id v spots words slots is none f' = let f = lift_final k id v words slots (ap is_placing is) f' in let s = f.0 in let h = f.1.0 in let g = k.givens in let xs = k.payloads.value.items in
       let b = subst (λ ro. IsOf g xs h.log v ro × HoldsAll g h.log v.seen h.seat id ro) is (h.views id v f.1.1) in (
@@ -89,7 +89,7 @@ module _ {P : Type 0} (k : Key P) where
               shown = all_shown g h.log words (sym f.2 ∙ h.words);
               free = (h.count, λ j x at free. f.4 j (Some x) (h.slots.1 j x at ∙ ap (λ q. some (home_of q x)) free));
             }),
-        subst (λ (u : View P). Final (Seen (IsKept k) id u) words slots) (λ c. record v { told = none c; role = is c }) f',
+        subst (λ (u : View P). Final (Seen (IsKept k) id u) words slots) (λ c. record v { moves = none c; role = is c }) f',
       )
 
 -- enough jobs are done where a worker has ended
@@ -102,8 +102,8 @@ count_all (a ∷ all) =
     ∙ sym (sum_by-cons (λ (xs : List ℕ). length xs) a.local.dones (dones_of all))
 
 -- where a worker that came back has ended
-pub enough : (g : Givens) (log : List Move) (spots : List Spot) → AllStand g log spots → (p : ℕ) (l : LocalView) → IsBack spots p l → is_over l.state.phase ≡ true → bound g ≤ job_count (dones_of (world_after g log).processes)
-enough g log spots stand p l back ended = subst (λ n. bound g ≤ n) (count_all (world_after g log).processes) (late_back g log spots stand p l back ended)
+pub enough : (g : Givens) (log : List Move) (spots : List Spot) → AllStand g log spots → (p : ℕ) (l : LocalView) → IsBack spots p l → is_over l.state.phase ≡ true → bound g ≤ job_count (dones_of (world_of g log).processes)
+enough g log spots stand p l back ended = subst (λ n. bound g ≤ n) (count_all (world_of g log).processes) (late_back g log spots stand p l back ended)
 
 -- marks
 

@@ -7,7 +7,7 @@ use Rattle.atomic_table.specs.Table.{rest}
 use Rattle.amo_kk.specs.Givens.{IsWorker}
 use Rattle.amo_kk.specs.Record.{can_leave}
 use Rattle.amo_kk.specs.Step.{want, MayLoad}
-use Rattle.amo_kk.specs.Words.{claim_word, done_word}
+use Rattle.amo_kk.specs.Words.{claim_word, done_word, word_count}
 use Rattle.amo_kk.specs.Machine.{LocalView}
 use Rattle.amo_kk.specs.declared.givens.Givens.{Givens}
 use Rattle.amo_kk.specs.Fits.{WantFits}
@@ -15,7 +15,6 @@ use Rattle.amo_kk.proofs.Wants.{want_fits}
 use Rattle.amo_kk.proofs.Fit.{after_fit, left_fit}
 use Rattle.amo_kk.proofs.Worlds.{leaves_empty}
 use Rattle.amo_words.specs.declared.rule.View.{View}
-use Rattle.amo_words.specs.Logs.{word_count}
 use Rattle.amo_words.specs.Plays.{machine_turned, machine_left, HasTurned, TurnedBy, HasLeft, LeftBy}
 use Rattle.amo_words.specs.Faces.{Seated, machine_of, machine, spots_of, spots, IsBook, IsWorking}
 use Rattle.amo_words.specs.declared.rule.Spot.{Spot}
@@ -76,6 +75,10 @@ module _ {P : Type 0} (id : TableId) (seat : ℕ) (v : View P) (l : LocalView) (
   fits y wants =
       let same : want l.state ≡ y = ap (λ (m : LocalView). want m.state) (sym machine_is) ∙ wants in
       (same, subst (WantFits l.givens l.number) same (want_fits l.givens l.number l.state l.givens.limits is.worker is.sound))
+
+  -- a word that is one of those of its givens is at its table
+  pub at_table : (t : TableId) → x.table_id ≡ t → (i k : ℕ) → i ≡ k → k < word_count l.givens → (id ≡ t) × (i < t.words)
+  at_table t here i k e low = let tied = ap (λ (y : Seated P). y.table_id) seen ∙ here in (tied, let n = is.words in let z = ap (λ u. u.words) tied in omega (arith, e, low, n, z))
 
 pub claim_within : (g : Givens) (p : ℕ) → IsWorker g p → claim_word g p < word_count g
 claim_within g p o = let high = o.high in let wide = word_room g in omega arith

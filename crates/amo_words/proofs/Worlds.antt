@@ -11,7 +11,7 @@ use Rattle.amo_kk.specs.Object.{is_within}
 use Rattle.amo_kk.specs.Record.{can_leave}
 use Rattle.amo_kk.specs.Step.{want, record_after, record_after_leave}
 use Rattle.amo_kk.specs.Lawful.{IsLawful, FitsPhase}
-use Rattle.amo_kk.specs.World.{nobody, process, loaded_value, process_after, world_after_turn, world_after_leave, worker_of, is_halt, are_in_range, has_halt}
+use Rattle.amo_kk.specs.World.{nobody, process, loaded_value, process_after, world_after_turn, world_after_leave, worker_of, is_halt, are_in_range, has_halt, world_of}
 use Rattle.amo_kk.specs.declared.givens.Givens.{Givens}
 use Rattle.amo_kk.specs.declared.phase.Phase.TheVariants.{Claiming}
 use Rattle.amo_kk.specs.declared.phase.Want.TheVariants.{StoreNext}
@@ -24,9 +24,9 @@ use Rattle.amo_kk.proofs.Growth.{claims_stay, claims_grow}
 use Rattle.amo_kk.proofs.Moves.{move_other, turned_processes, turned_local, left_processes}
 use Rattle.amo_kk.proofs.Runs.{stored_local, distinct_last}
 use Rattle.amo_kk.proofs.Worlds.{always_lawful, turn_lawful, here_is_worker}
-use Rattle.amo_words.specs.Logs.{world_after, moves_of, AreOwn, StartsWith, is_claimed}
+use Rattle.amo_words.specs.Logs.{moves_of, AreOwn, StartsWith, is_claimed}
 
-pub lawful : (g : Givens) (log : List Move) → IsLawful g (world_after g log)
+pub lawful : (g : Givens) (log : List Move) → IsLawful g (world_of g log)
 lawful g log = always_lawful g log g.limits
 
 -- how many moves are of a worker

@@ -4,9 +4,9 @@ use Rattle.amo_kk.specs.Record.{wants_nothing}
 use Rattle.amo_kk.specs.Step.{shown}
 use Rattle.amo_kk.specs.Machine.{LocalView}
 use Rattle.amo_kk.specs.declared.event.Shown.{Shown}
-use Rattle.amo_kk.specs.declared.event.Shown.TheVariants.{Quiet, Claimed, Done, DoneEnded, Ended, Left}
+use Rattle.amo_kk.specs.declared.event.Shown.TheVariants.{Quiet, Claimed, Done, Ended}
 use Rattle.amo_kk.specs.declared.event.Leaving.{Leaving}
-use Rattle.amo_kk.specs.declared.event.Leaving.TheVariants.{Left as LeftNow, InHand, Gone}
+use Rattle.amo_kk.specs.declared.event.Leaving.TheVariants.{Left as LeftNow}
 use Rattle.amo_words.specs.declared.rule.View.{View}
 use Rattle.amo_words.specs.declared.floor.working.Step.{Step}
 use Rattle.amo_words.specs.declared.floor.working.Step.TheVariants.{Moved, Claimed as StepClaimed, Ended as StepEnded, Idle}
@@ -18,19 +18,13 @@ use Rattle.amo_words.specs.Plays.{machine_turned, HasTurned, HasLeft}
 abbrev pub StepShows : {P : Type 0} → List P → Shown → Step P → Type 0
 StepShows payloads Quiet step = step ≡ Moved
 StepShows {P} payloads (Claimed j) step = (x : P) × (step ≡ StepClaimed j x) × (slice_get payloads (j - 1) ≡ Some x)
-StepShows payloads (Done j) step = ⊥
-StepShows payloads (DoneEnded j) step = ⊥
 StepShows payloads Ended step = step ≡ StepEnded
-StepShows payloads Left step = ⊥
+StepShows payloads event step = ⊥
 
 -- what a step answers whose event shows no claim
 abbrev pub quiet_step : {P : Type 0} → Shown → Step P
-quiet_step Quiet = Moved
-quiet_step (Claimed j) = Moved
-quiet_step (Done j) = Moved
-quiet_step (DoneEnded j) = Moved
 quiet_step Ended = StepEnded
-quiet_step Left = Moved
+quiet_step event = Moved
 
 -- The worker with the machine l took a turn from the view v to w, and the step answers what its event shows.
 pub record HasStepped {P : Type 0} (v : View P) (l : LocalView) (step : Step P) (w : View P) : Type 0 where
@@ -51,12 +45,9 @@ abbrev pub filed : Shown → Filed
 filed Quiet = More
 filed (Claimed j) = More
 filed (Done j) = More
-filed (DoneEnded j) = FiledEnded
-filed Ended = FiledEnded
-filed Left = FiledEnded
+filed event = FiledEnded
 
 -- the worker left, or nothing changed
 abbrev pub LeftIf : {P : Type 0} → Leaving → View P → LocalView → View P → Type 0
 LeftIf LeftNow v l w = HasLeft v l w
-LeftIf (InHand j) v l w = w ≡ v
-LeftIf Gone v l w = w ≡ v
+LeftIf answer v l w = w ≡ v

@@ -1,19 +1,19 @@
--- Floor, book and worker as contracts see them, and what holds of their fields.
+-- Floor, book and worker as contracts see them; within this crate, `IsWorking` and `IsBook`, what holds of their fields.
 use Rattle.std.specs.Prelude.{◌≡◌, ℕ, List, [], length, Option}
 use Rattle.amo_sets.specs.Lists.{numbered}
 use Rattle.atomic_table.specs.Seated.{TableId}
 use Rattle.amo_kk.specs.Givens.{IsWorker}
 use Rattle.amo_kk.specs.World.{nobody}
-use Rattle.amo_kk.specs.Words.{words_of}
+use Rattle.amo_kk.specs.Words.{words_of, word_count}
 use Rattle.amo_kk.specs.Lawful.{IsSoundRecord, IsSoundProcess}
 use Rattle.amo_kk.specs.declared.model.Process.{Process}
 use Rattle.amo_kk.specs.Machine.{LocalView}
 use Rattle.amo_kk.specs.declared.givens.Givens.{Givens}
 use Rattle.amo_words.specs.declared.rule.Role.{Role}
-use Rattle.amo_words.specs.declared.rule.Role.TheVariants.{Opening, Keeping, Working, Spent}
+use Rattle.amo_words.specs.declared.rule.Role.TheVariants.{Keeping, Working}
 use Rattle.amo_words.specs.declared.rule.Spot.{Spot}
 use Rattle.amo_words.specs.declared.rule.View.{View}
-use Rattle.amo_words.specs.Logs.{word_count, AreOwn}
+use Rattle.amo_words.specs.Logs.{AreOwn}
 use Rattle.amo_words.specs.Rule.{AllStand}
 
 -- A worker or a book: its table, the number of its seat there, and what it knows.
@@ -34,16 +34,12 @@ no_machine g = record { givens = g; number = 0; state = nobody.local }
 -- the machine of the worker with this role
 abbrev pub machine_of : Givens → Role → LocalView
 machine_of g (Working l) = l
-machine_of g (Keeping spots) = no_machine g
-machine_of g Spent = no_machine g
-machine_of g (Opening n b) = no_machine g
+machine_of g role = no_machine g
 
 -- the spots of a book with this role
 abbrev pub spots_of : Role → List Spot
 spots_of (Keeping spots) = spots
-spots_of (Working l) = []
-spots_of Spent = []
-spots_of (Opening n b) = []
+spots_of role = []
 
 -- the machine of a worker: givens, number and record
 abbrev pub machine : {P : Type 0} → Seated P → LocalView
@@ -63,13 +59,13 @@ pub record IsWorking {P : Type 0} (v : View P) (id : TableId) (l : LocalView) : 
   pub sound : IsSoundRecord l.givens l.number l.state
 
 -- What holds of a book's fields: its seat's view, its table, the givens, and the spots, whose list has just the room that
--- it needs. The book's records stand after what it has seen.
+-- it needs. The book's machines stand after what it has seen.
 pub record IsBook {P : Type 0} (v : View P) (id : TableId) (g : Givens) (spots : List Spot) (room : ℕ) : Type 0 where
   pub role : v.role ≡ Keeping spots
   pub givens : v.givens ≡ g
   pub words : id.words ≡ word_count g
   pub slots : id.slots ≡ g.jobs
-  pub told : v.told ≡ []
+  pub moves : v.moves ≡ []
   pub turns : AreOwn g v.seen
   pub stand : AllStand g v.seen spots
   pub exact : room ≡ g.workers

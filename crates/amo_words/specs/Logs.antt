@@ -3,20 +3,12 @@
 use Rattle.std.specs.Prelude.{◌≡◌, ℕ, ◌+◌, ◌*◌, Bool, true, false, ◌||◌, ◌==◌, List, [], ◌∷◌, ◌++◌, count_by}
 use Rattle.amo_sets.specs.Sets.{has}
 use Rattle.amo_kk.specs.Choice.{first_record}
-use Rattle.amo_kk.specs.World.{process, worker_of, world_after_moves, opening_world, are_in_range, has_halt}
+use Rattle.amo_kk.specs.World.{process, worker_of, are_in_range, has_halt, world_of}
 use Rattle.amo_kk.specs.Machine.{LocalView}
 use Rattle.amo_kk.specs.declared.givens.Givens.{Givens}
 use Rattle.amo_kk.specs.declared.event.Move.{Move}
 use Rattle.amo_kk.specs.declared.model.Process.{Process}
 use Rattle.amo_kk.specs.declared.model.World.{World}
-
--- how many words there are: the book word, and for each worker its announcement, its count of claims and its row
-abbrev pub word_count : Givens → ℕ
-word_count g = g.workers * (g.jobs + 3) + 1
-
--- the world after these moves, from the opening world
-abbrev pub world_after : Givens → List Move → World
-world_after g log = world_after_moves g (opening_world g) log
 
 -- the local machine of worker p, as it is in this world
 abbrev pub machine_in : Givens → World → ℕ → LocalView
@@ -24,7 +16,7 @@ machine_in g w p = record { givens = g; number = p; state = (process w p).local 
 
 -- the local machine of worker p after these moves
 abbrev pub machine_after : Givens → List Move → ℕ → LocalView
-machine_after g log p = machine_in g (world_after g log) p
+machine_after g log p = machine_in g (world_of g log) p
 
 -- the local machine of worker p before its first step
 abbrev pub first_machine : Givens → ℕ → LocalView
@@ -34,8 +26,8 @@ first_machine g p = record { givens = g; number = p; state = first_record g p }
 abbrev pub moves_of : ℕ → List Move → ℕ
 moves_of p log = count_by (λ m. worker_of m == p) log
 
--- Each of these moves is a turn or a leaving of one of the workers: there are no stops. Whoever stops on words just takes
--- no further step.
+-- Each of these moves is a turn or a leaving of one of the workers: there are no halts. Whoever is halted on words just
+-- takes no further step.
 pub record AreOwn (g : Givens) (log : List Move) : Type 0 where
   pub range : are_in_range g log ≡ true
   pub no_stop : has_halt log ≡ false

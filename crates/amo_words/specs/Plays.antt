@@ -1,23 +1,24 @@
--- What each kind of step tells its seat. A kind is stated by cases on the role of the seat's view: of the roles that never
--- make such a step nothing is said, so nobody can use it to learn what it knows by then.
+-- Within this crate, but for `HasTurned` and `HasLeft`, which callers read: what each kind of step tells its seat. A kind is
+-- stated by cases on the role of the seat's view: of the roles that never make such a step nothing is said, so nobody can use
+-- it to learn what it knows by then.
 use Rattle.std.specs.Prelude.{◌≡◌, ℕ, ◌+◌, ◌-◌, List, [], ◌∷◌, ◌++◌, slice_set, nat_lt, if◌then◌else◌, true, false, Option, Some, None, replicate, ⊤}
 use mathlib.Core.Option.{some}
 use lib.ListN.{get_elem?}
 use Rattle.atomic_table.specs.Table.{Step, Me, rest}
 use Rattle.amo_kk.specs.Step.{want, record_after, record_after_leave, MayLoad}
-use Rattle.amo_kk.specs.World.{loaded_value}
+use Rattle.amo_kk.specs.World.{loaded_value, world_of}
 use Rattle.amo_kk.specs.Machine.{LocalView}
 use Rattle.amo_kk.specs.declared.givens.Givens.{Givens}
 use Rattle.amo_kk.specs.declared.event.Move.{Move}
 use Rattle.amo_kk.specs.declared.event.Move.TheVariants.{Turn, Leave}
 use Rattle.amo_kk.specs.declared.phase.Phase.{Phase}
-use Rattle.amo_kk.specs.declared.phase.Phase.TheVariants.{Announcing, Trying, Reading, Claiming, Holding, Over, Left}
+use Rattle.amo_kk.specs.declared.phase.Phase.TheVariants.{Claiming}
 use Rattle.amo_words.specs.declared.rule.Role.{Role}
 use Rattle.amo_words.specs.declared.rule.Role.TheVariants.{Opening, Keeping, Working, Spent}
 use Rattle.amo_words.specs.declared.rule.Spot.{Spot}
 use Rattle.amo_words.specs.declared.rule.Spot.TheVariants.{Home, Out, Back}
 use Rattle.amo_words.specs.declared.rule.View.{View}
-use Rattle.amo_words.specs.Logs.{world_after, moves_of, first_machine, AreOwn, StartsWith}
+use Rattle.amo_words.specs.Logs.{moves_of, first_machine, AreOwn, StartsWith}
 use Rattle.amo_words.specs.Rule.{AllStand, spent_view}
 
 -- a worker's steps
@@ -32,7 +33,7 @@ machine_left l = record l { state = record_after_leave l.state }
 
 -- the view after this move of its worker, whose machine is now l; others have moved in between
 abbrev pub view_after : {P : Type 0} → View P → List Move → Move → LocalView → View P
-view_after v between m l = record v { seen = (v.seen ++ between) ++ m ∷ []; told = []; role = Working l }
+view_after v between m l = record v { seen = (v.seen ++ between) ++ m ∷ []; moves = []; role = Working l }
 
 -- From the view v the worker with the machine l took a turn to the view w, n being what was loaded, or 0: since its
 -- last step only others have moved, all moves are turns and leavings, and a load gave what its word held in the world just before.
@@ -40,22 +41,18 @@ pub record HasTurned {P : Type 0} (v : View P) (l : LocalView) (n : ℕ) (w : Vi
   pub between : List Move
   pub others : moves_of l.number between ≡ 0
   pub own : AreOwn v.givens (v.seen ++ between)
-  pub loads : n ≡ loaded_value (world_after v.givens (v.seen ++ between)) (want l.state)
+  pub loads : n ≡ loaded_value (world_of v.givens (v.seen ++ between)) (want l.state)
   pub leads : w ≡ view_after v between (Turn l.number) (machine_turned l n)
 
 -- the same by the role of v
 abbrev pub TurnedBy : {P : Type 0} → View P → Role → ℕ → View P → Type 0
 TurnedBy v (Working l) n w = HasTurned v l n w
-TurnedBy v (Keeping spots) n w = ⊤
-TurnedBy v Spent n w = ⊤
-TurnedBy v (Opening m b) n w = ⊤
+TurnedBy v role n w = ⊤
 
 -- n may be what the worker wants to load
 abbrev pub MayLoadBy : Role → ℕ → Type 0
 MayLoadBy (Working l) n = MayLoad l.givens n (want l.state)
-MayLoadBy (Keeping spots) n = ⊤
-MayLoadBy Spent n = ⊤
-MayLoadBy (Opening m b) n = ⊤
+MayLoadBy role n = ⊤
 
 -- From the view v the worker with the machine l has left, to the view w.
 pub record HasLeft {P : Type 0} (v : View P) (l : LocalView) (w : View P) : Type 0 where
@@ -67,9 +64,7 @@ pub record HasLeft {P : Type 0} (v : View P) (l : LocalView) (w : View P) : Type
 -- the same by the role of v
 abbrev pub LeftBy : {P : Type 0} → View P → Role → View P → Type 0
 LeftBy v (Working l) w = HasLeft v l w
-LeftBy v (Keeping spots) w = ⊤
-LeftBy v Spent w = ⊤
-LeftBy v (Opening m b) w = ⊤
+LeftBy v role w = ⊤
 
 -- the slot j - 1 is taken, with the payload as it was put in
 abbrev pub Takes : {P : Type 0} → List P → List (ℕ × Option P) → ℕ → List (ℕ × Option P) → Type 0
@@ -78,21 +73,14 @@ Takes {P} payloads out j out' = (x : P) × (get_elem? payloads (j - 1) ≡ some 
 -- what a claim takes, by the phase
 abbrev pub TakesIn : {P : Type 0} → List P → List (ℕ × Option P) → Phase → List (ℕ × Option P) → Type 0
 TakesIn payloads out (Claiming j) out' = Takes payloads out j out'
-TakesIn payloads out (Announcing j) out' = ⊤
-TakesIn payloads out (Trying j q) out' = ⊤
-TakesIn payloads out (Reading j q) out' = ⊤
-TakesIn payloads out (Holding j) out' = ⊤
-TakesIn payloads out Over out' = ⊤
-TakesIn payloads out Left out' = ⊤
+TakesIn payloads out phase out' = ⊤
 
 -- the same by the role
 abbrev pub TakenBy : {P : Type 0} → List P → List (ℕ × Option P) → Role → List (ℕ × Option P) → Type 0
 TakenBy payloads out (Working l) out' = TakesIn payloads out l.state.phase out'
-TakenBy payloads out (Keeping spots) out' = ⊤
-TakenBy payloads out Spent out' = ⊤
-TakenBy payloads out (Opening m b) out' = ⊤
+TakenBy payloads out role out' = ⊤
 
--- the store of an announcement or of a performance
+-- the store of an announcement, or that which files a job
 abbrev pub told_by_store : {P : Type 0} → Step (Option P) → Me (Option P) (View P) → ℕ → Me (Option P) (View P) → Type 0
 told_by_store st me n me' = TurnedBy me.0 me.0.role 0 me'.0 × (me'.1 ≡ me.1) × (n ≡ st.first)
 
@@ -110,26 +98,22 @@ told_by_leave st me n me' = LeftBy me.0 me.0.role me'.0 × (me'.1 ≡ me.1) × (
 
 -- how views are cut and joined
 
--- what the new seat of worker p has of the book's records
+-- what the new seat of worker p has of the book's machines
 abbrev pub role_of_hired : Givens → ℕ → Role → Role
 role_of_hired g p (Keeping spots) = Working (first_machine g p)
-role_of_hired g p (Working l) = Spent
-role_of_hired g p Spent = Spent
-role_of_hired g p (Opening n b) = Spent
+role_of_hired g p role = Spent
 
--- what the book has without the record of p
+-- what the book has without the machine of p
 abbrev pub without_hired : ℕ → Role → Role
 without_hired p (Keeping spots) = Keeping (slice_set spots (p - 1) Out)
-without_hired p (Working l) = Working l
-without_hired p Spent = Spent
-without_hired p (Opening n b) = Opening n b
+without_hired p role = role
 
--- hiring p: the book no more has its record, and the new seat has it
+-- hiring p: the book no more has its machine, and the new seat has it
 abbrev pub book_left : {P : Type 0} → ℕ → View P → View P
 book_left p v = record v { role = without_hired p v.role }
 
 abbrev pub worker_right : {P : Type 0} → ℕ → View P → View P
-worker_right p v = record v { told = []; role = role_of_hired v.givens p v.role }
+worker_right p v = record v { moves = []; role = role_of_hired v.givens p v.role }
 
 -- a seat that has taken slots can't be joined, so its view goes to a new one
 abbrev pub shed_left : {P : Type 0} → View P → View P
@@ -138,37 +122,31 @@ shed_left v = spent_view
 abbrev pub shed_right : {P : Type 0} → View P → View P
 shed_right v = v
 
--- the book's records with that of another role
+-- the book's machines with that of another role
 abbrev pub with_back : List Spot → Role → Role
 with_back spots (Working l) = Keeping (slice_set spots (l.number - 1) (Back l))
-with_back spots (Keeping others) = Keeping spots
-with_back spots Spent = Keeping spots
-with_back spots (Opening n b) = Keeping spots
+with_back spots role = Keeping spots
 
 abbrev pub joined : Role → Role → Role
 joined (Keeping spots) role = with_back spots role
-joined (Working l) role = Working l
-joined Spent role = Spent
-joined (Opening n b) role = Opening n b
+joined own role = own
 
--- collecting: the record of a worker enters the book
+-- collecting: the machine of a worker enters the book
 abbrev pub both_views : {P : Type 0} → View P → View P → View P
-both_views v w = record v { told = w.seen; role = joined v.role w.role }
+both_views v w = record v { moves = w.seen; role = joined v.role w.role }
 
 -- The book's load after a join: it learns a list of moves that begins with what it had seen and with what the worker
--- had seen, and after which all its records stand.
+-- had seen, and after which all its machines stand.
 pub record HasMet {P : Type 0} (v : View P) (spots : List Spot) (w : View P) : Type 0 where
-  pub leads : w ≡ record v { seen = w.seen; told = [] }
+  pub leads : w ≡ record v { seen = w.seen; moves = [] }
   pub seen : StartsWith w.seen v.seen
-  pub told : StartsWith w.seen v.told
+  pub moves : StartsWith w.seen v.moves
   pub own : AreOwn v.givens w.seen
   pub stand : AllStand v.givens w.seen spots
 
 abbrev pub MetBy : {P : Type 0} → View P → Role → View P → Type 0
 MetBy v (Keeping spots) w = HasMet v spots w
-MetBy v (Working l) w = ⊤
-MetBy v Spent w = ⊤
-MetBy v (Opening n b) w = ⊤
+MetBy v role w = ⊤
 
 abbrev pub told_by_meeting : {P : Type 0} → Step (Option P) → Me (Option P) (View P) → ℕ → Me (Option P) (View P) → Type 0
 told_by_meeting st me n me' = MetBy me.0 me.0.role me'.0 × (me'.1 ≡ me.1)
@@ -186,16 +164,12 @@ placing_role g n = if nat_lt n g.jobs then Opening n false else Keeping (replica
 -- the next slot is taken
 abbrev pub PickedBy : {P : Type 0} → View P → List (ℕ × Option P) → Role → View P → List (ℕ × Option P) → Type 0
 PickedBy v out (Opening n b) w out' = (w ≡ record v { role = Opening n true }) × (out' ≡ (n, None) ∷ out)
-PickedBy v out (Keeping spots) w out' = ⊤
-PickedBy v out (Working l) w out' = ⊤
-PickedBy v out Spent w out' = ⊤
+PickedBy v out role w out' = ⊤
 
 -- it is given back, with its payload
 abbrev pub PlacedBy : {P : Type 0} → View P → List (ℕ × Option P) → Role → View P → List (ℕ × Option P) → Type 0
 PlacedBy v out (Opening n b) w out' = (w ≡ record v { role = next_role v.givens n }) × (out' ≡ rest out)
-PlacedBy v out (Keeping spots) w out' = ⊤
-PlacedBy v out (Working l) w out' = ⊤
-PlacedBy v out Spent w out' = ⊤
+PlacedBy v out role w out' = ⊤
 
 abbrev pub told_by_picking : {P : Type 0} → Step (Option P) → Me (Option P) (View P) → ℕ → Me (Option P) (View P) → Type 0
 told_by_picking st me n me' = PickedBy me.0 me.1 me.0.role me'.0 me'.1

@@ -1,15 +1,18 @@
--- What the closed words and slots show, and what a settlement says.
+-- What the closed words and slots show, and what a settlement says. Within this crate: `IsReadable`, `HaveRoom`, `any_has`,
+-- `AreMarked` and `IsBlank`, by which it is filled.
 use Rattle.std.specs.Prelude.{◌≡◌, ◌==◌, replicate, ℕ, zero, suc, ◌+◌, ◌<◌, ◌≤◌, Bool, true, false, ◌||◌, if◌then◌else◌, List, [], ◌∷◌, ◌++◌, length, map, get_or, Option, Some, vec_capacity}
 use Rattle.std.proofs.Common.{Vec, Global}
 use mathlib.Core.Option.{some}
 use lib.ListN.{get_elem?}
 use Rattle.std.specs.List.{sum_by}
+use Rattle.std.specs.Mem.Slots.{slots_items, slots_len, IsFull}
+use Rattle.atomic_table.specs.declared.owned.Closed.{Closed}
 use Rattle.atomic_table.specs.Table.{Final, Seen}
 use Rattle.amo_sets.specs.Lists.{numbered, table}
 use Rattle.amo_sets.specs.Sets.{has}
 use Rattle.amo_kk.specs.Givens.{bound}
 use Rattle.amo_kk.specs.Record.{is_over}
-use Rattle.amo_kk.specs.Words.{words_of, next_word, claim_word, done_word}
+use Rattle.amo_kk.specs.Words.{words_of, next_word, claim_word, done_word, word_count}
 use Rattle.amo_kk.specs.declared.givens.Givens.{Givens}
 use Rattle.amo_kk.specs.declared.event.Move.{Move}
 use Rattle.amo_kk.specs.declared.model.Process.{Process}
@@ -18,7 +21,8 @@ use Rattle.amo_words.specs.declared.rule.Spot.TheVariants.{Home, Out, Back}
 use Rattle.amo_words.specs.declared.floor.settling.WorkerEnd.{WorkerEnd}
 use Rattle.amo_words.specs.declared.floor.settling.WorkerEnd.TheVariants.{NeverHired, Ended, Stopped, Lost}
 use Rattle.amo_words.specs.declared.floor.settling.Settlement.{Settlement}
-use Rattle.amo_words.specs.Logs.{world_after, AreOwn, StartsWith, is_claimed}
+use Rattle.amo_kk.specs.World.{world_of}
+use Rattle.amo_words.specs.Logs.{AreOwn, StartsWith, is_claimed}
 use Rattle.amo_words.specs.declared.rule.Role.TheVariants.{Keeping}
 use Rattle.amo_words.specs.declared.rule.View.{View}
 use Rattle.amo_words.specs.declared.rule.Key.{Key}
@@ -53,6 +57,12 @@ dones_in_words g words = table g.workers (λ p. row_in g words p)
 
 abbrev pub claims_in_words : Givens → List ℕ → List (List ℕ)
 claims_in_words g words = table g.workers (λ p. row_in g words p ++ hand_in_words g words p)
+
+-- The closed words of these givens can be read: all stand there, and they are those of some sound processes.
+pub record IsReadable {S : Type 0} (g : Givens) (c : Closed S Global) : Type 0 where
+  pub full : IsFull c.words
+  pub size : slots_len c.words ≡ word_count g
+  pub shown : (all : List Process) × AreShown g all (slots_items c.words)
 
 -- from the place i on, the lists are empty and have this room
 abbrev pub HaveRoom : ℕ → ℕ → List (Vec ℕ Global) → Type 0
@@ -97,8 +107,8 @@ pub record IsClosed {P : Type 0} (g : Givens) (payloads : List P) (seen : List M
   pub turns : AreOwn g log
   pub begins : StartsWith log seen
   pub stand : AllStand g log spots
-  pub shown : AreShown g (world_after g log).processes words
-  pub free : HasFree g (world_after g log).processes payloads slots
+  pub shown : AreShown g (world_of g log).processes words
+  pub free : HasFree g (world_of g log).processes payloads slots
 
 -- how many jobs are in these lists
 abbrev pub job_count : List (List ℕ) → ℕ
@@ -106,11 +116,11 @@ job_count lists = sum_by (λ xs. length xs) lists
 
 -- what a book's seat knows between two calls
 abbrev pub book_view : {P : Type 0} → Givens → List P → List Move → List Spot → View P
-book_view g payloads seen spots = record { givens = g; payloads = payloads; seen = seen; told = []; role = Keeping spots }
+book_view g payloads seen spots = record { givens = g; payloads = payloads; seen = seen; moves = []; role = Keeping spots }
 
 -- The settlement is whole. The table was closed with some words and slots, where the book's seat knew what the book knew.
 -- A list of turns and leavings that begins with what the book had seen leads to a world that has these words, and in which
--- the book's records stand. The lists, the ends and the free jobs are those of that world.
+-- the book's machines stand. The lists, the ends and the free jobs are those of that world.
 pub record IsWhole {P : Type 0} (g : Givens) (payloads : List P) (seen : List Move) (spots : List Spot) (s : Settlement P) : Type 0 where
   pub key : Key P
   pub seat : ℕ
@@ -120,15 +130,15 @@ pub record IsWhole {P : Type 0} (g : Givens) (payloads : List P) (seen : List Mo
   pub log : List Move
   pub turns : AreOwn g log
   pub begins : StartsWith log seen
-  pub shown : words ≡ words_of (world_after g log).processes
+  pub shown : words ≡ words_of (world_of g log).processes
   pub stand : AllStand g log spots
   -- the lists are what these words say of each worker
   pub told_claims : map (λ (v : Vec ℕ Global). v.items) s.claims.items ≡ claims_in_words g words
   pub told_dones : map (λ (v : Vec ℕ Global). v.items) s.dones.items ≡ dones_in_words g words
-  pub claims : map (λ (v : Vec ℕ Global). v.items) s.claims.items ≡ claims_of (world_after g log).processes
-  pub dones : map (λ (v : Vec ℕ Global). v.items) s.dones.items ≡ dones_of (world_after g log).processes
+  pub claims : map (λ (v : Vec ℕ Global). v.items) s.claims.items ≡ claims_of (world_of g log).processes
+  pub dones : map (λ (v : Vec ℕ Global). v.items) s.dones.items ≡ dones_of (world_of g log).processes
   pub ends : s.ends.items ≡ map end_of spots
-  pub free : s.free.items ≡ free_of (world_after g log).processes 1 payloads
+  pub free : s.free.items ≡ free_of (world_of g log).processes 1 payloads
   -- where a worker has come back that ended, so many jobs are done
   pub enough : (p : ℕ) (l : LocalView) → IsBack spots p l → is_over l.state.phase ≡ true
       → bound g ≤ job_count (map (λ (v : Vec ℕ Global). v.items) s.dones.items)

@@ -6,7 +6,7 @@ ghost use Rattle.atomic_table.specs.Table.{State};
 ghost use Rattle.amo_sets.specs.Sets.{has};
 ghost use Rattle.amo_kk.specs.Givens.{IsWorker, bound};
 ghost use Rattle.amo_kk.specs.Record.{is_over};
-ghost use Rattle.amo_kk.specs.World.{done_count};
+ghost use Rattle.amo_kk.specs.World.{done_count, world_of};
 ghost use Rattle.amo_kk.specs.Words.{words_of, claim_word, done_word};
 ghost use Rattle.amo_words.specs.Faces.{ClosedView};
 ghost use Rattle.amo_words.specs.Settling.{IsReadFrom, row_in, hand_in_words, settled_claims, settled_dones};
@@ -19,18 +19,18 @@ ghost use Rattle.amo_words.specs.declared.rule.Role.{Role};
 ghost use Rattle.amo_words.specs.declared.floor.settling.Settlement.{Settlement};
 ghost use Rattle.amo_words.specs.declared.rule.Key.{Key};
 ghost use Rattle.amo_words.specs.declared.rule.View.{View};
-ghost use Rattle.amo_words.specs.Logs.{world_after, machine_after, moves_of, AreOwn, StartsWith};
+ghost use Rattle.amo_words.specs.Logs.{machine_after, moves_of, AreOwn, StartsWith};
 ghost use Rattle.amo_words.specs.Rule.{AllStand, Has, HasWhole, IsOpen, SlotsFit, spent_view};
 ghost use Rattle.amo_words.specs.Looking.{IsBack, back_count};
 
 /// What the rule says of an open table: its words are those of a lawful world, reached by a list of turns and leavings.
-/// Some seat has seen, or was told, that whole list, and what any other has seen is a beginning of it. Each worker's
-/// record is in the view of one seat alone, as it is in that world; a worker that is out has seen all its own moves. All views
-/// but spent ones have the floor's givens and payloads, and what they were told are beginnings of the list too. The slot of a
-/// job is at home, with its payload, just until the job is claimed.
+/// Some seat has seen, or had from a worker, that whole list, and what any other has seen is a beginning of it. Each worker's
+/// machine is in the view of one seat alone, as it is in that world; a worker that is out has seen all its own moves. All views
+/// but spent ones have the floor's givens and payloads, and what they had from a worker is a beginning of the list too. The
+/// slot of a job is at home, with its payload, just until the job is claimed.
 pub fn floors_show_worlds<P>()
     ensures world { (k : Key P) (s : State (Option P) (View P)) (h : IsOpen k s)
-        → (s.words ≡ words_of (world_after k.givens h.log).processes) × IsLawful k.givens (world_after k.givens h.log) × AreOwn k.givens h.log }
+        → (s.words ≡ words_of (world_of k.givens h.log).processes) × IsLawful k.givens (world_of k.givens h.log) × AreOwn k.givens h.log }
     ensures list { (k : Key P) (s : State (Option P) (View P)) (h : IsOpen k s)
         → HasWhole h.log s.views × ((id : ℕ) (v : View P) → get_elem? s.views id ≡ some v → v ≢ spent_view → StartsWith h.log v.seen) }
     ensures found { (k : Key P) (s : State (Option P) (View P)) (h : IsOpen k s) (p : ℕ) → IsWorker k.givens p
@@ -42,13 +42,13 @@ pub fn floors_show_worlds<P>()
     ensures book { (k : Key P) (s : State (Option P) (View P)) (h : IsOpen k s) (id : ℕ) (v : View P) (spots : List Spot) → get_elem? s.views id ≡ some v
         → v.role ≡ Role.Keeping spots → AllStand k.givens h.log spots }
     ensures known { (k : Key P) (s : State (Option P) (View P)) (h : IsOpen k s) (id : ℕ) (v : View P) → get_elem? s.views id ≡ some v
-        → v ≢ spent_view → (v.givens ≡ k.givens) × (v.payloads ≡ k.payloads.value.items) × StartsWith h.log v.told }
-    ensures slots { (k : Key P) (s : State (Option P) (View P)) (h : IsOpen k s) → SlotsFit (world_after k.givens h.log) k.payloads.value.items s.homes }
+        → v ≢ spent_view → (v.givens ≡ k.givens) × (v.payloads ≡ k.payloads.value.items) × StartsWith h.log v.moves }
+    ensures slots { (k : Key P) (s : State (Option P) (View P)) (h : IsOpen k s) → SlotsFit (world_of k.givens h.log) k.payloads.value.items s.homes }
 {}
 
 /// The workers that have come back to a book stand in one lawful world, and no job is claimed by two of them.
 pub fn met_workers_agree()
-    ensures lawful { (g : Givens) (log : List Move) → IsLawful g (world_after g log) }
+    ensures lawful { (g : Givens) (log : List Move) → IsLawful g (world_of g log) }
     ensures stand { (g : Givens) (log : List Move) (spots : List Spot) (p : ℕ) (l : LocalView)
         → AllStand g log spots → IsBack spots p l → l ≡ machine_after g log p }
     ensures worker { (g : Givens) (log : List Move) (spots : List Spot) (p : ℕ) (l : LocalView)
@@ -65,7 +65,7 @@ pub fn met_workers_do_each_job_once()
 /// Where a worker that has come back had ended by its own choice, all workers together have done at least `bound` jobs.
 pub fn met_ends_come_late()
     ensures { (g : Givens) (log : List Move) (spots : List Spot) (p : ℕ) (l : LocalView)
-        → AllStand g log spots → IsBack spots p l → is_over l.state.phase ≡ true → bound g ≤ done_count (world_after g log) }
+        → AllStand g log spots → IsBack spots p l → is_over l.state.phase ≡ true → bound g ≤ done_count (world_of g log) }
 {}
 
 /// What a collected worker had seen is a beginning of what the book has seen ever after: the calls of all who came back

@@ -3,6 +3,7 @@ use Rattle.std.specs.Prelude.{ℕ, List, [], ◌∷◌, Option, Some, None, true
 use Rattle.std.specs.Str.{bytes_eq}
 use Rattle.clap.specs.Words.{App, Row, Rule, Text, new_app, new_rule, with_rule, with_subcommand, subcommand_of, fault_of, first_of}
 use Rattle.amo_plan.specs.Digits.{number_in, within}
+use Rattle.amo_report.specs.declared.explorer.TheConstants.{MOST_FIRST, MOST_COUNT, MOST_TURNS}
 use Rattle.amo_report.specs.declared.wanted.Wanted.TheVariants.{Report, Check, Explored, Stops}
 use Rattle.amo_report.specs.Wanted as wanted
 use Rattle.amo_work.specs.declared.request.Request.{Request}
@@ -51,7 +52,7 @@ explore_with _ _ _ = None
 
 -- what the texts of `explore` ask for
 unfoldable pub explore_of_rows : List Row → Option Request
-explore_of_rows rows = explore_with (number_at 0 1000000000000 (codes "FROM") rows) (number_at 1 1000 (codes "COUNT") rows) (number_at 0 10000 (codes "LENGTH") rows)
+explore_of_rows rows = explore_with (number_at 0 MOST_FIRST (codes "FROM") rows) (number_at 1 MOST_COUNT (codes "COUNT") rows) (number_at 0 MOST_TURNS (codes "LENGTH") rows)
 
 -- what the text of `stops` asks for
 abbrev pub stops_of_rows : List Row → Option Request

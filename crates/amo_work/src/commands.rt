@@ -2,13 +2,14 @@
 ghost use Rattle.std.specs.Prelude.{◌≡◌, ◌≤◌, ◌↔◌, ℕ, Some, false, IfOk, IfSome, map, option_copied};
 ghost use Rattle.std.specs.Fmt.{decimal};
 ghost use Rattle.clap.specs.Words.{app_of, new_app, with_subcommand, rule_of, rows_of, found_of, first_of};
+ghost use Rattle.amo_plan.specs.declared.limits.TheConstants.{HIGHEST_NUMBER};
 ghost use Rattle.amo_program.specs.Statuses.{IsAnswer};
 ghost use Rattle.amo_work.specs.Commands.{IsWithinRanges, amo_app, explore_app, stops_app, required, number_at, explore_of_rows, stops_of_rows, request_of_row, request_of_line, asked};
 
-use super::request::Request;
+use crate::request::Request;
 use amo_plan::number_within;
 use amo_program::Fault;
-use amo_report::{MOST_FIRST, Wanted};
+use amo_report::{MOST_COUNT, MOST_FIRST, MOST_TURNS, Wanted};
 use clap::error::ErrorKind;
 use clap::{Arg, ArgMatches, Command};
 use std::alloc::{AllocError, Global};
@@ -73,7 +74,7 @@ fn text_at<'a>(id: &str, matches: &ArgMatches<'a>) -> Option<&'a str>
 /// The number at an id: the number whose decimal digits the text there is, where there is one within the range.
 #[tactic(auto, using(crate::proofs::Numbers::at_is_decimal))]
 fn number_at(low: u64, high: u64, id: &str, matches: &ArgMatches<'_>) -> Option<u64>
-    requires { high ≤ 1000000000000 }
+    requires { high ≤ HIGHEST_NUMBER }
     ensures value { result ≡ number_at low high id.now (rows_of (found_of matches.now)) }
     ensures decimal { (k : ℕ) → result ≡ Some k ↔ (first_of id.now (rows_of (found_of matches.now)) ≡ Some (decimal k)) × (low ≤ k) × (k ≤ high) }
     ensures range { IfSome result (λ n. (low ≤ n) × (n ≤ high)) }
@@ -88,8 +89,8 @@ fn explore_of_matches(matches: &ArgMatches<'_>) -> Option<Request>
     ensures ranges { IfSome result IsWithinRanges }
 {
     let from = number_at(0, MOST_FIRST, "FROM", matches)?;
-    let count = number_at(1, 1000, "COUNT", matches)? as u32;
-    let turns = number_at(0, 10_000, "LENGTH", matches)? as u32;
+    let count = number_at(1, MOST_COUNT as u64, "COUNT", matches)? as u32;
+    let turns = number_at(0, MOST_TURNS as u64, "LENGTH", matches)? as u32;
     Some(Request::Text(Wanted::Explored { from, count, turns }))
 }
 

@@ -1,12 +1,11 @@
 //! What the program does, over any source and any two sinks.
-ghost use Rattle.std.specs.Prelude.{◌≡◌, ◌≤◌, Some, None, false, map, string_bytes, OnOk, IfOk, IfErr};
+ghost use Rattle.std.specs.Prelude.{◌≡◌, ◌≤◌, None, false, map, string_bytes, IfOk};
 ghost use Rattle.amo_program.specs.Endings.{change};
-ghost use Rattle.amo_program.specs.Statuses.{IsDone, IsFault, IsPassedOn};
-ghost use Rattle.amo_work.specs.Commands.{asked, IsWithinRanges};
-ghost use Rattle.amo_work.specs.Requests.{writes, refuses, others, Ends};
+ghost use Rattle.amo_work.specs.Commands.{asked};
+ghost use Rattle.amo_work.specs.Requests.{Ends};
 
-use super::commands::asked;
-use super::request::Request;
+use crate::commands::asked;
+use crate::request::Request;
 use amo_outcome::{Started, run_plan};
 use amo_program::{Command, Fault, refuse};
 use amo_streams::{Sink, Source};
@@ -14,36 +13,6 @@ use amo_texts::write_of;
 use std::alloc::{AllocError, Global};
 use std::sync::Wait;
 use std::thread::Threads;
-
-/// Does what is asked for. The texts of all requests but `Run` are written by calls that are proved to return.
-#[tactic(auto, using(crate::proofs::Endings::of_text, amo_program::proofs::Endings::texts_pass))]
-fn carry_out<R: Threads + Wait + Sync, S: Source, W: Sink>(
-    rt: &R,
-    alloc: Global,
-    request: Request,
-    reader: &mut S,
-    out: &mut W,
-) -> Result<(), Fault>
-    requires ranges { IsWithinRanges request }
-    requires reader { S.failed reader.old ≡ false }
-    requires out { W.failed out.old ≡ false }
-    ensures done { OnOk result (IsDone writes (Some request)
-        (change (S.remaining reader.old) (S.remaining reader.new) (S.failed reader.new))
-        (change (W.contents out.old) (W.contents out.new) (W.failed out.new))) }
-    ensures passed { OnOk result (W.waiting out.new ≡ false) }
-    ensures fault { IfErr result (λ fault. IsFault refuses others fault (Some request)
-        (change (S.remaining reader.old) (S.remaining reader.new) (S.failed reader.new))
-        (change (W.contents out.old) (W.contents out.new) (W.failed out.new))) }
-    ensures passed_on { IfErr result (λ fault. IsPassedOn fault (W.waiting out.new)) }
-{
-    match request {
-        Request::Text(wanted) => Ok(write_of(alloc, &wanted, reader, out)?),
-        Request::Run => match run_plan(rt, alloc, reader, out)? {
-            Started::All => Ok(()),
-            Started::NotAll => Err(Fault::Thread),
-        },
-    }
-}
 
 /// The texts of the words.
 fn texts_of<'a>(alloc: Global, words: &'a [String]) -> Result<Vec<&'a str>, AllocError>
@@ -76,6 +45,8 @@ impl<R: Threads + Wait + Sync> Command<R> for Request {
         asked(alloc, rest)
     }
 
+    /// The texts of all requests but `Run` are written by calls that are proved to return.
+    #[tactic(auto, using(amo_program::proofs::Endings::of_text, crate::proofs::Endings::memory_keeps, amo_program::proofs::Endings::texts_pass))]
     fn carry_out<S: Source, W: Sink>(
         &self,
         rt: &R,
@@ -83,7 +54,13 @@ impl<R: Threads + Wait + Sync> Command<R> for Request {
         reader: &mut S,
         out: &mut W,
     ) -> Result<(), Fault> {
-        carry_out(rt, alloc, *self, reader, out)
+        match *self {
+            Request::Text(wanted) => Ok(write_of(alloc, &wanted, reader, out)?),
+            Request::Run => match run_plan(rt, alloc, reader, out)? {
+                Started::All => Ok(()),
+                Started::NotAll => Err(Fault::Thread),
+            },
+        }
     }
 
     ghost plan_keeps = { plan_keeps };
@@ -115,7 +92,7 @@ pub fn work<R: Threads + Wait + Sync, S: Source, W: Sink, E: Sink>(
     ensures untouched { asked (map (λ w. w.now) words.now) ≡ None → (reader.new ≡ reader.old) × (out.new ≡ out.old) }
 {
     match asked(alloc, words) {
-        Ok(request) => match carry_out(rt, alloc, request, reader, out) {
+        Ok(request) => match request.carry_out(rt, alloc, reader, out) {
             Ok(()) => 0,
             Err(fault) => refuse(alloc, err, fault),
         },

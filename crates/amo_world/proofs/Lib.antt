@@ -1,6 +1,8 @@
-pub mod Places
-pub mod Turning
-pub mod Opening
-pub mod Verdicts
-pub mod Unclaimed
+-- The crates above lean on this too:
 pub mod Resting
+-- These serve this crate alone.
+mod Places
+mod Turning
+mod Opening
+mod Verdicts
+mod Unclaimed

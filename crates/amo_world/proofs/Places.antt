@@ -1,4 +1,4 @@
--- Seats and the processes that they are, and what loads find there.
+-- The processes of the code as those of the definitions, and what loads find there.
 use Rattle.std.proofs.Common.{◌≡◌, ℕ, zero, suc, ◌+◌, ◌-◌, ◌≤◌, List, map, length, get_or, sym, ap, subst, ◌∙◌, arith}
 use Rattle.std.proofs.lemmas.List.{get_or-map, get_or_default}
 use Rattle.amo_sets.specs.Lists.{numbered}
@@ -11,12 +11,12 @@ use Rattle.amo_kk.specs.declared.model.World.{World}
 use Rattle.amo_kk.specs.declared.phase.Want.{Want}
 use Rattle.amo_kk.specs.declared.phase.Want.TheVariants.{LoadNext, LoadDone}
 use Rattle.amo_kk.proofs.Bits.{numbered_before}
-use Rattle.amo_world.specs.declared.seat.Seat.{Seat}
-use Rattle.amo_world.specs.Seats.{process_of}
+use Rattle.amo_world.specs.declared.process.Process.{Process as OwnProcess}
+use Rattle.amo_world.specs.Processes.{process_of}
 
-pub seat_at : (seats : List Seat) (q : ℕ) (d : Seat) → 1 ≤ q → q ≤ length seats → numbered nobody (map process_of seats) q ≡ process_of (get_or seats (q - 1) d)
-seat_at seats zero d l h = absurd (omega arith)
-seat_at seats (suc k) d l h = let e : k ≡ suc k - 1 = omega arith in get_or-map process_of seats k d nobody (omega arith) ∙ ap (λ i. process_of (get_or seats i d)) e
+pub process_at : (processes : List OwnProcess) (q : ℕ) (d : OwnProcess) → 1 ≤ q → q ≤ length processes → numbered nobody (map process_of processes) q ≡ process_of (get_or processes (q - 1) d)
+process_at processes zero d l h = absurd (omega arith)
+process_at processes (suc k) d l h = let e : k ≡ suc k - 1 = omega arith in get_or-map process_of processes k d nobody (omega arith) ∙ ap (λ i. process_of (get_or processes i d)) e
 
 -- a wanted announcement
 pub next_found : (w : World) (want : Want) (q : ℕ) (a : Process) → want ≡ LoadNext q → a ≡ process w q → a.next ≡ loaded_value w want

@@ -11,7 +11,7 @@ use Rattle.amo_kk.specs.Alone.{lone_bound, is_claiming, claims_or_ends, world_af
 use Rattle.amo_kk.specs.Lawful.{IsLawful}
 use Rattle.amo_kk.specs.declared.givens.Givens.{Givens}
 use Rattle.amo_kk.specs.declared.phase.Phase.{Phase}
-use Rattle.amo_kk.specs.declared.phase.Phase.TheVariants.{Announcing, Trying, Reading, Claiming, Holding, Over, Left}
+use Rattle.amo_kk.specs.declared.phase.Phase.TheVariants.{Claiming, Holding, Over, Left}
 use Rattle.amo_kk.specs.declared.model.World.{World}
 use Rattle.amo_kk.proofs.Worlds.{here_is_worker, turn_lawful}
 use Rattle.amo_kk.proofs.OwnTurns.{own_turn}
@@ -24,7 +24,7 @@ use Rattle.amo_world.specs.declared.answer.Alone.{Alone}
 use Rattle.amo_world.specs.declared.answer.Alone.TheVariants.{Claimed as ClaimedAlone, Ended as EndedAlone}
 use Rattle.amo_kk.specs.declared.event.Shown.TheVariants.{Quiet, Done as DoneShown, DoneEnded as DoneEndedShown, Ended as EndedShown}
 use Rattle.amo_world.specs.declared.answer.Turned.{Turned}
-use Rattle.amo_world.specs.declared.answer.Turned.TheVariants.{Moved, Claimed, Done, DoneEnded, Ended, Idle}
+use Rattle.amo_world.specs.declared.answer.Turned.TheVariants.{Claimed, DoneEnded, Ended, Idle}
 
 -- k turns of p alone lead from this world to that one, none of them claimed or ended p, and p isn't gone
 pub record IsUnderWay (g : Givens) (before : World) (p k : ℕ) (w : World) : Type 0 where
@@ -46,30 +46,21 @@ turns_next g w p (suc k) = turns_next g (world_after_turn g w p) p k
 
 -- the answers after which p comes to rest
 abbrev pub rests : Turned → Bool
-rests Moved = false
 rests (Claimed j) = true
-rests (Done j) = false
 rests (DoneEnded j) = true
 rests Ended = true
-rests Idle = false
+rests answer = false
 
 -- what such an answer says of the worker
 abbrev pub alone_of : Turned → Alone
-alone_of Moved = EndedAlone
 alone_of (Claimed j) = ClaimedAlone j
-alone_of (Done j) = EndedAlone
-alone_of (DoneEnded j) = EndedAlone
-alone_of Ended = EndedAlone
-alone_of Idle = EndedAlone
+alone_of answer = EndedAlone
 
 quiet_rests : (b : Bool) → rests (turned (if b then EndedShown else Quiet)) ≡ b
 quiet_rests true = refl
 quiet_rests false = refl
 
 rests_is : (phase after : Phase) → wants_nothing phase ≡ false → rests (turned (shown phase after)) ≡ (is_claiming phase || is_over after)
-rests_is (Announcing j) after wants = quiet_rests (is_over after)
-rests_is (Trying j q) after wants = quiet_rests (is_over after)
-rests_is (Reading j q) after wants = quiet_rests (is_over after)
 rests_is (Claiming j) after wants = refl
 rests_is (Holding j) after wants = done (is_over after)
   where
@@ -78,15 +69,13 @@ rests_is (Holding j) after wants = done (is_over after)
     done false = refl
 rests_is Over after wants = absurd (true≢false wants)
 rests_is Left after wants = absurd (true≢false wants)
+rests_is attempting after wants = quiet_rests (is_over after)
 
 quiet_alone : (b : Bool) → alone_of (turned (if b then EndedShown else Quiet)) ≡ EndedAlone
 quiet_alone true = refl
 quiet_alone false = refl
 
 alone_is : (phase after : Phase) → alone_of (turned (shown phase after)) ≡ alone_answer phase
-alone_is (Announcing j) after = quiet_alone (is_over after)
-alone_is (Trying j q) after = quiet_alone (is_over after)
-alone_is (Reading j q) after = quiet_alone (is_over after)
 alone_is (Claiming j) after = refl
 alone_is (Holding j) after = done (is_over after)
   where
@@ -95,6 +84,7 @@ alone_is (Holding j) after = done (is_over after)
     done false = refl
 alone_is Over after = refl
 alone_is Left after = refl
+alone_is attempting after = quiet_alone (is_over after)
 
 module _ (g : Givens) (w : World) (p : ℕ) (law : IsLawful g w) (here : (process w p).gone ≡ false) where
   o : IsWorker g p
@@ -116,7 +106,7 @@ module _ (g : Givens) (w : World) (p : ℕ) (law : IsLawful g w) (here : (proces
 
   -- and after a turn that does neither, the worker isn't gone
   pub here_next : claims_or_ends g w p ≡ false → (process (world_after_turn g w p) p).gone ≡ false
-  here_next h = (own_turn g w p g.limits law here (or_parts (is_claiming (process w p).local.phase) (is_over (record_after g p (loaded_value w (want (process w p).local)) (process w p).local).phase) h).1).here
+  here_next h = (own_turn g w p law here (or_parts (is_claiming (process w p).local.phase) (is_over (record_after g p (loaded_value w (want (process w p).local)) (process w p).local).phase) h).1).here
 
 turn_goes_on : (g : Givens) (before : World) (p k : ℕ) (w : World) → IsUnderWay g before p k w → rests (turn_answer g w p) ≡ false → IsUnderWay g before p (k + 1) (world_after_turn g w p)
 turn_goes_on g before p k w way quiet =

@@ -6,7 +6,7 @@ use Rattle.amo_kk.specs.World.{process}
 use Rattle.amo_kk.specs.Answer.{turn_shown}
 use Rattle.amo_kk.specs.declared.givens.Givens.{Givens}
 use Rattle.amo_kk.specs.declared.phase.Phase.{Phase}
-use Rattle.amo_kk.specs.declared.phase.Phase.TheVariants.{Announcing, Trying, Reading, Claiming, Holding, Over, Left as LeftPhase}
+use Rattle.amo_kk.specs.declared.phase.Phase.TheVariants.{Claiming}
 use Rattle.amo_kk.specs.declared.event.Event.{Event}
 use Rattle.amo_kk.specs.declared.event.Shown.{Shown}
 use Rattle.amo_kk.specs.declared.event.Shown.TheVariants.{Quiet, Claimed, Done, DoneEnded, Ended, Left}
@@ -33,13 +33,8 @@ turn_answer g w p = if (process w p).gone then Idle else turned (turn_shown g w 
 
 -- what the last turn of a worker that runs alone answers, by the phase before it
 abbrev pub alone_answer : Phase → Alone
-alone_answer (Announcing j) = EndedAlone
-alone_answer (Trying j q) = EndedAlone
-alone_answer (Reading j q) = EndedAlone
 alone_answer (Claiming j) = ClaimedAlone j
-alone_answer (Holding j) = EndedAlone
-alone_answer Over = EndedAlone
-alone_answer LeftPhase = EndedAlone
+alone_answer phase = EndedAlone
 
 -- what the judge says of these events
 abbrev pub verdict : Givens → List Event → Verdict

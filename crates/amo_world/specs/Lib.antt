@@ -1,4 +1,4 @@
 pub mod Answer
 pub mod Views
-pub mod Seats
+pub mod Processes
 pub mod Resting

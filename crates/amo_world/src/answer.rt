@@ -7,9 +7,9 @@ pub enum Turned {
     Moved,
     /// The worker has claimed the job.
     Claimed(u32),
-    /// The performance of the job is stored, and the worker goes on.
+    /// The job is filed as performed, and the worker goes on.
     Done(u32),
-    /// The performance of the job is stored, and the worker has ended.
+    /// The job is filed as performed, and the worker has ended.
     DoneEnded(u32),
     /// The worker has ended.
     Ended,

@@ -4,7 +4,7 @@
 
 mod answer;
 mod judging;
-mod seat;
+mod process;
 mod state;
 mod tally;
 mod world;

@@ -12,7 +12,7 @@ use std::marker::Model;
 /// Which jobs are unclaimed, the job in each worker's hand or 0, the performed pairs of worker and job, and which
 /// workers are gone.
 #[derive(Drop)]
-pub struct State {
+pub(crate) struct State {
     givens: Givens,
     unclaimed: Vec<bool>,
     in_hand: Vec<u32>,
@@ -43,7 +43,7 @@ impl Model for State {
 impl State {
     /// The first state.
     #[tactic(auto, using(crate::proofs::Unclaimed::bits_full, amo_kk::proofs::Bits::replicate_table))]
-    pub fn new(alloc: Global, givens: Givens) -> Result<State, AllocError>
+    pub(crate) fn new(alloc: Global, givens: Givens) -> Result<State, AllocError>
         ensures { IfOk result (λ s. s ≡ record { givens = givens; object = first_object givens }) }
     {
         let unclaimed = vec![in alloc; true; givens.jobs as usize]?;
@@ -82,7 +82,7 @@ impl State {
     }
 
     /// Whether the event is a step from this state.
-    pub fn allows(&self, event: Event) -> bool
+    pub(crate) fn allows(&self, event: Event) -> bool
         ensures { result ≡ is_step self.now.givens self.now.object event }
     {
         match event {
@@ -106,7 +106,7 @@ impl State {
     }
 
     /// The state after the event, which is a step.
-    pub fn follow(&mut self, event: Event) -> Result<(), AllocError>
+    pub(crate) fn follow(&mut self, event: Event) -> Result<(), AllocError>
         requires { is_step self.old.givens self.old.object event ≡ true }
         ensures { OnOk result (self.new ≡ record { givens = self.old.givens; object = object_after self.old.object event }) }
     {

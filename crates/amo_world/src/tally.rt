@@ -6,7 +6,7 @@ ghost use Rattle.amo_kk.specs.Run.{claimed_jobs, done_jobs};
 use amo_kk::Event;
 
 /// Whether job j was claimed.
-pub fn has_claim(history: &[Event], j: u32) -> bool
+pub(crate) fn has_claim(history: &[Event], j: u32) -> bool
     ensures { result ≡ has (claimed_jobs history.now) j }
 {
     for event in history {
@@ -21,13 +21,13 @@ pub fn has_claim(history: &[Event], j: u32) -> bool
 
 /// How many jobs were claimed, and how many performed.
 #[derive(Clone, Copy)]
-pub struct Tally {
-    pub claimed: u32,
-    pub performed: u32,
+pub(crate) struct Tally {
+    pub(crate) claimed: u32,
+    pub(crate) performed: u32,
 }
 
 /// Counts the claims and the performances.
-pub fn count(history: &[Event]) -> Tally
+pub(crate) fn count(history: &[Event]) -> Tally
     requires { length history.now < 2 ^ 32 }
     ensures claimed { result.claimed ≡ length (claimed_jobs history.now) }
     ensures performed { result.performed ≡ length (done_jobs history.now) }

@@ -15,10 +15,10 @@ ghost use Rattle.amo_kk.specs.declared.event.Event.{Event};
 ghost use Rattle.amo_world.specs.Answer.{turned, turn_answer};
 ghost use Rattle.amo_world.specs.Resting.{RunsAlone};
 ghost use Rattle.amo_world.specs.Views.{WorldView};
-ghost use Rattle.amo_world.specs.Seats.{process_of, world_of, AreSeats};
+ghost use Rattle.amo_world.specs.Processes.{process_of, world_of_processes, AreInOrder};
 
 use crate::answer::{Alone, Turned};
-use crate::seat::Seat;
+use crate::process::Process;
 use crate::tally::{count, has_claim};
 use amo_kk::{Event, Givens, Leaving, Local, Move, Shown, Want};
 use std::alloc::{AllocError, Global};
@@ -29,20 +29,20 @@ use std::marker::Model;
 #[derive(Drop)]
 pub struct World {
     givens: Givens,
-    seats: Vec<Seat>,
+    processes: Vec<Process>,
     history: Vec<Event>,
 }
 
 impl Model for World {
     ghost use Rattle.std.specs.Vec.{vec_capacity};
     ghost use Rattle.amo_world.specs.Views.{WorldView};
-    ghost use Rattle.amo_world.specs.Seats.{world_of, IsKept};
+    ghost use Rattle.amo_world.specs.Processes.{world_of_processes, IsKept};
 
     ghost Value = { WorldView };
 
-    ghost view = { λ w. record { givens = w.givens; world = world_of w.seats.items w.history.items } };
+    ghost view = { λ w. record { givens = w.givens; world = world_of_processes w.processes.items w.history.items } };
 
-    ghost invariant = { λ w. IsKept w.givens w.seats.items w.history.items (vec_capacity w.seats) (vec_capacity w.history) };
+    ghost invariant = { λ w. IsKept w.givens w.processes.items w.history.items (vec_capacity w.processes) (vec_capacity w.history) };
 }
 
 impl World {
@@ -52,11 +52,11 @@ impl World {
     pub fn new(alloc: Global, givens: Givens) -> Result<World, AllocError>
         ensures { IfOk result (λ w. w ≡ record { givens = givens; world = opening_world givens }) }
     {
-        let seats = first_seats(alloc, givens)?;
+        let processes = first_processes(alloc, givens)?;
         let history = first_history(alloc, givens)?;
         Ok(World {
             givens,
-            seats,
+            processes,
             history,
         })
     }
@@ -84,12 +84,12 @@ impl World {
         ensures world { self.new ≡ record { givens = self.old.givens; world = world_after_turn self.old.givens self.old.world p } }
     {
         let value = self.heard(p);
-        let shown = self.seats[p as usize - 1].act(value);
+        let shown = self.processes[p as usize - 1].act(value);
         add_shown(&mut self.history, p, shown);
         turned(shown)
     }
 
-    /// Stops worker p, in 1..=workers. True, and the history gains `Halted`, where p was not gone; else false, and
+    /// Halts worker p, in 1..=workers. True, and the history gains `Halted`, where p was not gone; else false, and
     /// nothing changes.
     pub fn halt(&mut self, p: u32) -> bool
         requires { IsWorker self.old.givens p }
@@ -99,7 +99,7 @@ impl World {
         if self.is_gone(p) {
             return false;
         }
-        self.seats[p as usize - 1].gone = true;
+        self.processes[p as usize - 1].gone = true;
         add_event(&mut self.history, Event::Halted(p));
         true
     }
@@ -116,7 +116,7 @@ impl World {
         }
         let answer = self.local(p).phase().leaving();
         if self.local(p).can_leave() {
-            self.seats[p as usize - 1].leave();
+            self.processes[p as usize - 1].leave();
             add_event(&mut self.history, Event::Left(p));
         }
         answer
@@ -174,7 +174,7 @@ impl World {
         ensures { result ≡ are_in_range self.now.givens moves.now }
     {
         for one in moves {
-            let p = worker_of(*one);
+            let p = one.worker();
             if p < 1 || p > self.givens.workers {
                 return false;
             }
@@ -189,15 +189,15 @@ impl World {
         self.givens
     }
 
-    /// The seat of worker p.
-    fn seat(&self, p: u32) -> &Seat
+    /// The process of worker p.
+    fn process(&self, p: u32) -> &Process
         requires { IsWorker self.now.givens p }
         ensures process { process_of result.now ≡ process self.now.world p }
         ensures givens { result.now.local.givens ≡ self.now.givens }
         ensures number { result.now.local.number ≡ p }
         ensures row { length result.now.row.items ≡ self.now.givens.jobs + 1 }
     {
-        &self.seats[p as usize - 1]
+        &self.processes[p as usize - 1]
     }
 
     /// What the load that worker p, in 1..=workers, wants gives; 0 where it wants none.
@@ -205,7 +205,7 @@ impl World {
         requires { IsWorker self.now.givens p }
         ensures { result ≡ loaded_value self.now.world (want (process self.now.world p).local) }
     {
-        self.loaded(self.seat(p).local.want())
+        self.loaded(self.process(p).local.want())
     }
 
     /// What the load that some worker wants gives; 0 where a store is wanted.
@@ -214,20 +214,20 @@ impl World {
         ensures { result ≡ loaded_value self.now.world want }
     {
         match want {
-            Want::LoadNext(q) => self.seat(q).next,
-            Want::LoadDone(q, k) => self.seat(q).row[k as usize - 1],
+            Want::LoadNext(q) => self.process(q).next,
+            Want::LoadDone(q, k) => self.process(q).row[k as usize - 1],
             Want::StoreNext(_) | Want::StoreClaim(_, _) | Want::StoreDone(_, _) | Want::Nothing => {
                 0
             }
         }
     }
 
-    /// Whether worker p, in 1..=workers, is gone: it has ended, was stopped or has left.
+    /// Whether worker p, in 1..=workers, is gone: it has ended, was halted or has left.
     pub fn is_gone(&self, p: u32) -> bool
         requires { IsWorker self.now.givens p }
         ensures { result ≡ (process self.now.world p).gone }
     {
-        self.seat(p).gone
+        self.process(p).gone
     }
 
     /// The machine of worker p, in 1..=workers.
@@ -235,7 +235,7 @@ impl World {
         requires { IsWorker self.now.givens p }
         ensures { result.now ≡ record { givens = self.now.givens; number = p; state = (process self.now.world p).local } }
     {
-        &self.seat(p).local
+        &self.process(p).local
     }
 
     /// How many steps worker p, in 1..=workers, has taken, its leaving among them. A turn that was `Idle` is none.
@@ -243,7 +243,7 @@ impl World {
         requires { IsWorker self.now.givens p }
         ensures { result ≡ (process self.now.world p).local.steps }
     {
-        self.seat(p).local.steps()
+        self.process(p).local.steps()
     }
 
     /// What has happened, in its order: a run of the one sequential set of unclaimed jobs, whose last state agrees
@@ -289,15 +289,6 @@ impl World {
     }
 }
 
-/// The worker of a move.
-fn worker_of(one: Move) -> u32
-    ensures { result ≡ worker_of one }
-{
-    match one {
-        Move::Turn(p) | Move::Halt(p) | Move::Leave(p) => p,
-    }
-}
-
 /// What the step shows, in the words of a turn.
 fn turned(shown: Shown) -> Turned
     ensures { result ≡ turned shown }
@@ -311,18 +302,18 @@ fn turned(shown: Shown) -> Turned
     }
 }
 
-/// The seats of all workers before their first steps.
-fn first_seats(alloc: Global, givens: Givens) -> Result<Vec<Seat>, AllocError>
+/// The processes of all workers before their first steps.
+fn first_processes(alloc: Global, givens: Givens) -> Result<Vec<Process>, AllocError>
     ensures processes { IfOk result (λ v. map process_of v.items ≡ table givens.workers (first_process givens)) }
-    ensures seated { IfOk result (λ v. AreSeats givens givens.workers v.items) }
+    ensures in_order { IfOk result (λ v. AreInOrder givens givens.workers v.items) }
     ensures room { IfOk result (λ v. vec_capacity v ≡ givens.workers) }
 {
-    let mut seats = Vec::with_capacity(alloc, givens.workers as usize)?;
+    let mut processes = Vec::with_capacity(alloc, givens.workers as usize)?;
     for p in 0..givens.workers {
-        let seat = Seat::new(alloc, givens, p + 1)?;
-        seats.push_reserved(seat);
+        let process = Process::new(alloc, givens, p + 1)?;
+        processes.push_reserved(process);
     }
-    Ok(seats)
+    Ok(processes)
 }
 
 /// The history of the opening world, with room for all events of a run and no more.

@@ -16,7 +16,7 @@ impl<P> Gone<P> {
 }
 
 impl<P: Drop> Gone<P> {
-    /// The worker's record goes into the book as it is. Waits for nobody, and takes no memory. Both have to be of this
+    /// The worker's machine goes into the book as it is. Waits for nobody, and takes no memory. Both have to be of this
     /// floor.
     pub fn collect(self, floor: &Floor<P>, book: &mut Book<P>)
         requires book_table { book.old.table_id ≡ floor.now.table_id }

@@ -28,7 +28,7 @@ impl<P> Ready<P> {
         self.worker.steps()
     }
 
-    /// Stops the worker, which makes no access for it.
+    /// Halts the worker, which makes no access for it.
     pub fn halt(self) -> Gone<P>
         ensures same { result ≡ self }
         ensures ready { IsReady self }

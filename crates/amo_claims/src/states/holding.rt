@@ -39,7 +39,7 @@ impl<P> Held<P> {
         Performed { worker, job, out }
     }
 
-    /// Stops the worker, which makes no access for it. The job stays claimed and not done, and its payload comes back.
+    /// Halts the worker, which makes no access for it. The job stays claimed and not done, and its payload comes back.
     pub fn halt(self) -> (Gone<P>, P)
         ensures same { (result.0 ≡ self.worker) × (result.1 ≡ self.payload) }
         ensures holds { Holds self.worker self.job self.payload }

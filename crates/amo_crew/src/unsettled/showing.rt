@@ -4,6 +4,8 @@ ghost use Rattle.std.specs.Prelude.{◌≡◌};
 use super::Unsettled;
 use crate::outcome::End;
 use amo_mailbox::Output;
+use std::fmt;
+use std::fmt::{Debug, Formatter};
 
 impl<P: Drop, Out> Unsettled<P, Out> {
     /// What became of each worker's thread, in the order of their numbers.
@@ -25,5 +27,16 @@ impl<P: Drop, Out> Unsettled<P, Out> {
         ensures in_hand { result.now ≡ self.now.in_hand }
     {
         self.in_hand.as_slice()
+    }
+}
+
+/// The ends, and how many answers and payloads in hand there are. None of these is shown, so that they need no `Debug`.
+impl<P: Drop, Out> Debug for Unsettled<P, Out> {
+    fn fmt<W: fmt::Write>(&self, f: &mut Formatter<W>) -> fmt::Result {
+        f.debug_struct("Unsettled")
+            .field("ends", &self.ends)
+            .field("outputs", &self.outputs.len())
+            .field("in_hand", &self.in_hand.len())
+            .finish_non_exhaustive()
     }
 }

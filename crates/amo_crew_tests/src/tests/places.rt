@@ -1,6 +1,6 @@
 //! A queue of 64 places, on one thread.
 ghost use Rattle.std.specs.Prelude.{◌≡◌, ◌≤◌};
-ghost use Rattle.amo_mailbox.specs.Ends.{IsOutletOf, IsInletOf};
+ghost use Rattle.amo_mailbox.specs.Endpoints.{IsOutletOf, IsInletOf};
 
 use super::*;
 

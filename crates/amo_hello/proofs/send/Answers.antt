@@ -5,7 +5,7 @@ use Rattle.std.specs.Vec.Iter.{into_iter_items}
 use Rattle.std.specs.List.Sorted.{IsPermutation}
 use Rattle.std.proofs.lemmas.List.{append-nil}
 use Rattle.std.proofs.lemmas.List.Sorted.{IsPermutation-map}
-use Rattle.amo_mailbox.specs.declared.hand.Output.{Output}
+use Rattle.amo_mailbox.specs.declared.output.Output.{Output}
 use Rattle.amo_crew.specs.declared.outcome.Outcome.{Outcome}
 use Rattle.amo_crew.specs.Outcomes.{IsOutcome, answered, free_jobs}
 use Rattle.amo_crew.specs.Refusing.{Refuses}

@@ -1,12 +1,12 @@
 //! A worker that begins again, from its own words alone.
 ghost use Rattle.std.specs.Prelude.{◌≡◌, ◌≤◌, ◌<◌, ◌+◌, ◌++◌, ◌∷◌, ◌&&◌, [], true, false, not, IfOk, IfErr, length};
 ghost use Rattle.std.specs.Vec.{vec_capacity};
-ghost use Rattle.amo_sets.specs.Lists.{table};
 ghost use Rattle.amo_sets.specs.Sets.{has};
 ghost use Rattle.amo_kk.specs.Givens.{IsJob, IsWorker};
 ghost use Rattle.amo_kk.specs.Object.{is_within};
 ghost use Rattle.amo_kk.specs.Choice.{first_record, record_after_choice};
 ghost use Rattle.amo_kk.specs.Again.{set_of, are_new, are_own_words, record_of_dones, record_again};
+ghost use Rattle.amo_kk.specs.Machine.{record_of, IsHeld, IsTakenUp};
 ghost use Rattle.amo_kk.specs.declared.phase.Phase.{Phase};
 ghost use Rattle.amo_kk.specs.declared.phase.Phase.TheVariants.{Holding};
 
@@ -103,7 +103,7 @@ impl Local {
     }
 
     /// The machine that has done these jobs, after a new choice.
-    fn rested(
+    pub(super) fn rested(
         givens: Givens,
         p: u32,
         mut knowledge: Knowledge,
@@ -111,27 +111,11 @@ impl Local {
         claims: Vec<u32>,
         dones: Vec<u32>,
     ) -> Local
-        requires worker { IsWorker givens p }
-        requires knows { knowledge ≡ record { range = givens.jobs; known = set_of dones.items; tried = [] } }
-        requires fronts { fronts.items ≡ table givens.workers (λ _. 0) }
-        requires new { are_new givens [] dones.items ≡ true }
-        requires claims { claims.items ≡ dones.items }
-        requires fronts_room { vec_capacity fronts ≡ givens.workers }
-        requires claims_room { vec_capacity claims ≡ givens.jobs }
-        requires dones_room { vec_capacity dones ≡ givens.jobs }
+        requires taken_up { IsTakenUp givens p knowledge fronts.items claims.items dones.items (vec_capacity fronts) (vec_capacity claims) (vec_capacity dones) }
         ensures { result ≡ record { givens = givens; number = p; state = record_after_choice givens p (record_of_dones givens dones.items) } }
     {
         let phase = knowledge.choose(givens, p);
-        Local {
-            givens,
-            number: p,
-            phase,
-            knowledge,
-            fronts,
-            claims,
-            dones,
-            steps: 0,
-        }
+        Local::of_parts(givens, p, phase, knowledge, fronts, claims, dones)
     }
 
     /// The machine that has done these jobs, with one more in its hand.
@@ -144,23 +128,33 @@ impl Local {
         dones: Vec<u32>,
         job: u32,
     ) -> Local
-        requires worker { IsWorker givens p }
-        requires knows { knowledge ≡ record { range = givens.jobs; known = set_of dones.items; tried = [] } }
-        requires fronts { fronts.items ≡ table givens.workers (λ _. 0) }
-        requires new { are_new givens [] dones.items ≡ true }
-        requires claims { claims.items ≡ dones.items }
-        requires fronts_room { vec_capacity fronts ≡ givens.workers }
-        requires claims_room { vec_capacity claims ≡ givens.jobs }
-        requires dones_room { vec_capacity dones ≡ givens.jobs }
+        requires taken_up { IsTakenUp givens p knowledge fronts.items claims.items dones.items (vec_capacity fronts) (vec_capacity claims) (vec_capacity dones) }
         requires job { IsJob givens job }
         requires fresh { has (set_of dones.items) job ≡ false }
         ensures { result ≡ record { givens = givens; number = p; state = record (record_of_dones givens dones.items) { phase = Holding job; claimed = dones.items ++ job ∷ [] } } }
     {
         claims.push_reserved(job);
+        let phase = Phase::Holding(job);
+        Local::of_parts(givens, p, phase, knowledge, fronts, claims, dones)
+    }
+
+    /// The machine of these parts, before its first step.
+    fn of_parts(
+        givens: Givens,
+        number: u32,
+        phase: Phase,
+        knowledge: Knowledge,
+        fronts: Vec<u32>,
+        claims: Vec<u32>,
+        dones: Vec<u32>,
+    ) -> Local
+        requires held { IsHeld givens number (record_of phase knowledge fronts.items claims.items dones.items 0) knowledge.range (vec_capacity fronts) (vec_capacity claims) (vec_capacity dones) }
+        ensures { result ≡ record { givens = givens; number = number; state = record_of phase knowledge fronts.items claims.items dones.items 0 } }
+    {
         Local {
             givens,
-            number: p,
-            phase: Phase::Holding(job),
+            number,
+            phase,
             knowledge,
             fronts,
             claims,

@@ -4,7 +4,7 @@ ghost use Rattle.std.specs.Prelude.{◌≡◌};
 /// An amount that goes to an account. It has no copy, and only a line of a day makes one: who holds it is the only one who
 /// can make it.
 #[derive(Debug, PartialEq, Drop)]
-pub struct Payment {
+pub(crate) struct Payment {
     id: u64,
     account: u64,
     cents: u64,
@@ -19,21 +19,21 @@ impl Payment {
     }
 
     /// Its place in the day's list, from 1. The journal names it by this number.
-    pub fn id(&self) -> u64
+    pub(crate) fn id(&self) -> u64
         ensures { result ≡ self.now.id }
     {
         self.id
     }
 
     /// The account that gets it.
-    pub fn account(&self) -> u64
+    pub(crate) fn account(&self) -> u64
         ensures { result ≡ self.now.account }
     {
         self.account
     }
 
     /// How much, in hundredths.
-    pub fn cents(&self) -> u64
+    pub(crate) fn cents(&self) -> u64
         ensures { result ≡ self.now.cents }
     {
         self.cents

@@ -11,21 +11,21 @@ use std::io::Write;
 
 /// A payment whose intent stands in the journal, on the disk. Only such a payment can be given to the bank.
 #[derive(Drop)]
-pub struct Intent {
+pub(crate) struct Intent {
     payment: Payment,
     serial: u64,
 }
 
 /// A payment that was given to the bank. Only such a payment gets a receipt.
 #[derive(Drop)]
-pub struct Given {
+pub(crate) struct Given {
     payment: Payment,
     serial: u64,
 }
 
 /// What shows that a payment was made: its receipt stands in the journal, on the disk.
 #[derive(Debug, PartialEq, Drop)]
-pub struct Receipt {
+pub(crate) struct Receipt {
     job: u32,
     id: u64,
     account: u64,
@@ -43,7 +43,7 @@ impl Intent {
     /// Gives the payment to the bank. A real bank's call stands here: it sends the order, and answers once the bank has taken
     /// it. In its place a line goes to a writer. Where that fails nobody knows whether the bank has all of it, and the payment
     /// comes back, never to be given again.
-    pub fn give<S: Write>(self, alloc: Global, bank: &mut S) -> Result<Given, Payment>
+    pub(crate) fn give<S: Write>(self, alloc: Global, bank: &mut S) -> Result<Given, Payment>
         ensures whole { OnOk result (Appends (S.contents bank.old) (S.contents bank.new) (order_line self.payment)) }
         ensures front { OnErr result (AppendsFront (S.contents bank.old) (S.contents bank.new) (order_line self.payment)) }
         ensures given { IfOk result (λ g. (g.payment ≡ self.payment) × (g.serial ≡ self.serial)) }
@@ -91,7 +91,7 @@ impl Given {
 
 impl Receipt {
     /// The number of the payment.
-    pub fn id(&self) -> u64
+    pub(crate) fn id(&self) -> u64
         ensures { result ≡ self.now.id }
     {
         self.id

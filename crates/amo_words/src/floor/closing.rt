@@ -6,8 +6,8 @@ ghost use Rattle.amo_words.specs.Faces.{spots};
 ghost use Rattle.amo_words.specs.Settling.{HasClosed};
 
 use super::{Book, ClosedFloor, Floor};
-use crate::layout::{claim_word, done_word, next_word};
 use amo_kk::Givens;
+use amo_kk::layout::{claim_word, done_word, next_word};
 use std::alloc::Global;
 
 impl<P: Drop> Floor<P> {
@@ -20,11 +20,11 @@ impl<P: Drop> Floor<P> {
     {
         let Floor { board, givens } = self;
         let Book {
-            place,
+            seat,
             givens: _,
             spots,
         } = book;
-        let closed = board.close_with(place);
+        let closed = board.close_with(seat);
         ClosedFloor {
             closed,
             givens,

@@ -19,7 +19,7 @@ pub enum Place {
     Home,
     /// It was hired, and not collected: it runs, or was dropped.
     Out,
-    /// It was collected, and the book has its record.
+    /// It was collected, and the book has its machine.
     Back,
 }
 

@@ -11,10 +11,10 @@ ghost use Rattle.amo_words.specs.Faces.{machine};
 ghost use Rattle.amo_words.specs.Answers.{quiet_step, Stepped, filed, LeftIf};
 
 use super::{Floor, Worker};
-use crate::layout::{claim_word, done_word, next_word};
 use crate::plays::{Claim, Load, Store, TakeBack};
 use crate::rule::{TableSeat, Words};
 use crate::slots::exchange;
+use amo_kk::layout::{claim_word, done_word, next_word};
 use amo_kk::{Leaving, Shown, Want};
 
 /// What a step of a worker came to.
@@ -40,14 +40,14 @@ pub enum Filed {
 }
 
 /// Takes the payload of j out of its slot, which the seat has taken last.
-fn take_out<P>(words: &Words<P>, place: &mut TableSeat<P>, j: u32) -> P
-    requires table { place.old.table_id ≡ words.now.table_id }
+fn take_out<P>(words: &Words<P>, seat: &mut TableSeat<P>, j: u32) -> P
+    requires table { seat.old.table_id ≡ words.now.table_id }
     requires job { 1 ≤ j }
-    requires full { (x : P) × (place.old.me.1 ≡ (j - 1, Some x) ∷ rest place.old.me.1) }
-    ensures place { (place.new.table_id ≡ place.old.table_id) × (place.new.id ≡ place.old.id) × (place.new.me.0 ≡ place.old.me.0) }
-    ensures payload { (out : List (ℕ × Option P)) (x : P) → place.old.me.1 ≡ (j - 1, Some x) ∷ out → x ≡ result }
+    requires full { (x : P) × (seat.old.me.1 ≡ (j - 1, Some x) ∷ rest seat.old.me.1) }
+    ensures seat { (seat.new.table_id ≡ seat.old.table_id) × (seat.new.id ≡ seat.old.id) × (seat.new.me.0 ≡ seat.old.me.0) }
+    ensures payload { (out : List (ℕ × Option P)) (x : P) → seat.old.me.1 ≡ (j - 1, Some x) ∷ out → x ≡ result }
 {
-    let Some(payload) = exchange(words, place, j as usize - 1, None) else {
+    let Some(payload) = exchange(words, seat, j as usize - 1, None) else {
         unreachable!()
     };
     payload
@@ -76,7 +76,7 @@ impl<P> Worker<P> {
         ensures shows { result ≡ shown (machine self.old).state.phase (machine self.new).state.phase }
     {
         let word = next_word(self.local.number());
-        words.store::<Store>(&mut self.place, word, j as u64);
+        words.store::<Store>(&mut self.seat, word, j as u64);
         self.local.stored()
     }
 
@@ -91,7 +91,7 @@ impl<P> Worker<P> {
         ensures turn { (n : ℕ) × HasTurned self.old.view (machine self.old) n self.new.view }
         ensures shows { result ≡ shown (machine self.old).state.phase (machine self.new).state.phase }
     {
-        let found = words.load::<Load>(&mut self.place, word);
+        let found = words.load::<Load>(&mut self.seat, word);
         self.local.told(found)
     }
 
@@ -106,13 +106,13 @@ impl<P> Worker<P> {
         ensures payload { slice_get self.old.view.payloads (j - 1) ≡ Some result }
     {
         let word = claim_word(self.local.givens(), self.local.number());
-        words.store::<Claim>(&mut self.place, word, count as u64);
+        words.store::<Claim>(&mut self.seat, word, count as u64);
         self.local.stored();
-        take_out(words, &mut self.place, j)
+        take_out(words, &mut self.seat, j)
     }
 
-    /// Stores the performance of j, as the k-th of the worker's row.
-    fn perform(&mut self, words: &Words<P>, k: u32, j: u32) -> Shown
+    /// Files j, as the k-th of the worker's row.
+    fn store_done(&mut self, words: &Words<P>, k: u32, j: u32) -> Shown
         requires table { self.old.table_id ≡ words.now.table_id }
         requires wants { want (machine self.old).state ≡ Wanted.StoreDone k j }
         ensures table { self.new.table_id ≡ self.old.table_id }
@@ -121,7 +121,7 @@ impl<P> Worker<P> {
         ensures shows { result ≡ shown (machine self.old).state.phase (machine self.new).state.phase }
     {
         let word = done_word(self.local.givens(), self.local.number(), k);
-        words.store::<Store>(&mut self.place, word, j as u64);
+        words.store::<Store>(&mut self.seat, word, j as u64);
         self.local.stored()
     }
 
@@ -134,13 +134,13 @@ impl<P> Worker<P> {
         ensures left { HasLeft self.old.view (machine self.old) self.new.view }
     {
         let word = next_word(self.local.number());
-        words.store::<TakeBack>(&mut self.place, word, 0);
+        words.store::<TakeBack>(&mut self.seat, word, 0);
         self.local.leave();
     }
 }
 
 impl<P: Drop> Worker<P> {
-    /// One turn of the worker, which has nothing in its hand: the one load or store that its record wants. Threads may share
+    /// One turn of the worker, which has nothing in its hand: the one load or store that its machine wants. Threads may share
     /// the floor, which has to be the worker's own. Waits for nobody, and takes no memory.
     pub fn step(&mut self, floor: &Floor<P>) -> Step<P>
         requires table { self.old.table_id ≡ floor.now.table_id }
@@ -175,7 +175,7 @@ impl<P: Drop> Worker<P> {
         let Want::StoreDone(k, j) = self.local.want() else {
             unreachable!()
         };
-        match self.perform(&floor.board.shared, k, j) {
+        match self.store_done(&floor.board.shared, k, j) {
             Shown::DoneEnded(_) | Shown::Ended | Shown::Left => Filed::Ended,
             Shown::Quiet | Shown::Claimed(_) | Shown::Done(_) => Filed::More,
         }

@@ -2,7 +2,6 @@
 ghost use Rattle.std.specs.Prelude.{◌≡◌};
 
 use super::*;
-use amo_words::layout::{claim_word, done_word, next_word, word_count};
 
 /// A worker that has ended from birth stays idle and is collected; the jobs stay free.
 fn all_idle(
@@ -46,27 +45,6 @@ fn a_wrong_count_of_payloads_comes_back(rt: HostRuntime) -> Result<(), Fail> {
         };
         assert!(rt; back.as_slice() == letters(rt.alloc(), count)?.as_slice());
     }
-    Ok(())
-}
-
-/// The places of the last announcement, count of claims and entry of a row, and how many words there are.
-fn last_places(givens: Givens) -> (usize, usize, usize, usize) {
-    let last = givens.workers();
-    (
-        next_word(last),
-        claim_word(givens, last),
-        done_word(givens, last, givens.jobs() + 1),
-        word_count(givens),
-    )
-}
-
-#[test]
-fn words_stand_in_their_places(rt: HostRuntime) -> Result<(), Fail> {
-    let small = Givens::try_new(5, 2, 2)?;
-    assert!(rt; last_places(small) == (2, 4, 16, 17));
-    assert!(rt; small.workers() == 2 && small.jobs() == 5 && done_word(small, 2, 1) == 11);
-    let large = Givens::try_new(4096, 16, 16)?;
-    assert!(rt; last_places(large) == (16, 32, 65584, 65585));
     Ok(())
 }
 

@@ -1,6 +1,7 @@
 use Rattle.std.proofs.Common.{map, sym, subst}
 use Rattle.std.specs.List.{All}
-use Rattle.amo_process.specs.Heard.{standing_of, word_count}
+use Rattle.amo_kk.specs.Words.{word_count}
+use Rattle.amo_process.specs.Heard.{standing_of}
 use Rattle.amo_c.specs.Batch.{item_told, IsBelow}
 use Rattle.amo_c.specs.Reply.{givens_in}
 use Rattle.amo_c.specs.declared.worker.Worker.{Worker}

@@ -16,7 +16,7 @@ returns-in_default-clause-stops g c =
 pub returns-in-Ok-clause-turns : goal.returns-in-Ok-clause-turns
 returns-in-Ok-clause-turns g c =
     let rest = drop (c.args.k + 1) c.args.pending.now in
-    asks_on (Asking c.args.pending.now) _ c.in-Answered.way rest _ c.told.ensures
+    asks_on (Asking c.args.pending.now) _ c.in-Answered.way rest _ c.asked_after.ensures
     (stands_by (Asking c.args.pending.now) _ _ (Settling c.args.intent.serial c.in-Answered.answer c.in-Answered.way rest) _ (Noted c.args.intent.serial c.in-Answered.answer)
     (stands_as (Asking c.args.pending.now) _ _ _ c.requires.asked
     (settles c.args.intent rest _ c.in-Answered.of c.in-Answered.answer c.in-Answered.way c.in-Answered.is c.if-of-serial.false))

@@ -1,10 +1,9 @@
-use Rattle.std.proofs.Common.{◌≡◌, List, ◌++◌, vec_len, refl, sym, ap, ◌∙◌, subst, arith}
+use Rattle.std.proofs.Common.{List, ◌++◌, sym, ap, ◌∙◌, subst, arith}
 use Rattle.amo_words.specs.declared.rule.Spot.{Spot}
 use Rattle.amo_words.specs.Faces.{spots}
-use Rattle.amo_crew.specs.Crew.{IsFinishOf}
 use Rattle.amo_crew.specs.Unsettling.{IsUnsettled}
 use Rattle.amo_crew.specs.Collecting.{AreBack, TellsCrew, ends_in}
-use Rattle.amo_crew.proofs.Crews.{zip_length, all_may_run, all_finished, all_ran_at, starts}
+use Rattle.amo_crew.proofs.Crews.{all_may_run, all_ran_at, ended_crew}
 use Rattle.amo_crew.proofs.Outputs.{gathered, few_given}
 use Rattle.amo_crew.proofs.Starts.{unsettled}
 use Rattle.amo_crew.proofs.crew.run_crew.Goals as goal
@@ -14,43 +13,35 @@ run_all-inlet-requires-clause-crew g c κs within = let is = c.requires in
     record { each = all_may_run (g.W.Work.related c.args.work.now) c.args.gear.queue c.args.floor.table_id c.args.floor.givens c.args.book.view.payloads c.args._plan.now.budgets c.args.gear.crew.items is.small is.members; takes = is.takes; fits = let n = is.count in let m = is.room in omega arith }
 
 pub collect_all-requires-clause-few : goal.collect_all-requires-clause-few
-collect_all-requires-clause-few g c = let is = c.requires in let n = is.count in let few = is.few in let len = c.run_all-inlet.result.1.ok.0 in
-    let same = zip_length (IsFinishOf (g.W.Work.related c.args.work.now) c.args.gear.queue c.args.floor.table_id) c.args.gear.crew.items c.run_all-inlet.result.1.items c.run_all-inlet.ensures.each in omega arith
+collect_all-requires-clause-few g c = let few = c.requires.few in let len = c.run_all-inlet.result.1.ok.0 in
+    let count = (ended_crew (g.W.Work.related c.args.work.now) _ _ c.args.book c.args._plan.now.budgets c.args.gear _ c.requires c.run_all-inlet.ensures.each).0 in omega arith
 
 pub collect_all-requires-clause-workers : goal.collect_all-requires-clause-workers
-collect_all-requires-clause-workers g c = all_ran_at (g.W.Work.related c.args.work.now) c.args.gear.queue c.args.floor.table_id c.args.floor.givens c.args.book.view.payloads c.args._plan.now.budgets c.run_all-inlet.result.1.items
-    (all_finished (g.W.Work.related c.args.work.now) c.args.gear.queue c.args.floor.table_id c.args.floor.givens c.args.book.view.payloads c.args._plan.now.budgets c.args.gear.crew.items c.run_all-inlet.result.1.items c.requires.members c.run_all-inlet.ensures.each)
+collect_all-requires-clause-workers g c =
+    let at = ended_crew (g.W.Work.related c.args.work.now) _ _ c.args.book c.args._plan.now.budgets c.args.gear _ c.requires c.run_all-inlet.ensures.each in
+    all_ran_at (g.W.Work.related c.args.work.now) c.args.gear.queue c.args.floor.table_id c.args.floor.givens c.args.book.view.payloads c.args._plan.now.budgets c.run_all-inlet.result.1.items at.1
 
 pub collect_all-requires-clause-room : goal.collect_all-requires-clause-room
-collect_all-requires-clause-room g c = let is = c.requires in let n = is.count in let len = c.run_all-inlet.result.1.ok.0 in
-    let same = zip_length (IsFinishOf (g.W.Work.related c.args.work.now) c.args.gear.queue c.args.floor.table_id) c.args.gear.crew.items c.run_all-inlet.result.1.items c.run_all-inlet.ensures.each in
+collect_all-requires-clause-room g c = let is = c.requires in let len = c.run_all-inlet.result.1.ok.0 in
+    let count = (ended_crew (g.W.Work.related c.args.work.now) _ _ c.args.book c.args._plan.now.budgets c.args.gear _ is c.run_all-inlet.ensures.each).0 in
     let a = is.rooms.outlets_room in let b = is.rooms.ends_room in let d = is.rooms.hand_room in
     record { outlets_room = omega arith; ends_room = omega arith; hand_room = omega arith }
 
 pub gather-outputs-requires-clause-outlets : goal.gather-outputs-requires-clause-outlets
-gather-outputs-requires-clause-outlets g c = let is = c.requires in
-    let len : vec_len c.run_all-inlet.result.1 ≡ c.args.floor.givens.workers = c.run_all-inlet.result.1.ok.0 ∙ zip_length (IsFinishOf (g.W.Work.related c.args.work.now) c.args.gear.queue c.args.floor.table_id) c.args.gear.crew.items c.run_all-inlet.result.1.items c.run_all-inlet.ensures.each ∙ is.count in
-    (c.collect_all.ensures.collected c.args.floor.givens c.args.book.view.payloads c.args._plan.now.budgets
-    (all_finished (g.W.Work.related c.args.work.now) c.args.gear.queue c.args.floor.table_id c.args.floor.givens c.args.book.view.payloads c.args._plan.now.budgets c.args.gear.crew.items c.run_all-inlet.result.1.items is.members c.run_all-inlet.ensures.each)
-    len
-    (starts (g.W.Work.related c.args.work.now) c.args.gear.queue c.args.floor.table_id c.args.floor.givens c.args.book.view.payloads c.args._plan.now.budgets c.args.book _ _ _ is.tied is.givens refl is.size is.stand is.bare is.no_outlets is.no_ends is.no_hands)).belong
+gather-outputs-requires-clause-outlets g c =
+    let at = ended_crew (g.W.Work.related c.args.work.now) _ _ c.args.book c.args._plan.now.budgets c.args.gear _ c.requires c.run_all-inlet.ensures.each in
+    (c.collect_all.ensures.collected _ _ _ at.1 (c.run_all-inlet.result.1.ok.0 ∙ at.0) at.2).belong
 
 pub gather-outputs-requires-clause-room : goal.gather-outputs-requires-clause-room
-gather-outputs-requires-clause-room g c = let is = c.requires in
-    let len : vec_len c.run_all-inlet.result.1 ≡ c.args.floor.givens.workers = c.run_all-inlet.result.1.ok.0 ∙ zip_length (IsFinishOf (g.W.Work.related c.args.work.now) c.args.gear.queue c.args.floor.table_id) c.args.gear.crew.items c.run_all-inlet.result.1.items c.run_all-inlet.ensures.each ∙ is.count in
-    let all = c.collect_all.ensures.collected c.args.floor.givens c.args.book.view.payloads c.args._plan.now.budgets
-    (all_finished (g.W.Work.related c.args.work.now) c.args.gear.queue c.args.floor.table_id c.args.floor.givens c.args.book.view.payloads c.args._plan.now.budgets c.args.gear.crew.items c.run_all-inlet.result.1.items is.members c.run_all-inlet.ensures.each)
-    len
-    (starts (g.W.Work.related c.args.work.now) c.args.gear.queue c.args.floor.table_id c.args.floor.givens c.args.book.view.payloads c.args._plan.now.budgets c.args.book _ _ _ is.tied is.givens refl is.size is.stand is.bare is.no_outlets is.no_ends is.no_hands) in
-    let given = few_given (g.W.Work.related c.args.work.now) _ _ _ _ _ _ _ _ _ all in let room = c.run_all-inlet.ensures.same_room in let n = is.inlet_room in omega arith
+gather-outputs-requires-clause-room g c =
+    let at = ended_crew (g.W.Work.related c.args.work.now) _ _ c.args.book c.args._plan.now.budgets c.args.gear _ c.requires c.run_all-inlet.ensures.each in
+    let all = c.collect_all.ensures.collected _ _ _ at.1 (c.run_all-inlet.result.1.ok.0 ∙ at.0) at.2 in
+    let given = few_given (g.W.Work.related c.args.work.now) _ _ _ _ _ _ _ _ _ all in let room = c.run_all-inlet.ensures.same_room in let n = c.requires.inlet_room in omega arith
 
 pub returns-clause-unsettled : goal.returns-clause-unsettled
-returns-clause-unsettled g c = let is = c.requires in
-    let len : vec_len c.run_all-inlet.result.1 ≡ c.args.floor.givens.workers = c.run_all-inlet.result.1.ok.0 ∙ zip_length (IsFinishOf (g.W.Work.related c.args.work.now) c.args.gear.queue c.args.floor.table_id) c.args.gear.crew.items c.run_all-inlet.result.1.items c.run_all-inlet.ensures.each ∙ is.count in
-    let all = c.collect_all.ensures.collected c.args.floor.givens c.args.book.view.payloads c.args._plan.now.budgets
-    (all_finished (g.W.Work.related c.args.work.now) c.args.gear.queue c.args.floor.table_id c.args.floor.givens c.args.book.view.payloads c.args._plan.now.budgets c.args.gear.crew.items c.run_all-inlet.result.1.items is.members c.run_all-inlet.ensures.each)
-    len
-    (starts (g.W.Work.related c.args.work.now) c.args.gear.queue c.args.floor.table_id c.args.floor.givens c.args.book.view.payloads c.args._plan.now.budgets c.args.book _ _ _ is.tied is.givens refl is.size is.stand is.bare is.no_outlets is.no_ends is.no_hands) in
+returns-clause-unsettled g c =
+    let at = ended_crew (g.W.Work.related c.args.work.now) _ _ c.args.book c.args._plan.now.budgets c.args.gear _ c.requires c.run_all-inlet.ensures.each in
+    let all = c.collect_all.ensures.collected _ _ _ at.1 (c.run_all-inlet.result.1.ok.0 ∙ at.0) at.2 in
     subst (IsUnsettled (g.W.Work.related c.args.work.now) c.args.floor.givens c.args.book.view.payloads c.args._plan.now.budgets) (sym c.new.ensures)
     (unsettled _ _ _ _ c.collect_all.new.book c.close.result _ _ _ c.close.ensures.closed all.givens all.payloads_are (record {
       ends_are = all.ends_are;
@@ -59,15 +50,12 @@ returns-clause-unsettled g c = let is = c.requires in
     }))
 
 pub returns-clause-crew : goal.returns-clause-crew
-returns-clause-crew g c = let is = c.requires in
-    let len : vec_len c.run_all-inlet.result.1 ≡ c.args.floor.givens.workers = c.run_all-inlet.result.1.ok.0 ∙ zip_length (IsFinishOf (g.W.Work.related c.args.work.now) c.args.gear.queue c.args.floor.table_id) c.args.gear.crew.items c.run_all-inlet.result.1.items c.run_all-inlet.ensures.each ∙ is.count in
-    let back = c.collect_all.ensures.back c.args.floor.givens c.args.book.view.payloads c.args._plan.now.budgets
-    (all_finished (g.W.Work.related c.args.work.now) c.args.gear.queue c.args.floor.table_id c.args.floor.givens c.args.book.view.payloads c.args._plan.now.budgets c.args.gear.crew.items c.run_all-inlet.result.1.items is.members c.run_all-inlet.ensures.each)
-    len
-    (starts (g.W.Work.related c.args.work.now) c.args.gear.queue c.args.floor.table_id c.args.floor.givens c.args.book.view.payloads c.args._plan.now.budgets c.args.book _ _ _ is.tied is.givens refl is.size is.stand is.bare is.no_outlets is.no_ends is.no_hands) in
+returns-clause-crew g c =
+    let at = ended_crew (g.W.Work.related c.args.work.now) _ _ c.args.book c.args._plan.now.budgets c.args.gear _ c.requires c.run_all-inlet.ensures.each in
+    let back = c.collect_all.ensures.back _ _ _ at.1 (c.run_all-inlet.result.1.ok.0 ∙ at.0) at.2 in
     subst (TellsCrew (g.W.Work.related c.args.work.now) c.args.gear.queue c.args.floor.table_id c.args.floor.givens c.args.gear.crew.items) (sym c.new.ensures) (
       c.run_all-inlet.result.1.items,
       c.run_all-inlet.ensures.each,
-      c.collect_all.ensures.ends ∙ ap (λ l. l ++ ends_in c.run_all-inlet.result.1.items) is.no_ends,
+      c.collect_all.ensures.ends ∙ ap (λ l. l ++ ends_in c.run_all-inlet.result.1.items) c.requires.no_ends,
       subst (λ (x : List Spot). AreBack c.args.floor.givens x c.run_all-inlet.result.1.items) (sym c.close.ensures.closed.spots_are) back,
     )

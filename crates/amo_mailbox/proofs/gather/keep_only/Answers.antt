@@ -1,7 +1,7 @@
 use Rattle.std.proofs.Common.{rules}
 use Rattle.std.proofs.lemmas.Fn.{filter_same}
-use Rattle.amo_mailbox.specs.declared.hand.Output.{Output}
-use Rattle.amo_mailbox.specs.Ends.{has_worker}
+use Rattle.amo_mailbox.specs.declared.output.Output.{Output}
+use Rattle.amo_mailbox.specs.Endpoints.{has_worker}
 use Rattle.amo_mailbox.proofs.gather.keep_only.Goals as goal
 
 pub returns-clause-items : goal.returns-clause-items

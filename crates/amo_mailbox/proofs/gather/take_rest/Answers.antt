@@ -1,7 +1,7 @@
 use Rattle.std.proofs.Common.{arith, ◌≡◌, List, ℕ, map, length, ap, ◌∙◌, sym}
-use Rattle.amo_mailbox.specs.declared.hand.Output.{Output}
+use Rattle.amo_mailbox.specs.declared.output.Output.{Output}
 use Rattle.amo_mailbox.specs.declared.outlet.Outlet.{Outlet}
-use Rattle.amo_mailbox.specs.Ends.{has_worker}
+use Rattle.amo_mailbox.specs.Endpoints.{has_worker}
 use Rattle.amo_mailbox.proofs.Passes.{takes, learns}
 use Rattle.amo_mailbox.proofs.Gathers.{among, workers_of, any_map, told_whole, took_within, within_of_whole, whole_kept, test_within, room_for, all_kept}
 use Rattle.amo_mailbox.proofs.gather.take_rest.Goals as goal

@@ -1,8 +1,8 @@
 use Rattle.std.proofs.Common.{◌≡◌, filter, vec_capacity}
 use Rattle.crossbeam_queue.specs.Passes.{view, IsPassOf}
-use Rattle.amo_mailbox.specs.declared.hand.Hand.TheVariants.{Gets}
+use Rattle.amo_mailbox.specs.declared.pass_state.PassState.TheVariants.{Gets}
 use Rattle.amo_mailbox.specs.Mailbox.{taken_of, made_of, back_of}
-use Rattle.amo_mailbox.specs.Ends.{has_worker}
+use Rattle.amo_mailbox.specs.Endpoints.{has_worker}
 use Rattle.amo_mailbox.proofs.gather.take_rest.Given as goal
 
 abbrev pub invariant-loop : goal.invariant-loop

@@ -4,7 +4,7 @@ use Rattle.std.proofs.lemmas.List.{map_push}
 use Rattle.std.proofs.lemmas.List.FromFn.{map-range_with_len_more}
 use Rattle.amo_mailbox.specs.declared.queue.Queue.{Queue}
 use Rattle.amo_mailbox.specs.declared.outlet.Outlet.{Outlet}
-use Rattle.amo_mailbox.specs.Ends.{IsNewOutletOf}
+use Rattle.amo_mailbox.specs.Endpoints.{IsNewOutletOf}
 use Rattle.amo_mailbox.proofs.Passes.{begins, makes}
 use Rattle.amo_mailbox.proofs.make.outlets_for.Goals as goal
 

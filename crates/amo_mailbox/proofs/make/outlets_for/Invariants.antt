@@ -1,8 +1,8 @@
 use Rattle.std.proofs.Common.{◌≡◌, ◌+◌, ◌≤◌, [], All, map, vec_len, vec_capacity}
 use Rattle.std.specs.List.{range_with_len}
 use Rattle.crossbeam_queue.specs.Passes.{view, IsPassOf}
-use Rattle.amo_mailbox.specs.declared.hand.Hand.TheVariants.{Gets}
-use Rattle.amo_mailbox.specs.Ends.{IsNewOutletOf}
+use Rattle.amo_mailbox.specs.declared.pass_state.PassState.TheVariants.{Gets}
+use Rattle.amo_mailbox.specs.Endpoints.{IsNewOutletOf}
 use Rattle.amo_mailbox.proofs.make.outlets_for.Given as goal
 
 abbrev pub invariant-loop-before : goal.invariant-loop-before

@@ -1,6 +1,6 @@
 use Rattle.std.proofs.Common.{◌≡◌, ℕ, List, ◌++◌, Vec, Global, string_bytes, length, sum_by, ap, ◌∙◌}
 use Rattle.amo_crew.specs.declared.outcome.End.{End}
-use Rattle.amo_outcome.specs.declared.filed.Filed.{Filed}
+use Rattle.amo_outcome.specs.declared.block_done.BlockDone.{BlockDone}
 use Rattle.std.specs.Prelude.{Option}
 use Rattle.amo_outcome.specs.Became.{listed}
 use Rattle.amo_outcome.specs.Noted.{noted_fate, filed_blocks}
@@ -27,12 +27,12 @@ returns c =
     let blocks = filed_blocks filed h.givens.jobs in
     let dones : c.count_filed-dones.result ≡ length blocks =
     c.count_filed-dones.ensures
-    ∙ ap (λ (l : List (Option Filed)). length (filed_blocks l (length l))) c.deref-4.ensures.value
+    ∙ ap (λ (l : List (Option BlockDone)). length (filed_blocks l (length l))) c.deref-4.ensures.value
     ∙ ap (λ n. length (filed_blocks filed n)) c.requires.len in
     let jobs : c.count_filed_jobs-done_jobs.result ≡ sum_by (jobs_in_block h.block (length h.names)) blocks =
     c.count_filed_jobs-done_jobs.ensures
     ∙ ap (λ (l : List (List ℕ)). sum_by (jobs_in_block h.block (length l)) (filed_blocks c.deref-5.result.now (length c.deref-5.result.now))) c.as_slice-names.ensures
-    ∙ ap (λ (l : List (Option Filed)). sum_by (jobs_in_block h.block (length h.names)) (filed_blocks l (length l))) c.deref-5.ensures.value
+    ∙ ap (λ (l : List (Option BlockDone)). sum_by (jobs_in_block h.block (length h.names)) (filed_blocks l (length l))) c.deref-5.ensures.value
     ∙ ap (λ n. sum_by (jobs_in_block h.block (length h.names)) (filed_blocks filed n)) c.requires.len in
     four_parts (string_bytes c.args.out.now) (first_line h.version h.block (length h.names) h.givens) (end_lines 1 ends (listed s.claims.items) (listed s.dones.items))
     (job_lines fates h.block 1 h.names) (performed_line h.version h.block (length h.names) blocks) one two three (string_bytes c.push_tally.new.out)

@@ -2,7 +2,7 @@ use Rattle.std.proofs.Common.{◌≡◌, ℕ, List, sym, ◌∙◌, subst}
 use Rattle.amo_words.specs.Faces.{Seated, machine}
 use Rattle.amo_claims.specs.States.{Holds}
 use Rattle.amo_claims.specs.Calls.{FilesOn, worker_in}
-use Rattle.amo_mailbox.specs.declared.hand.Output.{Output}
+use Rattle.amo_mailbox.specs.declared.output.Output.{Output}
 use Rattle.amo_payday.specs.Stopping.{HasPaid}
 use Rattle.amo_payday.proofs.Stops.{does, over_has_ended, filed_ends}
 use Rattle.amo_payday.proofs.stopping.turn.Goals as goal

@@ -1,6 +1,6 @@
 use Rattle.toml.specs.View.{table_view}
 use Rattle.amo_plan.specs.Jobs.{job_at}
-use Rattle.amo_plan.proofs.StepsLemmas.{Reads}
+use Rattle.amo_plan.proofs.PassingLemmas.{Reads}
 use Rattle.amo_plan.proofs.job.read_jobs.Given as goal
 
 abbrev pub invariant-loop-i : goal.invariant-loop-i

@@ -11,7 +11,7 @@ returns-in_err-check_job c =
     let (earlier, finds, decide) = c.loop-i.invariant in
     let known : c.is_some.result ≡ is_known earlier c.index-jobs-i.result.name = c.is_some.ensures ∙ ap is_some c.in_ok-other.ensures.old ∙ finds c.as_str-name.result.now ∙ ap (is_known earlier) c.as_str-name.ensures in
     let stop : c.in_err-check_job.field-0.0 ≢ NoMemory → fine_jobs [] 1 c.args.jobs.now ≡ Err c.in_err-check_job.field-0.0 =
-    λ h. fine_stop c.args.jobs.now c.loop-i.i earlier c.index-jobs-i.result _ _ _ c.loop-i-test.true c.index-jobs-i.is known c.place_of.ensures (c.in_err-check_job.ensures h) decide in
+    λ h. fine_stop c.args.jobs.now c.loop-i.i earlier c.index-jobs-i.result _ _ _ c.loop-i-test.true c.index-jobs-i.is known c.ordinal_of.ensures (c.in_err-check_job.ensures h) decide in
     search (rules, stop)
 
 pub loop-i-preserved : goal.loop-i-preserved
@@ -20,5 +20,5 @@ loop-i-preserved c =
     let known : c.is_some.result ≡ is_known earlier c.index-jobs-i.result.name = c.is_some.ensures ∙ ap is_some c.in_ok-other.ensures.old ∙ finds c.as_str-name.result.now ∙ ap (is_known earlier) c.as_str-name.ensures in (
       c.index-jobs-i.result.name ∷ earlier,
       has_more c.loop-i.names c.insert.new.self earlier c.index-jobs-i.result.name (rw c.as_str-name.ensures at c.in_ok-other.ensures.updates) finds,
-      fine_more c.args.jobs.now c.loop-i.i earlier c.index-jobs-i.result _ _ _ c.loop-i-test.true c.index-jobs-i.is known c.place_of.ensures c.in_ok-check_job.ensures decide,
+      fine_more c.args.jobs.now c.loop-i.i earlier c.index-jobs-i.result _ _ _ c.loop-i-test.true c.index-jobs-i.is known c.ordinal_of.ensures c.in_ok-check_job.ensures decide,
     )

@@ -1,5 +1,5 @@
 use Rattle.amo_plan.specs.Schedule.{word_at}
-use Rattle.amo_plan.proofs.StepsLemmas.{Reads}
+use Rattle.amo_plan.proofs.PassingLemmas.{Reads}
 use Rattle.amo_plan.proofs.schedule.read_words.Given as goal
 
 abbrev pub invariant-loop-i : goal.invariant-loop-i

@@ -1,6 +1,5 @@
 use Rattle.std.proofs.Common.{[], refl}
-use Rattle.amo_kk.specs.World.{opening_world}
-use Rattle.amo_report.specs.Texts.{rounds}
+use Rattle.amo_kk.specs.World.{opening_world, rounds}
 use Rattle.amo_report.specs.Explorer.{schedule}
 use Rattle.amo_report.proofs.Rounds.{moves_more}
 use Rattle.amo_report.proofs.explorer.run_explored.Goals as goal

@@ -1,5 +1,5 @@
 use Rattle.std.proofs.Common.{◌+◌}
-use Rattle.amo_report.specs.Texts.{round, rounds}
+use Rattle.amo_kk.specs.World.{round, rounds}
 use Rattle.amo_report.proofs.Rounds.{moves_more, rounds_more}
 use Rattle.amo_report.proofs.running.run_rounds.Goals as goal
 

@@ -1,6 +1,5 @@
 use Rattle.std.proofs.Common.{◌≡◌}
-use Rattle.amo_kk.specs.World.{world_after_moves}
-use Rattle.amo_report.specs.Texts.{rounds}
+use Rattle.amo_kk.specs.World.{world_after_moves, rounds}
 use Rattle.amo_report.proofs.running.run_rounds.Given as goal
 
 -- the rounds so far are run

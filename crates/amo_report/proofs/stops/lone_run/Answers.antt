@@ -3,6 +3,7 @@ use Rattle.amo_kk.specs.Givens.{IsWorker}
 use Rattle.amo_kk.specs.Alone.{world_after_turns, lone_bound}
 use Rattle.amo_kk.specs.declared.givens.Givens.{Givens}
 use Rattle.amo_kk.proofs.Worlds.{here_is_worker}
+use Rattle.amo_report.specs.Reached.{most_before_a_claim}
 use Rattle.amo_report.specs.Stops.{lone_turns}
 use Rattle.amo_report.proofs.ReachedWorlds.{reached_lawful}
 use Rattle.amo_report.proofs.Stopped.{runs_lone}
@@ -11,13 +12,13 @@ use Rattle.amo_report.proofs.stops.lone_run.Goals as goal
 pub turns_of-before-requires : goal.turns_of-before-requires
 turns_of-before-requires c =
     let v = c.args.world.now in
-    here_is_worker v.givens v.world c.args.p (reached_lawful v.givens 1000000000 v.world c.requires.reached).size c.requires.here
+    here_is_worker v.givens v.world c.args.p (reached_lawful v.givens most_before_a_claim v.world c.requires.reached).size c.requires.here
 
 pub turns_of-requires : goal.turns_of-requires
 turns_of-requires c =
     let v = c.args.world.now in
     subst (λ (g : Givens). IsWorker g c.args.p) (sym c.run_alone-alone.ensures.givens)
-    (here_is_worker v.givens v.world c.args.p (reached_lawful v.givens 1000000000 v.world c.requires.reached).size c.requires.here)
+    (here_is_worker v.givens v.world c.args.p (reached_lawful v.givens most_before_a_claim v.world c.requires.reached).size c.requires.here)
 
 pub overflow_sub-result : goal.overflow_sub-result
 overflow_sub-result c =

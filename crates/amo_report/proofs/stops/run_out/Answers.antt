@@ -1,4 +1,5 @@
 use Rattle.std.proofs.Common.{◌+◌, ◌*◌, ◌≤◌, sym, ◌∙◌, arith}
+use Rattle.amo_report.specs.Reached.{most_before_a_claim, most_before_an_end}
 use Rattle.amo_report.specs.Stops.{LoneRun, after_lone_runs}
 use Rattle.amo_report.proofs.ReachedWorlds.{reached_later}
 use Rattle.amo_report.proofs.Stopped.{often_under, seen_reached, goes_on, stays}
@@ -10,10 +11,10 @@ lone_run-requires-clause-reached c =
     let v = c.args.world.now in
     let times = c.loop-time._time in
     let start : LoneRun = record { world = v.world; most = c.args.most } in
-    let under = often_under v.givens c.args.p times 900000000 start (record { reached = c.requires.reached; most = c.requires.most }) in
+    let under = often_under v.givens c.args.p times most_before_an_end start (record { reached = c.requires.reached; most = c.requires.most }) in
     let jobs = c.givens-time-end.result.limits.few_jobs in
-    let few : 900000000 + times * 4192 ≤ 1000000000 = omega arith in
-    seen_reached v.givens 1000000000 (after_lone_runs v.givens c.args.p times start).world _ c.loop-time.invariant.world (reached_later v.givens _ 1000000000 _ few under.reached)
+    let few : most_before_an_end + times * 4192 ≤ most_before_a_claim = omega arith in
+    seen_reached v.givens most_before_a_claim (after_lone_runs v.givens c.args.p times start).world _ c.loop-time.invariant.world (reached_later v.givens _ most_before_a_claim _ few under.reached)
 
 pub loop-time-preserved : goal.loop-time-preserved
 loop-time-preserved c =

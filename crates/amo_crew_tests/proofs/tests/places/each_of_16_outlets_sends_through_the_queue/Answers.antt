@@ -1,7 +1,7 @@
 use Rattle.std.proofs.Common.{ℕ, Some}
 use Rattle.std.proofs.lemmas.List.Elements.{All-pop}
 use Rattle.amo_mailbox.specs.declared.outlet.Outlet.{Outlet}
-use Rattle.amo_mailbox.specs.Ends.{IsOutletOf}
+use Rattle.amo_mailbox.specs.Endpoints.{IsOutletOf}
 use Rattle.amo_crew_tests.proofs.tests.places.each_of_16_outlets_sends_through_the_queue.Goals as goal
 
 pub send_rounds-requires-clause-outlet : goal.send_rounds-requires-clause-outlet

@@ -1,6 +1,6 @@
 use Rattle.std.proofs.Common.{ℕ, All, length}
 use Rattle.amo_mailbox.specs.declared.outlet.Outlet.{Outlet}
-use Rattle.amo_mailbox.specs.Ends.{IsOutletOf, IsInletOf}
+use Rattle.amo_mailbox.specs.Endpoints.{IsOutletOf, IsInletOf}
 use Rattle.amo_crew_tests.proofs.tests.places.each_of_16_outlets_sends_through_the_queue.Given as goal
 
 abbrev pub invariant-loop-outlet : goal.invariant-loop-outlet

@@ -1,5 +1,5 @@
 use Rattle.std.proofs.Common.{◌≡◌}
-use Rattle.amo_mailbox.specs.Ends.{IsOutletOf}
+use Rattle.amo_mailbox.specs.Endpoints.{IsOutletOf}
 use Rattle.amo_crew_tests.proofs.tests.places.put_jobs.Given as goal
 
 abbrev pub invariant-loop-job : goal.invariant-loop-job

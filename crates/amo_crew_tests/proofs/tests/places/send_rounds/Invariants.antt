@@ -1,4 +1,4 @@
-use Rattle.amo_mailbox.specs.Ends.{IsOutletOf, IsInletOf}
+use Rattle.amo_mailbox.specs.Endpoints.{IsOutletOf, IsInletOf}
 use Rattle.amo_crew_tests.proofs.tests.places.send_rounds.Given as goal
 
 abbrev pub invariant-loop-round : goal.invariant-loop-round

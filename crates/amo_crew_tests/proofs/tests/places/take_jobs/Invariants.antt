@@ -1,5 +1,5 @@
 use Rattle.std.proofs.Common.{◌≡◌}
-use Rattle.amo_mailbox.specs.Ends.{IsInletOf}
+use Rattle.amo_mailbox.specs.Endpoints.{IsInletOf}
 use Rattle.amo_crew_tests.proofs.tests.places.take_jobs.Given as goal
 
 abbrev pub invariant-loop-n : goal.invariant-loop-n

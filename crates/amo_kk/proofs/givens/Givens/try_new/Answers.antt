@@ -1,4 +1,4 @@
-use Rattle.amo_kk.proofs.Limits.{givens_within}
+use Rattle.amo_kk.proofs.Faults.{givens_within}
 use Rattle.amo_kk.proofs.givens.Givens.try_new.Goals as goal
 
 pub returns : goal.returns

@@ -7,13 +7,13 @@ use Rattle.amo_kk.specs.Step.{want}
 use Rattle.amo_kk.specs.declared.model.Record.{Record}
 use Rattle.amo_kk.specs.declared.phase.Phase.TheVariants.{Holding}
 use Rattle.amo_kk.specs.Knowledge.{KnowledgeView}
-use Rattle.amo_kk.specs.Machine.{LocalView}
+use Rattle.amo_kk.specs.Machine.{LocalView, record_of}
 use Rattle.amo_kk.proofs.Holding.{held_after, after_by, hears_zero}
 use Rattle.amo_kk.proofs.local.Local.done.Goals as goal
 
 pub invariant_of-self : goal.invariant_of-self
 invariant_of-self c =
-    let r : Record = record { phase = c.self.inside.phase; known = c.self.inside.knowledge.known; tried = c.self.inside.knowledge.tried; fronts = c.self.inside.fronts.items; claimed = c.self.inside.claims.items; dones = c.self.inside.dones.items; steps = c.self.inside.steps } in
+    let r : Record = record_of c.self.inside.phase c.self.inside.knowledge c.self.inside.fronts.items c.self.inside.claims.items c.self.inside.dones.items c.self.inside.steps in
     let is : r.phase ≡ Holding c.args.j = ap (λ (v : LocalView). v.state.phase) c.self.view_is ∙ c.requires.phase in
     let job : IsJob c.self.inside.givens c.args.j × (has r.known c.args.j ≡ false) × (has r.tried c.args.j ≡ false) = rw is at c.self.invariant.fit.stands in
     let known_is : c.learn.new.self.known ≡ with_number c.args.j r.known = ap (λ (v : KnowledgeView). v.known) c.learn.ensures in

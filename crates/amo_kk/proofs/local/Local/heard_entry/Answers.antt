@@ -6,13 +6,13 @@ use Rattle.amo_kk.specs.Step.{want, want_in, MayLoad}
 use Rattle.amo_kk.specs.declared.model.Record.{Record}
 use Rattle.amo_kk.specs.declared.phase.Phase.TheVariants.{Reading}
 use Rattle.amo_kk.specs.Knowledge.{KnowledgeView}
-use Rattle.amo_kk.specs.Machine.{LocalView}
+use Rattle.amo_kk.specs.Machine.{LocalView, record_of}
 use Rattle.amo_kk.proofs.Holding.{held_after, after_by, entry_moves}
 use Rattle.amo_kk.proofs.local.Local.heard_entry.Goals as goal
 
 pub invariant_of-self : goal.invariant_of-self
 invariant_of-self c =
-    let r : Record = record { phase = c.self.inside.phase; known = c.self.inside.knowledge.known; tried = c.self.inside.knowledge.tried; fronts = c.self.inside.fronts.items; claimed = c.self.inside.claims.items; dones = c.self.inside.dones.items; steps = c.self.inside.steps } in
+    let r : Record = record_of c.self.inside.phase c.self.inside.knowledge c.self.inside.fronts.items c.self.inside.claims.items c.self.inside.dones.items c.self.inside.steps in
     let is : r.phase ≡ Reading c.args.j c.args.q = ap (λ (v : LocalView). v.state.phase) c.self.view_is ∙ c.requires.phase in
     let stands : IsJob c.self.inside.givens c.args.j × IsOther c.self.inside.givens c.self.inside.number c.args.q = rw is at c.self.invariant.fit.stands in
     let size = c.self.invariant.fit.fronts in

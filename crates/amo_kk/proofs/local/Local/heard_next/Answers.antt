@@ -4,13 +4,13 @@ use Rattle.amo_kk.specs.Step.{want_in, with_announced, record_at_announcement, M
 use Rattle.amo_kk.specs.declared.model.Record.{Record}
 use Rattle.amo_kk.specs.declared.phase.Phase.TheVariants.{Trying}
 use Rattle.amo_kk.specs.Knowledge.{KnowledgeView}
-use Rattle.amo_kk.specs.Machine.{LocalView}
+use Rattle.amo_kk.specs.Machine.{LocalView, record_of}
 use Rattle.amo_kk.proofs.Holding.{held_after, after_by}
 use Rattle.amo_kk.proofs.local.Local.heard_next.Goals as goal
 
 pub invariant_of-self : goal.invariant_of-self
 invariant_of-self c =
-    let r : Record = record { phase = c.self.inside.phase; known = c.self.inside.knowledge.known; tried = c.self.inside.knowledge.tried; fronts = c.self.inside.fronts.items; claimed = c.self.inside.claims.items; dones = c.self.inside.dones.items; steps = c.self.inside.steps } in
+    let r : Record = record_of c.self.inside.phase c.self.inside.knowledge c.self.inside.fronts.items c.self.inside.claims.items c.self.inside.dones.items c.self.inside.steps in
     let is : r.phase ≡ Trying c.args.j c.args.q = ap (λ (v : LocalView). v.state.phase) c.self.view_is ∙ c.requires.phase in
     let noted_is : c.note.new.self.tried ≡ with_announced c.args.v r.tried = ap (λ (v : KnowledgeView). v.tried) c.note.ensures in
     let y : Record = record r { phase = c.to_announcement-self-inside.result; known = c.to_announcement-self-inside.new.self.known; tried = c.to_announcement-self-inside.new.self.tried } in

@@ -1,10 +1,11 @@
-use Rattle.std.proofs.Common.{◌≡◌, [], ◌∷◌, ◌++◌, length, ap, sym, subst, ◌∙◌, arith}
+use Rattle.std.proofs.Common.{◌≡◌, ℕ, List, [], ◌∷◌, ◌++◌, length, ap, sym, subst, ◌∙◌, arith}
 use Rattle.std.proofs.lemmas.List.{length_push}
 use Rattle.std.specs.Vec.{vec_capacity}
 use Rattle.amo_kk.specs.Again.{record_of_dones}
 use Rattle.amo_kk.specs.Lawful.{IsSoundRecord}
 use Rattle.amo_kk.specs.Knowledge.{KnowledgeView}
-use Rattle.amo_kk.specs.Machine.{LocalView}
+use Rattle.amo_kk.specs.Machine.{LocalView, record_of, IsTakenUp}
+use Rattle.amo_kk.specs.declared.givens.Givens.{Givens}
 use Rattle.amo_kk.specs.declared.phase.Phase.TheVariants.{Holding}
 use Rattle.amo_kk.specs.declared.model.Record.{Record}
 use Rattle.amo_kk.proofs.Fit.{doubted_fit, claims_fit}
@@ -13,35 +14,33 @@ use Rattle.amo_kk.proofs.local.Local.in_doubt.Goals as goal
 
 pub push_reserved-requires : goal.push_reserved-requires
 push_reserved-requires c =
-    let few = (claims_fit c.args.givens c.args.p _ (doubted_fit c.args.givens c.args.givens.limits c.args.p c.requires.worker c.args.job c.args.dones.items c.requires.new c.requires.job c.requires.fresh)).0 in
+    let taken = c.requires.taken_up in
+    let few = (claims_fit c.args.givens c.args.p _ (doubted_fit c.args.givens c.args.givens.limits c.args.p taken.worker c.args.job c.args.dones.items taken.new c.requires.job c.requires.fresh)).0 in
     let more = length_push c.args.dones.items c.args.job in
-    let same = ap length c.requires.claims in
-    let room = c.requires.claims_room in
+    let same = ap length taken.claims_are in
+    let room = taken.claims_room_is in
     omega arith
 
-abbrev made : goal.After-push_reserved → Record
-made c =
+held_is : (g : Givens) (p : ℕ) (k : KnowledgeView) (fronts claims dones pushed : List ℕ) (job a b c : ℕ) → IsTakenUp g p k fronts claims dones a b c → pushed ≡ claims ++ job ∷ []
+    → record_of (Holding job) k fronts pushed dones 0 ≡ record (record_of_dones g dones) { phase = Holding job; claimed = dones ++ job ∷ [] }
+held_is g p k fronts claims dones pushed job a b c taken push =
+    let claimed : pushed ≡ dones ++ job ∷ [] = push ∙ ap (λ l. l ++ job ∷ []) taken.claims_are in
+    (λ i. record { phase = Holding job; known = ap (λ (v : KnowledgeView). v.known) taken.knows i; tried = ap (λ (v : KnowledgeView). v.tried) taken.knows i; fronts = taken.fronts_are i; claimed = claimed i; dones = dones; steps = 0 })
+
+pub of_parts-requires : goal.of_parts-requires
+of_parts-requires c =
+    let taken = c.requires.taken_up in
     record {
-      phase = Holding c.args.job;
-      known = c.args.knowledge.known;
-      tried = c.args.knowledge.tried;
-      fronts = c.args.fronts.items;
-      claimed = c.push_reserved.new.self.items;
-      dones = c.args.dones.items;
-      steps = 0;
+      held = held c.args.givens c.args.p _ c.args.knowledge.range (vec_capacity c.args.fronts) (vec_capacity c.push_reserved.new.self) (vec_capacity c.args.dones) c.args.givens.limits taken.worker
+          (subst (λ r. IsSoundRecord c.args.givens c.args.p r)
+          (sym (held_is c.args.givens c.args.p c.args.knowledge c.args.fronts.items c.args.claims.items c.args.dones.items c.push_reserved.new.self.items c.args.job _ _ _ taken c.push_reserved.ensures.items))
+          (doubted_fit c.args.givens c.args.givens.limits c.args.p taken.worker c.args.job c.args.dones.items taken.new c.requires.job c.requires.fresh))
+          (ap (λ (v : KnowledgeView). v.range) taken.knows)
+          taken.fronts_room_is (c.push_reserved.ensures.capacity ∙ taken.claims_room_is) taken.dones_room_is;
     }
 
-is_held : (c : goal.After-push_reserved) → made c ≡ record (record_of_dones c.args.givens c.args.dones.items) { phase = Holding c.args.job; claimed = c.args.dones.items ++ c.args.job ∷ [] }
-is_held c =
-    let claimed : c.push_reserved.new.self.items ≡ c.args.dones.items ++ c.args.job ∷ [] = c.push_reserved.ensures.items ∙ ap (λ l. l ++ c.args.job ∷ []) c.requires.claims in
-    (λ i. record { phase = Holding c.args.job; known = ap (λ (v : KnowledgeView). v.known) c.requires.knows i; tried = ap (λ (v : KnowledgeView). v.tried) c.requires.knows i; fronts = c.requires.fronts i; claimed = claimed i; dones = c.args.dones.items; steps = 0 })
-
-pub invariant_of-result : goal.invariant_of-result
-invariant_of-result c =
-    held c.args.givens c.args.p (made c) c.args.knowledge.range (vec_capacity c.args.fronts) (vec_capacity c.push_reserved.new.self) (vec_capacity c.args.dones) c.args.givens.limits c.requires.worker
-    (subst (λ r. IsSoundRecord c.args.givens c.args.p r) (sym (is_held c)) (doubted_fit c.args.givens c.args.givens.limits c.args.p c.requires.worker c.args.job c.args.dones.items c.requires.new c.requires.job c.requires.fresh))
-    (ap (λ (v : KnowledgeView). v.range) c.requires.knows)
-    c.requires.fronts_room (c.push_reserved.ensures.capacity ∙ c.requires.claims_room) c.requires.dones_room
-
 pub returns : goal.returns
-returns c = ap {B = LocalView} (λ (r : Record). record { givens = c.args.givens; number = c.args.p; state = r }) (is_held c)
+returns c =
+    c.of_parts.ensures
+    ∙ ap {B = LocalView} (λ (r : Record). record { givens = c.args.givens; number = c.args.p; state = r })
+    (held_is c.args.givens c.args.p c.args.knowledge c.args.fronts.items c.args.claims.items c.args.dones.items c.push_reserved.new.self.items c.args.job _ _ _ c.requires.taken_up c.push_reserved.ensures.items)

@@ -1,40 +1,39 @@
-use Rattle.std.proofs.Common.{◌≡◌, ap, sym, subst, ◌∙◌}
+use Rattle.std.proofs.Common.{◌≡◌, ℕ, List, ap, sym, subst, ◌∙◌}
 use Rattle.std.specs.Vec.{vec_capacity}
 use Rattle.amo_kk.specs.Choice.{record_after_choice}
 use Rattle.amo_kk.specs.Again.{set_of, record_of_dones}
 use Rattle.amo_kk.specs.Lawful.{IsSoundRecord}
-use Rattle.amo_kk.specs.Knowledge.{KnowledgeView}
-use Rattle.amo_kk.specs.Machine.{LocalView}
+use Rattle.amo_kk.specs.Knowledge.{KnowledgeView, LeadsTo}
+use Rattle.amo_kk.specs.Machine.{LocalView, record_of, IsTakenUp}
+use Rattle.amo_kk.specs.declared.givens.Givens.{Givens}
+use Rattle.amo_kk.specs.declared.phase.Phase.{Phase}
 use Rattle.amo_kk.specs.declared.model.Record.{Record}
 use Rattle.amo_kk.proofs.Fit.{rested_fit}
 use Rattle.amo_kk.proofs.Holding.{held}
 use Rattle.amo_kk.proofs.local.Local.rested.Goals as goal
 
-abbrev made : goal.After-choose-phase → Record
-made c =
+chosen_is : (g : Givens) (p : ℕ) (k new : KnowledgeView) (phase : Phase) (fronts claims dones : List ℕ) (a b c : ℕ) → IsTakenUp g p k fronts claims dones a b c
+    → new ≡ record k { tried = new.tried } → LeadsTo k (record_after_choice g p) phase new.tried → record_of phase new fronts claims dones 0 ≡ record_after_choice g p (record_of_dones g dones)
+chosen_is g p k new phase fronts claims dones a b c taken stays leads =
+    let knew = ap (λ (v : KnowledgeView). v.known) taken.knows in
+    let known : new.known ≡ set_of dones = ap (λ (v : KnowledgeView). v.known) stays ∙ knew in
+    (λ i. record { phase = phase; known = known i; tried = new.tried; fronts = taken.fronts_are i; claimed = taken.claims_are i; dones = dones; steps = 0 })
+    ∙ sym (leads (record_of_dones g dones) (sym knew) (sym (ap (λ (v : KnowledgeView). v.tried) taken.knows)))
+
+pub of_parts-requires : goal.of_parts-requires
+of_parts-requires c =
+    let taken = c.requires.taken_up in
     record {
-      phase = c.choose-phase.result;
-      known = c.choose-phase.new.self.known;
-      tried = c.choose-phase.new.self.tried;
-      fronts = c.args.fronts.items;
-      claimed = c.args.claims.items;
-      dones = c.args.dones.items;
-      steps = 0;
+      held = held c.args.givens c.args.p _ c.choose-phase.new.self.range (vec_capacity c.args.fronts) (vec_capacity c.args.claims) (vec_capacity c.args.dones) c.args.givens.limits taken.worker
+          (subst (λ r. IsSoundRecord c.args.givens c.args.p r)
+          (sym (chosen_is c.args.givens c.args.p c.args.knowledge c.choose-phase.new.self c.choose-phase.result c.args.fronts.items c.args.claims.items c.args.dones.items _ _ _ taken c.choose-phase.ensures.stays c.choose-phase.ensures.choice))
+          (rested_fit c.args.givens c.args.givens.limits c.args.p taken.worker c.args.dones.items taken.new))
+          (ap (λ (v : KnowledgeView). v.range) c.choose-phase.ensures.stays ∙ ap (λ (v : KnowledgeView). v.range) taken.knows)
+          taken.fronts_room_is taken.claims_room_is taken.dones_room_is;
     }
 
-is_chosen : (c : goal.After-choose-phase) → made c ≡ record_after_choice c.args.givens c.args.p (record_of_dones c.args.givens c.args.dones.items)
-is_chosen c =
-    let known : c.choose-phase.new.self.known ≡ set_of c.args.dones.items = ap (λ (v : KnowledgeView). v.known) c.choose-phase.ensures.stays ∙ ap (λ (v : KnowledgeView). v.known) c.requires.knows in
-    let chosen = c.choose-phase.ensures.choice (record_of_dones c.args.givens c.args.dones.items)
-    (sym (ap (λ (v : KnowledgeView). v.known) c.requires.knows)) (sym (ap (λ (v : KnowledgeView). v.tried) c.requires.knows)) in
-    (λ i. record { phase = c.choose-phase.result; known = known i; tried = c.choose-phase.new.self.tried; fronts = c.requires.fronts i; claimed = c.requires.claims i; dones = c.args.dones.items; steps = 0 }) ∙ sym chosen
-
-pub invariant_of-result : goal.invariant_of-result
-invariant_of-result c =
-    held c.args.givens c.args.p (made c) c.choose-phase.new.self.range (vec_capacity c.args.fronts) (vec_capacity c.args.claims) (vec_capacity c.args.dones) c.args.givens.limits c.requires.worker
-    (subst (λ r. IsSoundRecord c.args.givens c.args.p r) (sym (is_chosen c)) (rested_fit c.args.givens c.args.givens.limits c.args.p c.requires.worker c.args.dones.items c.requires.new))
-    (ap (λ (v : KnowledgeView). v.range) c.choose-phase.ensures.stays ∙ ap (λ (v : KnowledgeView). v.range) c.requires.knows)
-    c.requires.fronts_room c.requires.claims_room c.requires.dones_room
-
 pub returns : goal.returns
-returns c = ap {B = LocalView} (λ (r : Record). record { givens = c.args.givens; number = c.args.p; state = r }) (is_chosen c)
+returns c =
+    c.of_parts.ensures
+    ∙ ap {B = LocalView} (λ (r : Record). record { givens = c.args.givens; number = c.args.p; state = r })
+    (chosen_is c.args.givens c.args.p c.args.knowledge c.choose-phase.new.self c.choose-phase.result c.args.fronts.items c.args.claims.items c.args.dones.items _ _ _ c.requires.taken_up c.choose-phase.ensures.stays c.choose-phase.ensures.choice)

@@ -1,6 +1,6 @@
 use Rattle.std.proofs.Common.{List, [], ◌∷◌, ◌++◌, ap, ◌∙◌}
 use Rattle.crossbeam_queue.specs.Passes.{view}
-use Rattle.amo_mailbox.specs.declared.hand.Output.{Output}
+use Rattle.amo_mailbox.specs.declared.output.Output.{Output}
 use Rattle.amo_mailbox.specs.Ports.{InletView}
 use Rattle.amo_mailbox.proofs.Passes.{takes, learns}
 use Rattle.amo_mailbox.proofs.inlet.Inlet.take.Goals as goal

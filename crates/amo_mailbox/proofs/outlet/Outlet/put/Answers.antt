@@ -1,8 +1,8 @@
 use Rattle.std.proofs.Common.{ap, sym, ◌∙◌, ℕ}
 use Rattle.crossbeam_queue.specs.Passes.{view}
 use Rattle.amo_mailbox.specs.Ports.{OutletView}
-use Rattle.amo_mailbox.specs.Ends.{sent_by}
-use Rattle.amo_mailbox.specs.declared.hand.Hand.TheVariants.{Sends}
+use Rattle.amo_mailbox.specs.Endpoints.{sent_by}
+use Rattle.amo_mailbox.specs.declared.pass_state.PassState.TheVariants.{Sends}
 use Rattle.amo_mailbox.proofs.Passes.{sends}
 use Rattle.amo_mailbox.proofs.outlet.Outlet.put.Goals as goal
 

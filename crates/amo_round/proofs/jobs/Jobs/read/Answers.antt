@@ -1,6 +1,6 @@
 use Rattle.std.proofs.Common.{◌<◌, ◌≢◌, ◌++◌, List, ℕ, length, sym, ap, subst, ◌∙◌, All, AllPairs}
 use Rattle.amo_ledger.specs.Records.{ended}
-use Rattle.amo_round.specs.Lines.{lines_in, rest_in, ends_of}
+use Rattle.amo_round.specs.Lines.{lines_in, remainder_in, ends_of}
 use Rattle.amo_round.specs.Refusals.{IsTaken}
 use Rattle.amo_round.proofs.Cuts.{whole}
 use Rattle.amo_round.proofs.KeptJobs.{AreRead, are_read}
@@ -21,7 +21,7 @@ pub returns-clause-lines : goal.returns-clause-lines
 returns-clause-lines c = (read_so c).lines
 
 pub returns-clause-front : goal.returns-clause-front
-returns-clause-front c = ap (λ (ls : List (List ℕ)). ended ls ++ rest_in c.args.bytes.items) (read_so c).lines ∙ whole c.args.bytes.items
+returns-clause-front c = ap (λ (ls : List (List ℕ)). ended ls ++ remainder_in c.args.bytes.items) (read_so c).lines ∙ whole c.args.bytes.items
 
 pub returns-clause-whole : goal.returns-clause-whole
 returns-clause-whole c uncut = ap ended (read_so c).lines ∙ (read_so c).whole uncut

@@ -1,7 +1,5 @@
-use Rattle.std.proofs.Common.{◌-◌, ◌%◌, ◌*◌, ◌^◌, ℕ, true, false, bit_or, sym, ◌∙◌, arith}
-use Rattle.amo_sets.specs.Lists.{numbered}
-use Rattle.amo_sets.proofs.Shown.{kept_is, length_of, word_of, WritesJob, adds_job, shown_written, spare_written, count_added}
-use Rattle.amo_sets.proofs.Tally.{count_lt}
+use Rattle.std.proofs.Common.{◌-◌, ◌%◌, ◌*◌, ◌^◌, ℕ, true, bit_or, sym, ◌∙◌, arith}
+use Rattle.amo_sets.proofs.Shown.{with_stranger, word_of, WritesJob, adds_job, shown_written, spare_written, count_added}
 use Rattle.amo_sets.proofs.job_set.JobSet.add.Goals as goal
 
 pub index_mut-requires : goal.index_mut-requires
@@ -9,9 +7,7 @@ index_mut-requires c = let within = word_of c.self.inside c.args.self.now c.self
 
 pub overflow_add-self : goal.overflow_add-self
 overflow_add-self c =
-    let n = length_of c.self.inside c.args.self.now c.self.view_is in
-    let kept = kept_is c.self.inside c.args.self.now c.self.view_is c.self.invariant in
-    let l = count_lt _ (numbered false c.args.self.now) c.args.j c.requires.low c.requires.high (sym c.has.ensures ∙ c.if-not-has.true) in
+    let few = with_stranger c.self.inside c.args.self.now c.args.j c.self.view_is c.self.invariant c.requires.low c.requires.high (sym c.has.ensures ∙ c.if-not-has.true) in
     omega (arith, c.self.invariant.small)
 
 pub invariant_of-self : goal.invariant_of-self

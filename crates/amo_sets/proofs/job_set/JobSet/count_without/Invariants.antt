@@ -1,7 +1,7 @@
 use Rattle.std.proofs.Common.{◌≡◌, ◌*◌}
+use Rattle.amo_sets.specs.Bits.{is_without}
 use Rattle.amo_sets.proofs.Tally.{tally}
-use Rattle.amo_sets.proofs.Without.{apart}
 use Rattle.amo_sets.proofs.job_set.JobSet.count_without.Given as goal
 
 abbrev pub invariant-loop-q : goal.invariant-loop-q
-invariant-loop-q l = l.total ≡ tally (64 * l.q) (apart l.self-inside l.other-inside)
+invariant-loop-q l = l.total ≡ tally (64 * l.q) (is_without l.self l.other)

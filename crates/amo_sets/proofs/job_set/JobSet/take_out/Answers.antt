@@ -1,8 +1,6 @@
 use Rattle.std.proofs.Common.{◌-◌, ◌%◌, ◌*◌, ◌^◌, ℕ, false, bit_and, w64, sym, ◌∙◌, arith}
 use Rattle.std.specs.Int.{bit_not}
-use Rattle.amo_sets.specs.Lists.{numbered}
-use Rattle.amo_sets.proofs.Shown.{kept_is, length_of, word_of, WritesJob, takes_job, shown_written, spare_written, count_taken}
-use Rattle.amo_sets.proofs.Numbers.{count_pos}
+use Rattle.amo_sets.proofs.Shown.{with_member, word_of, WritesJob, takes_job, shown_written, spare_written, count_taken}
 use Rattle.amo_sets.proofs.job_set.JobSet.take_out.Goals as goal
 
 pub index_mut-requires : goal.index_mut-requires
@@ -10,9 +8,7 @@ index_mut-requires c = let within = word_of c.self.inside c.args.self.now c.self
 
 pub overflow_sub-self : goal.overflow_sub-self
 overflow_sub-self c =
-    let n = length_of c.self.inside c.args.self.now c.self.view_is in
-    let kept = kept_is c.self.inside c.args.self.now c.self.view_is c.self.invariant in
-    let l = count_pos _ (numbered false c.args.self.now) c.args.j c.requires.low c.requires.high (sym c.has.ensures ∙ c.if-has.true) in
+    let some = with_member c.self.inside c.args.self.now c.args.j c.self.view_is c.self.invariant c.requires.low c.requires.high (sym c.has.ensures ∙ c.if-has.true) in
     omega (arith, c.self.invariant.small)
 
 pub invariant_of-self : goal.invariant_of-self

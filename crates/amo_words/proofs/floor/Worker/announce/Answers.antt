@@ -1,8 +1,8 @@
-use Rattle.std.proofs.Common.{arith, refl, ap, ◌∙◌, set}
+use Rattle.std.proofs.Common.{refl, ap, ◌∙◌, set}
 use Rattle.amo_kk.specs.Step.{want}
 use Rattle.amo_kk.specs.declared.phase.Want.TheVariants.{StoreNext}
 use Rattle.amo_kk.proofs.Holding.{hears_zero}
-use Rattle.amo_words.proofs.Workers.{next_within, fits, working_after}
+use Rattle.amo_words.proofs.Workers.{at_table, next_within, fits, working_after}
 use Rattle.amo_words.proofs.Moves.{stores}
 use Rattle.amo_words.proofs.floor.Worker.announce.Goals as goal
 
@@ -10,16 +10,13 @@ pub store-requires : goal.store-requires
 store-requires g c =
     let w = c.self.inside in
     let is = c.self.invariant in
-    let tied = ap (λ f. f.table_id) c.self.view_is ∙ c.requires.table in
     let wants = fits _ _ _ _ _ is c.self.view_is (StoreNext c.args.j) c.requires.wants in
     let word = c.next_word-word.ensures ∙ c.number.ensures.number in
-    let within = next_within w.local.givens w.local.number is.worker in
-    let n = is.words in
-    let z = ap (λ t. t.words) tied in
-    (tied, omega (arith, word, within, n, z), stores c.args.words.now.key _ _ _ w.local is.role _ _ (StoreNext c.args.j) wants.0 refl refl (λ ws. ap (λ i. set ws i c.args.j) word))
+    let there = at_table _ _ _ _ _ is c.self.view_is _ c.requires.table _ _ word (next_within w.local.givens w.local.number is.worker) in
+    (there.0, there.1, stores c.args.words.now.key _ _ _ w.local is.role _ _ (StoreNext c.args.j) wants.0 refl refl (λ ws. ap (λ i. set ws i c.args.j) word))
 
 pub invariant_of-self : goal.invariant_of-self
 invariant_of-self g c =
     let w = c.self.inside in
-    working_after w.place.me.0 c.store.new.seat.me.0 w.place.table_id _ w.local c.stored.new.self c.self.invariant c.store.ensures.0
+    working_after w.seat.me.0 c.store.new.seat.me.0 w.seat.table_id _ w.local c.stored.new.self c.self.invariant c.store.ensures.0
     0 c.store.ensures.2.0 (hears_zero w.local.givens (want w.local.state)) c.stored.ensures.record

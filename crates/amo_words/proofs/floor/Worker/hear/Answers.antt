@@ -22,5 +22,5 @@ invariant_of-self g c =
     let w = c.self.inside in
     let is = c.self.invariant in
     let may : MayLoad w.local.givens c.load-found.result (want w.local.state) = subst (λ ro. MayLoadBy ro c.load-found.result) is.role c.load-found.ensures.2.1 in
-    working_after w.place.me.0 c.load-found.new.seat.me.0 w.place.table_id _ w.local c.told.new.self is c.load-found.ensures.0
+    working_after w.seat.me.0 c.load-found.new.seat.me.0 w.seat.table_id _ w.local c.told.new.self is c.load-found.ensures.0
     c.load-found.result c.load-found.ensures.2.0 may c.told.ensures.record

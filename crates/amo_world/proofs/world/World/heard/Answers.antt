@@ -7,7 +7,7 @@ use Rattle.amo_kk.specs.declared.model.Process.{Process}
 use Rattle.amo_world.proofs.world.World.heard.Goals as goal
 
 pub loaded-requires : goal.loaded-requires
-loaded-requires c = (c.seat.result.now.local.number, subst (λ (g : Givens). WantFits g c.seat.result.now.local.number c.want.result) c.seat.ensures.givens c.want.ensures.fits)
+loaded-requires c = (c.process.result.now.local.number, subst (λ (g : Givens). WantFits g c.process.result.now.local.number c.want.result) c.process.ensures.givens c.want.ensures.fits)
 
 pub returns : goal.returns
-returns c = c.loaded.ensures ∙ ap (λ x. loaded_value c.args.self.now.world x) (c.want.ensures.want ∙ ap (λ (a : Process). want a.local) c.seat.ensures.process)
+returns c = c.loaded.ensures ∙ ap (λ x. loaded_value c.args.self.now.world x) (c.want.ensures.want ∙ ap (λ (a : Process). want a.local) c.process.ensures.process)

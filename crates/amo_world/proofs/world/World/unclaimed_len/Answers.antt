@@ -6,7 +6,7 @@ use Rattle.amo_kk.specs.declared.givens.Givens.{Givens}
 use Rattle.amo_kk.specs.declared.event.Event.{Event}
 use Rattle.amo_kk.proofs.Counts.{unclaimed_count, run_fits}
 use Rattle.amo_world.specs.Views.{WorldView}
-use Rattle.amo_world.specs.Seats.{world_of}
+use Rattle.amo_world.specs.Processes.{world_of_processes}
 use Rattle.amo_world.proofs.world.World.unclaimed_len.Goals as goal
 
 -- the claims that were counted, and what is left
@@ -24,5 +24,5 @@ overflow_sub-result c = let all = claims_are c.self.inside.givens _ c.self.insid
 pub returns : goal.returns
 returns c =
     let all = claims_are c.self.inside.givens _ c.self.inside.history.items c.count.result.claimed c.self.invariant.run.0 c.deref.ensures.value c.count.ensures.claimed in
-    let here : c.self.inside.givens.jobs - c.count.result.claimed ≡ length (object_of c.self.inside.givens (world_of c.self.inside.seats.items c.self.inside.history.items)).unclaimed = omega arith in
+    let here : c.self.inside.givens.jobs - c.count.result.claimed ≡ length (object_of c.self.inside.givens (world_of_processes c.self.inside.processes.items c.self.inside.history.items)).unclaimed = omega arith in
     here ∙ ap (λ (v : WorldView). length (object_of v.givens v.world).unclaimed) c.self.view_is

@@ -1,0 +1,11 @@
+use Rattle.std.proofs.Common.{◌≡◌, ◌≤◌, ◌*◌, sum_by}
+use Rattle.amo_texts.specs.Results.{jobs_in_block}
+use Rattle.amo_outcome.specs.Noted.{filed_blocks}
+use Rattle.amo_outcome.proofs.block_done.count_filed_jobs.Given as goal
+
+-- the jobs of those so far are counted
+abbrev pub invariant-loop-i : goal.invariant-loop-i
+invariant-loop-i l = record {
+  few : l.count ≤ l.block * l.i;
+  all : l.count ≡ sum_by (jobs_in_block l.block l.jobs) (filed_blocks l.filed l.i);
+}

@@ -1,5 +1,0 @@
-use Rattle.amo_trace.proofs.Range.{one_in_range}
-use Rattle.amo_trace.proofs.steps.take_step.Goals as goal
-
-pub run-requires : goal.run-requires
-run-requires c = one_in_range c.args.world.now.givens c.args.one c.requires
