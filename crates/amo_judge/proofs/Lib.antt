@@ -1,0 +1,4 @@
+pub mod Begins
+pub mod NextLine
+pub mod Searches
+pub mod Texts

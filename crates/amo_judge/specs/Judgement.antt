@@ -1,0 +1,79 @@
+-- What is answered.
+use Rattle.std.specs.Prelude.{ℕ, ◌+◌, ◌-◌, nat_lt, if◌then◌else◌, List, [], ◌∷◌, ◌++◌, codes, length, take, drop, Result, Ok, Err}
+use Rattle.std.specs.Fmt.{decimal}
+use Rattle.amo_kk.specs.declared.event.Event.{Event}
+use Rattle.amo_kk.specs.declared.givens.GivensFault.{GivensFault}
+use Rattle.amo_kk.specs.declared.givens.GivensFault.TheVariants.{TooManyJobs as MoreJobs, NoWorkers, TooManyWorkers as MoreWorkers, BetaLow, BetaHigh}
+use Rattle.amo_world.specs.Answer.{verdict}
+use Rattle.amo_world.specs.declared.answer.Verdict.{Verdict}
+use Rattle.amo_world.specs.declared.answer.Verdict.TheVariants.{Lawful, FirstBad}
+use Rattle.amo_judge.specs.History.{HistoryView, history_in}
+use Rattle.amo_judge.specs.Lines.{lines_of}
+use Rattle.amo_judge.specs.Telling.{event_text, lawful_text}
+use Rattle.amo_judge.specs.Why.{why}
+use Rattle.amo_judge.specs.declared.refusal.Refusal.{Refusal}
+use Rattle.amo_judge.specs.declared.refusal.Wrong.{Wrong}
+use Rattle.amo_judge.specs.declared.refusal.Wrong.TheVariants.{NoFirstLine, NoGivens, OtherBound, NoEvent, NotDue, TooManyWorkers, TooManyJobs}
+
+-- the longest text that is read has so many bytes
+abbrev pub most_bytes : ℕ
+most_bytes = 1048576
+
+-- which limit the numbers of a first line break
+abbrev pub limit_words : GivensFault → List ℕ
+limit_words MoreJobs = codes "there are more than 4096 jobs"
+limit_words NoWorkers = codes "there is no worker"
+limit_words MoreWorkers = codes "there are more than 16 workers"
+limit_words BetaLow = codes "the threshold is below the number of workers"
+limit_words BetaHigh = codes "the threshold is above 65535"
+
+-- what is wrong with a line
+unfoldable pub wrong_text : Wrong → List ℕ
+wrong_text NoFirstLine = codes "this is no first line of a history"
+wrong_text (NoGivens fault) = limit_words fault
+wrong_text (OtherBound bound) = codes "the bound of these numbers is " ++ decimal bound
+wrong_text NoEvent = codes "this is no event"
+wrong_text (NotDue due) = codes "the event that is due has number " ++ decimal due
+wrong_text (TooManyWorkers most) = codes "this names a worker beyond " ++ decimal most
+wrong_text (TooManyJobs most) = codes "this names a job beyond " ++ decimal most
+
+-- `refused`, and a line, and why
+unfoldable pub refused_line : ℕ → List ℕ → List ℕ
+refused_line line words =
+    codes "refused\nline " ++ (decimal line ++ (codes ": " ++ (words ++ codes "\n")))
+
+-- the answer to what is no history
+abbrev pub refused_text : Refusal → List ℕ
+refused_text refusal = refused_line refusal.line (wrong_text refusal.wrong)
+
+-- `refused`, since the text is too long
+abbrev pub too_long_text : List ℕ
+too_long_text = codes "refused\nthe text is longer than 1048576 bytes\n"
+
+-- `unlawful` and the number of an event, its line, and why it is no step
+unfoldable pub unlawful_lines : ℕ → List ℕ → List ℕ → List ℕ
+unlawful_lines number event reason =
+    codes "unlawful " ++ (decimal number ++ (codes "\nline " ++ (decimal (number + 1) ++ (codes ": " ++ (event ++ (codes "\n" ++ (reason ++ codes "\n")))))))
+
+-- the answer where an event of this number is no step behind those before it
+abbrev pub unlawful_text : HistoryView → ℕ → List Event → Event → List ℕ
+unlawful_text h number before event = unlawful_lines number (event_text h number event) (why h before event)
+
+-- the same of the first of these events, if there is one, and those before it
+abbrev pub bad_text : HistoryView → ℕ → List Event → List Event → List ℕ
+bad_text h number before [] = []
+bad_text h number before (event ∷ events) = unlawful_text h number before event
+
+-- what is answered on a history by its verdict
+abbrev pub verdict_text : HistoryView → Verdict → List ℕ
+verdict_text h Lawful = lawful_text h.events
+verdict_text h (FirstBad number) = bad_text h number (take (number - 1) h.events) (drop (number - 1) h.events)
+
+-- what is answered on what was read
+abbrev pub answer : Result HistoryView Refusal → List ℕ
+answer (Ok h) = verdict_text h (verdict h.givens h.events)
+answer (Err refusal) = refused_text refusal
+
+-- what is answered on a text
+abbrev pub judgement : List ℕ → List ℕ
+judgement text = if nat_lt most_bytes (length text) then too_long_text else answer (history_in (lines_of text))

@@ -1,0 +1,9 @@
+pub mod FirstLine
+pub mod History
+pub mod Judgement
+pub mod Lines
+pub mod Results
+pub mod Roll
+pub mod Telling
+pub mod Verdicts
+pub mod Why

@@ -1,0 +1,175 @@
+//! A history as it is read: its givens, what workers and jobs are called, and its events.
+ghost use Rattle.std.specs.Prelude.{◌≡◌, ◌≤◌, Ok, Err, IfOk, OnOk, length, map};
+ghost use Rattle.amo_judge.specs.Results.{found_or};
+ghost use Rattle.amo_judge.specs.History.{first_history, due_in, worker_in, job_in, worker_due, pair_due, has_word, event_in, with_event, with_line};
+
+use crate::first_line::Opening;
+use crate::lines::{says_at, words_of};
+use crate::refusal::Wrong;
+use crate::roll::Roll;
+use amo_kk::{Event, Givens};
+use amo_ledger::number_of_bytes;
+use std::alloc::{AllocError, Global};
+use std::marker::Model;
+
+/// The events so far, and the names that came in them.
+#[derive(Drop)]
+pub(crate) struct History<'a> {
+    givens: Givens,
+    workers: Roll<'a>,
+    jobs: Roll<'a>,
+    events: Vec<Event>,
+}
+
+impl<'a> Model for History<'a> {
+    ghost use Rattle.amo_judge.specs.History.{HistoryView};
+
+    ghost Value = { HistoryView };
+
+    ghost view = { λ h. record { givens = h.givens; workers = h.workers; jobs = h.jobs; events = h.events.items } };
+}
+
+/// Whether this is the number of the event that is due.
+fn due_in(due: usize, word: &[u8]) -> Result<u64, Wrong>
+    ensures { result ≡ due_in due word.now }
+{
+    let number = number_of_bytes(word).ok_or(Wrong::NoEvent)?;
+    if number != due as u64 {
+        return Err(Wrong::NotDue(due));
+    }
+    Ok(number)
+}
+
+/// Whether there are so many words, and the second is this one.
+fn has_word(words: &[&[u8]], count: usize, word: &[u8]) -> bool
+    requires { 2 ≤ count }
+    ensures { result ≡ has_word count word.now (map (λ word. word.now) words.now) }
+{
+    words.len() == count && says_at(words, 1, word)
+}
+
+impl<'a> History<'a> {
+    /// A history without events.
+    pub(crate) fn new(alloc: Global, opening: Opening) -> History<'a>
+        ensures { result ≡ first_history opening }
+    {
+        History {
+            givens: opening.givens,
+            workers: Roll::new(alloc, opening.named),
+            jobs: Roll::new(alloc, opening.named),
+            events: Vec::new(alloc),
+        }
+    }
+
+    fn worker_in(&self, word: &[u8]) -> Result<u32, Wrong>
+        ensures { result ≡ worker_in self.now word.now }
+    {
+        let workers = self.givens.workers;
+        self.workers
+            .number_on(workers, Wrong::TooManyWorkers(workers), word)
+    }
+
+    fn job_in(&self, word: &[u8]) -> Result<u32, Wrong>
+        ensures { result ≡ job_in self.now word.now }
+    {
+        let jobs = self.givens.jobs;
+        self.jobs.number_on(jobs, Wrong::TooManyJobs(jobs), word)
+    }
+    /// The worker of an event, whose number is due.
+    fn worker_due(&self, words: &[&[u8]]) -> Result<u32, Wrong>
+        requires { 3 ≤ length words.now }
+        ensures { result ≡ worker_due self.now (map (λ word. word.now) words.now) }
+    {
+        due_in(self.events.len() + 1, words[0])?;
+        self.worker_in(words[2])
+    }
+
+    /// The worker and the job of an event, whose number is due.
+    fn pair_due(&self, words: &[&[u8]]) -> Result<(u32, u32), Wrong>
+        requires { 4 ≤ length words.now }
+        ensures { result ≡ pair_due self.now (map (λ word. word.now) words.now) }
+    {
+        let worker = self.worker_due(words)?;
+        let job = self.job_in(words[3])?;
+        Ok((worker, job))
+    }
+
+    /// The event that a line of these words tells.
+    fn event_in(&self, words: &[&[u8]]) -> Result<Event, Wrong>
+        ensures { result ≡ event_in self.now (map (λ word. word.now) words.now) }
+    {
+        if has_word(words, 4, b"claimed") {
+            let (worker, job) = self.pair_due(words)?;
+            return Ok(Event::Claimed(worker, job));
+        }
+        if has_word(words, 4, b"done") {
+            let (worker, job) = self.pair_due(words)?;
+            return Ok(Event::Done(worker, job));
+        }
+        if has_word(words, 3, b"ended") {
+            return Ok(Event::Ended(self.worker_due(words)?));
+        }
+        if has_word(words, 3, b"halted") {
+            return Ok(Event::Halted(self.worker_due(words)?));
+        }
+        if has_word(words, 3, b"left") {
+            return Ok(Event::Left(self.worker_due(words)?));
+        }
+        Err(Wrong::NoEvent)
+    }
+
+    /// Notes the event that a line of these words told.
+    fn note(&mut self, words: &[&'a [u8]], event: Event) -> Result<(), AllocError>
+        requires { 3 ≤ length words.now }
+        ensures { OnOk result (self.new ≡ with_event self.old (map (λ word. word.now) words.now) event) }
+    {
+        self.workers.note(words[2])?;
+        if words.len() == 4 {
+            self.jobs.note(words[3])?;
+        }
+        self.events.push(event)?;
+        Ok(())
+    }
+
+    /// Adds the event that a line tells, or says what is wrong with it.
+    pub(crate) fn add(&mut self, alloc: Global, line: &'a [u8]) -> Result<Option<Wrong>, AllocError>
+        ensures { IfOk result (λ wrong. with_line self.old line.now ≡ found_or wrong (λ w. Err w) (Ok self.new)) }
+    {
+        let words = words_of(alloc, line)?;
+        match self.event_in(&words) {
+            Err(wrong) => Ok(Some(wrong)),
+            Ok(event) => {
+                self.note(&words, event)?;
+                Ok(None)
+            }
+        }
+    }
+
+    /// The givens.
+    pub(crate) fn givens(&self) -> Givens
+        ensures { result ≡ self.now.givens }
+    {
+        self.givens
+    }
+
+    /// The events.
+    pub(crate) fn events(&self) -> &[Event]
+        ensures { result.now ≡ self.now.events }
+    {
+        self.events.as_slice()
+    }
+
+    /// What the workers are called.
+    pub(crate) fn workers(&self) -> &Roll<'a>
+        ensures { result.now ≡ self.now.workers }
+    {
+        &self.workers
+    }
+
+    /// What the jobs are called.
+    pub(crate) fn jobs(&self) -> &Roll<'a>
+        ensures { result.now ≡ self.now.jobs }
+    {
+        &self.jobs
+    }
+}

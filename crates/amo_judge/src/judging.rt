@@ -1,0 +1,140 @@
+//! The judge of a text.
+ghost use Rattle.std.specs.Prelude.{◌≡◌, ◌≤◌, IfOk, length, string_bytes};
+ghost use Rattle.amo_world.specs.Answer.{verdict};
+ghost use Rattle.amo_judge.specs.History.{history_in};
+ghost use Rattle.amo_judge.specs.Lines.{lines_of};
+ghost use Rattle.amo_judge.specs.Judgement.{limit_words, wrong_text, refused_line, refused_text, unlawful_lines, unlawful_text, verdict_text, answer, judgement};
+
+use crate::history::History;
+use crate::lines::lines_of;
+use crate::reading::read_history;
+use crate::reasons::why_of;
+use crate::refusal::{Refusal, Wrong};
+use crate::telling::{event_text, lawful_text, worker_of};
+use amo_kk::{Event, GivensFault};
+use amo_world::{Verdict, judge};
+use std::alloc::{AllocError, Global};
+
+/// A longer text is refused.
+const MOST_BYTES: usize = 1_048_576;
+
+fn limit_words(fault: GivensFault) -> &'static str
+    ensures { result.now ≡ limit_words fault }
+{
+    match fault {
+        GivensFault::TooManyJobs => "there are more than 4096 jobs",
+        GivensFault::NoWorkers => "there is no worker",
+        GivensFault::TooManyWorkers => "there are more than 16 workers",
+        GivensFault::BetaLow => "the threshold is below the number of workers",
+        GivensFault::BetaHigh => "the threshold is above 65535",
+    }
+}
+
+/// What is wrong with a line.
+#[tactic(auto, unfolding(crate::specs::Judgement::wrong_text))]
+fn wrong_text(alloc: Global, wrong: Wrong) -> Result<String, AllocError>
+    ensures { IfOk result (λ text. string_bytes text ≡ wrong_text wrong) }
+{
+    match wrong {
+        Wrong::NoFirstLine => format!(in alloc; "this is no first line of a history"),
+        Wrong::NoGivens(fault) => format!(in alloc; "{}", limit_words(fault)),
+        Wrong::OtherBound(bound) => format!(in alloc; "the bound of these numbers is {bound}"),
+        Wrong::NoEvent => format!(in alloc; "this is no event"),
+        Wrong::NotDue(due) => format!(in alloc; "the event that is due has number {due}"),
+        Wrong::TooManyWorkers(most) => format!(in alloc; "this names a worker beyond {most}"),
+        Wrong::TooManyJobs(most) => format!(in alloc; "this names a job beyond {most}"),
+    }
+}
+
+#[tactic(auto, unfolding(crate::specs::Judgement::refused_line))]
+fn refused_line(alloc: Global, line: usize, words: &str) -> Result<String, AllocError>
+    ensures { IfOk result (λ text. string_bytes text ≡ refused_line line words.now) }
+{
+    format!(in alloc; "refused\nline {line}: {words}\n")
+}
+
+/// The answer to what is no history.
+fn refused_text(alloc: Global, refusal: Refusal) -> Result<String, AllocError>
+    ensures { IfOk result (λ text. string_bytes text ≡ refused_text refusal) }
+{
+    let words = wrong_text(alloc, refusal.wrong)?;
+    refused_line(alloc, refusal.line, words.as_str())
+}
+
+#[tactic(auto, unfolding(crate::specs::Judgement::unlawful_lines))]
+fn unlawful_lines(
+    alloc: Global,
+    number: u32,
+    event: &str,
+    reason: &str,
+) -> Result<String, AllocError>
+    ensures { IfOk result (λ text. string_bytes text ≡ unlawful_lines number event.now reason.now) }
+{
+    let line = number as usize + 1;
+    format!(in alloc; "unlawful {number}\nline {line}: {event}\n{reason}\n")
+}
+
+/// The answer where an event of this number is no step behind those before it.
+fn unlawful_text(
+    alloc: Global,
+    history: &History<'_>,
+    number: u32,
+    before: &[Event],
+    event: Event,
+) -> Result<String, AllocError>
+    ensures { IfOk result (λ text. string_bytes text ≡ unlawful_text history.now number before.now event) }
+{
+    let text = event_text(alloc, history, number, event)?;
+    let reason = why_of(alloc, history, before, worker_of(event), event)?;
+    unlawful_lines(alloc, number, text.as_str(), reason.as_str())
+}
+
+/// The answer where the first event that is no step has this number.
+fn bad_text(alloc: Global, history: &History<'_>, number: u32) -> Result<String, AllocError>
+    requires { (1 ≤ number) × (number ≤ length history.now.events) }
+    ensures { IfOk result (λ text. string_bytes text ≡ verdict_text history.now (Verdict.FirstBad number)) }
+{
+    let (before, behind) = history.events().split_at(number as usize - 1);
+    unlawful_text(alloc, history, number, before, behind[0])
+}
+
+/// The answer to a history.
+fn history_text(alloc: Global, history: &History<'_>) -> Result<String, AllocError>
+    ensures { IfOk result (λ text. string_bytes text ≡ verdict_text history.now (verdict history.now.givens history.now.events)) }
+{
+    match judge(alloc, history.givens(), history.events())? {
+        Verdict::Lawful => lawful_text(alloc, history.events()),
+        Verdict::FirstBad(number) => bad_text(alloc, history, number),
+    }
+}
+
+/// The answer to what was read.
+fn answer(alloc: Global, read: Result<History<'_>, Refusal>) -> Result<String, AllocError>
+    ensures { IfOk result (λ text. string_bytes text ≡ answer read.entry) }
+{
+    match read {
+        Ok(history) => history_text(alloc, &history),
+        Err(refusal) => refused_text(alloc, refusal),
+    }
+}
+
+/// The answer to a text that isn't too long.
+fn judge_lines(alloc: Global, bytes: &[u8]) -> Result<String, AllocError>
+    ensures { IfOk result (λ text. string_bytes text ≡ answer (history_in (lines_of bytes.now))) }
+{
+    let lines = lines_of(alloc, bytes)?;
+    let read = read_history(alloc, &lines)?;
+    answer(alloc, read)
+}
+
+/// The answer to a text: `lawful`, if it is a history whose events are a run, and how many there are of each kind; `unlawful`, if
+/// they aren't, and which is the first that is no step, and why; or `refused`, if it is no history, and which line is wrong in
+/// what way. The only error is out of memory.
+pub fn judgement(alloc: Global, bytes: &[u8]) -> Result<String, AllocError>
+    ensures text { IfOk result (λ text. string_bytes text ≡ judgement bytes.now) }
+{
+    if bytes.len() > MOST_BYTES {
+        return format!(in alloc; "refused\nthe text is longer than 1048576 bytes\n");
+    }
+    judge_lines(alloc, bytes)
+}
