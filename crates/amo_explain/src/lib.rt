@@ -4,7 +4,19 @@
 //! the place and the word that the fault leaves out: they are looked for again in the tree and in the text, and are only tested.
 #![tactic(auto)]
 
+mod asked;
+mod broken;
+mod document;
 mod explained;
+mod givens;
+mod jobs;
+mod keys;
+mod kinds;
 pub mod laws;
+mod limits;
+mod reasons;
+mod schedule;
+mod walk;
+mod wording;
 
 pub use explained::explanation;
