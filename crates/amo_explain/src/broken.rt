@@ -130,39 +130,43 @@ fn push_no_value(out: &mut String, rest: &str) -> Result<(), AllocError> {
     )
 }
 
+/// What has to stand where a kind of fault found something else, and what is told of it.
+fn wanted_at(kind: ErrorKind) -> Option<(&'static str, &'static str)> {
+    match kind {
+        ErrorKind::Key => Some(("a key", LINES)),
+        ErrorKind::MissingEquals => Some(("`=`", LINES)),
+        ErrorKind::UnclosedTable | ErrorKind::UnclosedArrayTable => {
+            Some(("`]`", " A job begins with the line `[[job]]`.\n"))
+        }
+        ErrorKind::Array => Some((
+            "`,` or `]`",
+            " The members of a list are parted by commas, as `[1, 2]`.\n",
+        )),
+        ErrorKind::InlineTable => Some((
+            "`,` or `}`",
+            " The keys of such a table are parted by commas.\n",
+        )),
+        _ => None,
+    }
+}
+
 /// Appends why TOML doesn't read what stands at the front of this text, for a kind of fault.
 fn push_kind(out: &mut String, rest: &str, kind: ErrorKind) -> Result<(), AllocError> {
+    if let Some((wanted, hint)) = wanted_at(kind) {
+        push_found(out, rest, wanted)?;
+        return out.push_str(hint);
+    }
     match kind {
-        ErrorKind::Key => {
-            push_found(out, rest, "a key")?;
-            out.push_str(LINES)
-        }
-        ErrorKind::MissingEquals => {
-            push_found(out, rest, "`=`")?;
-            out.push_str(LINES)
-        }
-        ErrorKind::UnclosedTable | ErrorKind::UnclosedArrayTable => {
-            push_found(out, rest, "`]`")?;
-            out.push_str(" A job begins with the line `[[job]]`.\n")
-        }
+        ErrorKind::String => push_text_fault(out, rest),
+        ErrorKind::Escape => out.push_str(
+            "a `\\` in a text begins an escape, and this is none. Write `\\\\` for the character itself, or the text in single quotes.\n",
+        ),
         ErrorKind::EndOfLine => {
             push_quoted(out, first_word(rest))?;
             out.push_str(
                 " stands where the line has to end. Write one key and its value on each line.\n",
             )
         }
-        ErrorKind::Array => {
-            push_found(out, rest, "`,` or `]`")?;
-            out.push_str(" The members of a list are parted by commas, as `[1, 2]`.\n")
-        }
-        ErrorKind::InlineTable => {
-            push_found(out, rest, "`,` or `}`")?;
-            out.push_str(" The keys of such a table are parted by commas.\n")
-        }
-        ErrorKind::String => push_text_fault(out, rest),
-        ErrorKind::Escape => out.push_str(
-            "a `\\` in a text begins an escape, and this is none. Write `\\\\` for the character itself, or the text in single quotes.\n",
-        ),
         ErrorKind::Overflow => {
             push_quoted(out, first_word(rest))?;
             out.push_str(" is out of range. An integer is at most 9223372036854775807.\n")

@@ -48,7 +48,7 @@ pub fn kind_of(value: &Value) -> &'static str {
         Value::String(_) => "a text",
         Value::Integer(_) => "an integer",
         Value::Float(_) => "a number with a point",
-        Value::Boolean(_) => "true or false",
+        Value::Boolean(_) => "a boolean",
         Value::Datetime(_) => "a date",
         Value::Array(_) => "a list",
         Value::Table(_) => "a table",
