@@ -1,21 +1,38 @@
 -- What a command of `amo_show` writes, and what it leaves.
-use Rattle.std.specs.Prelude.{ℕ, List, Option}
+use Rattle.std.specs.Prelude.{◌≡◌, ℕ, List, Option}
 use Rattle.std.specs.Io.KnownBytes.{Keeps}
+use Rattle.amo_plan.specs.Plan.{plan_of}
 use Rattle.amo_plan.specs.declared.fault.PlanFault.{PlanFault}
 use Rattle.amo_texts.specs.declared.writing.ReplayFault.{ReplayFault}
 use Rattle.amo_texts.specs.declared.writing.ReplayFault.TheVariants as replay
 use Rattle.amo_texts.specs.Written.{Writes, Refuses}
+use Rattle.amo_texts.specs.OfBytes.{WritesOf, RefusesOf}
+use Rattle.amo_explain.specs.Heading.{BeginsWith, explanation_head}
+use Rattle.amo_judge.specs.Judgement.{judgement}
 use Rattle.amo_trace.specs.Shown.{text_of}
 use Rattle.amo_program.specs.Statuses.{Left}
 use Rattle.amo_show_work.specs.declared.show.Show.{Show}
+use Rattle.amo_show_work.specs.declared.show.Show.TheVariants.{Run, Explain, Judge}
 
--- the text that is wanted of the plan of a source with these bytes was written, and nothing else
+-- the text begins with the line `taken` where the bytes are a plan, and with the line of their fault where they are none
+abbrev pub Explains : List ℕ → List ℕ → Type 0
+Explains bytes text = BeginsWith (explanation_head (plan_of bytes)) text
+
+-- the text is what the judge says of the history that the bytes are
+abbrev pub Judges : List ℕ → List ℕ → Type 0
+Judges bytes text = text ≡ judgement bytes
+
+-- the text that is wanted of a source with these bytes was written, and nothing else
 abbrev pub writes : Show → Left
-writes show = Writes (text_of show.shown)
+writes (Run shown) = Writes (text_of shown)
+writes Explain = WritesOf Explains
+writes Judge = WritesOf Judges
 
 -- what is left where it was not written whole
 abbrev pub refuses : Show → ReplayFault → Left
-refuses show fault = Refuses (text_of show.shown) fault
+refuses (Run shown) fault = Refuses (text_of shown) fault
+refuses Explain fault = RefusesOf Explains fault
+refuses Judge fault = RefusesOf Judges fault
 
 -- no thread is ever started
 abbrev pub others : Show → Left
@@ -23,4 +40,6 @@ others show known old new = ⊥
 
 -- where the plan was refused nothing was written
 pub plan_keeps : (show : Show) (f : PlanFault) (known old new : Option (List ℕ)) → refuses show (replay.Plan f) known old new → Keeps old new
-plan_keeps show f known old new h = h.2
+plan_keeps (Run shown) f known old new h = h.2
+plan_keeps Explain f known old new h = h.2
+plan_keeps Judge f known old new h = h.2

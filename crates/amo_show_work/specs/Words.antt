@@ -1,21 +1,22 @@
 -- Which words are a command.
-use Rattle.std.specs.Prelude.{ℕ, List, [], ◌∷◌, Option, Some, None, option_and_then, codes, drop, if◌then◌else◌}
+use Rattle.std.specs.Prelude.{ℕ, List, [], ◌∷◌, Option, Some, None, codes, drop, if◌then◌else◌}
 use Rattle.std.specs.Str.{bytes_eq}
-use Rattle.amo_trace.specs.declared.shown.Shown.{Shown}
 use Rattle.amo_trace.specs.declared.shown.Shown.TheVariants.{Trace, Picture}
 use Rattle.amo_show_work.specs.declared.show.Show.{Show}
+use Rattle.amo_show_work.specs.declared.show.Show.TheVariants.{Run, Explain, Judge}
 
 -- what one word asks for
-abbrev pub text_asked : List ℕ → Option Shown
-text_asked word =
-    if bytes_eq word (codes "trace") then Some Trace else
-    if bytes_eq word (codes "picture") then Some Picture else None
+abbrev pub command_asked : List ℕ → Option Show
+command_asked word =
+    if bytes_eq word (codes "trace") then Some (Run Trace) else
+    if bytes_eq word (codes "picture") then Some (Run Picture) else
+    if bytes_eq word (codes "explain") then Some Explain else
+    if bytes_eq word (codes "judge") then Some Judge else None
 
 -- what the words after the program's name ask for, or None where they are no command: it is just one word
 abbrev pub asked : List (List ℕ) → Option Show
-asked [] = None
-asked (word ∷ []) = option_and_then (λ shown. Some (record { shown = shown })) (text_asked word)
-asked (word ∷ next ∷ more) = None
+asked (word ∷ []) = command_asked word
+asked words = None
 
 -- what all words that the program is given ask for, its own name first
 abbrev pub asked_after_name : List (List ℕ) → Option Show

@@ -1,27 +1,34 @@
 //! What the words of a command line ask for, and how it is done.
 ghost use Rattle.std.specs.Prelude.{◌≡◌, map, string_bytes};
-ghost use Rattle.amo_show_work.specs.Words.{text_asked, asked_after_name};
+ghost use Rattle.amo_show_work.specs.Words.{command_asked, asked_after_name};
 
+use crate::told::{Explained, Judged};
 use amo_program::{Command, Fault};
 use amo_streams::{Sink, Source};
-use amo_texts::write_of;
+use amo_texts::{write_of, write_of_bytes};
 use amo_trace::Shown;
 use std::alloc::Global;
 
-/// A command of `amo_show`: to write this text of the plan that is read.
+/// A command of `amo_show`.
 #[derive(Clone, Copy, Debug, PartialEq, Eq)]
-pub struct Show {
-    /// The text.
-    pub shown: Shown,
+pub enum Show {
+    /// To write this text of the run of the plan that is read.
+    Run(Shown),
+    /// To write what the plan that is read asks for, or what is wrong with it.
+    Explain,
+    /// To write what the judge says of the history that is read.
+    Judge,
 }
 
 /// What one word asks for.
-fn text_asked(word: &str) -> Option<Shown>
-    ensures { result ≡ text_asked word.now }
+fn command_asked(word: &str) -> Option<Show>
+    ensures { result ≡ command_asked word.now }
 {
     match word {
-        "trace" => Some(Shown::Trace),
-        "picture" => Some(Shown::Picture),
+        "trace" => Some(Show::Run(Shown::Trace)),
+        "picture" => Some(Show::Run(Shown::Picture)),
+        "explain" => Some(Show::Explain),
+        "judge" => Some(Show::Judge),
         _ => None,
     }
 }
@@ -31,10 +38,7 @@ fn asked(words: &[String]) -> Option<Show>
     ensures { result ≡ asked_after_name (map string_bytes words.now) }
 {
     match words {
-        [_, word] => {
-            let shown = text_asked(word.as_str())?;
-            Some(Show { shown })
-        }
+        [_, word] => command_asked(word.as_str()),
         _ => None,
     }
 }
@@ -65,7 +69,11 @@ impl<R: Sync> Command<R> for Show {
         reader: &mut S,
         out: &mut W,
     ) -> Result<(), Fault> {
-        Ok(write_of(alloc, &self.shown, reader, out)?)
+        match self {
+            Show::Run(shown) => Ok(write_of(alloc, shown, reader, out)?),
+            Show::Explain => Ok(write_of_bytes(alloc, &Explained, reader, out)?),
+            Show::Judge => Ok(write_of_bytes(alloc, &Judged, reader, out)?),
+        }
     }
 
     ghost plan_keeps = { plan_keeps };

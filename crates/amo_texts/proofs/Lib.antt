@@ -3,3 +3,4 @@ pub mod Marks
 pub mod Blocks
 pub mod Whole
 pub mod Least
+pub mod OfBytes

@@ -1,8 +1,10 @@
 -- What was read is all that the source had, or more than is read.
-use Rattle.std.proofs.Common.{◌≡◌, ℕ, ◌<◌, ◌≤◌, List, [], ◌++◌, length, Option, Some, None, sym, ap, ◌∙◌, length-append, arith}
+use Rattle.std.proofs.Common.{◌≡◌, ℕ, ◌<◌, List, [], ◌++◌, length, Option, Some, None, sym, ap, ◌∙◌, subst, length-append, arith}
 use Rattle.std.specs.Prelude.{IfSome}
-use Rattle.std.specs.Io.KnownBytes.{Consumes, IsAtEnd}
+use Rattle.std.specs.Io.KnownBytes.{Appends, Consumes, IsAtEnd}
 use Rattle.std.proofs.lemmas.List.{append-nil}
+use Rattle.amo_streams.specs.Streams.{AppendsFront}
+use Rattle.amo_texts.specs.OfBytes.{WritesOf, WritesFrontOf}
 
 -- at the end of the source, what was read is what it had
 pub all_read : (known left : Option (List ℕ)) (bytes : List ℕ) → Consumes known left bytes → IsAtEnd left → IfSome known (λ xs. xs ≡ bytes)
@@ -15,3 +17,15 @@ pub too_many : (known left : Option (List ℕ)) (bytes : List ℕ) → Consumes 
 too_many None left bytes taken many = tt
 too_many (Some xs) None bytes taken many = absurd taken
 too_many (Some xs) (Some rest) bytes taken many = omega (arith, ap length taken, length-append bytes rest)
+
+-- what was written of the bytes that were read was written of those of the source
+pub written_of : (is_of : List ℕ → List ℕ → Type 0) (known old new : Option (List ℕ)) (bytes text : List ℕ) → IfSome known (λ xs. xs ≡ bytes) → is_of bytes text
+    → Appends old new text → WritesOf is_of known old new
+written_of is_of None old new bytes text same is written = tt
+written_of is_of (Some xs) old new bytes text same is written = (text, subst (λ (ys : List ℕ). is_of ys text) (sym same) is, written)
+
+-- so was a beginning of it
+pub front_of : (is_of : List ℕ → List ℕ → Type 0) (known old new : Option (List ℕ)) (bytes text : List ℕ) → IfSome known (λ xs. xs ≡ bytes) → is_of bytes text
+    → AppendsFront old new text → WritesFrontOf is_of known old new
+front_of is_of None old new bytes text same is front = tt
+front_of is_of (Some xs) old new bytes text same is front = (text, subst (λ (ys : List ℕ). is_of ys text) (sym same) is, front)

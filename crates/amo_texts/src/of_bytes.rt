@@ -22,7 +22,7 @@ pub trait BytesText {
 /// Reads to the end of the reader, and writes the text that is made of all its bytes and nothing else. Neither stream may have
 /// failed. `Plan(TooLong)`, the only fault of a plan, comes just where there are more than 1,048,576 bytes; what each fault
 /// leaves is said at `ReplayFault`.
-#[tactic(auto, using(crate::proofs::OfBytes::all_read, crate::proofs::OfBytes::too_many))]
+#[tactic(auto, using(crate::proofs::OfBytes::all_read, crate::proofs::OfBytes::too_many, crate::proofs::OfBytes::written_of, crate::proofs::OfBytes::front_of))]
 pub fn write_of_bytes<T: BytesText, R: Source, W: Sink>(
     alloc: Global,
     text: &T,
