@@ -7,10 +7,10 @@ use Rattle.std.proofs.lemmas.Str.{IsAscii-append}
 use Rattle.amo_ledger.specs.declared.finding.Finding.{Finding}
 use Rattle.amo_ledger.specs.declared.finding.Verdict.{Verdict}
 use Rattle.amo_ledger.specs.declared.finding.Verdict.TheVariants.{Done, NotDone}
-use Rattle.amo_ledger.specs.Numbers.{has_blank, first_word, other_words, three_in}
+use Rattle.amo_ledger.specs.Numbers.{three_in}
 use Rattle.amo_ledger.specs.Findings.{word_of, text_of_finding, FitsFinding, verdict_in, finding_of_word, finding_in}
 use Rattle.amo_ledger.proofs.Readings.{found_by, no_text_by, none_by}
-use Rattle.amo_ledger.proofs.Words.{word_reads, printed_by, three_reads, and_then_some, blank_and, three_printed, either_word, ascii_by_test, three_ascii}
+use Rattle.amo_ledger.proofs.Words.{word_reads, printed_by, three_reads, and_then_some, three_printed, either_word, ascii_by_test, three_ascii}
 
 -- what is printed is read
 
