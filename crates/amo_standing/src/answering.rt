@@ -26,14 +26,8 @@ pub fn may_answer(
     ensures exact { result_err result ≡ refusal_of findings.now (map (λ journal. journal.items) journals.now) finals.now worker serial line verdict }
     ensures taken { IsOk result ↔ MayBeTaken findings.now (map (λ journal. journal.items) journals.now) finals.now worker serial line }
 {
-    checked(
-        findings,
-        journals,
-        finals,
-        Intent { worker, serial },
-        line,
-        verdict,
-    )
+    let intent = Intent { worker, serial };
+    checked(findings, journals, finals, intent, line, verdict)
 }
 
 fn checked(
