@@ -1,6 +1,6 @@
 -- What is printed of an entry is read as it, and what is read was printed so.
 use Rattle.std.proofs.Common.{◌≡◌, inl, inr, ℕ, ◌^◌, ◌<◌, Bool, true, false, cond, List, ◌∷◌, ◌++◌, Option, Some, None, refl, sym, ap, subst, ◌∙◌, arith}
-use Rattle.std.specs.Prelude.{nat_lt, codes, option_and_then, IfSome, IfNone}
+use Rattle.std.specs.Prelude.{nat_lt, codes, option_and_then}
 use Rattle.std.specs.Fmt.{decimal}
 use Rattle.std.specs.Str.{bytes_eq, IsAscii, IsUtf8}
 use Rattle.std.proofs.lemmas.Bool.Decides.{nat_tests}
@@ -11,11 +11,11 @@ use Rattle.amo_ledger.specs.declared.entry.Answer.{Answer}
 use Rattle.amo_ledger.specs.declared.entry.Answer.TheVariants.{Done, Doubt, Unbegun, Untouched}
 use Rattle.amo_ledger.specs.declared.entry.Entry.{Entry}
 use Rattle.amo_ledger.specs.declared.entry.Entry.TheVariants.{Intent, Answer as Answered}
-use Rattle.amo_ledger.specs.Numbers.{number_in, has_blank, first_word, other_words, two_in, three_in}
+use Rattle.amo_ledger.specs.Numbers.{number_in, two_in, three_in}
 use Rattle.amo_ledger.specs.Entries.{text_of, text_of_answer, Fits, FitsAnswer, code_in, answer_of_word, entry_of_word, entry_in}
 use Rattle.amo_ledger.proofs.NumberTexts.{reads_printed, printed_of_read}
-use Rattle.amo_ledger.proofs.Readings.{found_by, no_text_by, none_by}
-use Rattle.amo_ledger.proofs.Words.{word_reads, printed_by, two_reads, three_reads, and_then_some, blank_and, two_printed, three_printed, either_way, ascii_by_test, two_ascii, three_ascii}
+use Rattle.amo_ledger.proofs.Readings.{no_text_by}
+use Rattle.amo_ledger.proofs.Words.{word_reads, printed_by, two_reads, three_reads, and_then_some, two_printed, three_printed, either_way, ascii_by_test, two_ascii, three_ascii}
 
 -- codes
 
@@ -136,12 +136,6 @@ word_printed w r e h = elim (either_way (bytes_eq w (codes "intent")) _ _ (Some 
 
 pub entry_printed : (text : List ℕ) (e : Entry) → entry_in text ≡ Some e → (text_of e ≡ text) × Fits e
 entry_printed = printed_by text_of Fits entry_of_word word_printed
-
-pub found : (text : List ℕ) (r : Option Entry) → r ≡ entry_in text → IfSome r (λ e. text_of e ≡ text)
-found = found_by text_of Fits entry_in entry_printed
-
-pub no_entry : (text : List ℕ) (r : Option Entry) → r ≡ entry_in text → IfNone r ((e : Entry) → Fits e → text_of e ≡ text → ⊥)
-no_entry = none_by text_of Fits entry_in entry_reads
 
 ascii_answer : (s : ℕ) (a : Answer) → FitsAnswer s a → IsAscii (text_of_answer s a)
 ascii_answer s (Done c t) f = IsAscii-append (codes "done ") (decimal s ++ 32 ∷ (decimal c ++ 32 ∷ decimal t)) (ascii_by_test (codes "done ") refl) (three_ascii s c t f.0 (omega (arith, f.1)) f.2)

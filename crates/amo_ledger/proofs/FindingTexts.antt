@@ -1,16 +1,16 @@
 -- What is printed of a finding is read as it, and what is read was printed so.
-use Rattle.std.proofs.Common.{◌≡◌, ⊎_elim, ℕ, ◌^◌, ◌<◌, List, ◌∷◌, ◌++◌, Option, Some, None, refl, sym, ap, subst, ◌∙◌}
-use Rattle.std.specs.Prelude.{codes, option_and_then, IfSome, IfNone}
+use Rattle.std.proofs.Common.{◌≡◌, ⊎_elim, ℕ, ◌^◌, ◌<◌, List, ◌∷◌, ◌++◌, Some, None, refl, sym, ap, subst, ◌∙◌}
+use Rattle.std.specs.Prelude.{codes, option_and_then}
 use Rattle.std.specs.Fmt.{decimal}
 use Rattle.std.specs.Str.{IsAscii, IsUtf8}
 use Rattle.std.proofs.lemmas.Str.{IsAscii-append}
 use Rattle.amo_ledger.specs.declared.finding.Finding.{Finding}
 use Rattle.amo_ledger.specs.declared.finding.Verdict.{Verdict}
 use Rattle.amo_ledger.specs.declared.finding.Verdict.TheVariants.{Done, NotDone}
-use Rattle.amo_ledger.specs.Numbers.{has_blank, first_word, other_words, three_in}
+use Rattle.amo_ledger.specs.Numbers.{three_in}
 use Rattle.amo_ledger.specs.Findings.{word_of, text_of_finding, FitsFinding, verdict_in, finding_of_word, finding_in}
-use Rattle.amo_ledger.proofs.Readings.{found_by, no_text_by, none_by}
-use Rattle.amo_ledger.proofs.Words.{word_reads, printed_by, three_reads, and_then_some, blank_and, three_printed, either_word, ascii_by_test, three_ascii}
+use Rattle.amo_ledger.proofs.Readings.{no_text_by}
+use Rattle.amo_ledger.proofs.Words.{word_reads, printed_by, three_reads, and_then_some, three_printed, either_word, ascii_by_test, three_ascii}
 
 -- what is printed is read
 
@@ -38,12 +38,6 @@ word_printed w r f h =
 
 pub finding_printed : (text : List ℕ) (f : Finding) → finding_in text ≡ Some f → (text_of_finding f ≡ text) × FitsFinding f
 finding_printed = printed_by text_of_finding FitsFinding finding_of_word word_printed
-
-pub found : (text : List ℕ) (r : Option Finding) → r ≡ finding_in text → IfSome r (λ f. text_of_finding f ≡ text)
-found = found_by text_of_finding FitsFinding finding_in finding_printed
-
-pub no_finding : (text : List ℕ) (r : Option Finding) → r ≡ finding_in text → IfNone r ((f : Finding) → FitsFinding f → text_of_finding f ≡ text → ⊥)
-no_finding = none_by text_of_finding FitsFinding finding_in finding_reads
 
 ascii_word : (v : Verdict) → IsAscii (word_of v ++ codes " ")
 ascii_word Done = ascii_by_test (codes "done ") refl

@@ -2,7 +2,7 @@
 use Rattle.std.specs.Prelude.{ℕ, ◌<◌, ◌^◌, nat_lt, List, ◌++◌, codes, Option, Some, None, option_and_then, if◌then◌else◌}
 use Rattle.std.specs.Fmt.{decimal}
 use Rattle.std.specs.Str.{bytes_eq}
-use Rattle.amo_ledger.specs.Numbers.{has_blank, first_word, other_words, number_in, two_in, three_in, read_all}
+use Rattle.amo_ledger.specs.Numbers.{by_word, number_in, two_in, three_in, read_all}
 use Rattle.amo_ledger.specs.declared.entry.Answer.{Answer}
 use Rattle.amo_ledger.specs.declared.entry.Answer.TheVariants.{Done, Doubt, Unbegun, Untouched}
 use Rattle.amo_ledger.specs.declared.entry.Entry.{Entry}
@@ -53,7 +53,7 @@ entry_of_word word rest =
 
 -- what a text says
 abbrev pub entry_in : List ℕ → Option Entry
-entry_in text = if has_blank text then entry_of_word (first_word text) (other_words text) else None
+entry_in text = by_word entry_of_word text
 
 -- what texts say, each of them an entry
 abbrev pub entries_in : List (List ℕ) → Option (List Entry)

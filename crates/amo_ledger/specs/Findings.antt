@@ -3,7 +3,7 @@ use Rattle.std.specs.Prelude.{not, slice_get, ◌≡◌, ◌<◌, ◌≤◌, ◌
 use Rattle.std.specs.Fmt.{decimal}
 use Rattle.std.specs.List.{list_any}
 use Rattle.std.specs.Str.{bytes_eq}
-use Rattle.amo_ledger.specs.Numbers.{has_blank, first_word, other_words, three_in, read_all}
+use Rattle.amo_ledger.specs.Numbers.{by_word, three_in, read_all}
 use Rattle.amo_ledger.specs.declared.finding.Finding.{Finding}
 use Rattle.amo_ledger.specs.declared.finding.Verdict.{Verdict}
 use Rattle.amo_ledger.specs.declared.finding.Verdict.TheVariants.{Done, NotDone}
@@ -33,7 +33,7 @@ finding_of_word word rest =
 
 -- what a text says
 abbrev pub finding_in : List ℕ → Option Finding
-finding_in text = if has_blank text then finding_of_word (first_word text) (other_words text) else None
+finding_in text = by_word finding_of_word text
 
 -- what texts say, each of them a finding
 abbrev pub findings_in : List (List ℕ) → Option (List Finding)

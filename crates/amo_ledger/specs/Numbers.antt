@@ -28,6 +28,10 @@ first_word text = before_first (λ b. b == 32) text
 abbrev pub other_words : List ℕ → List ℕ
 other_words text = after_first (λ b. b == 32) text
 
+-- what a word says with what stands behind it, one blank between them
+abbrev pub by_word : {A : Type 0} → (List ℕ → List ℕ → Option A) → List ℕ → Option A
+by_word read text = if has_blank text then read (first_word text) (other_words text) else None
+
 -- two things, one blank between them
 abbrev pub both_in : {A B : Type 0} → (List ℕ → Option A) → (List ℕ → Option B) → List ℕ → Option (A × B)
 both_in first other text =

@@ -4,6 +4,7 @@ ghost use Rattle.amo_ledger.specs.Entries.{text_of, text_of_answer, Fits, FitsAn
 ghost use Rattle.amo_ledger.specs.declared.entry.Entry.{Entry as EntryView};
 
 use crate::numbers::{number, three, two};
+use crate::reading::FromText;
 use std::alloc::{AllocError, Global};
 use std::str;
 
@@ -52,6 +53,14 @@ impl Entry {
         ensures none { IfNone result ((entry : EntryView) → Fits entry → text_of entry ≡ bytes.now → ⊥) }
     {
         entry_of_bytes(bytes)
+    }
+}
+
+impl FromText for Entry {
+    ghost said = { entry_in };
+
+    fn from_text(text: &[u8]) -> Option<Entry> {
+        Entry::read(text)
     }
 }
 

@@ -8,6 +8,7 @@ ghost use Rattle.amo_ledger.specs.declared.finding.Finding.{Finding as FindingVi
 use crate::fault::Fault;
 use crate::journal::Attempt;
 use crate::numbers::three;
+use crate::reading::{FromText, read_each};
 use std::alloc::{AllocError, Global};
 use std::str;
 
@@ -62,6 +63,14 @@ impl Finding {
     }
 }
 
+impl FromText for Finding {
+    ghost said = { finding_in };
+
+    fn from_text(text: &[u8]) -> Option<Finding> {
+        Finding::read(text)
+    }
+}
+
 /// What the bytes say. What is no text is no finding.
 #[tactic(auto, using(crate::proofs::FindingTexts::no_text))]
 fn finding_of_bytes(bytes: &[u8]) -> Option<Finding>
@@ -108,14 +117,7 @@ pub fn read_findings(alloc: Global, texts: &[Vec<u8>]) -> Result<Vec<Finding>, F
     ensures exact { IfOk result (λ findings. findings_in (map (λ text. text.items) texts.now) ≡ Some findings.items) }
     ensures refused { IfErr result (SaysNothing finding_in (map (λ text. text.items) texts.now)) }
 {
-    let mut findings = Vec::new(alloc);
-    for text in texts {
-        let Some(finding) = Finding::read(text) else {
-            return Err(Fault::Refused(findings.len() + 1));
-        };
-        findings.push(finding)?;
-    }
-    Ok(findings)
+    read_each(alloc, texts)
 }
 
 /// Whether the intent of this worker and serial number was found not done.

@@ -7,6 +7,7 @@ ghost use Rattle.amo_ledger.specs.declared.entry.Entry.TheVariants.{Intent};
 
 use crate::entry::{Answer, Entry};
 use crate::fault::Fault;
+use crate::reading::read_each;
 use std::alloc::{AllocError, Global};
 
 /// An intent, with its answer where it has one. Its serial number is its place in the journal, from 1.
@@ -25,14 +26,7 @@ pub fn read_entries(alloc: Global, texts: &[Vec<u8>]) -> Result<Vec<Entry>, Faul
     ensures exact { IfOk result (λ entries. entries_in (map (λ text. text.items) texts.now) ≡ Some entries.items) }
     ensures refused { IfErr result (SaysNothing entry_in (map (λ text. text.items) texts.now)) }
 {
-    let mut entries = Vec::new(alloc);
-    for text in texts {
-        let Some(entry) = Entry::read(text) else {
-            return Err(Fault::Refused(entries.len() + 1));
-        };
-        entries.push(entry)?;
-    }
-    Ok(entries)
+    read_each(alloc, texts)
 }
 
 /// The journal that the entries are, of a jobs' file that has so many lines. The first entry that may not follow those before it

@@ -10,6 +10,7 @@ pub mod laws;
 mod numbers;
 mod open;
 mod put;
+mod reading;
 mod record;
 mod round;
 

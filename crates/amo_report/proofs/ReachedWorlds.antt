@@ -1,9 +1,10 @@
 -- What holds of a world that is reached by so many moves: it is lawful, its history is judged lawful, and no worker
 -- has had more steps than there were moves.
-use Rattle.std.proofs.Common.{◌≡◌, ℕ, ◌+◌, ◌≤◌, List, [], ◌∷◌, ◌++◌, length, length-append, lit≤, refl, ap, ◌∙◌, subst, arith}
+use Rattle.std.proofs.Common.{◌≡◌, ℕ, ◌+◌, ◌≤◌, false, List, [], ◌∷◌, ◌++◌, length, length-append, lit≤, refl, ap, ◌∙◌, subst, arith}
 use Rattle.std.specs.Prelude.{replicate}
 use Rattle.std.proofs.lemmas.List.{length-replicate}
 use Rattle.amo_kk.specs.Object.{first_object}
+use Rattle.amo_kk.specs.Givens.{IsWorker}
 use Rattle.amo_kk.specs.World.{process, world_after_halt, world_after_moves, opening_world, world_of}
 use Rattle.amo_kk.specs.Alone.{world_after_turns}
 use Rattle.amo_kk.specs.Lawful.{IsLawful}
@@ -11,7 +12,7 @@ use Rattle.amo_kk.specs.declared.givens.Givens.{Givens}
 use Rattle.amo_kk.specs.declared.event.Move.{Move}
 use Rattle.amo_kk.specs.declared.event.Move.TheVariants.{Turn, Halt}
 use Rattle.amo_kk.specs.declared.model.World.{World}
-use Rattle.amo_kk.proofs.Worlds.{opening_lawful, always_lawful}
+use Rattle.amo_kk.proofs.Worlds.{opening_lawful, always_lawful, here_is_worker}
 use Rattle.amo_kk.proofs.Runs.{always_runs}
 use Rattle.amo_kk.proofs.Moves.{world_after_moves-append, steps, moves_steps, opening_steps}
 use Rattle.amo_kk.proofs.Claims.{run_first_bad}
@@ -22,6 +23,10 @@ use Rattle.amo_report.proofs.Explored.{lawful_history}
 
 pub reached_lawful : (g : Givens) (most : ℕ) (w : World) → IsReached g most w → IsLawful g w
 reached_lawful g most w way = subst (IsLawful g) way.leads (always_lawful g way.moves g.limits)
+
+-- who isn't gone in it is one of the workers
+pub reached_worker : (g : Givens) (most : ℕ) (w : World) (p : ℕ) → IsReached g most w → (process w p).gone ≡ false → IsWorker g p
+reached_worker g most w p way here = here_is_worker g w p (reached_lawful g most w way).size here
 
 pub reached_verdict : (g : Givens) (most : ℕ) (w : World) → IsReached g most w → verdict g w.history ≡ Lawful
 reached_verdict g most w way =

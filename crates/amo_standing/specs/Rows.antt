@@ -45,23 +45,37 @@ kind_head line s =
     if is Open s.state then codes "-" ++ (tab ++ (decimal line ++ tab))
     else decimal s.worker ++ (codes "." ++ (decimal s.serial ++ (tab ++ (decimal line ++ tab))))
 
--- the row of a line in the status
-abbrev pub status_row : ℕ → Standing → List ℕ → List ℕ
-status_row line s text = if is_listed s.state then status_head line s ++ (text ++ line_end) else []
+-- whether a line that stands so is listed in this form
+abbrev pub is_listed_in : Form → State → Bool
+is_listed_in Status state = is_listed state
+is_listed_in Doubts state = is Doubt state
+is_listed_in (Kind kind) state = is kind state
 
--- its row in the list of doubts, with the time
+-- what stands before a line's text
+abbrev pub row_head : Form → ℕ → Standing → List ℕ
+row_head (Kind kind) line s = kind_head line s
+row_head form line s = status_head line s
+
+-- what stands behind it: its end, in the list of doubts after the time
+abbrev pub row_tail : Form → Standing → List ℕ
+row_tail Doubts s = codes " " ++ (decimal s.time ++ line_end)
+row_tail form s = line_end
+
+-- the row of a line in this form
+abbrev pub row_of : Form → ℕ → Standing → List ℕ → List ℕ
+row_of form line s text = if is_listed_in form s.state then row_head form line s ++ (text ++ row_tail form s) else []
+
+-- its row in the status
+abbrev pub status_row : ℕ → Standing → List ℕ → List ℕ
+status_row = row_of Status
+
+-- its row in the list of doubts
 abbrev pub doubt_row : ℕ → Standing → List ℕ → List ℕ
-doubt_row line s text = if is Doubt s.state then status_head line s ++ (text ++ (codes " " ++ (decimal s.time ++ line_end))) else []
+doubt_row = row_of Doubts
 
 -- its row in the list of the lines that stand so
 abbrev pub kind_row : State → ℕ → Standing → List ℕ → List ℕ
-kind_row kind line s text = if is kind s.state then kind_head line s ++ (text ++ line_end) else []
-
--- its row in one of these lists
-abbrev pub row_of : Form → ℕ → Standing → List ℕ → List ℕ
-row_of Status = status_row
-row_of Doubts = doubt_row
-row_of (Kind kind) = kind_row kind
+kind_row kind = row_of (Kind kind)
 
 -- the rows of the lines from the one at this index on
 abbrev pub rows_from : (ℕ → Standing → List ℕ → List ℕ) → ℕ → List Standing → List (List ℕ) → List ℕ

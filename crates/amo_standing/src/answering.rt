@@ -26,20 +26,21 @@ pub fn may_answer(
     ensures exact { result_err result ≡ refusal_of findings.now (map (λ journal. journal.items) journals.now) finals.now worker serial line verdict }
     ensures taken { IsOk result ↔ MayBeTaken findings.now (map (λ journal. journal.items) journals.now) finals.now worker serial line }
 {
-    checked(findings, journals, finals, worker, serial, line, verdict)
+    let intent = Intent { worker, serial };
+    checked(findings, journals, finals, intent, line, verdict)
 }
 
 fn checked(
     findings: &[Finding],
     journals: &[Vec<Attempt>],
     finals: &[Intent],
-    worker: u64,
-    serial: u64,
+    intent: Intent,
     line: u64,
     verdict: Verdict,
 ) -> Result<(), Refusal>
-    ensures { result_err result ≡ refusal_of findings.now (map (λ journal. journal.items) journals.now) finals.now worker serial line verdict }
+    ensures { result_err result ≡ refusal_of findings.now (map (λ journal. journal.items) journals.now) finals.now intent.worker intent.serial line verdict }
 {
+    let Intent { worker, serial } = intent;
     let Some(attempt) = attempt_of(journals, worker, serial) else {
         return Err(Refusal::NoIntent);
     };
@@ -56,7 +57,7 @@ fn checked(
         State::Open | State::Done => Err(Refusal::NotAsked),
         State::Running => Err(Refusal::Running),
         State::Failed | State::Doubt | State::Untouched => {
-            if is_closed_by(findings, journals, finals, worker, serial, line) {
+            if is_closed_by(findings, journals, finals, intent, line) {
                 Ok(())
             } else {
                 Err(Refusal::NotClosing)
@@ -103,12 +104,11 @@ fn is_closed_by(
     findings: &[Finding],
     journals: &[Vec<Attempt>],
     finals: &[Intent],
-    worker: u64,
-    serial: u64,
+    intent: Intent,
     line: u64,
 ) -> bool
-    ensures { result ≡ is_closed_by findings.now (map (λ journal. journal.items) journals.now) finals.now worker serial line }
+    ensures { result ≡ is_closed_by findings.now (map (λ journal. journal.items) journals.now) finals.now intent.worker intent.serial line }
 {
     let standing = standing_of(findings, journals, finals, line);
-    standing.worker == worker && standing.serial == serial
+    standing.worker == intent.worker && standing.serial == intent.serial
 }

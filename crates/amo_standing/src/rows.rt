@@ -1,6 +1,6 @@
 //! Lines as they are listed, a row each.
 ghost use Rattle.std.specs.Prelude.{◌≡◌, ◌≤◌, ◌<◌, ◌++◌, [], length, map, slice_index_or, string_bytes, IfOk, OnOk};
-ghost use Rattle.amo_standing.specs.Rows.{doubt_row, is_listed, kind_head, kind_row, row_of, rows_from, state_word, status_head, status_row};
+ghost use Rattle.amo_standing.specs.Rows.{is_listed, is_listed_in, kind_head, row_head, row_of, row_tail, rows_from, state_word, status_head};
 
 use crate::standing::Standing;
 use crate::state::{State, is};
@@ -54,62 +54,44 @@ fn push_row(
 ) -> Result<(), AllocError>
     ensures { OnOk result (text.new.items ≡ text.old.items ++ row_of form line standing.now job.now) }
 {
-    match form {
-        Form::Status => push_status_row(text, alloc, line, standing, job),
-        Form::Doubts => push_doubt_row(text, alloc, line, standing, job),
-        Form::Kind(kind) => push_kind_row(text, alloc, kind, line, standing, job),
-    }
-}
-
-fn push_status_row(
-    text: &mut Vec<u8>,
-    alloc: Global,
-    line: u64,
-    standing: &Standing,
-    job: &[u8],
-) -> Result<(), AllocError>
-    ensures { OnOk result (text.new.items ≡ text.old.items ++ status_row line standing.now job.now) }
-{
-    if !is_listed(standing.state) {
+    if !is_listed_in(form, standing.state) {
         return Ok(());
     }
-    let head = status_head(alloc, line, standing)?;
-    push_parts(text, head.as_bytes(), job, b"\n")
-}
-
-fn push_doubt_row(
-    text: &mut Vec<u8>,
-    alloc: Global,
-    line: u64,
-    standing: &Standing,
-    job: &[u8],
-) -> Result<(), AllocError>
-    ensures { OnOk result (text.new.items ≡ text.old.items ++ doubt_row line standing.now job.now) }
-{
-    if !is(State::Doubt, standing.state) {
-        return Ok(());
-    }
-    let head = status_head(alloc, line, standing)?;
-    let time = standing.time;
-    let tail = format!(in alloc; " {time}\n")?;
+    let head = row_head(alloc, form, line, standing)?;
+    let tail = row_tail(alloc, form, standing)?;
     push_parts(text, head.as_bytes(), job, tail.as_bytes())
 }
 
-fn push_kind_row(
-    text: &mut Vec<u8>,
-    alloc: Global,
-    kind: State,
-    line: u64,
-    standing: &Standing,
-    job: &[u8],
-) -> Result<(), AllocError>
-    ensures { OnOk result (text.new.items ≡ text.old.items ++ kind_row kind line standing.now job.now) }
+/// Whether a line that stands so is listed in this form.
+fn is_listed_in(form: Form, state: State) -> bool
+    ensures { result ≡ is_listed_in form state }
 {
-    if !is(kind, standing.state) {
-        return Ok(());
+    match form {
+        Form::Status => is_listed(state),
+        Form::Doubts => is(State::Doubt, state),
+        Form::Kind(kind) => is(kind, state),
     }
-    let head = kind_head(alloc, line, standing)?;
-    push_parts(text, head.as_bytes(), job, b"\n")
+}
+
+/// What stands before a line's text.
+fn row_head(alloc: Global, form: Form, line: u64, standing: &Standing) -> Result<String, AllocError>
+    ensures { IfOk result (λ head. string_bytes head ≡ row_head form line standing.now) }
+{
+    match form {
+        Form::Status | Form::Doubts => status_head(alloc, line, standing),
+        Form::Kind(_) => kind_head(alloc, line, standing),
+    }
+}
+
+/// What stands behind it.
+fn row_tail(alloc: Global, form: Form, standing: &Standing) -> Result<String, AllocError>
+    ensures { IfOk result (λ tail. string_bytes tail ≡ row_tail form standing.now) }
+{
+    let time = standing.time;
+    match form {
+        Form::Doubts => format!(in alloc; " {time}\n"),
+        Form::Status | Form::Kind(_) => String::from_str(alloc, "\n"),
+    }
 }
 
 /// What stands before a line's text, by state, intent and line.

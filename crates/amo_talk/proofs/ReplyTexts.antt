@@ -1,8 +1,7 @@
 -- What is said in answer is heard, and what is heard was said so.
-use Rattle.std.proofs.Common.{◌≡◌, ◌≢◌, inl, inr, ⊎_elim, ℕ, ◌^◌, ◌<◌, Bool, true, false, cond, List, ◌∷◌, ◌++◌, Option, Some, None, refl, sym, ap, subst, ◌∙◌, arith}
-use Rattle.std.specs.Prelude.{not, ◌==◌, codes, option_and_then, unwrap_or, IfSome}
+use Rattle.std.proofs.Common.{◌≡◌, ◌≢◌, inl, inr, ⊎_elim, ℕ, ◌^◌, ◌<◌, Bool, true, cond, List, ◌∷◌, ◌++◌, Option, Some, None, refl, sym, ap, subst, ◌∙◌, arith}
+use Rattle.std.specs.Prelude.{codes, option_and_then, unwrap_or, IfSome}
 use Rattle.std.specs.Fmt.{decimal}
-use Rattle.std.specs.List.{list_all}
 use Rattle.std.specs.Str.{bytes_eq, IsAscii, IsUtf8}
 use Rattle.std.proofs.lemmas.Fmt.{IsAscii-decimal}
 use Rattle.std.proofs.lemmas.Str.{IsUtf8-from_ascii, IsAscii-append}
@@ -123,41 +122,35 @@ with_parts : {N : Type 0} (word r : List ℕ) (print : N → List ℕ) (reply : 
 with_parts word r print reply n e printed same said =
     subst (λ (x : Reply). IsSaid (word ++ 32 ∷ r) x) (some_is same) (subst (λ (x : List ℕ). IsSaid (word ++ 32 ∷ x) (reply n)) printed said)
 
-coded : (word r : List ℕ) (answer : ℕ → Answer) (n : ℕ × ℕ × Way) (e : Reply) → code_and_way_in r ≡ Some n → Some (Answered n.0 (answer n.1) n.2) ≡ Some e
+-- a number, a code and a way, behind the word that was tested
+coded : (w word r : List ℕ) (answer : ℕ → Answer) (e : Reply) → bytes_eq w word ≡ true → option_and_then (λ (n : ℕ × ℕ × Way). Some (Answered n.0 (answer n.1) n.2)) (code_and_way_in r) ≡ Some e
     → ((s c : ℕ) (way : Way) → s < 2 ^ 64 → c < 2 ^ 8 → IsSaid (word ++ 32 ∷ (decimal s ++ 32 ∷ (decimal c ++ 32 ∷ word_of way))) (Answered s (answer c) way))
-    → IsSaid (word ++ 32 ∷ r) e
-coded word r answer n e read same says =
+    → IsSaid (w ++ 32 ∷ r) e
+coded w word r answer e is h says =
+    let (n, read, same) = and_then_some _ (code_and_way_in r) e h in
     let (printed, fits, small) = code_and_way_printed r n read in
-    with_parts word r (λ (m : ℕ × ℕ × Way). decimal m.0 ++ 32 ∷ (decimal m.1 ++ 32 ∷ word_of m.2)) (λ m. Answered m.0 (answer m.1) m.2) n e printed same (says n.0 n.1 n.2 fits small)
+    word_is w r word e is (with_parts word r (λ (m : ℕ × ℕ × Way). decimal m.0 ++ 32 ∷ (decimal m.1 ++ 32 ∷ word_of m.2)) (λ m. Answered m.0 (answer m.1) m.2) n e printed same (says n.0 n.1 n.2 fits small))
 
-numbered : (word r : List ℕ) (reply : ℕ → Way → Reply) (n : ℕ × Way) (e : Reply) → number_and_way_in r ≡ Some n → Some (reply n.0 n.1) ≡ Some e
+-- a number and a way behind it
+numbered : (w word r : List ℕ) (reply : ℕ → Way → Reply) (e : Reply) → bytes_eq w word ≡ true → option_and_then (λ (n : ℕ × Way). Some (reply n.0 n.1)) (number_and_way_in r) ≡ Some e
     → ((s : ℕ) (way : Way) → s < 2 ^ 64 → IsSaid (word ++ 32 ∷ (decimal s ++ 32 ∷ word_of way)) (reply s way))
-    → IsSaid (word ++ 32 ∷ r) e
-numbered word r reply n e read same says =
+    → IsSaid (w ++ 32 ∷ r) e
+numbered w word r reply e is h says =
+    let (n, read, same) = and_then_some _ (number_and_way_in r) e h in
     let (printed, fits) = number_printed r n read in
-    with_parts word r (λ (m : ℕ × Way). decimal m.0 ++ 32 ∷ word_of m.1) (λ m. reply m.0 m.1) n e printed same (says n.0 n.1 fits)
+    word_is w r word e is (with_parts word r (λ (m : ℕ × Way). decimal m.0 ++ 32 ∷ word_of m.1) (λ m. reply m.0 m.1) n e printed same (says n.0 n.1 fits))
 
 word_said : (w r : List ℕ) (e : Reply) → reply_of_word w r ≡ Some e → IsSaid (w ++ 32 ∷ r) e
 word_said w r e h = elim (either_way (bytes_eq w (codes "done")) _ _ (Some e) h) [
-  | inl t ↦
-      let (n, read, same) = and_then_some _ (code_and_way_in r) e t.1 in
-      word_is w r (codes "done") e t.0 (coded (codes "done") r (λ c. Done c) n e read same (λ s c way fits small. (refl, (fits, small))))
+  | inl t ↦ coded w (codes "done") r (λ c. Done c) e t.0 t.1 (λ s c way fits small. (refl, (fits, small)))
   | inr f ↦ elim (either_way (bytes_eq w (codes "doubt")) _ _ (Some e) f.1) [
-    | inl t ↦
-        let (n, read, same) = and_then_some _ (number_and_way_in r) e t.1 in
-        word_is w r (codes "doubt") e t.0 (numbered (codes "doubt") r (λ s way. Answered s Doubt way) n e read same (λ s way fits. (refl, (fits, tt))))
+    | inl t ↦ numbered w (codes "doubt") r (λ s way. Answered s Doubt way) e t.0 t.1 (λ s way fits. (refl, (fits, tt)))
     | inr g ↦ elim (either_way (bytes_eq w (codes "unbegun")) _ _ (Some e) g.1) [
-      | inl t ↦
-          let (n, read, same) = and_then_some _ (number_and_way_in r) e t.1 in
-          word_is w r (codes "unbegun") e t.0 (numbered (codes "unbegun") r (λ s way. Answered s Unbegun way) n e read same (λ s way fits. (refl, (fits, tt))))
+      | inl t ↦ numbered w (codes "unbegun") r (λ s way. Answered s Unbegun way) e t.0 t.1 (λ s way fits. (refl, (fits, tt)))
       | inr k ↦ elim (either_way (bytes_eq w (codes "untouched")) _ _ (Some e) k.1) [
-        | inl t ↦
-            let (n, read, same) = and_then_some _ (code_and_way_in r) e t.1 in
-            word_is w r (codes "untouched") e t.0 (coded (codes "untouched") r (λ c. Untouched c) n e read same (λ s c way fits small. (refl, (fits, small))))
+        | inl t ↦ coded w (codes "untouched") r (λ c. Untouched c) e t.0 t.1 (λ s c way fits small. (refl, (fits, small)))
         | inr l ↦ elim (either_way (bytes_eq w (codes "running")) _ _ (Some e) l.1) [
-          | inl t ↦
-              let (n, read, same) = and_then_some _ (number_and_way_in r) e t.1 in
-              word_is w r (codes "running") e t.0 (numbered (codes "running") r (λ s way. Running s way) n e read same (λ s way fits. (refl, fits)))
+          | inl t ↦ numbered w (codes "running") r (λ s way. Running s way) e t.0 t.1 (λ s way fits. (refl, fits))
           | inr z ↦ absurd (none_some z.1)
         ]
       ]

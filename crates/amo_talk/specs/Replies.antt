@@ -2,7 +2,7 @@
 use Rattle.std.specs.Prelude.{ℕ, ◌<◌, ◌^◌, List, ◌++◌, codes, Option, Some, None, option_and_then, unwrap_or, if◌then◌else◌}
 use Rattle.std.specs.Fmt.{decimal}
 use Rattle.std.specs.Str.{bytes_eq}
-use Rattle.amo_ledger.specs.Numbers.{both_in, has_blank, first_word, other_words, number_in}
+use Rattle.amo_ledger.specs.Numbers.{both_in, by_word, has_blank, first_word, other_words, number_in}
 use Rattle.amo_ledger.specs.Entries.{code_in}
 use Rattle.amo_course.specs.declared.answer.Answer.{Answer}
 use Rattle.amo_course.specs.declared.answer.Answer.TheVariants.{Done, Doubt, Unbegun, Untouched}
@@ -71,7 +71,7 @@ reply_of_word word rest =
 
 -- what a text says, if it is an answer
 abbrev pub said_in : List ℕ → Option Reply
-said_in text = if has_blank text then reply_of_word (first_word text) (other_words text) else None
+said_in text = by_word reply_of_word text
 
 -- what comes in answer by this line
 abbrev pub reply_in : List ℕ → Reply

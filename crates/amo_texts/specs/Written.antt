@@ -1,5 +1,5 @@
 -- What is left where a text is made of the plan of a source, and is written to a sink.
-use Rattle.std.specs.Prelude.{◌≡◌, ◌≢◌, List, ℕ, Option, Bool, true, false, IfSome, Result, Ok, Err}
+use Rattle.std.specs.Prelude.{◌≡◌, ◌≢◌, List, ℕ, Option, Bool, true, false, IfSome, Result, Err}
 use Rattle.std.specs.Result.{IsOkAnd}
 use Rattle.std.specs.Io.KnownBytes.{Keeps, Appends}
 use Rattle.amo_plan.specs.declared.fault.PlanFault.{PlanFault}

@@ -105,20 +105,18 @@ abbrev pub workers_drawn : List Event → ℕ → List Transition → ℕ → Li
 workers_drawn history n rows zero = []
 workers_drawn history n rows (suc m) = workers_drawn history n rows m ++ worker_drawn history n rows (suc m)
 
--- a level line at move i, which its number stands before
+-- a level line at this height
 unfoldable pub level_line : ℕ → ℕ → List ℕ
 level_line width y = stroke_start (codes "p") 1 ++ codes "M72 " ++ decimal y ++ codes "h" ++ decimal (width - 88) ++ codes "\"/>\n"
 
+-- that of move i, which its number stands before, where the move has one
 unfoldable pub grid_line : ℕ → ℕ → ℕ → List ℕ
-grid_line width last i = number_before (codes "f") 64 (at last i + 4) i ++ level_line width (at last i)
-
-abbrev pub grid_line_in : ℕ → ℕ → ℕ → List ℕ
-grid_line_in width last i = if i % grid_step last == 0 then grid_line width last i else []
+grid_line width last i = if i % grid_step last == 0 then number_before (codes "f") 64 (at last i + 4) i ++ level_line width (at last i) else []
 
 -- those below number k
 abbrev pub grid : ℕ → ℕ → ℕ → List ℕ
 grid width last zero = []
-grid width last (suc k) = grid width last k ++ grid_line_in width last k
+grid width last (suc k) = grid width last k ++ grid_line width last k
 
 -- above the columns, and above the lanes
 abbrev pub what_columns_are : ℕ → List ℕ
@@ -153,7 +151,7 @@ jobs_width p = 880 + 36 * max p.givens.workers 2
 unfoldable pub jobs_ground : PlanSeen → List Transition → List ℕ
 jobs_ground p rows =
     jobs_head p.version p.givens.jobs ++ grid (jobs_width p) (last_number rows) (last_number rows)
-    ++ grid_line_in (jobs_width p) (last_number rows) (last_number rows)
+    ++ grid_line (jobs_width p) (last_number rows) (last_number rows)
     ++ path (codes "p") (wide (columns_of p)) Columns (columns_of p) 0 rows
 
 -- the picture with a column for each job, of the plan whose moves lead to this world

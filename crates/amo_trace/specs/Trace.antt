@@ -33,6 +33,15 @@ done_word p k = codes "done[" ++ decimal p ++ codes "][" ++ decimal k ++ codes "
 unfoldable pub equals : ℕ → List ℕ
 equals v = codes " = " ++ decimal v
 
+-- the word that worker p loads or stores, if any
+unfoldable pub wanted_word : ℕ → Want → List ℕ
+wanted_word p (StoreNext j) = next_word p
+wanted_word p (LoadNext q) = next_word q
+wanted_word p (LoadDone q k) = done_word q k
+wanted_word p (StoreClaim c j) = claim_word p
+wanted_word p (StoreDone k j) = done_word p k
+wanted_word p Nothing = []
+
 -- what worker p loads, which gives v, or what it stores
 unfoldable pub want_words : ℕ → Want → ℕ → List ℕ
 want_words p (StoreNext j) v = codes "stores " ++ next_word p ++ equals j

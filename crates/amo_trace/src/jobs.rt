@@ -1,7 +1,7 @@
 //! Writes what the picture of a long run has besides its frame: a column for each job, and a narrow lane for each worker.
 ghost use Rattle.std.specs.Prelude.{◌≡◌, ◌++◌, ◌<◌, ◌≤◌, ◌^◌, OnOk, string_bytes};
 ghost use Rattle.amo_plan.specs.PlanSeen.{plan_seen};
-ghost use Rattle.amo_trace.specs.Jobs.{worker_class, worker_paths, going, going_shape, lifeline, lane_number, lane_numbers, worker_title, worker_drawn, workers_drawn, level_line, grid_line, grid_line_in, grid, what_columns_are, jobs_head, columns_words, lanes_words, jobs_key, jobs_ground, columns_of, jobs_width};
+ghost use Rattle.amo_trace.specs.Jobs.{worker_class, worker_paths, going, going_shape, lifeline, lane_number, lane_numbers, worker_title, worker_drawn, workers_drawn, level_line, grid_line, grid, what_columns_are, jobs_head, columns_words, lanes_words, jobs_key, jobs_ground, columns_of, jobs_width};
 ghost use Rattle.amo_trace.specs.Scale.{last_number};
 
 use crate::elements::{
@@ -170,7 +170,7 @@ fn push_level_line(out: &mut String, width: u128, y: u128) -> Result<(), AllocEr
     write!(out, "M72 {y}h{far}\"/>\n")
 }
 
-/// Appends the level line of a move, and its number.
+/// Appends the level line of a move that has one, and its number.
 #[tactic(auto, unfolding(crate::specs::Jobs::grid_line))]
 fn push_grid_line(
     out: &mut String,
@@ -181,25 +181,12 @@ fn push_grid_line(
     requires { 1 ≤ last }
     ensures { OnOk result (string_bytes out.new ≡ string_bytes out.old ++ grid_line width last number) }
 {
+    if number as u128 % grid_step(last) != 0 {
+        return Ok(());
+    }
     let y = at(last, number);
     push_number_before(out, "f", 64, y + 4, number as u128)?;
     push_level_line(out, width, y)
-}
-
-/// Appends the level line of a move that has one.
-fn push_grid_line_in(
-    out: &mut String,
-    width: u128,
-    last: usize,
-    number: usize,
-) -> Result<(), AllocError>
-    requires { 1 ≤ last }
-    ensures { OnOk result (string_bytes out.new ≡ string_bytes out.old ++ grid_line_in width last number) }
-{
-    if number as u128 % grid_step(last) == 0 {
-        return push_grid_line(out, width, last, number);
-    }
-    Ok(())
 }
 
 /// Appends the level lines below this number.
@@ -208,7 +195,7 @@ fn push_grid(out: &mut String, width: u128, last: usize, end: usize) -> Result<(
     ensures { OnOk result (string_bytes out.new ≡ string_bytes out.old ++ grid width last end) }
 {
     for number in 0..end {
-        push_grid_line_in(out, width, last, number)?;
+        push_grid_line(out, width, last, number)?;
     }
     Ok(())
 }
@@ -285,6 +272,6 @@ pub(crate) fn push_jobs_ground(
     let last = last_number(rows);
     push_jobs_head(out, plan.heads.version, plan.heads.givens.jobs)?;
     push_grid(out, jobs_width(plan), last, last)?;
-    push_grid_line_in(out, jobs_width(plan), last, last)?;
+    push_grid_line(out, jobs_width(plan), last, last)?;
     push_path(out, "p", wide(jobs), Kind::Columns, jobs, 0, rows)
 }

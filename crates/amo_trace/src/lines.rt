@@ -2,7 +2,7 @@
 ghost use Rattle.std.specs.Prelude.{◌≡◌, ◌++◌, OnOk, string_bytes};
 ghost use Rattle.amo_kk.specs.Givens.{IsWorker};
 ghost use Rattle.amo_kk.specs.World.{process};
-ghost use Rattle.amo_trace.specs.Trace.{next_word, claim_word, done_word, equals, want_words, act_words, fact_words, phase_words, state_words, opening_line, opening_lines, transition_words, transition_lines};
+ghost use Rattle.amo_trace.specs.Trace.{next_word, claim_word, done_word, equals, wanted_word, want_words, act_words, fact_words, phase_words, state_words, opening_line, opening_lines, transition_words, transition_lines};
 
 use crate::transition::{Act, Fact, Transition};
 use amo_kk::{Phase, Want};
@@ -41,36 +41,36 @@ pub(crate) fn push_equals(out: &mut String, value: u32) -> Result<(), AllocError
     write!(out, " = {value}")
 }
 
+/// Appends the name of the word that a worker loads or stores, if any.
+#[tactic(auto, unfolding(crate::specs::Trace::wanted_word))]
+fn push_wanted_word(out: &mut String, worker: u32, want: Want) -> Result<(), AllocError>
+    ensures { OnOk result (string_bytes out.new ≡ string_bytes out.old ++ wanted_word worker want) }
+{
+    match want {
+        Want::StoreNext(_) => push_next(out, worker),
+        Want::LoadNext(q) => push_next(out, q),
+        Want::LoadDone(q, k) => push_done(out, q, k),
+        Want::StoreClaim(_, _) => push_claim(out, worker),
+        Want::StoreDone(k, _) => push_done(out, worker, k),
+        Want::Nothing => Ok(()),
+    }
+}
+
 /// Appends what a worker stores, or what it loads, which gives this value.
-#[tactic(auto, unfolding(crate::specs::Trace::want_words))]
+#[tactic(auto, unfolding(crate::specs::Trace::want_words, crate::specs::Trace::wanted_word))]
 fn push_want(out: &mut String, worker: u32, want: Want, value: u32) -> Result<(), AllocError>
     ensures { OnOk result (string_bytes out.new ≡ string_bytes out.old ++ want_words worker want value) }
 {
     match want {
-        Want::StoreNext(j) => {
+        Want::StoreNext(stored) | Want::StoreClaim(stored, _) | Want::StoreDone(_, stored) => {
             out.push_str("stores ")?;
-            push_next(out, worker)?;
-            push_equals(out, j)
+            push_wanted_word(out, worker, want)?;
+            push_equals(out, stored)
         }
-        Want::LoadNext(q) => {
+        Want::LoadNext(_) | Want::LoadDone(_, _) => {
             out.push_str("loads ")?;
-            push_next(out, q)?;
+            push_wanted_word(out, worker, want)?;
             push_equals(out, value)
-        }
-        Want::LoadDone(q, k) => {
-            out.push_str("loads ")?;
-            push_done(out, q, k)?;
-            push_equals(out, value)
-        }
-        Want::StoreClaim(c, _) => {
-            out.push_str("stores ")?;
-            push_claim(out, worker)?;
-            push_equals(out, c)
-        }
-        Want::StoreDone(k, j) => {
-            out.push_str("stores ")?;
-            push_done(out, worker, k)?;
-            push_equals(out, j)
         }
         Want::Nothing => out.push_str("idles"),
     }

@@ -1,8 +1,10 @@
-use Rattle.amo_ledger.proofs.FindingTexts.{found, no_finding}
+use Rattle.amo_ledger.specs.Findings.{text_of_finding, FitsFinding, finding_in}
+use Rattle.amo_ledger.proofs.FindingTexts.{finding_reads, finding_printed}
+use Rattle.amo_ledger.proofs.Readings.{found_by, none_by}
 use Rattle.amo_ledger.proofs.finding.Finding.read.Goals as goal
 
 pub returns-clause-found : goal.returns-clause-found
-returns-clause-found c = found c.args.bytes.now c.finding_of_bytes.result c.finding_of_bytes.ensures
+returns-clause-found c = found_by text_of_finding FitsFinding finding_in finding_printed c.args.bytes.now c.finding_of_bytes.result c.finding_of_bytes.ensures
 
 pub returns-clause-none : goal.returns-clause-none
-returns-clause-none c = no_finding c.args.bytes.now c.finding_of_bytes.result c.finding_of_bytes.ensures
+returns-clause-none c = none_by text_of_finding FitsFinding finding_in finding_reads c.args.bytes.now c.finding_of_bytes.result c.finding_of_bytes.ensures
