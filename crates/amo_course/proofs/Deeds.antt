@@ -1,11 +1,12 @@
 -- One deed more.
-use Rattle.std.proofs.Common.{◌≡◌, ℕ, zero, suc, ◌+◌, ◌<◌, arith, Bool, true, false, List, [], ◌∷◌, ◌++◌, length, drop, get_or, Option, Some, None, refl, ap, ◌∙◌, subst, sym}
-use Rattle.std.specs.Prelude.{if◌then◌else◌, ◌==◌}
-use Rattle.std.proofs.lemmas.Bool.{true≢false, eq-eqb}
+use Rattle.std.proofs.Common.{◌≡◌, ℕ, zero, suc, ◌+◌, ◌<◌, arith, Bool, true, false, List, [], ◌∷◌, ◌++◌, length, drop, get_or, Option, Some, None, Ok, rules, refl, ap, ◌∙◌, subst, sym}
+use Rattle.std.specs.Prelude.{if◌then◌else◌}
+use Rattle.std.proofs.lemmas.Bool.{true≢false}
 use Rattle.std.proofs.Math.Seq.{drop-cons}
 use Rattle.amo_process.specs.Heard.{told_by, doubted_by}
 use Rattle.amo_process.specs.Stepped.{ProcessView, is_refused, may_leave, one_or_none}
 use Rattle.amo_course.specs.declared.answer.Answer.{Answer}
+use Rattle.amo_course.specs.declared.answer.Heard.TheVariants.{Ended}
 use Rattle.amo_course.specs.declared.answer.Reply.{Reply}
 use Rattle.amo_course.specs.declared.answer.Reply.TheVariants.{Answered}
 use Rattle.amo_course.specs.declared.answer.Way.{Way}
@@ -15,9 +16,9 @@ use Rattle.amo_course.specs.declared.model.Deed.TheVariants.{Fell}
 use Rattle.amo_course.specs.declared.model.Try.{Try}
 use Rattle.amo_course.specs.declared.past.Asked.{Asked}
 use Rattle.amo_course.specs.declared.past.Intent.{Intent}
-use Rattle.amo_course.specs.Stage.{Stage, Going, Finding, Intending, Leaving, Settling, Unanswered, Refused, Broken}
+use Rattle.amo_course.specs.Stage.{Stage, Going, Finding, Intending, Leaving, Settling, Refused, Broken}
 use Rattle.amo_course.specs.Course.{with_deed, try_of, due, stage_by_jobs, stage_heard, stage_told, stage_asking, stage_asked, stage_after, stage_after_all, AreDue, Stands, MayTry}
-use Rattle.amo_course.specs.Life.{asked_after, AsksOn}
+use Rattle.amo_course.specs.Life.{asked_after, heard_of, AsksOn}
 
 -- where it stands after all these deeds and one more
 pub stage_after_more : (s : Stage) (ds : List Deed) (d : Deed) → stage_after_all s (ds ++ d ∷ []) ≡ stage_after (stage_after_all s ds) d
@@ -110,10 +111,6 @@ module _ (s : ℕ) (way : Way) (a : ProcessView) (out : way ≡ Leave) where
   pub leaves_later : may_leave a.standing ≡ false → stage_heard s way a ≡ Going s a way
   leaves_later may = ap (λ (w : Way). stage_heard s w a) out ∙ ap (λ (b : Bool). if b then Leaving a else Going s a Leave) may ∙ ap (Going s a) (sym out)
 
--- whether the serial number is that of the intent
-pub serial_is : (n s : ℕ) (X Y : Stage) → n ≡ s → (if n == s then X else Y) ≡ X
-serial_is n s X Y e = ap (λ (b : Bool). if b then X else Y) (eq-eqb n s e)
-
 -- the asking for intents that were left
 
 -- the first of those from place k on, and the others
@@ -124,10 +121,10 @@ from_place xs k d h = drop-cons xs k d h ∙ ap (λ n. get_or xs k d ∷ drop n 
     suc_is k = omega arith
 
 -- an answer to the first of them
-pub settles : (i : Intent) (rest : List Intent) (reply : Reply) (n : ℕ) (c : Answer) (way : Way) → reply ≡ Answered n c way → n ≡ i.serial
+pub settles : (i : Intent) (rest : List Intent) (reply : Reply) (c : Answer) (way : Way) → heard_of i.serial reply ≡ Ok (Ended c way)
     → stage_asked (i ∷ rest) reply ≡ Settling i.serial c way rest
-settles i rest reply n c way is e =
-    ap (λ (r : Reply). stage_asked (i ∷ rest) r) is ∙ serial_is n i.serial (Settling i.serial c way rest) (Unanswered i.serial (Answered n c way)) e
+settles i rest (Answered n d w) c way e = search rules
+settles i rest other c way e = search rules
 
 -- what the asking comes to after an answer
 pub asks_on : (first : Stage) (x : Option (List Deed)) (way : Way) (rest : List Intent) (o : Option Asked) → o ≡ asked_after way

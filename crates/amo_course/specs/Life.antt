@@ -1,10 +1,16 @@
--- Within this crate: a process between two turns, and the asking between two questions.
-use Rattle.std.specs.Prelude.{◌≡◌, false, List, Option, Some, None}
+-- Within this crate: a process between two turns, the asking between two questions, and what is heard of an intent.
+use Rattle.std.specs.Prelude.{◌≡◌, ℕ, false, List, Option, Some, None, Result, Ok, Err, ◌==◌, if◌then◌else◌}
 use Rattle.amo_process.specs.Stepped.{is_refused}
+use Rattle.amo_course.specs.declared.answer.Heard.{Heard}
+use Rattle.amo_course.specs.declared.answer.Heard.TheVariants.{Ended, Runs, Silence}
+use Rattle.amo_course.specs.declared.answer.Reply.{Reply}
+use Rattle.amo_course.specs.declared.answer.Reply.TheVariants.{Answered, Running, Garbled, Closed}
 use Rattle.amo_course.specs.declared.answer.Way.{Way}
 use Rattle.amo_course.specs.declared.answer.Way.TheVariants.{Go, Leave}
 use Rattle.amo_course.specs.declared.model.Deed.{Deed}
 use Rattle.amo_course.specs.declared.stop.LifeEnd.{LifeEnd}
+use Rattle.amo_course.specs.declared.stop.Stop.{Stop}
+use Rattle.amo_course.specs.declared.stop.Stop.TheVariants.{NoAnswer, OtherAnswer}
 use Rattle.amo_course.specs.declared.life.Life.{Life}
 use Rattle.amo_course.specs.declared.past.Asked.{Asked}
 use Rattle.amo_course.specs.declared.past.Asked.TheVariants.{Dismissed}
@@ -39,3 +45,10 @@ asked_after Leave = Some Dismissed
 abbrev pub AsksOn : (first : Stage) → Option (List Deed) → List Intent → Option Asked → Type 0
 AsksOn first ds rest None = Stands first ds (Asking rest)
 AsksOn first ds rest (Some asked) = AsksTo first ds asked
+
+-- what is heard of intent s where this came in answer to it: what became of another intent is no answer
+abbrev pub heard_of : ℕ → Reply → Result Heard Stop
+heard_of s (Answered n c way) = if n == s then Ok (Ended c way) else Err (OtherAnswer s n)
+heard_of s (Running n way) = if n == s then Ok (Runs way) else Err (OtherAnswer s n)
+heard_of s Garbled = Err (NoAnswer s)
+heard_of s Closed = Ok Silence

@@ -1,4 +1,8 @@
 //! What a partner says of a job that it was told to perform.
+ghost use Rattle.std.specs.Prelude.{◌≡◌};
+ghost use Rattle.amo_course.specs.Life.{heard_of};
+
+use super::stop::Stop;
 
 /// What became of a job. It is noted.
 #[derive(Clone, Copy, Debug, PartialEq, Eq)]
@@ -33,4 +37,30 @@ pub enum Reply {
     Garbled,
     /// Nothing: there is nobody any more who could answer.
     Closed,
+}
+
+/// What was heard of an intent.
+#[derive(Clone, Copy, Debug, PartialEq, Eq)]
+pub(crate) enum Heard {
+    /// What became of its job.
+    Ended(Answer, Way),
+    /// That its job still runs.
+    Runs(Way),
+    /// Nothing, and nothing will be.
+    Silence,
+}
+
+impl Reply {
+    /// What this says of the intent of this serial number. What became of another intent is no answer to it.
+    pub(crate) fn heard_of(self, serial: u64) -> Result<Heard, Stop>
+        ensures { result ≡ heard_of serial self }
+    {
+        match self {
+            Reply::Answered(of, answer, way) if of == serial => Ok(Heard::Ended(answer, way)),
+            Reply::Running(of, way) if of == serial => Ok(Heard::Runs(way)),
+            Reply::Answered(of, _, _) | Reply::Running(of, _) => Err(Stop::OtherAnswer(serial, of)),
+            Reply::Garbled => Err(Stop::NoAnswer(serial)),
+            Reply::Closed => Ok(Heard::Silence),
+        }
+    }
 }

@@ -10,7 +10,7 @@ ghost use Rattle.amo_course.specs.Course.{stage_replied, first_stage, Stands, Ma
 ghost use Rattle.amo_course.specs.Stops.{EndsAt, StopsAt};
 ghost use Rattle.amo_course.specs.Life.{beginning, IsGoing, HasHeard, TurnsTo};
 
-use super::answer::{Answer, Reply, Way};
+use super::answer::{Answer, Heard, Reply, Way};
 use super::outside::Outside;
 use super::stop::{LifeEnd, Stop};
 use amo_kk::Givens;
@@ -196,24 +196,15 @@ impl Life {
         ensures turns { IfOk result (λ end. TurnsTo (beginning self.old) (O.deeds outside.new) self.new end) }
         ensures stops { IfErr result (λ e. StopsAt (beginning self.old) (O.deeds outside.new) e) }
     {
-        let serial = self.next;
-        match reply {
-            Reply::Answered(of, answer, way) => {
-                if of != serial {
-                    return Err(Stop::OtherAnswer(serial, of));
-                }
-                self.note(answer, way, outside)
-            }
-            Reply::Running(of, way) => {
-                if of != serial {
-                    return Err(Stop::OtherAnswer(serial, of));
-                }
-                self.next = serial + 1;
+        let heard = reply.heard_of(self.next)?;
+        match heard {
+            Heard::Ended(answer, way) => self.note(answer, way, outside),
+            Heard::Runs(way) => {
+                self.next += 1;
                 self.way = way;
                 Ok(None)
             }
-            Reply::Garbled => Err(Stop::NoAnswer(serial)),
-            Reply::Closed => Ok(Some(LifeEnd::Cut(serial))),
+            Heard::Silence => Ok(Some(LifeEnd::Cut(self.next))),
         }
     }
 

@@ -9,7 +9,7 @@ ghost use Rattle.amo_course.specs.Course.{with_deed, stage_asked, Stands, MayTry
 ghost use Rattle.amo_course.specs.Stops.{AsksTo, StopsAt};
 ghost use Rattle.amo_course.specs.Life.{AsksOn, asked_after};
 
-use super::answer::{Answer, Reply, Way};
+use super::answer::{Answer, Heard, Reply, Way};
 use super::outside::Failed;
 use super::stop::Stop;
 
@@ -96,25 +96,16 @@ fn hear<P: Past>(
     ensures turns { IfOk result (λ asked. AsksOn (Asking pending.now) (P.deeds past.new) (drop (k + 1) pending.now) asked) }
     ensures stops { IfErr result (λ e. StopsAt (Asking pending.now) (P.deeds past.new) e) }
 {
-    let serial = intent.serial;
-    match reply {
-        Reply::Answered(of, answer, way) => {
-            if of != serial {
-                return Err(Stop::OtherAnswer(serial, of));
-            }
-            let Ok(()) = past.note(serial, answer) else {
+    let heard = reply.heard_of(intent.serial)?;
+    match heard {
+        Heard::Ended(answer, way) => {
+            let Ok(()) = past.note(intent.serial, answer) else {
                 return Err(Stop::Failed);
             };
             Ok(asked_after(way))
         }
-        Reply::Running(of, way) => {
-            if of != serial {
-                return Err(Stop::OtherAnswer(serial, of));
-            }
-            Ok(asked_after(way))
-        }
-        Reply::Garbled => Err(Stop::NoAnswer(serial)),
-        Reply::Closed => Ok(Some(Asked::Cut(serial))),
+        Heard::Runs(way) => Ok(asked_after(way)),
+        Heard::Silence => Ok(Some(Asked::Cut(intent.serial))),
     }
 }
 
