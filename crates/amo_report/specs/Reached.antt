@@ -1,5 +1,5 @@
 -- Within this crate: which worlds are reached by how many moves.
-use Rattle.std.specs.Prelude.{◌≡◌, ℕ, ◌≤◌, List, length}
+use Rattle.std.specs.Prelude.{◌≡◌, ℕ, ◌+◌, ◌≤◌, List, length}
 use Rattle.amo_kk.specs.World.{world_of}
 use Rattle.amo_kk.specs.declared.event.Move.{Move}
 use Rattle.amo_kk.specs.declared.givens.Givens.{Givens}
