@@ -1,5 +1,6 @@
 -- The crates above lean on these too. Worlds and runs:
 pub mod Worlds
+pub mod OpenWords
 pub mod Kept
 pub mod Runs
 pub mod Steps

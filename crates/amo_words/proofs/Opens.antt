@@ -1,7 +1,6 @@
 -- How the table is opened: the words of the opening world, and what the two kinds of opening step owe.
-use Rattle.std.proofs.Common.{◌≡◌, ◌≢◌, ℕ, zero, suc, ◌+◌, ◌-◌, ◌*◌, ◌<◌, ◌==◌, ◌&&◌, List, [], ◌∷◌, ◌++◌, length, replicate, get_or, set, map, sym, refl, ap, ◌∙◌, subst, inl, inr, arith, Option, Some, None, Bool, true, false, cond, ltb, lt-ltb, le-ltb, ltb-true, ltb-false, eq-eqb, ne_eqb, length-set, append-nil, suc-mul}
-use Rattle.std.specs.List.{flat_map}
-use Rattle.std.proofs.lemmas.List.{set-get_or, length-map, map-append, replicate-append-replicate}
+use Rattle.std.proofs.Common.{◌≡◌, ◌≢◌, ℕ, zero, suc, ◌+◌, ◌-◌, ◌*◌, ◌<◌, ◌==◌, ◌&&◌, List, [], ◌∷◌, ◌++◌, length, replicate, get_or, set, map, sym, refl, ap, ◌∙◌, subst, inl, inr, arith, Option, Some, None, Bool, true, false, cond, ltb, lt-ltb, le-ltb, ltb-true, ltb-false, eq-eqb, ne_eqb, length-set}
+use Rattle.std.proofs.lemmas.List.{set-get_or, length-map}
 use mathlib.Core.Logic.{dite}
 use mathlib.Core.Option.{none, some, some-injective, some-ne-none}
 use mathlib.Core.Option as maybe
@@ -9,20 +8,19 @@ use native.Mathlib.Decide.{ℕ_discrete, dec_lt}
 use lib.ListN.{get_elem?, length-replicate}
 use Rattle.atomic_table.specs.Table.{State, Me, step, takes, gives, put_back, rest, opening, Allows}
 use Rattle.atomic_table.proofs.Lists.{set_here, set_else, at_map}
-use Rattle.std.proofs.lemmas.Grind.{flat_map-append}
-use Rattle.amo_sets.specs.Lists.{table}
 use Rattle.amo_sets.specs.Sets.{has}
 use Rattle.amo_sets.proofs.Numbers.{length-table}
 use Rattle.amo_sets.proofs.Tables.{numbered-table}
 use Rattle.amo_kk.specs.Givens.{IsWorker}
 use Rattle.amo_kk.specs.Record.{empty_record}
 use Rattle.amo_kk.specs.Choice.{first_record}
-use Rattle.amo_kk.specs.Words.{words_of, word_count}
+use Rattle.amo_kk.specs.Words.{word_count}
 use Rattle.amo_kk.specs.World.{nobody, process, first_process, opening_world, world_of}
 use Rattle.amo_kk.specs.Machine.{LocalView}
 use Rattle.amo_kk.specs.declared.givens.Givens.{Givens}
 use Rattle.amo_kk.specs.declared.model.Process.{Process}
 use Rattle.amo_kk.proofs.Choice.{choice_cases}
+use Rattle.amo_kk.proofs.OpenWords.{opening_words}
 use Rattle.amo_words.specs.declared.rule.Role.{Role}
 use Rattle.amo_words.specs.declared.rule.Role.TheVariants.{Opening, Keeping}
 use Rattle.amo_words.specs.declared.rule.Spot.{Spot}
@@ -48,25 +46,7 @@ at_same zero i a h = absurd (omega arith)
 at_same (suc n) zero a h = refl
 at_same (suc n) (suc i) a h = at_same n i a (omega arith)
 
--- the words of the opening world
-
-map_table : {X : Type 0} (f : X → ℕ) (h : ℕ → X) → ((k : ℕ) → f (h k) ≡ 0) → (n : ℕ) → map f (table n h) ≡ replicate n 0
-map_table f h zeros zero = refl
-map_table f h zeros (suc n) = map-append f (table n h) (h (suc n) ∷ []) ∙ (λ i. map_table f h zeros n i ++ zeros (suc n) i ∷ []) ∙ replicate-append-replicate n 1 0 ∙ (let e : n + 1 ≡ suc n = omega arith in ap (λ k. replicate k 0) e)
-
-flat_table : {X : Type 0} (f : X → List ℕ) (h : ℕ → X) (size : ℕ) → ((k : ℕ) → f (h k) ≡ replicate size 0) → (n : ℕ) → flat_map f (table n h) ≡ replicate (n * size) 0
-flat_table f h size rows zero = let e : 0 ≡ 0 * size = omega arith in ap (λ k. replicate k 0) e
-flat_table f h size rows (suc n) = flat_map-append f (table n h) (h (suc n) ∷ []) ∙ (λ i. flat_table f h size rows n i ++ (rows (suc n) i ++ [])) ∙ ap (λ l. replicate (n * size) 0 ++ l) (append-nil (replicate size 0)) ∙ replicate-append-replicate (n * size) size 0 ∙ (let e : n * size + size ≡ suc n * size = sym (suc-mul n size) in ap (λ k. replicate k 0) e)
-
-pub opening_words : (g : Givens) → words_of (world_of g []).processes ≡ replicate (word_count g) 0
-opening_words g =
-    (λ i. 0 ∷ map_table (λ (a : Process). a.next) (first_process g) (λ k. refl) g.workers i ++ (map_table (λ (a : Process). a.claim) (first_process g) (λ k. refl) g.workers i ++ flat_table (λ (a : Process). a.row) (first_process g) (g.jobs + 1) (λ k. refl) g.workers i))
-    ∙ ap (λ l. 0 ∷ replicate g.workers 0 ++ l) (replicate-append-replicate g.workers (g.workers * (g.jobs + 1)) 0)
-    ∙ ap (λ l. 0 ∷ l) (replicate-append-replicate g.workers (g.workers + g.workers * (g.jobs + 1)) 0)
-    ∙ ap (λ k. replicate k 0) (all g.workers g.jobs)
-  where
-    all : (m n : ℕ) → suc (m + (m + m * (n + 1))) ≡ m * (n + 3) + 1
-    all m n = grind arith
+-- the opening world
 
 opening_process : (g : Givens) (p : ℕ) → IsWorker g p → process (world_of g []) p ≡ first_process g p
 opening_process g p o = numbered-table nobody (first_process g) g.workers p o.low o.high
