@@ -2,7 +2,7 @@
 ghost use Rattle.std.specs.Prelude.{◌≡◌};
 ghost use Rattle.amo_round.specs.declared.fault.JobsFault.TheVariants.{Memory};
 
-use std::alloc::{AllocError, AllocFailed};
+use std::alloc::AllocError;
 use thiserror::Error;
 
 /// Why a line of a jobs' file is refused: the first of these, in their order, that holds of it.
@@ -46,14 +46,6 @@ impl From<AllocError> for JobsFault {
     ghost from_gives = { λ _ e. e ≡ Memory };
 
     fn from(_: AllocError) -> Self {
-        JobsFault::Memory
-    }
-}
-
-impl<T: Drop> From<AllocFailed<T>> for JobsFault {
-    ghost from_gives = { λ _ e. e ≡ Memory };
-
-    fn from(_: AllocFailed<T>) -> Self {
         JobsFault::Memory
     }
 }
