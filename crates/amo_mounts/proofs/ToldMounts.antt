@@ -93,56 +93,49 @@ told_read line point kind t =
 
 -- and what is read is told
 
-pub record IsRead (fields : List (List ℕ)) (m : MountView) : Type 0 where
-  pub first : List (List ℕ)
-  pub options : List ℕ
-  pub more : List (List ℕ)
-  pub four : length first ≡ 4
-  pub are : fields ≡ first ++ m.point ∷ options ∷ more
-  pub is_kind : behind_dash more ≡ Some m.kind
-  pub at_root : get_or m.point 0 0 ≡ 47
+-- the mount's point is at the root, and whichever path has this point, the line tells of a mount there, of the type
+abbrev IsTold : List ℕ → MountView → Type 0
+IsTold line m = (get_or m.point 0 0 ≡ 47) × ((point : List ℕ) → m.point ≡ written point → get_or point 0 0 ≡ 47 → Tells line point m.kind)
 
 no_mount : (b : Bool) (m : MountView) → cond b None None ≡ Some m → ⊥
 no_mount true m h = none_some h
 no_mount false m h = none_some h
 
-read_parts : (a b c d point options : List ℕ) (more : List (List ℕ)) (m : MountView) → mount_by point (behind_dash more) ≡ Some m → IsRead (a ∷ b ∷ c ∷ d ∷ point ∷ options ∷ more) m
-read_parts a b c d point options more m h = by_test (get_or point 0 0 == 47) refl h
+parts_told : (line a b c d text options : List ℕ) (more : List (List ℕ)) (m : MountView) → fields_of line ≡ a ∷ b ∷ c ∷ d ∷ text ∷ options ∷ more → mount_by text (behind_dash more) ≡ Some m → IsTold line m
+parts_told line a b c d text options more m are h = by_test (get_or text 0 0 == 47) refl h
   where
-    by_kind : get_or point 0 0 ≡ 47 → (o : Option (List ℕ)) → behind_dash more ≡ o → option_map (λ k. mount_at point k) o ≡ Some m → IsRead (a ∷ b ∷ c ∷ d ∷ point ∷ options ∷ more) m
+    by_kind : get_or text 0 0 ≡ 47 → (o : Option (List ℕ)) → behind_dash more ≡ o → option_map (λ k. mount_at text k) o ≡ Some m → IsTold line m
     by_kind at_root None is e = absurd (none_some e)
     by_kind at_root (Some kind) is e =
-        let same : mount_at point kind ≡ m = some_is e in
-        subst (λ (x : MountView). IsRead (a ∷ b ∷ c ∷ d ∷ point ∷ options ∷ more) x) same
-        (record { first = a ∷ b ∷ c ∷ d ∷ []; options = options; more = more; four = refl; are = refl; is_kind = is; at_root = at_root })
+        let same : mount_at text kind ≡ m = some_is e in
+        let dash : IsDashed more kind = dashed more kind is in
+        let tells : (point : List ℕ) → text ≡ written point → get_or point 0 0 ≡ 47 → Tells line point kind = λ point written_so root. record {
+          first = a ∷ b ∷ c ∷ d ∷ [];
+          options = options;
+          further = dash.further;
+          behind = dash.rest;
+          four = refl;
+          no_dash = dash.no_dash;
+          fields = are ∙ ap (λ p. a ∷ b ∷ c ∷ d ∷ p ∷ options ∷ more) written_so ∙ ap (λ fs. a ∷ b ∷ c ∷ d ∷ written point ∷ options ∷ fs) dash.are;
+          at_root = root;
+        } in
+        subst (λ (x : MountView). IsTold line x) same (at_root, tells)
 
-    by_test : (t : Bool) → (get_or point 0 0 == 47) ≡ t → cond t (option_map (λ k. mount_at point k) (behind_dash more)) None ≡ Some m → IsRead (a ∷ b ∷ c ∷ d ∷ point ∷ options ∷ more) m
+    by_test : (t : Bool) → (get_or text 0 0 == 47) ≡ t → cond t (option_map (λ k. mount_at text k) (behind_dash more)) None ≡ Some m → IsTold line m
     by_test false t e = absurd (none_some e)
-    by_test true t e = by_kind (is_equal (get_or point 0 0) 47 t) (behind_dash more) refl e
+    by_test true t e = by_kind (is_equal (get_or text 0 0) 47 t) (behind_dash more) refl e
 
-read_of : (fields : List (List ℕ)) (m : MountView) → mount_of fields ≡ Some m → IsRead fields m
-read_of [] m h = absurd (none_some h)
-read_of (a ∷ []) m h = absurd (none_some h)
-read_of (a ∷ b ∷ []) m h = absurd (none_some h)
-read_of (a ∷ b ∷ c ∷ []) m h = absurd (none_some h)
-read_of (a ∷ b ∷ c ∷ d ∷ []) m h = absurd (none_some h)
-read_of (a ∷ b ∷ c ∷ d ∷ point ∷ []) m h = absurd (no_mount (get_or point 0 0 == 47) m h)
-read_of (a ∷ b ∷ c ∷ d ∷ point ∷ options ∷ more) m h = read_parts a b c d point options more m h
+told : (line : List ℕ) (fields : List (List ℕ)) (m : MountView) → fields_of line ≡ fields → mount_of fields ≡ Some m → IsTold line m
+told line [] m are h = absurd (none_some h)
+told line (a ∷ []) m are h = absurd (none_some h)
+told line (a ∷ b ∷ []) m are h = absurd (none_some h)
+told line (a ∷ b ∷ c ∷ []) m are h = absurd (none_some h)
+told line (a ∷ b ∷ c ∷ d ∷ []) m are h = absurd (none_some h)
+told line (a ∷ b ∷ c ∷ d ∷ text ∷ []) m are h = absurd (no_mount (get_or text 0 0 == 47) m h)
+told line (a ∷ b ∷ c ∷ d ∷ text ∷ options ∷ more) m are h = parts_told line a b c d text options more m are h
 
 pub read_at_root : (line : List ℕ) (m : MountView) → mount_of (fields_of line) ≡ Some m → get_or m.point 0 0 ≡ 47
-read_at_root line m h = (read_of (fields_of line) m h).at_root
+read_at_root line m h = (told line (fields_of line) m refl h).0
 
 pub read_told : (line point : List ℕ) (m : MountView) → mount_of (fields_of line) ≡ Some m → m.point ≡ written point → get_or point 0 0 ≡ 47 → Tells line point m.kind
-read_told line point m h is at_root =
-    let r : IsRead (fields_of line) m = read_of (fields_of line) m h in
-    let d : IsDashed r.more m.kind = dashed r.more m.kind r.is_kind in
-    record {
-      first = r.first;
-      options = r.options;
-      further = d.further;
-      behind = d.rest;
-      four = r.four;
-      no_dash = d.no_dash;
-      fields = r.are ∙ ap (λ p. r.first ++ p ∷ r.options ∷ r.more) is ∙ ap (λ fs. r.first ++ written point ∷ r.options ∷ fs) d.are;
-      at_root = at_root;
-    }
+read_told line point m h is at_root = (told line (fields_of line) m refl h).1 point is at_root
