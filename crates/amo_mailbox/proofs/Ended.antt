@@ -5,7 +5,7 @@ use Rattle.std.proofs.lemmas.List.{length-map}
 use Rattle.std.proofs.lemmas.List.Sums.{sum_by-cons}
 use Rattle.std.proofs.lemmas.List.Elements.{filter-append, All-append}
 use Rattle.std.specs.List.Sorted.{IsPermutation}
-use Rattle.std.proofs.lemmas.List.Sorted.{All-permutation, sum_by-IsPermutation}
+use Rattle.std.proofs.lemmas.List.Sorted.{All-permutation, IsPermutation-sym, list_any-IsPermutation, sum_by-IsPermutation}
 use Rattle.crossbeam_queue.specs.Passes.{view}
 use Rattle.amo_mailbox.specs.declared.output.Output.{Output}
 use Rattle.amo_mailbox.specs.declared.outlet.Outlet.{Outlet}
@@ -96,14 +96,31 @@ module _ {Out : Type 0} where
   pub kept_same : (os os' : List (Outlet Out)) → map worker_and_kept os' ≡ map worker_and_kept os → flat_map (λ o. o.kept) os' ≡ flat_map (λ o. o.kept) os
   kept_same os os' e = flat_left os' ∙ ap all_of e ∙ sym (flat_left os)
 
-  -- what sorted outlets sent and kept is what these outlets were given
-  pub gathered_room : (queue : Queue Out) (os sorted after : List (Outlet Out)) (back : List (ℕ × List (Output Out))) → IsPermutation os sorted → All (λ o. IsOutletOf queue o) os → back ≡ map worker_and_sent sorted → map worker_and_kept after ≡ map worker_and_kept sorted
-      → sum_by (λ e. length e.1) back + sum_by (λ o. length o.kept) after ≡ sum_by (λ o. o.put_count) os
-  gathered_room queue os sorted after back perm belong is kept =
+-- outlets, sorted, whose passes have brought back what they sent, and what they keep after that
+module _ {Out : Type 0} (queue : Queue Out) (os sorted after : List (Outlet Out)) (back : List (ℕ × List (Output Out))) (perm : IsPermutation os sorted) (belong : All (λ o. IsOutletOf queue o) os) (is : back ≡ map worker_and_sent sorted) (kept : map worker_and_kept after ≡ map worker_and_kept sorted) where
+  each_belongs : All (λ o. IsOutletOf queue o) sorted
+  each_belongs = All-permutation (λ (o : Outlet Out). IsOutletOf queue o) os sorted perm belong
+
+  -- what they sent and kept is what these outlets were given
+  pub gathered_room : sum_by (λ e. length e.1) back + sum_by (λ o. length o.kept) after ≡ sum_by (λ o. o.put_count) os
+  gathered_room =
       let len : ℕ × List (Output Out) → ℕ = λ e. length e.1 in
-      let each : All (λ o. IsOutletOf queue o) sorted = All-permutation (λ (o : Outlet Out). IsOutletOf queue o) os sorted perm belong in
       let same : sum_by len back ≡ sum_by len (map worker_and_sent sorted) = ap (sum_by len) is in
       let left : sum_by (λ (o : Outlet Out). length o.kept) after ≡ sum_by len (map worker_and_kept sorted) = kept_len after ∙ ap (sum_by len) kept in
-      let all = room_of sorted (λ k d lt. (each k d lt).counted) in
+      let all = room_of sorted (λ k d lt. (each_belongs k d lt).counted) in
       let count : sum_by (λ (o : Outlet Out). o.put_count) sorted ≡ sum_by (λ (o : Outlet Out). o.put_count) os = sum_by-IsPermutation (λ (o : Outlet Out). o.put_count) os sorted perm in
       let goal : sum_by len back + sum_by (λ (o : Outlet Out). length o.kept) after ≡ sum_by (λ (o : Outlet Out). o.put_count) os = omega arith in goal
+
+  -- of each outlet it is what that was given
+  pub sorted_each : (front : List (Output Out)) → AreWhole front back → AreApart back → All (λ o. of o.worker (front ++ flat_map (λ o. o.kept) after) ≡ given o) os
+  sorted_each front whole apart =
+      All-permutation (λ (o : Outlet Out). of o.worker (front ++ flat_map (λ (o : Outlet Out). o.kept) after) ≡ given o) sorted os (IsPermutation-sym os sorted perm)
+      (gathered_each sorted after front kept (subst (λ (b : List (ℕ × List (Output Out))). AreWhole front b) is whole) (subst (λ (b : List (ℕ × List (Output Out))). AreApart b) is apart)
+      (λ k d lt. (each_belongs k d lt).kept_of))
+
+  -- and it is of these outlets alone
+  pub sorted_only : (front : List (Output Out)) → All (λ x. has_worker after x.worker ≡ true) front → All (λ x. has_worker os x.worker ≡ true) (front ++ flat_map (λ o. o.kept) after)
+  sorted_only front only k d lt =
+      let all : List (Output Out) = front ++ flat_map (λ (o : Outlet Out). o.kept) after in
+      list_any-IsPermutation (λ (o : Outlet Out). eqb (get_or all k d).worker o.worker) os sorted perm
+      ∙ gathered_only sorted after front kept (λ k d lt. (each_belongs k d lt).kept_of) only k d lt
