@@ -17,7 +17,7 @@ fn push_jobs(out: &mut String, heads: &Heads) -> Result<(), AllocError> {
 }
 
 /// What a plan asks for: its version, jobs, workers, threshold, moves and rounds.
-pub fn asked_of(alloc: Global, heads: &Heads) -> Result<String, AllocError> {
+pub(crate) fn asked_of(alloc: Global, heads: &Heads) -> Result<String, AllocError> {
     let mut out = String::new(alloc);
     let version = heads.version;
     let beta = heads.givens.beta;

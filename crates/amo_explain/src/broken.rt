@@ -216,7 +216,7 @@ fn push_why(out: &mut String, bytes: &[u8], index: usize, message: &str) -> Resu
 }
 
 /// Appends where and why TOML doesn't read these bytes.
-pub fn push_broken(alloc: Global, out: &mut String, bytes: &[u8]) -> Result<(), AllocError> {
+pub(crate) fn push_broken(alloc: Global, out: &mut String, bytes: &[u8]) -> Result<(), AllocError> {
     let error = match toml::table_from_slice(alloc, bytes) {
         Ok(_) => return Ok(()),
         Err(error) => error,

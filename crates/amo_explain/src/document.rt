@@ -6,18 +6,18 @@ use toml::{Table, Value};
 
 /// A text that TOML reads.
 #[derive(Drop)]
-pub struct Document<'a> {
+pub(crate) struct Document<'a> {
     /// The text.
-    pub text: &'a str,
+    pub(crate) text: &'a str,
     /// Its tree.
-    pub tree: Table,
+    pub(crate) tree: Table,
     /// The keys that it names, in its order.
-    pub names: Vec<Named>,
+    pub(crate) names: Vec<Named>,
 }
 
 impl<'a> Document<'a> {
     /// The document of these bytes, if TOML reads them.
-    pub fn read(alloc: Global, bytes: &'a [u8]) -> Result<Option<Document<'a>>, AllocError> {
+    pub(crate) fn read(alloc: Global, bytes: &'a [u8]) -> Result<Option<Document<'a>>, AllocError> {
         let Ok(text) = std::str::from_utf8(bytes) else {
             return Ok(None);
         };
@@ -32,17 +32,17 @@ impl<'a> Document<'a> {
     }
 
     /// The value at a key of the top level.
-    pub fn value(&self, key: &str) -> Option<&Value> {
+    pub(crate) fn value(&self, key: &str) -> Option<&Value> {
         self.tree.get(key)
     }
 
     /// The integer at a key of the top level, if it isn't negative.
-    pub fn natural(&self, key: &str) -> Option<u64> {
+    pub(crate) fn natural(&self, key: &str) -> Option<u64> {
         natural(self.value(key)?)
     }
 
     /// The text at a key of the top level, empty where there is none.
-    pub fn text_at(&self, key: &str) -> &str {
+    pub(crate) fn text_at(&self, key: &str) -> &str {
         match self.value(key) {
             Some(Value::String(text)) => text.as_str(),
             _ => "",
@@ -50,7 +50,7 @@ impl<'a> Document<'a> {
     }
 
     /// The jobs.
-    pub fn jobs(&self) -> &[Value] {
+    pub(crate) fn jobs(&self) -> &[Value] {
         match self.value("job") {
             Some(Value::Array(jobs)) => jobs.as_slice(),
             _ => &[],
@@ -58,7 +58,7 @@ impl<'a> Document<'a> {
     }
 
     /// The table of a job, or of the top level for 0.
-    pub fn table(&self, job: u32) -> Option<&Table> {
+    pub(crate) fn table(&self, job: u32) -> Option<&Table> {
         if job == 0 {
             return Some(&self.tree);
         }
@@ -66,17 +66,17 @@ impl<'a> Document<'a> {
     }
 
     /// The value at a key of a job.
-    pub fn value_of_job(&self, job: u32, key: &str) -> Option<&Value> {
+    pub(crate) fn value_of_job(&self, job: u32, key: &str) -> Option<&Value> {
         self.table(job)?.get(key)
     }
 
     /// The name of a job.
-    pub fn name_of_job(&self, job: u32) -> Option<&str> {
+    pub(crate) fn name_of_job(&self, job: u32) -> Option<&str> {
         self.value_of_job(job, "name")?.as_str()
     }
 
     /// The line, from 1, of what has so many bytes of the text left.
-    pub fn line_at(&self, left: usize) -> usize {
+    pub(crate) fn line_at(&self, left: usize) -> usize {
         let before = self.text.len().saturating_sub(left);
         let mut line = 1usize;
         for (i, byte) in self.text.as_bytes().iter().enumerate() {
@@ -91,7 +91,7 @@ impl<'a> Document<'a> {
     }
 
     /// The line of a key of a job, or of the top level for 0, where it was found.
-    pub fn line_of(&self, job: u32, key: &str) -> Option<usize> {
+    pub(crate) fn line_of(&self, job: u32, key: &str) -> Option<usize> {
         for name in self.names.iter() {
             if name.job == job && name.key.as_str() == key {
                 return Some(self.line_at(name.left));
@@ -101,7 +101,7 @@ impl<'a> Document<'a> {
     }
 
     /// The line in which a job begins, where it was found.
-    pub fn line_of_job(&self, job: u32) -> Option<usize> {
+    pub(crate) fn line_of_job(&self, job: u32) -> Option<usize> {
         let mut begun = 0u32;
         for name in self.names.iter() {
             if matches!(name.form, Form::List | Form::Member)
@@ -118,7 +118,7 @@ impl<'a> Document<'a> {
     }
 
     /// Appends a job by its number, and by its name where it has one.
-    pub fn push_job(&self, out: &mut String, job: u32) -> Result<(), AllocError> {
+    pub(crate) fn push_job(&self, out: &mut String, job: u32) -> Result<(), AllocError> {
         write!(out, "job {job}")?;
         match self.name_of_job(job) {
             Some(name) => {
@@ -132,6 +132,6 @@ impl<'a> Document<'a> {
 }
 
 /// An integer that isn't negative.
-pub fn natural(value: &Value) -> Option<u64> {
+pub(crate) fn natural(value: &Value) -> Option<u64> {
     u64::try_from(value.as_integer()?).ok()
 }

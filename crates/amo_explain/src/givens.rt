@@ -1,7 +1,7 @@
 //! Why numbers of jobs and workers and a threshold are no givens.
 use crate::document::Document;
 use crate::wording::push_line;
-use amo_kk::GivensFault;
+use amo_kk::{GivensFault, MAX_BETA, MAX_JOBS, MAX_WORKERS};
 use std::alloc::AllocError;
 
 /// Appends the key of a number, and what it is.
@@ -11,24 +11,25 @@ fn push_number(out: &mut String, document: &Document<'_>, key: &str) -> Result<(
     write!(out, "`{key}` is {number}")
 }
 
-/// Appends that there are too many jobs, or blocks of them.
+/// Appends that there are too many jobs, or blocks of them, and how many jobs a block has to have.
 fn push_many_jobs(out: &mut String, document: &Document<'_>) -> Result<(), AllocError> {
-    let jobs = document.jobs().len();
+    let jobs = document.jobs().len() as u64;
+    let block = jobs.div_ceil(MAX_JOBS as u64);
     if document.natural("version") == Some(2) {
         write!(
             out,
-            "{jobs} jobs make more than 4096 blocks, the most that a plan has. Write a larger `block`.\n"
+            "{jobs} jobs make more than {MAX_JOBS} blocks, the most that a plan has. Write `block = {block}`, or more.\n"
         )
     } else {
         write!(
             out,
-            "There are {jobs} jobs, and a plan has at most 4096. In version 2 a block of jobs counts as one: write `version = 2` and `block = 2`.\n"
+            "There are {jobs} jobs, and a plan has at most {MAX_JOBS}. In version 2 a block of jobs counts as one: write `version = 2` and `block = {block}`.\n"
         )
     }
 }
 
 /// Appends why the givens are none.
-pub fn push_bad_givens(
+pub(crate) fn push_bad_givens(
     out: &mut String,
     document: &Document<'_>,
     fault: GivensFault,
@@ -37,7 +38,7 @@ pub fn push_bad_givens(
         GivensFault::TooManyJobs => push_many_jobs(out, document),
         GivensFault::NoWorkers | GivensFault::TooManyWorkers => {
             push_number(out, document, "workers")?;
-            out.push_str(", and a plan has 1 to 16 workers.\n")
+            write!(out, ", and a plan has 1 to {MAX_WORKERS} workers.\n")
         }
         GivensFault::BetaLow => {
             let workers = document.natural("workers").unwrap_or(0);
@@ -49,7 +50,7 @@ pub fn push_bad_givens(
         }
         GivensFault::BetaHigh => {
             push_number(out, document, "beta")?;
-            out.push_str(", and may be at most 65535.\n")
+            write!(out, ", and may be at most {MAX_BETA}.\n")
         }
     }
 }

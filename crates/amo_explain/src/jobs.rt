@@ -19,7 +19,7 @@ fn namesake(document: &Document<'_>, job: u32) -> Option<u32> {
 }
 
 /// Appends that a job has the name of an earlier one.
-pub fn push_two_names(
+pub(crate) fn push_two_names(
     out: &mut String,
     document: &Document<'_>,
     job: u32,
@@ -62,7 +62,7 @@ fn push_wrong(out: &mut String, c: char) -> Result<(), AllocError> {
 }
 
 /// Appends that the name of a job is none.
-pub fn push_bad_name(
+pub(crate) fn push_bad_name(
     out: &mut String,
     document: &Document<'_>,
     job: u32,
@@ -80,7 +80,7 @@ pub fn push_bad_name(
 }
 
 /// Appends that the numbers of a job add up to too much.
-pub fn push_large_sum(
+pub(crate) fn push_large_sum(
     out: &mut String,
     document: &Document<'_>,
     job: u32,

@@ -13,6 +13,9 @@ const TOP_KEYS: [&str; 8] = [
 /// The keys of a job.
 const JOB_KEYS: [&str; 3] = ["name", "say", "add"];
 
+/// A longer key is near none.
+const LONGEST_NEAR: usize = 40;
+
 /// Whether these keys have the key.
 fn has(keys: &[&str], key: &str) -> bool {
     keys.iter().any(|known| *known == key)
@@ -56,7 +59,7 @@ fn nearest(
     keys: &'static [&'static str],
     key: &str,
 ) -> Result<Option<&'static str>, AllocError> {
-    if key.len() > 40 {
+    if key.len() > LONGEST_NEAR {
         return Ok(None);
     }
     let small = key.to_ascii_lowercase(alloc)?;
@@ -164,7 +167,7 @@ fn push_unknown_in_job(
 }
 
 /// Appends which key no plan has, in a job, or at the top level for 0.
-pub fn push_unknown_key(
+pub(crate) fn push_unknown_key(
     alloc: Global,
     out: &mut String,
     document: &Document<'_>,
@@ -208,7 +211,7 @@ fn push_missing_at_top(out: &mut String, document: &Document<'_>) -> Result<(), 
 }
 
 /// Appends which key is missing in a job, or at the top level for 0.
-pub fn push_missing_key(
+pub(crate) fn push_missing_key(
     out: &mut String,
     document: &Document<'_>,
     job: u32,

@@ -5,6 +5,9 @@ use crate::wording::{kind_of, push_count, push_line};
 use std::alloc::AllocError;
 use toml::Value;
 
+/// The most jobs of a block.
+const MOST_IN_BLOCK: i64 = 4096;
+
 /// Appends what a value is that has to be a whole number, and not negative.
 fn push_no_natural(out: &mut String, value: &Value) -> Result<(), AllocError> {
     match value {
@@ -60,13 +63,13 @@ fn push_block(out: &mut String, document: &Document<'_>) -> Result<bool, AllocEr
     let Some(Value::Integer(block)) = document.value("block") else {
         return Ok(false);
     };
-    if 1 <= *block && *block <= 4096 {
+    if 1 <= *block && *block <= MOST_IN_BLOCK {
         return Ok(false);
     }
     push_line(out, document.line_of(0, "block"))?;
     write!(
         out,
-        "`block` is {block}, and has to be 1 to 4096. Write how many jobs make a block, as `block = 4`, or leave it out.\n"
+        "`block` is {block}, and has to be 1 to {MOST_IN_BLOCK}. Write how many jobs make a block, as `block = 4`, or leave it out.\n"
     )?;
     Ok(true)
 }
@@ -273,7 +276,7 @@ fn push_kind_in_job(out: &mut String, document: &Document<'_>, job: u32) -> Resu
 }
 
 /// Appends which value is of another kind than its key has, in a job, or at the top level for 0.
-pub fn push_wrong_kind(
+pub(crate) fn push_wrong_kind(
     out: &mut String,
     document: &Document<'_>,
     job: u32,

@@ -7,7 +7,7 @@ use crate::keys::{push_missing_key, push_unknown_key};
 use crate::kinds::push_wrong_kind;
 use crate::limits::push_too_long;
 use crate::schedule::{push_bad_word, push_no_worker};
-use amo_plan::PlanFault;
+use amo_plan::{MOST_BYTES, PlanFault};
 use std::alloc::{AllocError, Global};
 
 /// Appends why a document is no plan.
@@ -33,13 +33,17 @@ fn push_reason(
 }
 
 /// Why these bytes are no plan, as this fault says it.
-pub fn reason_of(alloc: Global, bytes: &[u8], fault: &PlanFault) -> Result<String, AllocError> {
+pub(crate) fn reason_of(
+    alloc: Global,
+    bytes: &[u8],
+    fault: &PlanFault,
+) -> Result<String, AllocError> {
     let mut out = String::new(alloc);
     let size = bytes.len();
-    if size > 1_048_576 {
+    if size > MOST_BYTES {
         write!(
             out,
-            "The text has {size} bytes, and a plan has at most 1048576.\n"
+            "The text has {size} bytes, and a plan has at most {MOST_BYTES}.\n"
         )?;
         return Ok(out);
     }

@@ -1,7 +1,7 @@
 //! What is wrong with a word of the schedule.
 use crate::document::Document;
 use crate::wording::{push_count, push_line, push_quoted};
-use amo_plan::number_within;
+use amo_plan::{HIGHEST_IN_WORD, number_within};
 use std::alloc::{AllocError, Global};
 
 /// Whether the byte parts words.
@@ -26,7 +26,7 @@ fn word_in(text: &str, place: u64) -> &str {
 
 /// The number that a part of a word is.
 fn number(text: &str) -> Option<u64> {
-    number_within(1, 999_999, text.as_bytes())
+    number_within(1, HIGHEST_IN_WORD, text.as_bytes())
 }
 
 /// How many moves a word is, if it is one.
@@ -38,7 +38,7 @@ fn count_in(word: &str) -> u64 {
 }
 
 /// How many moves a schedule has, each word of which is one.
-pub fn moves_in(text: &str) -> u64 {
+pub(crate) fn moves_in(text: &str) -> u64 {
     let mut moves = 0u64;
     for word in text.as_bytes().split(|byte| is_space(*byte)) {
         if !word.is_empty() {
@@ -150,7 +150,7 @@ fn push_word(
 }
 
 /// Appends that the word in this place of the schedule is none.
-pub fn push_bad_word(
+pub(crate) fn push_bad_word(
     alloc: Global,
     out: &mut String,
     document: &Document<'_>,
@@ -176,7 +176,7 @@ fn turned(workers: u64, word: &str) -> Option<(u64, u64)> {
 }
 
 /// Appends that the word in this place of the schedule names a worker that there isn't.
-pub fn push_no_worker(
+pub(crate) fn push_no_worker(
     out: &mut String,
     document: &Document<'_>,
     place: u32,

@@ -5,7 +5,7 @@ use toml_parser::{Key, ParseError, dotted_key, quoted, starts_string};
 
 /// How a key stands in the text.
 #[derive(Clone, Copy, Debug, PartialEq, Eq)]
-pub enum Form {
+pub(crate) enum Form {
     /// `key = value`.
     Pair,
     /// `[key]`.
@@ -18,15 +18,15 @@ pub enum Form {
 
 /// A key that the text names.
 #[derive(Debug, Drop)]
-pub struct Named {
+pub(crate) struct Named {
     /// The job that it is a key of, from 1, or 0 for the top level.
-    pub job: u32,
+    pub(crate) job: u32,
     /// The key.
-    pub key: String,
+    pub(crate) key: String,
     /// How it stands there.
-    pub form: Form,
+    pub(crate) form: Form,
     /// How many bytes of the text are left where it stands.
-    pub left: usize,
+    pub(crate) left: usize,
 }
 
 /// Whose keys come next.
@@ -42,13 +42,6 @@ enum Place {
     List,
     /// Those of the job that is a member of that list.
     Member,
-}
-
-/// Where a walk over the text is: whose keys come next, and how many jobs have begun.
-#[derive(Clone, Copy, Debug, PartialEq, Eq)]
-struct At {
-    place: Place,
-    job: u32,
 }
 
 /// What follows the first character, an ASCII one; nothing where it is another.
@@ -141,155 +134,152 @@ fn second_part(key: &Key) -> Option<&str> {
     }
 }
 
-/// Notes a key.
-fn note(
-    names: &mut Vec<Named>,
+/// What follows the brackets at the front: two around the name of a list, else one.
+fn after_brackets(text: &str, form: Form) -> &str {
+    let rest = after_byte(text);
+    if form == Form::List {
+        after_byte(rest)
+    } else {
+        rest
+    }
+}
+
+/// A walk over a text: the keys that it came by, whose keys come next, how many jobs have begun, and what is left of the text.
+#[derive(Drop)]
+struct Walk<'a> {
     alloc: Global,
+    names: Vec<Named>,
+    place: Place,
     job: u32,
-    key: &str,
-    form: Form,
-    left: usize,
-) -> Result<(), AllocError> {
-    let key = String::from_str(alloc, key)?;
-    names.push(Named {
-        job,
-        key,
-        form,
-        left,
-    })?;
-    Ok(())
-}
-
-/// Goes over a key and its value.
-fn walk_pair<'a>(
-    alloc: Global,
-    names: &mut Vec<Named>,
-    at: At,
     rest: &'a str,
-) -> Result<(At, &'a str), AllocError> {
-    let Some((key, after)) = key_at(alloc, rest)? else {
-        return Ok((at, ""));
-    };
-    let value = skip_ws(after_byte(after));
-    let part = first_part(&key);
-    let job = if at.place == Place::Top { 0 } else { at.job };
-    if at.place != Place::Elsewhere {
-        note(names, alloc, job, part, Form::Pair, rest.len())?;
-    }
-    let is_list = at.place == Place::Top && part == "job" && first(value) == b'[';
-    if is_list {
-        let place = Place::List;
-        return Ok((At { place, job: at.job }, after_byte(value)));
-    }
-    let after = after_value(alloc, value)?;
-    Ok((at, after))
 }
 
-/// Notes the key of a header, and gives where the walk is below it.
-fn note_header(
-    alloc: Global,
-    names: &mut Vec<Named>,
-    at: At,
-    key: &Key,
-    form: Form,
-    left: usize,
-) -> Result<At, AllocError> {
-    let part = first_part(key);
-    match second_part(key) {
-        None if part == "job" && form == Form::List => {
-            note(names, alloc, 0, part, form, left)?;
-            let job = at.job.saturating_add(1);
-            let place = Place::Job;
-            return Ok(At { place, job });
-        }
-        Some(second) if part == "job" => note(names, alloc, at.job, second, form, left)?,
-        _ => note(names, alloc, 0, part, form, left)?,
-    }
-    let place = Place::Elsewhere;
-    Ok(At { place, job: at.job })
-}
-
-/// Goes over a header.
-fn walk_header<'a>(
-    alloc: Global,
-    names: &mut Vec<Named>,
-    at: At,
-    rest: &'a str,
-) -> Result<(At, &'a str), AllocError> {
-    let is_list = byte_at(rest, 1) == b'[';
-    let form = if is_list { Form::List } else { Form::Table };
-    let inner = after_byte(rest);
-    let inner = if is_list { after_byte(inner) } else { inner };
-    let Some((key, after)) = key_at(alloc, skip_ws(inner))? else {
-        return Ok((at, ""));
-    };
-    let at = note_header(alloc, names, at, &key, form, rest.len())?;
-    let after = after_byte(after);
-    let after = if is_list { after_byte(after) } else { after };
-    Ok((at, after))
-}
-
-/// Goes over a part of the list of jobs.
-fn walk_list<'a>(
-    alloc: Global,
-    names: &mut Vec<Named>,
-    at: At,
-    rest: &'a str,
-) -> Result<(At, &'a str), AllocError> {
-    match first(rest) {
-        b'{' => {
-            note(names, alloc, 0, "job", Form::Member, rest.len())?;
-            let job = at.job.saturating_add(1);
-            let place = Place::Member;
-            Ok((At { place, job }, after_byte(rest)))
-        }
-        b']' => {
-            let place = Place::Top;
-            Ok((At { place, job: at.job }, after_byte(rest)))
-        }
-        b',' | b'}' => Ok((at, after_byte(rest))),
-        _ => {
-            let after = after_value(alloc, rest)?;
-            Ok((at, after))
+impl<'a> Walk<'a> {
+    /// The walk before its first key.
+    fn new(alloc: Global, text: &'a str) -> Walk<'a> {
+        Walk {
+            alloc,
+            names: Vec::new(alloc),
+            place: Place::Top,
+            job: 0,
+            rest: after_mark(text),
         }
     }
-}
 
-/// Goes over one key, or over a bracket or comma between keys.
-fn walk_on<'a>(
-    alloc: Global,
-    names: &mut Vec<Named>,
-    at: At,
-    rest: &'a str,
-) -> Result<(At, &'a str), AllocError> {
-    if at.place == Place::List {
-        return walk_list(alloc, names, at, rest);
+    /// Notes a key that stands here.
+    fn note(&mut self, job: u32, key: &str, form: Form) -> Result<(), AllocError> {
+        let key = String::from_str(self.alloc, key)?;
+        let left = self.rest.len();
+        self.names.push(Named {
+            job,
+            key,
+            form,
+            left,
+        })?;
+        Ok(())
     }
-    match first(rest) {
-        b'}' => {
-            let place = Place::List;
-            Ok((At { place, job: at.job }, after_byte(rest)))
+
+    /// Notes that a job begins here, whose keys come next.
+    fn begin_job(&mut self, form: Form, place: Place) -> Result<(), AllocError> {
+        self.note(0, "job", form)?;
+        self.job = self.job.saturating_add(1);
+        self.place = place;
+        Ok(())
+    }
+
+    /// Goes over a key and its value.
+    fn pass_pair(&mut self) -> Result<(), AllocError> {
+        let Some((key, after)) = key_at(self.alloc, self.rest)? else {
+            self.rest = "";
+            return Ok(());
+        };
+        let value = skip_ws(after_byte(after));
+        let part = first_part(&key);
+        let job = if self.place == Place::Top {
+            0
+        } else {
+            self.job
+        };
+        if self.place != Place::Elsewhere {
+            self.note(job, part, Form::Pair)?;
         }
-        b',' | b']' => Ok((at, after_byte(rest))),
-        b'[' => walk_header(alloc, names, at, rest),
-        _ => walk_pair(alloc, names, at, rest),
+        if self.place == Place::Top && part == "job" && first(value) == b'[' {
+            self.place = Place::List;
+            self.rest = after_byte(value);
+        } else {
+            self.rest = after_value(self.alloc, value)?;
+        }
+        Ok(())
+    }
+
+    /// Notes the key of a header.
+    fn note_header(&mut self, key: &Key, form: Form) -> Result<(), AllocError> {
+        let part = first_part(key);
+        match second_part(key) {
+            None if part == "job" && form == Form::List => {
+                return self.begin_job(form, Place::Job);
+            }
+            Some(second) if part == "job" => self.note(self.job, second, form)?,
+            _ => self.note(0, part, form)?,
+        }
+        self.place = Place::Elsewhere;
+        Ok(())
+    }
+
+    /// Goes over a header.
+    fn pass_header(&mut self) -> Result<(), AllocError> {
+        let is_list = byte_at(self.rest, 1) == b'[';
+        let form = if is_list { Form::List } else { Form::Table };
+        let inner = skip_ws(after_brackets(self.rest, form));
+        let Some((key, after)) = key_at(self.alloc, inner)? else {
+            self.rest = "";
+            return Ok(());
+        };
+        self.note_header(&key, form)?;
+        self.rest = after_brackets(after, form);
+        Ok(())
+    }
+
+    /// Goes over a part of the list of jobs.
+    fn pass_member(&mut self) -> Result<(), AllocError> {
+        match first(self.rest) {
+            b'{' => self.begin_job(Form::Member, Place::Member)?,
+            b']' => self.place = Place::Top,
+            b',' | b'}' => {}
+            _ => {
+                self.rest = after_value(self.alloc, self.rest)?;
+                return Ok(());
+            }
+        }
+        self.rest = after_byte(self.rest);
+        Ok(())
+    }
+
+    /// Goes over one key, or over a bracket or comma between keys.
+    fn pass_one(&mut self) -> Result<(), AllocError> {
+        if self.place == Place::List {
+            return self.pass_member();
+        }
+        match first(self.rest) {
+            b'}' => self.place = Place::List,
+            b',' | b']' => {}
+            b'[' => return self.pass_header(),
+            _ => return self.pass_pair(),
+        }
+        self.rest = after_byte(self.rest);
+        Ok(())
     }
 }
 
 /// The keys that a text names, in its order. A text that TOML doesn't read is walked over as far as it can be.
-pub fn names_in(alloc: Global, text: &str) -> Result<Vec<Named>, AllocError> {
-    let mut names = Vec::new(alloc);
-    let place = Place::Top;
-    let mut at = At { place, job: 0 };
-    let mut rest = after_mark(text);
+pub(crate) fn names_in(alloc: Global, text: &str) -> Result<Vec<Named>, AllocError> {
+    let mut walk = Walk::new(alloc, text);
     for _step in 0..text.len() {
-        rest = skip_blank(rest, true);
-        if rest.is_empty() {
+        walk.rest = skip_blank(walk.rest, true);
+        if walk.rest.is_empty() {
             break;
         }
-        let (next, after) = walk_on(alloc, &mut names, at, rest)?;
-        at = next;
-        rest = after;
+        walk.pass_one()?;
     }
-    Ok(names)
+    Ok(walk.names)
 }

@@ -16,7 +16,7 @@ fn push_char(out: &mut String, c: char) -> Result<(), AllocError> {
 }
 
 /// Appends a text between backticks, the front of a long one.
-pub fn push_quoted(out: &mut String, text: &str) -> Result<(), AllocError> {
+pub(crate) fn push_quoted(out: &mut String, text: &str) -> Result<(), AllocError> {
     out.push('`')?;
     for (i, c) in text.chars().enumerate() {
         if i == SHOWN {
@@ -29,7 +29,7 @@ pub fn push_quoted(out: &mut String, text: &str) -> Result<(), AllocError> {
 }
 
 /// Appends the line in which something stands, where it was found.
-pub fn push_line(out: &mut String, line: Option<usize>) -> Result<(), AllocError> {
+pub(crate) fn push_line(out: &mut String, line: Option<usize>) -> Result<(), AllocError> {
     match line {
         Some(line) => write!(out, "Line {line}: "),
         None => Ok(()),
@@ -37,13 +37,18 @@ pub fn push_line(out: &mut String, line: Option<usize>) -> Result<(), AllocError
 }
 
 /// Appends a number and the word for what it counts.
-pub fn push_count(out: &mut String, count: u64, one: &str, many: &str) -> Result<(), AllocError> {
+pub(crate) fn push_count(
+    out: &mut String,
+    count: u64,
+    one: &str,
+    many: &str,
+) -> Result<(), AllocError> {
     let word = if count == 1 { one } else { many };
     write!(out, "{count} {word}")
 }
 
 /// What kind of value this is.
-pub fn kind_of(value: &Value) -> &'static str {
+pub(crate) fn kind_of(value: &Value) -> &'static str {
     match value {
         Value::String(_) => "a text",
         Value::Integer(_) => "an integer",
