@@ -2,20 +2,21 @@
 use Rattle.std.specs.Prelude.{ℕ, List, ◌++◌, codes}
 use Rattle.std.specs.Fmt.{decimal}
 
--- the parts ` x="X"` and ` y="Y"`, after the quote that ends the part before
-unfoldable pub x_part : ℕ → List ℕ
-x_part x = codes "\" x=\"" ++ decimal x
+-- ` NAME="VALUE`, after what is before, whose last quote comes first
+unfoldable pub attribute : List ℕ → ℕ → List ℕ
+attribute name value = codes "\" " ++ name ++ codes "=\"" ++ decimal value
 
-unfoldable pub y_part : ℕ → List ℕ
-y_part y = codes "\" y=\"" ++ decimal y ++ codes "\">"
+-- two of them, and the end of their tag
+unfoldable pub two_attributes : List ℕ → ℕ → List ℕ → ℕ → List ℕ
+two_attributes first a second b = attribute first a ++ attribute second b ++ codes "\">"
 
 -- `<text class="C" x="X" y="Y">`
 unfoldable pub text_start : List ℕ → ℕ → ℕ → List ℕ
-text_start c x y = codes "<text class=\"" ++ c ++ x_part x ++ y_part y
+text_start c x y = codes "<text class=\"" ++ c ++ two_attributes (codes "x") x (codes "y") y
 
 -- `<text class="C" text-anchor="end" x="X" y="Y">`
 unfoldable pub before_start : List ℕ → ℕ → ℕ → List ℕ
-before_start c x y = codes "<text class=\"" ++ c ++ codes "\" text-anchor=\"end" ++ x_part x ++ y_part y
+before_start c x y = codes "<text class=\"" ++ c ++ codes "\" text-anchor=\"end" ++ two_attributes (codes "x") x (codes "y") y
 
 -- words that begin at a place
 abbrev pub text : List ℕ → ℕ → ℕ → List ℕ → List ℕ
@@ -29,13 +30,9 @@ number_before c x y n = before_start c x y ++ decimal n ++ codes "</text>\n"
 unfoldable pub area_start : List ℕ → List ℕ
 area_start c = codes "<path class=\"" ++ c ++ codes "\" d=\""
 
--- the part ` stroke-width="W"`
-unfoldable pub width_part : ℕ → List ℕ
-width_part w = codes "\" stroke-width=\"" ++ decimal w
-
 -- `<path class="lC" stroke-width="W" d="`
 unfoldable pub stroke_start : List ℕ → ℕ → List ℕ
-stroke_start c w = codes "<path class=\"l" ++ c ++ width_part w ++ codes "\" d=\""
+stroke_start c w = codes "<path class=\"l" ++ c ++ attribute (codes "stroke-width") w ++ codes "\" d=\""
 
 -- `<path class="lC" stroke-dasharray="1 3" d="`
 unfoldable pub dotted_start : List ℕ → List ℕ

@@ -5,8 +5,10 @@ use Rattle.amo_kk.specs.World.{process}
 use Rattle.amo_kk.specs.declared.event.Event.{Event}
 use Rattle.amo_kk.specs.declared.model.World.{World}
 use Rattle.amo_texts.specs.Happened.{is_claim_of, is_done_of, state_of}
+use Rattle.amo_trace.specs.declared.wording.Wording.TheVariants.{LanesKey, BarsKey, HandsKey, LinesKey, CrossesKey}
 use Rattle.amo_trace.specs.Elements.{text, text_start}
 use Rattle.amo_trace.specs.Marks.{lane}
+use Rattle.amo_trace.specs.Wording.{fixed_text}
 
 -- `STATE turns T`, as the report's line of worker p has it
 unfoldable pub state_text : List Event → ℕ → ℕ → ℕ → List ℕ
@@ -30,22 +32,11 @@ lane_feet w y zero = []
 lane_feet w y (suc n) = lane_feet w y n ++ lane_foot w y (suc n)
 
 -- what the marks say, below height y
-unfoldable pub key_of_lanes : ℕ → List ℕ
-key_of_lanes y =
-    text (codes "f") 16 (y + 44) (codes "A lane is a worker, a row a move. Disc: it announces a job, and the wide")
-    ++ text (codes "f") 16 (y + 60) (codes "bar is how long that stands. Squares: it claims a job, then has done it;")
-    ++ text (codes "f") 16 (y + 76) (codes "between them it has the job in hand. Diamond: a load that sees a job, with")
-
-unfoldable pub lines_words : List ℕ
-lines_words = codes "a line to whose word it is, thick where it makes the attempt fail. Cross:"
-
-unfoldable pub crosses_words : List ℕ
-crosses_words = codes "the attempt has failed. Small square: a load of 0."
-
-unfoldable pub key_of_marks : ℕ → List ℕ
-key_of_marks y =
-    text (codes "f") 16 (y + 92) lines_words
-    ++ text (codes "f") 16 (y + 108) crosses_words
-
 unfoldable pub rows_key : ℕ → List ℕ
-rows_key y = key_of_lanes y ++ key_of_marks y ++ codes "</svg>\n"
+rows_key y =
+    text (codes "f") 16 (y + 44) (fixed_text LanesKey)
+    ++ text (codes "f") 16 (y + 60) (fixed_text BarsKey)
+    ++ text (codes "f") 16 (y + 76) (fixed_text HandsKey)
+    ++ text (codes "f") 16 (y + 92) (fixed_text LinesKey)
+    ++ text (codes "f") 16 (y + 108) (fixed_text CrossesKey)
+    ++ codes "</svg>\n"

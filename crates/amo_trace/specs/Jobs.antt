@@ -12,11 +12,13 @@ use Rattle.amo_texts.specs.Happened.{is_done_of}
 use Rattle.amo_trace.specs.declared.transition.Transition.{Transition}
 use Rattle.amo_trace.specs.declared.pieces.Kind.{Kind}
 use Rattle.amo_trace.specs.declared.pieces.Kind.TheVariants.{Columns, Stays, Failures, Ticks, Crosses}
+use Rattle.amo_trace.specs.declared.wording.Wording.TheVariants.{ColumnsKey, NarrowLanesKey}
 use Rattle.amo_trace.specs.Elements.{text, text_start, number_before, stroke_start, stroke_at, at_place}
 use Rattle.amo_trace.specs.Frame.{head, foot}
 use Rattle.amo_trace.specs.Marks.{mark_of, is_claim, is_filing}
 use Rattle.amo_trace.specs.Scale.{last_number, at, end_of, place, wide, grid_step, narrow_lane}
 use Rattle.amo_trace.specs.Transitions.{fails, job_of}
+use Rattle.amo_trace.specs.Wording.{fixed_text}
 
 -- the transition is drawn by paths of this kind, in the lane of worker p
 abbrev pub is_drawn : Kind → ℕ → Transition → Bool
@@ -128,16 +130,10 @@ jobs_head version n =
     ++ text (codes "i") 872 40 (codes "workers")
 
 -- what the marks say
-unfoldable pub columns_words : List ℕ
-columns_words = codes "Down are the moves. Left, a column is a job: marked from its claim on, grey once it is done, empty while unclaimed."
-
-unfoldable pub lanes_words : List ℕ
-lanes_words = codes "Right, a lane is a worker: a tick on the left is a claim, on the right a failed attempt. Below, how many it has done."
-
 unfoldable pub jobs_key : List ℕ
 jobs_key =
-    text (codes "f") 16 1136 columns_words
-    ++ text (codes "f") 16 1152 lanes_words
+    text (codes "f") 16 1136 (fixed_text ColumnsKey)
+    ++ text (codes "f") 16 1152 (fixed_text NarrowLanesKey)
     ++ codes "</svg>\n"
 
 -- the jobs by which the columns are placed: a run of so many moves has one

@@ -2,6 +2,7 @@ pub mod Transitions
 pub mod Trace
 pub mod Attempts
 pub mod Elements
+pub mod Wording
 pub mod Marks
 pub mod Rows
 pub mod Frame

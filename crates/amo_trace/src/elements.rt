@@ -1,31 +1,33 @@
 //! Writes the elements of a picture.
 ghost use Rattle.std.specs.Prelude.{◌≡◌, ◌++◌, OnOk, string_bytes};
-ghost use Rattle.amo_trace.specs.Elements.{x_part, y_part, width_part, text_start, before_start, text, number_before, area_start, stroke_start, dotted_start, at_place, area_at, stroke_at, down};
+ghost use Rattle.amo_trace.specs.Elements.{attribute, two_attributes, text_start, before_start, text, number_before, area_start, stroke_start, dotted_start, at_place, area_at, stroke_at, down};
 
 use std::alloc::AllocError;
 
-/// Appends how far to the right a text is.
-#[tactic(auto, unfolding(crate::specs::Elements::x_part))]
-fn push_x(out: &mut String, x: u128) -> Result<(), AllocError>
-    ensures { OnOk result (string_bytes out.new ≡ string_bytes out.old ++ x_part x) }
+/// Appends an attribute, after what is before, up to its own last quote.
+#[tactic(auto, unfolding(crate::specs::Elements::attribute))]
+fn push_attribute(out: &mut String, name: &str, value: u128) -> Result<(), AllocError>
+    ensures { OnOk result (string_bytes out.new ≡ string_bytes out.old ++ attribute name.now value) }
 {
-    write!(out, "\" x=\"{x}")
+    out.push_str("\" ")?;
+    out.push_str(name)?;
+    write!(out, "=\"{value}")
 }
 
-/// Appends how far down a text is.
-#[tactic(auto, unfolding(crate::specs::Elements::y_part))]
-fn push_y(out: &mut String, y: u128) -> Result<(), AllocError>
-    ensures { OnOk result (string_bytes out.new ≡ string_bytes out.old ++ y_part y) }
+/// Appends two attributes, and the end of their tag.
+#[tactic(auto, unfolding(crate::specs::Elements::two_attributes))]
+pub(crate) fn push_two_attributes(
+    out: &mut String,
+    first: &str,
+    a: u128,
+    second: &str,
+    b: u128,
+) -> Result<(), AllocError>
+    ensures { OnOk result (string_bytes out.new ≡ string_bytes out.old ++ two_attributes first.now a second.now b) }
 {
-    write!(out, "\" y=\"{y}\">")
-}
-
-/// Appends the width of a line.
-#[tactic(auto, unfolding(crate::specs::Elements::width_part))]
-fn push_width(out: &mut String, width: u128) -> Result<(), AllocError>
-    ensures { OnOk result (string_bytes out.new ≡ string_bytes out.old ++ width_part width) }
-{
-    write!(out, "\" stroke-width=\"{width}")
+    push_attribute(out, first, a)?;
+    push_attribute(out, second, b)?;
+    out.push_str("\">")
 }
 
 /// Appends the start of words that begin at a place.
@@ -40,8 +42,7 @@ pub(crate) fn push_text_start(
 {
     out.push_str("<text class=\"")?;
     out.push_str(class)?;
-    push_x(out, x)?;
-    push_y(out, y)
+    push_two_attributes(out, "x", x, "y", y)
 }
 
 /// Appends the start of words that end at a place.
@@ -52,8 +53,7 @@ fn push_before_start(out: &mut String, class: &str, x: u128, y: u128) -> Result<
     out.push_str("<text class=\"")?;
     out.push_str(class)?;
     out.push_str("\" text-anchor=\"end")?;
-    push_x(out, x)?;
-    push_y(out, y)
+    push_two_attributes(out, "x", x, "y", y)
 }
 
 /// Appends words that begin at a place.
@@ -106,7 +106,7 @@ pub(crate) fn push_stroke_start(
 {
     out.push_str("<path class=\"l")?;
     out.push_str(class)?;
-    push_width(out, width)?;
+    push_attribute(out, "stroke-width", width)?;
     out.push_str("\" d=\"")
 }
 

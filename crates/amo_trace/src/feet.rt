@@ -1,10 +1,11 @@
 //! Writes what stands below the lanes of a picture of rows.
 ghost use Rattle.std.specs.Prelude.{◌≡◌, ◌++◌, ◌<◌, ◌^◌, OnOk, string_bytes};
 ghost use Rattle.amo_kk.specs.Givens.{IsWorker};
-ghost use Rattle.amo_trace.specs.Feet.{state_text, counts_words, counts_text, lane_foot, lane_feet, key_of_lanes, lines_words, crosses_words, key_of_marks, rows_key};
+ghost use Rattle.amo_trace.specs.Feet.{state_text, counts_words, counts_text, lane_foot, lane_feet, rows_key};
 
 use crate::elements::{push_text, push_text_start};
 use crate::marks::lane;
+use crate::wording::{Wording, fixed_text};
 use amo_kk::Event;
 use amo_texts::{claims_of, dones_of, state_of};
 use amo_world::World;
@@ -77,68 +78,16 @@ pub(crate) fn push_lane_feet(out: &mut String, world: &World, y: u128) -> Result
     Ok(())
 }
 
-/// Appends what the lanes and the bars say.
-#[tactic(auto, unfolding(crate::specs::Feet::key_of_lanes))]
-fn push_key_of_lanes(out: &mut String, y: u128) -> Result<(), AllocError>
-    requires { y < 2 ^ 100 }
-    ensures { OnOk result (string_bytes out.new ≡ string_bytes out.old ++ key_of_lanes y) }
-{
-    push_text(
-        out,
-        "f",
-        16,
-        y + 44,
-        "A lane is a worker, a row a move. Disc: it announces a job, and the wide",
-    )?;
-    push_text(
-        out,
-        "f",
-        16,
-        y + 60,
-        "bar is how long that stands. Squares: it claims a job, then has done it;",
-    )?;
-    push_text(
-        out,
-        "f",
-        16,
-        y + 76,
-        "between them it has the job in hand. Diamond: a load that sees a job, with",
-    )
-}
-
-/// What a line to a word says.
-#[tactic(auto, unfolding(crate::specs::Feet::lines_words))]
-fn lines_words() -> &'static str
-    ensures { result.now ≡ lines_words }
-{
-    "a line to whose word it is, thick where it makes the attempt fail. Cross:"
-}
-
-/// What a cross and a small square say.
-#[tactic(auto, unfolding(crate::specs::Feet::crosses_words))]
-fn crosses_words() -> &'static str
-    ensures { result.now ≡ crosses_words }
-{
-    "the attempt has failed. Small square: a load of 0."
-}
-
-/// Appends what the lines and the small marks say.
-#[tactic(auto, unfolding(crate::specs::Feet::key_of_marks))]
-fn push_key_of_marks(out: &mut String, y: u128) -> Result<(), AllocError>
-    requires { y < 2 ^ 100 }
-    ensures { OnOk result (string_bytes out.new ≡ string_bytes out.old ++ key_of_marks y) }
-{
-    push_text(out, "f", 16, y + 92, lines_words())?;
-    push_text(out, "f", 16, y + 108, crosses_words())
-}
-
 /// Appends what the marks say, below this height, and the end of the picture.
 #[tactic(auto, unfolding(crate::specs::Feet::rows_key))]
 pub(crate) fn push_rows_key(out: &mut String, y: u128) -> Result<(), AllocError>
     requires { y < 2 ^ 100 }
     ensures { OnOk result (string_bytes out.new ≡ string_bytes out.old ++ rows_key y) }
 {
-    push_key_of_lanes(out, y)?;
-    push_key_of_marks(out, y)?;
+    push_text(out, "f", 16, y + 44, fixed_text(Wording::LanesKey))?;
+    push_text(out, "f", 16, y + 60, fixed_text(Wording::BarsKey))?;
+    push_text(out, "f", 16, y + 76, fixed_text(Wording::HandsKey))?;
+    push_text(out, "f", 16, y + 92, fixed_text(Wording::LinesKey))?;
+    push_text(out, "f", 16, y + 108, fixed_text(Wording::CrossesKey))?;
     out.push_str("</svg>\n")
 }

@@ -1,7 +1,7 @@
 //! Writes what the picture of a long run has besides its frame: a column for each job, and a narrow lane for each worker.
 ghost use Rattle.std.specs.Prelude.{◌≡◌, ◌++◌, ◌<◌, ◌≤◌, ◌^◌, OnOk, string_bytes};
 ghost use Rattle.amo_plan.specs.PlanSeen.{plan_seen};
-ghost use Rattle.amo_trace.specs.Jobs.{worker_class, worker_paths, going, going_shape, lifeline, lane_number, lane_numbers, worker_title, worker_drawn, workers_drawn, level_line, grid_line, grid, what_columns_are, jobs_head, columns_words, lanes_words, jobs_key, jobs_ground, columns_of, jobs_width};
+ghost use Rattle.amo_trace.specs.Jobs.{worker_class, worker_paths, going, going_shape, lifeline, lane_number, lane_numbers, worker_title, worker_drawn, workers_drawn, level_line, grid_line, grid, what_columns_are, jobs_head, jobs_key, jobs_ground, columns_of, jobs_width};
 ghost use Rattle.amo_trace.specs.Scale.{last_number};
 
 use crate::elements::{
@@ -10,7 +10,9 @@ use crate::elements::{
 use crate::pieces::{Kind, push_path};
 use crate::rows::until_gone;
 use crate::scale::{at, end_of, grid_step, last_number, narrow_lane, wide};
+use crate::scene::Scene;
 use crate::transition::{Transition, transition_at};
+use crate::wording::{Wording, fixed_text};
 use amo_kk::{Event, Phase};
 use amo_plan::Plan;
 use amo_texts::dones_of;
@@ -27,16 +29,16 @@ fn worker_class(worker: u32) -> &'static str
 #[tactic(auto, unfolding(crate::specs::Jobs::worker_paths))]
 fn push_worker_paths(
     out: &mut String,
+    scene: &Scene<'_>,
     width: u128,
     claims: Kind,
     failures: Kind,
-    jobs: u32,
     worker: u32,
-    rows: &[Transition],
 ) -> Result<(), AllocError>
-    requires { 1 ≤ jobs }
-    ensures { OnOk result (string_bytes out.new ≡ string_bytes out.old ++ worker_paths width claims failures jobs worker rows.now) }
+    ensures { OnOk result (string_bytes out.new ≡ string_bytes out.old ++ worker_paths width claims failures (columns_of (plan_seen scene.now.plan.now)) worker scene.now.rows.now) }
 {
+    let Scene { plan, rows, .. } = *scene;
+    let jobs = columns_of(plan);
     push_path(out, worker_class(worker), width, claims, jobs, worker, rows)?;
     push_path(out, "x", width, failures, jobs, worker, rows)
 }
@@ -117,45 +119,28 @@ fn push_worker_title(out: &mut String, worker: u32) -> Result<(), AllocError>
 
 /// Appends all marks of a worker.
 #[tactic(auto, unfolding(crate::specs::Jobs::worker_drawn))]
-fn push_worker_drawn(
-    out: &mut String,
-    history: &[Event],
-    jobs: u32,
-    rows: &[Transition],
-    worker: u32,
-) -> Result<(), AllocError>
-    requires { 1 ≤ jobs }
-    ensures { OnOk result (string_bytes out.new ≡ string_bytes out.old ++ worker_drawn history.now jobs rows.now worker) }
+fn push_worker_drawn(out: &mut String, scene: &Scene<'_>, worker: u32) -> Result<(), AllocError>
+    ensures { OnOk result (string_bytes out.new ≡ string_bytes out.old ++ worker_drawn scene.now.world.now.world.history (columns_of (plan_seen scene.now.plan.now)) scene.now.rows.now worker) }
 {
-    let last = last_number(rows);
+    let Scene { plan, world, rows } = *scene;
+    let width = wide(columns_of(plan)) + 1;
     push_worker_title(out, worker)?;
-    push_worker_paths(
-        out,
-        wide(jobs) + 1,
-        Kind::Stays,
-        Kind::Failures,
-        jobs,
-        worker,
-        rows,
-    )?;
-    push_worker_paths(out, 2, Kind::Ticks, Kind::Crosses, jobs, worker, rows)?;
-    push_lifeline(out, last, worker, going(worker, rows))?;
-    push_lane_numbers(out, history, worker)
+    push_worker_paths(out, scene, width, Kind::Stays, Kind::Failures, worker)?;
+    push_worker_paths(out, scene, 2, Kind::Ticks, Kind::Crosses, worker)?;
+    push_lifeline(out, last_number(rows), worker, going(worker, rows))?;
+    push_lane_numbers(out, world.history(), worker)
 }
 
 /// Appends the marks of so many workers.
 pub(crate) fn push_workers_drawn(
     out: &mut String,
-    history: &[Event],
-    jobs: u32,
-    rows: &[Transition],
+    scene: &Scene<'_>,
     workers: u32,
 ) -> Result<(), AllocError>
-    requires { 1 ≤ jobs }
-    ensures { OnOk result (string_bytes out.new ≡ string_bytes out.old ++ workers_drawn history.now jobs rows.now workers) }
+    ensures { OnOk result (string_bytes out.new ≡ string_bytes out.old ++ workers_drawn scene.now.world.now.world.history (columns_of (plan_seen scene.now.plan.now)) scene.now.rows.now workers) }
 {
     for before in 0..workers {
-        push_worker_drawn(out, history, jobs, rows, before + 1)?;
+        push_worker_drawn(out, scene, before + 1)?;
     }
     Ok(())
 }
@@ -218,34 +203,18 @@ fn push_jobs_head(out: &mut String, version: u32, jobs: u32) -> Result<(), Alloc
     push_text(out, "i", 872, 40, "workers")
 }
 
-/// What the columns say.
-#[tactic(auto, unfolding(crate::specs::Jobs::columns_words))]
-fn columns_words() -> &'static str
-    ensures { result.now ≡ columns_words }
-{
-    "Down are the moves. Left, a column is a job: marked from its claim on, grey once it is done, empty while unclaimed."
-}
-
-/// What the lanes say.
-#[tactic(auto, unfolding(crate::specs::Jobs::lanes_words))]
-fn lanes_words() -> &'static str
-    ensures { result.now ≡ lanes_words }
-{
-    "Right, a lane is a worker: a tick on the left is a claim, on the right a failed attempt. Below, how many it has done."
-}
-
 /// Appends what the marks say, and the end of the picture.
 #[tactic(auto, unfolding(crate::specs::Jobs::jobs_key))]
 pub(crate) fn push_jobs_key(out: &mut String) -> Result<(), AllocError>
     ensures { OnOk result (string_bytes out.new ≡ string_bytes out.old ++ jobs_key) }
 {
-    push_text(out, "f", 16, 1136, columns_words())?;
-    push_text(out, "f", 16, 1152, lanes_words())?;
+    push_text(out, "f", 16, 1136, fixed_text(Wording::ColumnsKey))?;
+    push_text(out, "f", 16, 1152, fixed_text(Wording::NarrowLanesKey))?;
     out.push_str("</svg>\n")
 }
 
 /// How many jobs the columns are placed by.
-pub(crate) fn columns_of(plan: &Plan) -> u32
+fn columns_of(plan: &Plan) -> u32
     ensures value { result ≡ columns_of (plan_seen plan.now) }
     ensures some { 1 ≤ result }
 {
@@ -261,13 +230,10 @@ pub(crate) fn jobs_width(plan: &Plan) -> u128
 
 /// Appends what is behind the workers' marks.
 #[tactic(auto, unfolding(crate::specs::Jobs::jobs_ground))]
-pub(crate) fn push_jobs_ground(
-    out: &mut String,
-    plan: &Plan,
-    rows: &[Transition],
-) -> Result<(), AllocError>
-    ensures { OnOk result (string_bytes out.new ≡ string_bytes out.old ++ jobs_ground (plan_seen plan.now) rows.now) }
+pub(crate) fn push_jobs_ground(out: &mut String, scene: &Scene<'_>) -> Result<(), AllocError>
+    ensures { OnOk result (string_bytes out.new ≡ string_bytes out.old ++ jobs_ground (plan_seen scene.now.plan.now) scene.now.rows.now) }
 {
+    let Scene { plan, rows, .. } = *scene;
     let jobs = columns_of(plan);
     let last = last_number(rows);
     push_jobs_head(out, plan.heads.version, plan.heads.givens.jobs)?;

@@ -13,10 +13,12 @@ mod picturing;
 mod pieces;
 mod rows;
 mod scale;
+mod scene;
 mod shown;
 mod tracing;
 mod transition;
 mod transitions;
+mod wording;
 
 pub use picturing::picture_text;
 pub use shown::Shown;

@@ -9,27 +9,16 @@ ghost use Rattle.amo_trace.specs.Rows.{acts};
 
 use crate::feet::{push_lane_feet, push_rows_key};
 use crate::frame::{push_foot, push_head};
-use crate::jobs::{columns_of, jobs_width, push_jobs_ground, push_jobs_key, push_workers_drawn};
+use crate::jobs::{jobs_width, push_jobs_ground, push_jobs_key, push_workers_drawn};
 use crate::rows::{changes, push_lane_heads, push_rows};
+use crate::scene::Scene;
 use crate::transition::Transition;
 use crate::transitions::run_of;
 use amo_plan::Plan;
-use amo_world::World;
 use std::alloc::{AllocError, Global};
 
 /// The most rows of a picture; of a longer run the jobs are drawn.
 const MOST_ROWS: usize = 400;
-
-/// What a picture is drawn of.
-#[derive(Clone, Copy)]
-struct Scene<'a> {
-    /// The plan.
-    plan: &'a Plan,
-    /// The world to which its moves lead.
-    world: &'a World,
-    /// The transitions that change something.
-    rows: &'a [Transition],
-}
 
 /// The transitions that change something. The only error is out of memory.
 fn rows_of(alloc: Global, transitions: &[Transition]) -> Result<Vec<Transition>, AllocError>
@@ -55,11 +44,11 @@ fn push_rows_picture(alloc: Global, out: &mut String, scene: &Scene<'_>) -> Resu
     let workers = plan.heads.givens.workers;
     let end = 72 + 18 * (rows.len() as u128 + 1);
     let width = 56 + 176 * workers.max(3) as u128;
-    push_head(alloc, out, plan, world, width, end + 192)?;
+    push_head(alloc, out, scene, width, end + 192)?;
     push_lane_heads(out, rows, workers)?;
     push_rows(alloc, out, rows)?;
     push_lane_feet(out, world, end)?;
-    push_foot(out, plan, world, end + 60)?;
+    push_foot(out, scene, end + 60)?;
     push_rows_key(out, end + 60)
 }
 
@@ -69,12 +58,11 @@ fn push_jobs_picture(alloc: Global, out: &mut String, scene: &Scene<'_>) -> Resu
     requires { scene.now.world.now.givens ≡ scene.now.plan.now.heads.givens }
     ensures { OnOk result (string_bytes out.new ≡ string_bytes out.old ++ jobs_picture (plan_seen scene.now.plan.now) scene.now.world.now.world scene.now.rows.now) }
 {
-    let Scene { plan, world, rows } = *scene;
-    let workers = plan.heads.givens.workers;
-    push_head(alloc, out, plan, world, jobs_width(plan), 1176)?;
-    push_jobs_ground(out, plan, rows)?;
-    push_workers_drawn(out, world.history(), columns_of(plan), rows, workers)?;
-    push_foot(out, plan, world, 1092)?;
+    let plan = scene.plan;
+    push_head(alloc, out, scene, jobs_width(plan), 1176)?;
+    push_jobs_ground(out, scene)?;
+    push_workers_drawn(out, scene, plan.heads.givens.workers)?;
+    push_foot(out, scene, 1092)?;
     push_jobs_key(out)
 }
 

@@ -1,0 +1,15 @@
+//! What a picture is drawn of.
+use crate::transition::Transition;
+use amo_plan::Plan;
+use amo_world::World;
+
+/// What a picture is drawn of.
+#[derive(Clone, Copy)]
+pub(crate) struct Scene<'a> {
+    /// The plan.
+    pub(crate) plan: &'a Plan,
+    /// The world to which its moves lead.
+    pub(crate) world: &'a World,
+    /// The transitions that change something.
+    pub(crate) rows: &'a [Transition],
+}
