@@ -27,17 +27,6 @@ def is_current(crate, archive):
     return sources and all(listing.time_of(it.rlib) < made for it in crate.below())
 
 
-def build(crate, archive):
-    """Builds beside the archive, so that one that is half written is never there."""
-    with tempfile.TemporaryDirectory(prefix="archive-") as kept:
-        rattle, _, *words = crate.check(kept)
-        words += ["--crate-type", "staticlib", "--toolchain", f"{crate.kit}/toolchain", "--backend", "llvm", "-o", f"{archive}.new"]
-        status = subprocess.run([rattle, "build", *words], cwd=crate.folder, stdin=subprocess.DEVNULL).returncode
-    if status == 0:
-        os.replace(f"{archive}.new", archive)
-    return status
-
-
 def main():
     kit = listing.kit()
     if kit is None:
@@ -51,7 +40,8 @@ def main():
         if status != 0:
             return status
     os.makedirs(os.path.dirname(archive), exist_ok=True)
-    return build(crate, archive)
+    with tempfile.TemporaryDirectory(prefix="archive-") as kept:
+        return crate.build(archive, kept)
 
 
 if __name__ == "__main__":

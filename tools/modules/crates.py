@@ -4,6 +4,7 @@ import functools
 import os
 import re
 import shutil
+import subprocess
 
 PARTS = ("src", "specs", "proofs")
 NO_KIT = "`rt` is not on the path; README.md says under 'Build and run' what has to be installed"
@@ -65,6 +66,23 @@ class Crate:
         words += ["--antt-project", f"{self.kit}/rattle/logic/antt-project.json"]
         words += ["--logic-built", f"{self.kit}/logic_built", "--jobs", "1", "--links", f"{self.name}="]
         return [*words, "--incremental", kept]
+
+    def build(self, made, kept):
+        """Proves the crate over the libraries that are made, and compiles it: a program, which is linked, or a static library. It is
+        made beside its place, so that one that is half written is never there. Answers the status."""
+        rattle, _, *words = self.check(kept)
+        compiled = f"{made}.new.o" if self.is_program else f"{made}.new"
+        words += ["--crate-type", "staticlib"] * self.is_static
+        words += ["--toolchain", f"{self.kit}/toolchain", "--backend", "llvm", "-o", compiled]
+        status = subprocess.run([rattle, "build", *words], cwd=self.folder, stdin=subprocess.DEVNULL).returncode
+        if status == 0 and self.is_program:
+            words = ["--target", "x86_64-unknown-linux-gnu", "--toolchain", f"{self.kit}/toolchain", "-o", f"{made}.new", compiled]
+            words += [f"{self.kit}/c/libos_c.a", f"{self.kit}/c/liblibc_c.a"]
+            status = subprocess.run([f"{self.kit}/bin/rattle-link", *words], stdin=subprocess.DEVNULL).returncode
+            os.remove(compiled)
+        if status == 0:
+            os.replace(f"{made}.new", made)
+        return status
 
     def size(self):
         return sum(lines_of(self.folder, it) for it in (".rt", ".antt"))
