@@ -12,6 +12,7 @@ use std::sync::Wait;
 use std::test::Fail;
 use std::thread::Threads;
 
+mod counting;
 mod memory;
 mod places;
 mod plans;

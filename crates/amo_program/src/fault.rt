@@ -5,7 +5,7 @@ ghost use Rattle.amo_program.specs.declared.fault.Fault.TheVariants.{NoMemory};
 
 use amo_plan::PlanFault;
 use amo_texts::ReplayFault;
-use std::alloc::{AllocError, AllocFailed};
+use std::alloc::AllocError;
 
 /// Why a command wasn't done, or not all of it.
 #[derive(Clone, Copy, Debug, PartialEq, Eq)]
@@ -28,14 +28,6 @@ impl From<AllocError> for Fault {
     ghost from_gives = { λ _ e. e ≡ NoMemory };
 
     fn from(_e: AllocError) -> Fault {
-        Fault::NoMemory
-    }
-}
-
-impl<T: Drop> From<AllocFailed<T>> for Fault {
-    ghost from_gives = { λ _ e. e ≡ NoMemory };
-
-    fn from(_e: AllocFailed<T>) -> Fault {
         Fault::NoMemory
     }
 }

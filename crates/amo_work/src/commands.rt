@@ -1,5 +1,5 @@
 //! Reads the words of a command line.
-ghost use Rattle.std.specs.Prelude.{◌≡◌, ◌≤◌, ◌↔◌, ℕ, Some, false, IfOk, IfSome, map, option_copied};
+ghost use Rattle.std.specs.Prelude.{◌≡◌, ◌≤◌, ◌↔◌, ◌∷◌, ℕ, Some, codes, false, IfOk, IfSome, map, option_copied};
 ghost use Rattle.std.specs.Fmt.{decimal};
 ghost use Rattle.clap.specs.Words.{app_of, new_app, with_subcommand, rule_of, rows_of, found_of, first_of};
 ghost use Rattle.amo_plan.specs.declared.limits.TheConstants.{HIGHEST_NUMBER};
@@ -138,14 +138,22 @@ fn request_of_line(alloc: Global, line: &[&str]) -> Result<Request, Fault>
     }
 }
 
+/// The whole line: the program's name, and the words after it.
+fn whole_line<'a>(alloc: Global, words: &[&'a str]) -> Result<Vec<&'a str>, AllocError>
+    ensures { IfOk result (λ line. map (λ w. w.now) line.items ≡ codes "amo" ∷ map (λ w. w.now) words.now) }
+{
+    let mut line = Vec::with_capacity(alloc, words.len() + 1)?;
+    line.push("amo")?;
+    line.extend_from_slice(words)?;
+    Ok(line)
+}
+
 /// What the words after the program's name ask for. `NoCommand` comes only where they are no command, and
 /// `NoMemory` only where memory was refused.
 pub fn asked(alloc: Global, words: &[&str]) -> Result<Request, Fault>
     ensures request { IsAnswer (asked (map (λ w. w.now) words.now)) result }
     ensures ranges { IfOk result IsWithinRanges }
 {
-    let mut line = Vec::with_capacity(alloc, words.len() + 1)?;
-    line.push("amo")?;
-    line.extend_from_slice(words)?;
+    let line = whole_line(alloc, words)?;
     request_of_line(alloc, &line)
 }

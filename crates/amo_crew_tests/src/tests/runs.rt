@@ -1,6 +1,7 @@
 //! Workers in threads.
 ghost use Rattle.std.specs.Prelude.{◌≡◌};
 
+use super::counting::{Counting, Waits};
 use super::*;
 use std::sync::atomic::{AtomicU64, Ordering};
 
@@ -8,14 +9,25 @@ use std::sync::atomic::{AtomicU64, Ordering};
 #[derive(Drop)]
 struct Gate {
     wanted: u64,
-    begun: Vec<AtomicU64>,
     count: AtomicU64,
     late: AtomicU64,
 }
 
 impl Gate {
+    /// A gate that opens to so many workers.
+    fn new(wanted: u32) -> Gate {
+        Gate {
+            wanted: wanted as u64,
+            count: AtomicU64::new(0),
+            late: AtomicU64::new(0),
+        }
+    }
+}
+
+impl Waits for Gate {
     /// Waits until all have begun, with a limit of looks. Once that was reached nobody waits any more.
-    fn wait(&self) {
+    fn wait(&self, _begun: &[AtomicU64], _worker: u32) {
+        self.count.fetch_add(1, Ordering::SeqCst);
         if self.late.load(Ordering::SeqCst) != 0 {
             return;
         }
@@ -25,22 +37,6 @@ impl Gate {
             }
         }
         self.late.store(1, Ordering::SeqCst);
-    }
-}
-
-impl Work<u32> for Gate {
-    type Out = u32;
-
-    ghost related = { λ w p j x o. o ≡ x };
-
-    fn perform(&self, worker: u32, _job: u32, payload: u32) -> u32 {
-        if let Some(begun) = self.begun.get(worker as usize) {
-            if begun.swap(1, Ordering::SeqCst) == 0 {
-                self.count.fetch_add(1, Ordering::SeqCst);
-                self.wait();
-            }
-        }
-        payload
     }
 }
 
@@ -66,20 +62,6 @@ where
     }
 }
 
-/// A gate that opens to so many workers.
-fn gate_of(alloc: Global, wanted: u32) -> Result<Gate, AllocError> {
-    let mut begun = Vec::new(alloc);
-    for _ in 0..17 {
-        begun.push(AtomicU64::new(0))?;
-    }
-    Ok(Gate {
-        wanted: wanted as u64,
-        begun,
-        count: AtomicU64::new(0),
-        late: AtomicU64::new(0),
-    })
-}
-
 /// All workers perform at once, and each ends by itself.
 fn run_gate<R: Threads + Wait + Abort + Sync>(
     rt: &R,
@@ -87,8 +69,9 @@ fn run_gate<R: Threads + Wait + Abort + Sync>(
     workers: u32,
     budgets: &[u64],
 ) -> Result<(), Fail> {
-    let gate = gate_of(alloc, workers)?;
-    let outcome = run(rt, alloc, (100, workers, workers), budgets, &gate)?;
+    let counting = Counting::new(alloc, Gate::new(workers))?;
+    let outcome = run(rt, alloc, (100, workers, workers), budgets, &counting)?;
+    let gate = &counting.waits;
     assert_eq!(rt; gate.late.load(Ordering::SeqCst), 0);
     assert_eq!(rt; gate.count.load(Ordering::SeqCst), workers as u64);
     expect_each_once(rt, &outcome, 100);
@@ -175,16 +158,16 @@ fn no_budget_leaves_all_free(rt: HostRuntime) -> Result<(), Fail> {
     Ok(())
 }
 
-/// Answers with the worker.
+/// Answers with the worker and the job.
 struct Signs;
 
 impl Work<u32> for Signs {
-    type Out = u32;
+    type Out = (u32, u32);
 
-    ghost related = { λ w p j x o. o ≡ p };
+    ghost related = { λ w p j x o. o ≡ (p, j) };
 
-    fn perform(&self, worker: u32, _job: u32, _payload: u32) -> u32 {
-        worker
+    fn perform(&self, worker: u32, job: u32, _payload: u32) -> (u32, u32) {
+        (worker, job)
     }
 }
 
@@ -193,7 +176,7 @@ fn sixteen_workers_do_4096_jobs(rt: HostRuntime) -> Result<(), Fail> {
     let outcome = run(&rt, rt.alloc(), (4096, 16, 16), &[10_000_000; 16], &Signs)?;
     assert!(rt; outcome.ends.len() == 16 && outcome.outputs.len() >= 4066);
     for output in &outcome.outputs {
-        assert_eq!(rt; output.out, output.worker);
+        assert!(rt; output.out == (output.worker, output.job));
     }
     Ok(())
 }

@@ -1,6 +1,5 @@
 //! What stands in the queue is taken before each thread is joined.
-ghost use Rattle.std.specs.Prelude.{◌≡◌};
-
+use super::counting::{Counting, Waits};
 use super::runs::run;
 use super::*;
 use std::sync::atomic::{AtomicU64, Ordering};
@@ -16,49 +15,33 @@ const MOST_LOOKS: u64 = 1_000_000_000;
 /// worker 1 once worker 2 begins its own. Each looks around before it goes on, while the calling thread does its part.
 #[derive(Drop)]
 struct Relay {
-    begun: Vec<AtomicU64>,
     looks: u64,
 }
 
-impl Relay {
-    /// Looks so many times whether this worker has begun so many jobs, or until it has.
-    fn watch(&self, worker: usize, jobs: u64, looks: u64) {
-        let Some(begun) = self.begun.get(worker) else {
+/// Looks so many times whether this worker has begun so many jobs, or until it has.
+fn watch(begun: &[AtomicU64], worker: usize, jobs: u64, looks: u64) {
+    let Some(count) = begun.get(worker) else {
+        return;
+    };
+    for _ in 0..looks {
+        if count.load(Ordering::SeqCst) >= jobs {
             return;
-        };
-        for _ in 0..looks {
-            if begun.load(Ordering::SeqCst) >= jobs {
-                return;
-            }
         }
-    }
-
-    /// Waits until it is this worker's turn. Nobody is worker 0.
-    fn wait(&self, worker: u32) {
-        match worker {
-            1 => self.watch(2, SECOND, MOST_LOOKS),
-            2 => self.watch(3, THIRD, MOST_LOOKS),
-            _ => {
-                self.watch(1, 1, MOST_LOOKS);
-                self.watch(2, 1, MOST_LOOKS);
-            }
-        }
-        self.watch(0, 1, self.looks);
     }
 }
 
-impl Work<u32> for Relay {
-    type Out = u32;
-
-    ghost related = { λ w p j x o. o ≡ x };
-
-    fn perform(&self, worker: u32, _job: u32, payload: u32) -> u32 {
-        if let Some(count) = self.begun.get(worker as usize) {
-            if count.fetch_add(1, Ordering::SeqCst) == 0 {
-                self.wait(worker);
+impl Waits for Relay {
+    /// Waits until it is this worker's turn. Nobody is worker 0.
+    fn wait(&self, begun: &[AtomicU64], worker: u32) {
+        match worker {
+            1 => watch(begun, 2, SECOND, MOST_LOOKS),
+            2 => watch(begun, 3, THIRD, MOST_LOOKS),
+            _ => {
+                watch(begun, 1, 1, MOST_LOOKS);
+                watch(begun, 2, 1, MOST_LOOKS);
             }
         }
-        payload
+        watch(begun, 0, 1, self.looks);
     }
 }
 
@@ -68,14 +51,11 @@ fn run_relay<R: Threads + Wait + Abort + Sync>(
     alloc: Global,
     looks: u64,
 ) -> Result<usize, Fail> {
-    let mut begun = Vec::new(alloc);
-    for _ in 0..4 {
-        begun.push(AtomicU64::new(0))?;
-    }
+    let relay = Counting::new(alloc, Relay { looks })?;
     // a job takes an announcement, two loads of announcements, two of rows, the claim and its filing; worker 2 reads all of
     // worker 3's row too
     let budgets = [7, 7 * SECOND + THIRD, 7 * THIRD];
-    let outcome = run(rt, alloc, (600, 3, 3), &budgets, &Relay { begun, looks })?;
+    let outcome = run(rt, alloc, (600, 3, 3), &budgets, &relay)?;
     expect_each_once(rt, &outcome, 600);
     let mut of_second: usize = 0;
     for output in &outcome.outputs {
