@@ -1,4 +1,5 @@
 pub mod Begins
+pub mod Found
 pub mod NextLine
 pub mod Searches
 pub mod Texts

@@ -2,8 +2,8 @@
 use Rattle.std.specs.Prelude.{ℕ, ◌+◌, ◌-◌, nat_lt, if◌then◌else◌, List, [], ◌∷◌, ◌++◌, codes, length, take, drop, Result, Ok, Err}
 use Rattle.std.specs.Fmt.{decimal}
 use Rattle.amo_kk.specs.declared.event.Event.{Event}
-use Rattle.amo_kk.specs.declared.givens.GivensFault.{GivensFault}
 use Rattle.amo_kk.specs.declared.givens.GivensFault.TheVariants.{TooManyJobs as MoreJobs, NoWorkers, TooManyWorkers as MoreWorkers, BetaLow, BetaHigh}
+use Rattle.amo_kk.specs.declared.limits.TheConstants.{MAX_JOBS, MAX_WORKERS, MAX_BETA}
 use Rattle.amo_world.specs.Answer.{verdict}
 use Rattle.amo_world.specs.declared.answer.Verdict.{Verdict}
 use Rattle.amo_world.specs.declared.answer.Verdict.TheVariants.{Lawful, FirstBad}
@@ -19,18 +19,14 @@ use Rattle.amo_judge.specs.declared.refusal.Wrong.TheVariants.{NoFirstLine, NoGi
 abbrev pub most_bytes : ℕ
 most_bytes = 1048576
 
--- which limit the numbers of a first line break
-abbrev pub limit_words : GivensFault → List ℕ
-limit_words MoreJobs = codes "there are more than 4096 jobs"
-limit_words NoWorkers = codes "there is no worker"
-limit_words MoreWorkers = codes "there are more than 16 workers"
-limit_words BetaLow = codes "the threshold is below the number of workers"
-limit_words BetaHigh = codes "the threshold is above 65535"
-
 -- what is wrong with a line
 unfoldable pub wrong_text : Wrong → List ℕ
 wrong_text NoFirstLine = codes "this is no first line of a history"
-wrong_text (NoGivens fault) = limit_words fault
+wrong_text (NoGivens MoreJobs) = codes "there are more than " ++ (decimal MAX_JOBS ++ codes " jobs")
+wrong_text (NoGivens NoWorkers) = codes "there is no worker"
+wrong_text (NoGivens MoreWorkers) = codes "there are more than " ++ (decimal MAX_WORKERS ++ codes " workers")
+wrong_text (NoGivens BetaLow) = codes "the threshold is below the number of workers"
+wrong_text (NoGivens BetaHigh) = codes "the threshold is above " ++ decimal MAX_BETA
 wrong_text (OtherBound bound) = codes "the bound of these numbers is " ++ decimal bound
 wrong_text NoEvent = codes "this is no event"
 wrong_text (NotDue due) = codes "the event that is due has number " ++ decimal due
@@ -48,7 +44,7 @@ refused_text refusal = refused_line refusal.line (wrong_text refusal.wrong)
 
 -- `refused`, since the text is too long
 abbrev pub too_long_text : List ℕ
-too_long_text = codes "refused\nthe text is longer than 1048576 bytes\n"
+too_long_text = codes "refused\nthe text is longer than " ++ (decimal most_bytes ++ codes " bytes\n")
 
 -- `unlawful` and the number of an event, its line, and why it is no step
 unfoldable pub unlawful_lines : ℕ → List ℕ → List ℕ → List ℕ

@@ -1,15 +1,19 @@
 -- Why an event is no step from the state that the events before it leave: the first test of a step that fails.
-use Rattle.std.specs.Prelude.{ℕ, ◌+◌, Bool, false, ◌==◌, if◌then◌else◌, List, [], ◌∷◌, ◌++◌, codes, length, Option, Some, None}
+use Rattle.std.specs.Prelude.{ℕ, ◌+◌, Bool, false, ◌==◌, if◌then◌else◌, List, [], ◌∷◌, ◌++◌, codes, length, Option, Some, None, option_map}
 use Rattle.std.specs.Fmt.{decimal}
+use Rattle.std.specs.Option.{option_or}
 use Rattle.amo_kk.specs.Givens.{bound}
 use Rattle.amo_kk.specs.Object.{is_within}
 use Rattle.amo_kk.specs.Run.{done_jobs}
 use Rattle.amo_kk.specs.declared.event.Event.{Event}
 use Rattle.amo_kk.specs.declared.event.Event.TheVariants.{Claimed, Done, Ended, Halted, Left}
+use Rattle.amo_kk.specs.declared.givens.Givens.{Givens}
 use Rattle.amo_judge.specs.History.{HistoryView}
 use Rattle.amo_judge.specs.Results.{found_or}
 use Rattle.amo_judge.specs.Roll.{called}
 use Rattle.amo_judge.specs.Telling.{worker_of}
+use Rattle.amo_judge.specs.declared.reasons.Reason.{Reason}
+use Rattle.amo_judge.specs.declared.reasons.Reason.TheVariants.{NoWorker, Gone, NoJob, InHand, NotInHand, ClaimedBefore, Early}
 
 -- by this event worker p is gone
 abbrev pub is_end_of : ℕ → Event → Bool
@@ -63,23 +67,30 @@ gone_words (Halted q) = codes "was halted"
 gone_words (Left q) = codes "had left"
 gone_words event = []
 
--- `worker P had ended in event I`
-unfoldable pub gone_text : List ℕ → List ℕ → ℕ → List ℕ
-gone_text worker words number =
-    codes "worker " ++ (worker ++ (codes " " ++ (words ++ (codes " in event " ++ decimal number))))
+-- that a worker was gone before, if it was
+abbrev pub gone_reason : ℕ → List Event → Option Reason
+gone_reason p before = option_map (λ found. Gone p found.1 found.0) (end_of p before)
 
--- `there is no worker P`
-unfoldable pub no_worker_text : List ℕ → List ℕ
-no_worker_text worker = codes "there is no worker " ++ worker
+-- that a worker has a job in its hand, if it has
+abbrev pub hand_reason : ℕ → List Event → Option Reason
+hand_reason p before = option_map (λ found. InHand p found.0 found.1) (hand_of p before)
 
--- `there is no job J`
-unfoldable pub no_job_text : List ℕ → List ℕ
-no_job_text job = codes "there is no job " ++ job
+-- that a job was claimed before, if it was
+abbrev pub claim_reason : ℕ → List Event → Option Reason
+claim_reason j before = option_map (λ found. ClaimedBefore j (worker_of found.1) found.0) (claim_of j before)
 
--- `worker P has job J in its hand since event I`
-unfoldable pub in_hand_text : List ℕ → List ℕ → ℕ → List ℕ
-in_hand_text worker job number =
-    codes "worker " ++ (worker ++ (codes " has job " ++ (job ++ (codes " in its hand since event " ++ decimal number))))
+-- why the event is no step, if its worker is there: the first of the tests of a step that fails; of the last test, where there is one,
+-- it is known that it fails
+abbrev pub reason_here : Givens → List Event → Event → Option Reason
+reason_here g before (Claimed p j) = if is_within g.jobs j then option_or (hand_reason p before) (claim_reason j before) else Some (NoJob j)
+reason_here g before (Done p j) = if is_within g.jobs j then Some (NotInHand p j) else Some (NoJob j)
+reason_here g before (Ended p) = option_or (hand_reason p before) (Some (Early (length (done_jobs before)) (bound g)))
+reason_here g before (Halted p) = None
+reason_here g before (Left p) = hand_reason p before
+
+-- why the event, of worker p, is no step behind these
+abbrev pub reason_of : Givens → List Event → ℕ → Event → Option Reason
+reason_of g before p event = if is_within g.workers p then option_or (gone_reason p before) (reason_here g before event) else Some (NoWorker p)
 
 -- `worker P doesn't have job J in its hand`
 unfoldable pub not_in_hand_text : List ℕ → List ℕ → List ℕ
@@ -96,59 +107,22 @@ unfoldable pub early_text : ℕ → ℕ → List ℕ
 early_text performed least =
     decimal performed ++ (codes " jobs are performed, and a worker may end by its own choice from " ++ (decimal least ++ codes " on"))
 
--- that the worker was gone by an event of this number
-abbrev pub gone_why : HistoryView → ℕ → ℕ × Event → List ℕ
-gone_why h p found = gone_text (called h.workers p) (gone_words found.1) found.0
+-- the reason in words, where workers and jobs are called as in this history
+unfoldable pub reason_text : HistoryView → Reason → List ℕ
+reason_text h (NoWorker p) = codes "there is no worker " ++ called h.workers p
+reason_text h (Gone p event number) =
+    codes "worker " ++ (called h.workers p ++ (codes " " ++ (gone_words event ++ (codes " in event " ++ decimal number))))
+reason_text h (NoJob j) = codes "there is no job " ++ called h.jobs j
+reason_text h (InHand p j number) =
+    codes "worker " ++ (called h.workers p ++ (codes " has job " ++ (called h.jobs j ++ (codes " in its hand since event " ++ decimal number))))
+reason_text h (NotInHand p j) = not_in_hand_text (called h.workers p) (called h.jobs j)
+reason_text h (ClaimedBefore j p number) = claimed_text (called h.jobs j) (called h.workers p) number
+reason_text h (Early performed least) = early_text performed least
 
--- that the worker has a job in its hand, by an event of this number
-abbrev pub in_hand_why : HistoryView → ℕ → ℕ × ℕ → List ℕ
-in_hand_why h p found = in_hand_text (called h.workers p) (called h.jobs found.0) found.1
-
--- that the job was claimed, by an event of this number
-abbrev pub claimed_why : HistoryView → ℕ → ℕ × Event → List ℕ
-claimed_why h j found = claimed_text (called h.jobs j) (called h.workers (worker_of found.1)) found.0
-
--- why the hand of a worker isn't empty, or else this
-abbrev pub hand_why : HistoryView → List Event → ℕ → List ℕ → List ℕ
-hand_why h before p other = found_or (hand_of p before) (λ found. in_hand_why h p found) other
-
--- why a job can't be claimed, of which it is known that it is a job, by a worker who is there
-abbrev pub claim_why : HistoryView → List Event → ℕ → ℕ → List ℕ
-claim_why h before p j = hand_why h before p (found_or (claim_of j before) (λ found. claimed_why h j found) [])
-
--- why a job can't be done by a worker who is there
-abbrev pub done_why : HistoryView → ℕ → ℕ → List ℕ
-done_why h p j = not_in_hand_text (called h.workers p) (called h.jobs j)
-
--- why a worker who is there can't end by its own choice
-abbrev pub end_why : HistoryView → List Event → ℕ → List ℕ
-end_why h before p = hand_why h before p (early_text (length (done_jobs before)) (bound h.givens))
-
--- why a worker who is there can't leave
-abbrev pub leave_why : HistoryView → List Event → ℕ → List ℕ
-leave_why h before p = hand_why h before p []
-
--- that there is no job j
-abbrev pub no_job_why : HistoryView → ℕ → List ℕ
-no_job_why h j = no_job_text (called h.jobs j)
-
--- that there is no worker p
-abbrev pub no_worker_why : HistoryView → ℕ → List ℕ
-no_worker_why h p = no_worker_text (called h.workers p)
-
--- why the event is no step, if its worker is there
-abbrev pub why_here : HistoryView → List Event → Event → List ℕ
-why_here h before (Claimed p j) = if is_within h.givens.jobs j then claim_why h before p j else no_job_why h j
-why_here h before (Done p j) = if is_within h.givens.jobs j then done_why h p j else no_job_why h j
-why_here h before (Ended p) = end_why h before p
-why_here h before (Halted p) = []
-why_here h before (Left p) = leave_why h before p
-
--- why the event of worker p is no step behind these
+-- why the event, of worker p, is no step behind these, in words
 abbrev pub why_of : HistoryView → List Event → ℕ → Event → List ℕ
-why_of h before p event =
-    if is_within h.givens.workers p then found_or (end_of p before) (λ found. gone_why h p found) (why_here h before event) else no_worker_why h p
+why_of h before p event = found_or (reason_of h.givens before p event) (λ reason. reason_text h reason) []
 
--- why the event is no step behind these
+-- the same of an event whose worker it tells
 abbrev pub why : HistoryView → List Event → Event → List ℕ
 why h before event = why_of h before (worker_of event) event

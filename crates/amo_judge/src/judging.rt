@@ -3,7 +3,7 @@ ghost use Rattle.std.specs.Prelude.{◌≡◌, ◌≤◌, IfOk, length, string_b
 ghost use Rattle.amo_world.specs.Answer.{verdict};
 ghost use Rattle.amo_judge.specs.History.{history_in};
 ghost use Rattle.amo_judge.specs.Lines.{lines_of};
-ghost use Rattle.amo_judge.specs.Judgement.{limit_words, wrong_text, refused_line, refused_text, unlawful_lines, unlawful_text, verdict_text, answer, judgement};
+ghost use Rattle.amo_judge.specs.Judgement.{wrong_text, refused_line, refused_text, unlawful_lines, unlawful_text, verdict_text, answer, judgement};
 
 use crate::history::History;
 use crate::lines::lines_of;
@@ -11,24 +11,12 @@ use crate::reading::read_history;
 use crate::reasons::why_of;
 use crate::refusal::{Refusal, Wrong};
 use crate::telling::{event_text, lawful_text, worker_of};
-use amo_kk::{Event, GivensFault};
+use amo_kk::{Event, GivensFault, MAX_BETA, MAX_JOBS, MAX_WORKERS};
 use amo_world::{Verdict, judge};
 use std::alloc::{AllocError, Global};
 
 /// A longer text is refused.
 const MOST_BYTES: usize = 1_048_576;
-
-fn limit_words(fault: GivensFault) -> &'static str
-    ensures { result.now ≡ limit_words fault }
-{
-    match fault {
-        GivensFault::TooManyJobs => "there are more than 4096 jobs",
-        GivensFault::NoWorkers => "there is no worker",
-        GivensFault::TooManyWorkers => "there are more than 16 workers",
-        GivensFault::BetaLow => "the threshold is below the number of workers",
-        GivensFault::BetaHigh => "the threshold is above 65535",
-    }
-}
 
 /// What is wrong with a line.
 #[tactic(auto, unfolding(crate::specs::Judgement::wrong_text))]
@@ -37,7 +25,19 @@ fn wrong_text(alloc: Global, wrong: Wrong) -> Result<String, AllocError>
 {
     match wrong {
         Wrong::NoFirstLine => format!(in alloc; "this is no first line of a history"),
-        Wrong::NoGivens(fault) => format!(in alloc; "{}", limit_words(fault)),
+        Wrong::NoGivens(GivensFault::TooManyJobs) => {
+            format!(in alloc; "there are more than {MAX_JOBS} jobs")
+        }
+        Wrong::NoGivens(GivensFault::NoWorkers) => format!(in alloc; "there is no worker"),
+        Wrong::NoGivens(GivensFault::TooManyWorkers) => {
+            format!(in alloc; "there are more than {MAX_WORKERS} workers")
+        }
+        Wrong::NoGivens(GivensFault::BetaLow) => {
+            format!(in alloc; "the threshold is below the number of workers")
+        }
+        Wrong::NoGivens(GivensFault::BetaHigh) => {
+            format!(in alloc; "the threshold is above {MAX_BETA}")
+        }
         Wrong::OtherBound(bound) => format!(in alloc; "the bound of these numbers is {bound}"),
         Wrong::NoEvent => format!(in alloc; "this is no event"),
         Wrong::NotDue(due) => format!(in alloc; "the event that is due has number {due}"),
@@ -134,7 +134,7 @@ pub fn judgement(alloc: Global, bytes: &[u8]) -> Result<String, AllocError>
     ensures text { IfOk result (λ text. string_bytes text ≡ judgement bytes.now) }
 {
     if bytes.len() > MOST_BYTES {
-        return format!(in alloc; "refused\nthe text is longer than 1048576 bytes\n");
+        return format!(in alloc; "refused\nthe text is longer than {MOST_BYTES} bytes\n");
     }
     judge_lines(alloc, bytes)
 }

@@ -1,13 +1,32 @@
 //! Says why an event is no step.
 ghost use Rattle.std.specs.Prelude.{◌≡◌, IfOk, string_bytes};
 ghost use Rattle.amo_kk.specs.Object.{is_within};
-ghost use Rattle.amo_judge.specs.Why.{gone_words, gone_text, no_worker_text, no_job_text, in_hand_text, not_in_hand_text, claimed_text, early_text, gone_why, in_hand_why, claimed_why, claim_why, done_why, end_why, leave_why, no_job_why, no_worker_why, why_here, why_of};
+ghost use Rattle.amo_judge.specs.Why.{gone_words, gone_reason, hand_reason, claim_reason, reason_here, reason_of, not_in_hand_text, claimed_text, early_text, reason_text, why_of};
 
 use crate::before::{claim_of, end_of, hand_of, performed};
 use crate::history::History;
 use crate::telling::worker_of;
-use amo_kk::Event;
+use amo_kk::{Event, Givens};
 use std::alloc::{AllocError, Global};
+
+/// Why an event is no step behind those before it.
+#[derive(Clone, Copy, Debug, PartialEq, Eq)]
+pub(crate) enum Reason {
+    /// There is no such worker.
+    NoWorker(u32),
+    /// The worker was gone by this event, of this number.
+    Gone(u32, Event, usize),
+    /// There is no such job.
+    NoJob(u32),
+    /// The worker has the job in its hand since the event of this number.
+    InHand(u32, u32, usize),
+    /// The worker doesn't have the job in its hand.
+    NotInHand(u32, u32),
+    /// The job was claimed by the worker in the event of this number.
+    ClaimedBefore(u32, u32, usize),
+    /// So many jobs are performed, and a worker may end by its own choice from so many on.
+    Early(usize, u32),
+}
 
 /// Whether k is in 1..=n.
 fn is_within(n: u32, k: u32) -> bool
@@ -28,32 +47,60 @@ fn gone_words(event: Event) -> &'static str
     }
 }
 
-#[tactic(auto, unfolding(crate::specs::Why::gone_text))]
-fn gone_text(alloc: Global, worker: &str, words: &str, number: usize) -> Result<String, AllocError>
-    ensures { IfOk result (λ text. string_bytes text ≡ gone_text worker.now words.now number) }
+/// That worker p was gone before, if it was.
+fn gone_reason(p: u32, before: &[Event]) -> Option<Reason>
+    ensures { result ≡ gone_reason p before.now }
 {
-    format!(in alloc; "worker {worker} {words} in event {number}")
+    let (number, event) = end_of(p, before)?;
+    Some(Reason::Gone(p, event, number))
 }
 
-#[tactic(auto, unfolding(crate::specs::Why::no_worker_text))]
-fn no_worker_text(alloc: Global, worker: &str) -> Result<String, AllocError>
-    ensures { IfOk result (λ text. string_bytes text ≡ no_worker_text worker.now) }
+/// That worker p has a job in its hand, if it has.
+fn hand_reason(p: u32, before: &[Event]) -> Option<Reason>
+    ensures { result ≡ hand_reason p before.now }
 {
-    format!(in alloc; "there is no worker {worker}")
+    let (job, number) = hand_of(p, before)?;
+    Some(Reason::InHand(p, job, number))
 }
 
-#[tactic(auto, unfolding(crate::specs::Why::no_job_text))]
-fn no_job_text(alloc: Global, job: &str) -> Result<String, AllocError>
-    ensures { IfOk result (λ text. string_bytes text ≡ no_job_text job.now) }
+/// That job j was claimed before, if it was.
+fn claim_reason(j: u32, before: &[Event]) -> Option<Reason>
+    ensures { result ≡ claim_reason j before.now }
 {
-    format!(in alloc; "there is no job {job}")
+    let (number, event) = claim_of(j, before)?;
+    Some(Reason::ClaimedBefore(j, worker_of(event), number))
 }
 
-#[tactic(auto, unfolding(crate::specs::Why::in_hand_text))]
-fn in_hand_text(alloc: Global, worker: &str, job: &str, number: usize) -> Result<String, AllocError>
-    ensures { IfOk result (λ text. string_bytes text ≡ in_hand_text worker.now job.now number) }
+/// Why the event is no step behind these, if its worker is there.
+fn reason_here(givens: Givens, before: &[Event], event: Event) -> Option<Reason>
+    ensures { result ≡ reason_here givens before.now event }
 {
-    format!(in alloc; "worker {worker} has job {job} in its hand since event {number}")
+    match event {
+        Event::Claimed(_, j) | Event::Done(_, j) if !is_within(givens.jobs, j) => {
+            Some(Reason::NoJob(j))
+        }
+        Event::Claimed(p, j) => hand_reason(p, before).or(claim_reason(j, before)),
+        Event::Done(p, j) => Some(Reason::NotInHand(p, j)),
+        Event::Ended(p) => {
+            let early = Reason::Early(performed(before), givens.bound());
+            hand_reason(p, before).or(Some(early))
+        }
+        Event::Halted(_) => None,
+        Event::Left(p) => hand_reason(p, before),
+    }
+}
+
+/// Why the event, of worker p, is no step behind these.
+fn reason_of(givens: Givens, before: &[Event], p: u32, event: Event) -> Option<Reason>
+    ensures { result ≡ reason_of givens before.now p event }
+{
+    if !is_within(givens.workers, p) {
+        return Some(Reason::NoWorker(p));
+    }
+    if let Some(gone) = gone_reason(p, before) {
+        return Some(gone);
+    }
+    reason_here(givens, before, event)
 }
 
 #[tactic(auto, unfolding(crate::specs::Why::not_in_hand_text))]
@@ -79,152 +126,43 @@ fn early_text(alloc: Global, performed: usize, least: u32) -> Result<String, All
     )
 }
 
-/// That worker p was gone by an event of this number.
-fn gone_why(
-    alloc: Global,
-    history: &History<'_>,
-    p: u32,
-    found: (usize, Event),
-) -> Result<String, AllocError>
-    ensures { IfOk result (λ text. string_bytes text ≡ gone_why history.now p found) }
+/// The reason in words, where workers and jobs are called as in this history.
+#[tactic(auto, unfolding(crate::specs::Why::reason_text))]
+fn reason_text(alloc: Global, history: &History<'_>, reason: Reason) -> Result<String, AllocError>
+    ensures { IfOk result (λ text. string_bytes text ≡ reason_text history.now reason) }
 {
-    let worker = history.workers().called(alloc, p)?;
-    let words = gone_words(found.1);
-    gone_text(alloc, worker.as_str(), words, found.0)
-}
-
-/// That worker p has a job in its hand, by an event of this number.
-fn in_hand_why(
-    alloc: Global,
-    history: &History<'_>,
-    p: u32,
-    found: (u32, usize),
-) -> Result<String, AllocError>
-    ensures { IfOk result (λ text. string_bytes text ≡ in_hand_why history.now p found) }
-{
-    let worker = history.workers().called(alloc, p)?;
-    let job = history.jobs().called(alloc, found.0)?;
-    in_hand_text(alloc, worker.as_str(), job.as_str(), found.1)
-}
-
-/// That job j was claimed, by an event of this number.
-fn claimed_why(
-    alloc: Global,
-    history: &History<'_>,
-    j: u32,
-    found: (usize, Event),
-) -> Result<String, AllocError>
-    ensures { IfOk result (λ text. string_bytes text ≡ claimed_why history.now j found) }
-{
-    let job = history.jobs().called(alloc, j)?;
-    let worker = history.workers().called(alloc, worker_of(found.1))?;
-    claimed_text(alloc, job.as_str(), worker.as_str(), found.0)
-}
-
-/// Why worker p, who is there, can't claim job j.
-fn claim_why(
-    alloc: Global,
-    history: &History<'_>,
-    before: &[Event],
-    p: u32,
-    j: u32,
-) -> Result<String, AllocError>
-    ensures { IfOk result (λ text. string_bytes text ≡ claim_why history.now before.now p j) }
-{
-    if let Some(found) = hand_of(p, before) {
-        return in_hand_why(alloc, history, p, found);
-    }
-    if let Some(found) = claim_of(j, before) {
-        return claimed_why(alloc, history, j, found);
-    }
-    Ok(String::new(alloc))
-}
-
-/// Why worker p, who is there, can't have done job j.
-fn done_why(alloc: Global, history: &History<'_>, p: u32, j: u32) -> Result<String, AllocError>
-    ensures { IfOk result (λ text. string_bytes text ≡ done_why history.now p j) }
-{
-    let worker = history.workers().called(alloc, p)?;
-    let job = history.jobs().called(alloc, j)?;
-    not_in_hand_text(alloc, worker.as_str(), job.as_str())
-}
-
-/// Why worker p, who is there, can't end by its own choice.
-fn end_why(
-    alloc: Global,
-    history: &History<'_>,
-    before: &[Event],
-    p: u32,
-) -> Result<String, AllocError>
-    ensures { IfOk result (λ text. string_bytes text ≡ end_why history.now before.now p) }
-{
-    if let Some(found) = hand_of(p, before) {
-        return in_hand_why(alloc, history, p, found);
-    }
-    early_text(alloc, performed(before), history.givens().bound())
-}
-
-/// Why worker p, who is there, can't leave.
-fn leave_why(
-    alloc: Global,
-    history: &History<'_>,
-    before: &[Event],
-    p: u32,
-) -> Result<String, AllocError>
-    ensures { IfOk result (λ text. string_bytes text ≡ leave_why history.now before.now p) }
-{
-    if let Some(found) = hand_of(p, before) {
-        return in_hand_why(alloc, history, p, found);
-    }
-    Ok(String::new(alloc))
-}
-
-/// That there is no job j.
-fn no_job_why(alloc: Global, history: &History<'_>, j: u32) -> Result<String, AllocError>
-    ensures { IfOk result (λ text. string_bytes text ≡ no_job_why history.now j) }
-{
-    let job = history.jobs().called(alloc, j)?;
-    no_job_text(alloc, job.as_str())
-}
-
-/// That there is no worker p.
-fn no_worker_why(alloc: Global, history: &History<'_>, p: u32) -> Result<String, AllocError>
-    ensures { IfOk result (λ text. string_bytes text ≡ no_worker_why history.now p) }
-{
-    let worker = history.workers().called(alloc, p)?;
-    no_worker_text(alloc, worker.as_str())
-}
-
-/// Why the event is no step behind these, if its worker is there.
-fn why_here(
-    alloc: Global,
-    history: &History<'_>,
-    before: &[Event],
-    event: Event,
-) -> Result<String, AllocError>
-    ensures { IfOk result (λ text. string_bytes text ≡ why_here history.now before.now event) }
-{
-    let jobs = history.givens().jobs;
-    match event {
-        Event::Claimed(p, j) => {
-            if !is_within(jobs, j) {
-                return no_job_why(alloc, history, j);
-            }
-            claim_why(alloc, history, before, p, j)
+    let (workers, jobs) = (history.workers(), history.jobs());
+    match reason {
+        Reason::NoWorker(p) => {
+            let worker = workers.called(alloc, p)?;
+            format!(in alloc; "there is no worker {worker}")
         }
-        Event::Done(p, j) => {
-            if !is_within(jobs, j) {
-                return no_job_why(alloc, history, j);
-            }
-            done_why(alloc, history, p, j)
+        Reason::Gone(p, event, number) => {
+            let worker = workers.called(alloc, p)?;
+            let words = gone_words(event);
+            format!(in alloc; "worker {worker} {words} in event {number}")
         }
-        Event::Ended(p) => end_why(alloc, history, before, p),
-        Event::Halted(_) => Ok(String::new(alloc)),
-        Event::Left(p) => leave_why(alloc, history, before, p),
+        Reason::NoJob(j) => {
+            let job = jobs.called(alloc, j)?;
+            format!(in alloc; "there is no job {job}")
+        }
+        Reason::InHand(p, j, number) => {
+            let (worker, job) = (workers.called(alloc, p)?, jobs.called(alloc, j)?);
+            format!(in alloc; "worker {worker} has job {job} in its hand since event {number}")
+        }
+        Reason::NotInHand(p, j) => {
+            let (worker, job) = (workers.called(alloc, p)?, jobs.called(alloc, j)?);
+            not_in_hand_text(alloc, worker.as_str(), job.as_str())
+        }
+        Reason::ClaimedBefore(j, p, number) => {
+            let (worker, job) = (workers.called(alloc, p)?, jobs.called(alloc, j)?);
+            claimed_text(alloc, job.as_str(), worker.as_str(), number)
+        }
+        Reason::Early(performed, least) => early_text(alloc, performed, least),
     }
 }
 
-/// Why the event, of worker p, is no step behind these.
+/// Why the event, of worker p, is no step behind these, in words.
 pub(crate) fn why_of(
     alloc: Global,
     history: &History<'_>,
@@ -234,11 +172,8 @@ pub(crate) fn why_of(
 ) -> Result<String, AllocError>
     ensures { IfOk result (λ text. string_bytes text ≡ why_of history.now before.now p event) }
 {
-    if !is_within(history.givens().workers, p) {
-        return no_worker_why(alloc, history, p);
+    match reason_of(history.givens(), before, p, event) {
+        Some(reason) => reason_text(alloc, history, reason),
+        None => Ok(String::new(alloc)),
     }
-    if let Some(found) = end_of(p, before) {
-        return gone_why(alloc, history, p, found);
-    }
-    why_here(alloc, history, before, event)
 }

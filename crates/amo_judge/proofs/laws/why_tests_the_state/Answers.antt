@@ -1,3 +1,4 @@
+use Rattle.amo_judge.proofs.Found.{reason_found}
 use Rattle.amo_judge.proofs.Searches.{gone_is, hand_is, unclaimed_is, performed_is}
 use Rattle.amo_judge.proofs.laws.why_tests_the_state.Goals as goal
 
@@ -12,3 +13,6 @@ returns-clause-unclaimed c g before j job = unclaimed_is g before j job
 
 pub returns-clause-performed : goal.returns-clause-performed
 returns-clause-performed c g before = performed_is g before
+
+pub returns-clause-found : goal.returns-clause-found
+returns-clause-found c g before event fails = reason_found g before event fails
