@@ -7,6 +7,12 @@ use super::{Act, All, Piece, Step, Text, first_line, steps};
 /// More moves have no rows of their own.
 const MOST_ROWS: usize = 400;
 
+/// After so many rows the heads of the lanes come again.
+const RULED_ROWS: usize = 50;
+
+/// More jobs that nobody has claimed are counted and not named.
+const MOST_NAMED: usize = 8;
+
 const STYLE: &str = "<style>
 .g{fill:#fff}.i{fill:#1f2328}.f{fill:#59636e}.c{fill:#0072b2}.x{fill:#b84a00}
 .li,.lf,.lc,.lx,.lb,.lp{fill:none}
@@ -35,9 +41,10 @@ const KEY_OF_ROWS: [&str; 5] = [
     "the attempt has failed. Small square: a load of 0.",
 ];
 
-const KEY_OF_JOBS: [&str; 2] = [
+const KEY_OF_JOBS: [&str; 3] = [
     "Down are the moves. Left, a column is a job: marked from its claim on, grey once it is done, empty while unclaimed.",
     "Right, a lane is a worker: a tick on the left is a claim, on the right a failed attempt. Below, how many it has done.",
+    "Under the columns: who has claimed a job, by a mark in that worker's lane, a low one where it hasn't done it; none: nobody.",
 ];
 
 pub fn drawn(plan: &Plan) -> Text {
@@ -139,10 +146,15 @@ impl Picture<'_> {
         (words, "</text>\n").put(&mut self.out);
     }
 
-    /// A number that ends at (x, y).
-    fn number_before(&mut self, x: u32, y: u32, number: u32) {
-        let out = &mut self.out;
-        ("<text class=\"f\" text-anchor=\"end\" x=\"", x, "\" y=\"", y, "\">", number, "</text>\n").put(out);
+    /// Words that end at (x, y).
+    fn before(&mut self, class: &str, x: u32, y: u32, words: impl Piece) {
+        self.anchored("end", class, x, y, words);
+    }
+
+    /// Words that are anchored at (x, y) by their end or their middle.
+    fn anchored(&mut self, anchor: &str, class: &str, x: u32, y: u32, words: impl Piece) {
+        ("<text class=\"", class, "\" text-anchor=\"", anchor).put(&mut self.out);
+        ("\" x=\"", x, "\" y=\"", y, "\">", words, "</text>\n").put(&mut self.out);
     }
 
     fn area(&mut self, class: &str, path: impl Piece) {
@@ -162,13 +174,13 @@ impl Picture<'_> {
         let mut tallies = String::new();
         replay::write_workers(&mut tallies, self.world).expect("a String takes all that is written");
         let performed = self.performed();
-        let unclaimed = self.unclaimed();
+        let unclaimed = self.unclaimed_words();
         let out = &mut self.out;
         "<svg xmlns=\"http://www.w3.org/2000/svg\" lang=\"en\" role=\"img\" ".put(out);
         ("font-family=\"monospace\" font-size=\"12\" viewBox=\"0 0 ", width, " ", height).put(out);
         ("\" width=\"", width, "\" height=\"", height, "\">\n").put(out);
         ("<title>Run of a plan</title>\n<desc>", &*first_line, &*tallies, &*performed).put(out);
-        ("unclaimed ", unclaimed, "\nThe moves as text: amo_show trace</desc>\n", STYLE).put(out);
+        (&*unclaimed, "\nThe moves as text: amo_show trace</desc>\n", STYLE).put(out);
         self.area("g", ("M0 0h", width, "v", height, "h-", width, "z"));
         self.text("i", 16, 24, first_line.trim_end());
     }
@@ -176,7 +188,8 @@ impl Picture<'_> {
     fn foot(&mut self, y: u32, key: &[&str]) {
         let performed = self.performed();
         self.text("i", 16, y, performed.trim_end());
-        self.text("i", 16, y + 16, ("unclaimed ", self.unclaimed()));
+        let unclaimed = self.unclaimed_words();
+        self.text("i", 16, y + 16, &*unclaimed);
         for (line, y) in key.iter().zip((y + 44..).step_by(16)) {
             self.text("f", 16, y, *line);
         }
@@ -190,10 +203,36 @@ impl Picture<'_> {
         line
     }
 
-    /// How many jobs nobody has claimed.
-    fn unclaimed(&self) -> u32 {
-        let claimed: usize = self.world.seats.iter().map(|seat| seat.local.claims.len()).sum();
-        self.plan.givens.jobs - claimed as u32
+    /// The jobs that nobody has claimed.
+    fn unclaimed(&self) -> Vec<u32> {
+        let mut is_claimed = vec![false; self.plan.givens.jobs as usize + 1];
+        for seat in &self.world.seats {
+            for job in &seat.local.claims {
+                is_claimed[*job as usize] = true;
+            }
+        }
+        (1..=self.plan.givens.jobs).filter(|job| !is_claimed[*job as usize]).collect()
+    }
+
+    /// What the columns of a picture of jobs are.
+    fn kind(&self) -> &'static str {
+        if self.plan.block.is_some() { "blocks" } else { "jobs" }
+    }
+
+    /// Which jobs nobody has claimed, or how many of them there are.
+    fn unclaimed_words(&self) -> String {
+        let jobs = self.unclaimed();
+        match (jobs.len(), self.kind()) {
+            (0, _) => "unclaimed none".to_string(),
+            (count, kind) if count > MOST_NAMED => format!("unclaimed {count} {kind}"),
+            (_, kind) => {
+                let mut words = String::from(if kind == "blocks" { "unclaimed blocks" } else { "unclaimed" });
+                for job in jobs {
+                    words += &format!(" {job}");
+                }
+                words
+            }
+        }
     }
 }
 
@@ -202,10 +241,17 @@ fn lane(worker: u32) -> u32 {
     176 * worker - 100
 }
 
-/// How many rows it is from the one before the rest to the next one of the worker that passes, or to the foot.
-fn until(rest: &[Step], worker: u32, test: impl Fn(&Step) -> bool) -> u32 {
+/// How far down a row is, the first being row 1. The heads of the lanes take the place of a row each time that they come again.
+fn row(number: usize) -> u32 {
+    let heads = (number - 1) / RULED_ROWS;
+    72 + 18 * (number + heads) as u32
+}
+
+/// The first row after this one whose step is the worker's and passes, or the one after the last.
+fn next(rows: &[Step], number: usize, worker: u32, test: impl Fn(&Step) -> bool) -> usize {
+    let rest = &rows[number..];
     let found = rest.iter().position(|step| step.worker == worker && test(step));
-    found.unwrap_or(rest.len()) as u32 + 1
+    number + found.unwrap_or(rest.len()) + 1
 }
 
 fn stores_next(step: &Step) -> bool {
@@ -219,17 +265,21 @@ fn stores_done(step: &Step) -> bool {
 impl Picture<'_> {
     fn draw_rows(&mut self, rows: &[Step]) {
         let workers = self.plan.givens.workers;
-        let bottom = 72 + 18 * (rows.len() as u32 + 1);
-        self.head(56 + 176 * workers.max(3), bottom + 192);
+        let bottom = row(rows.len() + 1);
+        let width = 56 + 176 * workers.max(3);
+        self.head(width, bottom + 192);
         for p in 1..=workers {
             self.text("i", lane(p) - 20, 56, ("worker ", p));
-            let length = 8 + 18 * until(rows, p, |step| step.gone);
-            self.stroke("f", 1, ("M", lane(p), " 64v", length));
+            let end = row(next(rows, 0, p, |step| step.gone));
+            self.stroke("f", 1, ("M", lane(p), " 64v", end - 64));
         }
         let mut label = Text::new();
-        for ((place, step), y) in (1..).zip(rows).zip((90..).step_by(18)) {
+        for (number, step) in (1..).zip(rows) {
             label.clear();
-            self.draw_row(step, y, &rows[place..], &mut label);
+            self.draw_row(rows, number, &mut label);
+            if number % RULED_ROWS == 0 {
+                self.draw_heads(row(number) + 18, width, step.number);
+            }
         }
         let world = self.world;
         for (p, seat) in (1..).zip(&world.seats) {
@@ -243,14 +293,25 @@ impl Picture<'_> {
         self.foot(bottom + 60, &KEY_OF_ROWS);
     }
 
-    /// The row of the step at this height; the rest are the steps after it. The label comes empty.
-    fn draw_row(&mut self, step: &Step, y: u32, rest: &[Step], label: &mut Text) {
+    /// The heads of the lanes once more, below the row of the move with this number.
+    fn draw_heads(&mut self, y: u32, width: u32, number: u32) {
+        self.stroke("b", 1, ("M16 ", y + 9, "h", width - 32));
+        self.before("i", 44, y + 4, number);
+        for p in 1..=self.plan.givens.workers {
+            self.text("i", lane(p) + 14, y + 4, ("worker ", p));
+        }
+    }
+
+    /// The row with this number. The label comes empty.
+    fn draw_row(&mut self, rows: &[Step], number: usize, label: &mut Text) {
+        let step = &rows[number - 1];
+        let y = row(number);
         let p = step.worker;
         let x = lane(p);
         let job = step.before.job();
         let ends = if step.after == Phase::Over { ", ends" } else { "" };
         ("<g><title>", step, "</title>\n").put(&mut self.out);
-        self.number_before(44, y + 4, step.number);
+        self.before("f", 44, y + 4, step.number);
         let place = ("M", x, " ", y);
         let class = match step.act {
             Act::Stops => {
@@ -288,14 +349,15 @@ impl Picture<'_> {
             }
             Act::Turned(Want::StoreNext(_), _) => {
                 ("announces ", job).put(label);
-                let length = 18 * until(rest, p, stores_next) - 3;
-                self.stroke("b", 6, ("M", x - 12, " ", y - 5, "v", length));
+                let end = row(next(rows, number, p, stores_next));
+                self.stroke("b", 6, ("M", x - 12, " ", y - 5, "v", end - y - 3));
                 self.area("i", (place, DISC));
                 "i"
             }
             Act::Turned(Want::StoreClaim(_), _) => {
                 ("claims ", job).put(label);
-                self.stroke("c", 4, (place, "v", 18 * until(rest, p, stores_done)));
+                let end = row(next(rows, number, p, stores_done));
+                self.stroke("c", 4, (place, "v", end - y));
                 self.area("c", (place, SQUARE));
                 "c"
             }
@@ -330,18 +392,28 @@ impl Picture<'_> {
 
     fn draw_jobs(&mut self, run: &Run) {
         let jobs = self.plan.givens.jobs;
-        let width = 880 + 36 * self.plan.givens.workers.max(2);
+        let workers = self.plan.givens.workers;
+        let width = 880 + 36 * workers.max(2);
         let column = 768 / jobs + 1;
         let at = |number: u32| 72 + 960 * number / run.last;
-        let start = |mark: &Mark| ("M", 72 + 768 * (2 * mark.job - 1) / (2 * jobs), " ", at(mark.number));
-        self.head(width, 1176);
-        let kind = if self.plan.block.is_some() { "blocks" } else { "jobs" };
-        self.text("i", 72, 56, (kind, " 1 to ", jobs));
+        let place = |job: u32| 72 + 768 * (2 * job - 1) / (2 * jobs);
+        let start = |mark: &Mark| ("M", place(mark.job), " ", at(mark.number));
+        // where the marks of a worker's claims stand, those of worker 1 first, and at last those of the jobs of nobody
+        let band = |lane: u32| 1052 + 14 * lane;
+        let bottom = band(workers + 1);
+        self.head(width, bottom + 160);
+        self.text("i", 72, 40, (self.kind(), " 1 to ", jobs));
         self.text("i", 872, 40, "workers");
-        let tenth = 10_u32.pow((run.last / 8).ilog10());
-        let between = (run.last / 8 / tenth + 1) * tenth;
-        for number in (0..=run.last).step_by(between as usize) {
-            self.number_before(64, at(number) + 4, number);
+        self.text("i", 16, 1048, "claimed by");
+        let named: Vec<u32> = (1..=jobs).filter(|job| job % between(jobs) == 0).collect();
+        for (tick, words) in [(62, 56), (bottom + 4, bottom + 24)] {
+            for job in &named {
+                self.stroke("f", 1, ("M", place(*job), " ", tick, "v8"));
+                self.anchored("middle", "f", place(*job), words, *job);
+            }
+        }
+        for number in (0..=run.last).step_by(between(run.last) as usize) {
+            self.before("f", 64, at(number) + 4, number);
             self.stroke("p", 1, ("M72 ", at(number), "h", width - 88));
         }
         self.stroke("p", column, All(run.performed.iter().map(|mark| (start(mark), "V1032"))));
@@ -363,8 +435,29 @@ impl Picture<'_> {
             }
             self.text(class, x - 12, 56, p);
             self.text(class, x - 12, 1052, lane.performed.len() as u32);
+            self.before(class, 64, band(p), p);
+            self.stroke("p", 1, ("M72 ", band(p), "h768"));
+            let done = lane.performed.len();
+            let marks = (0..).zip(&lane.claimed).map(|(i, mark)| {
+                let height = if i < done { "v-10" } else { "v-4" };
+                ("M", place(mark.job), " ", band(p), height)
+            });
+            self.stroke(class, column + 1, All(marks));
             "</g>\n".put(&mut self.out);
         }
-        self.foot(1092, &KEY_OF_JOBS);
+        let unclaimed = self.unclaimed();
+        "<g><title>unclaimed</title>\n".put(&mut self.out);
+        self.before("f", 64, bottom, "none");
+        self.stroke("p", 1, ("M72 ", bottom, "h768"));
+        self.stroke("f", column + 1, All(unclaimed.iter().map(|job| ("M", place(*job), " ", bottom, "v-10"))));
+        "</g>\n".put(&mut self.out);
+        self.foot(bottom + 60, &KEY_OF_JOBS);
     }
+}
+
+/// How far apart the numbers of an axis are that goes up to this one.
+fn between(last: u32) -> u32 {
+    let eighth = last / 8;
+    let power = 10_u32.pow(eighth.checked_ilog10().unwrap_or(0));
+    (eighth / power + 1) * power
 }

@@ -14,17 +14,21 @@ two_attributes first a second b = attribute first a ++ attribute second b ++ cod
 unfoldable pub text_start : List ℕ → ℕ → ℕ → List ℕ
 text_start c x y = codes "<text class=\"" ++ c ++ two_attributes (codes "x") x (codes "y") y
 
--- `<text class="C" text-anchor="end" x="X" y="Y">`
-unfoldable pub before_start : List ℕ → ℕ → ℕ → List ℕ
-before_start c x y = codes "<text class=\"" ++ c ++ codes "\" text-anchor=\"end" ++ two_attributes (codes "x") x (codes "y") y
+-- `<text class="C" text-anchor="A" x="X" y="Y">`
+unfoldable pub anchored_start : List ℕ → List ℕ → ℕ → ℕ → List ℕ
+anchored_start anchor c x y = codes "<text class=\"" ++ c ++ codes "\" text-anchor=\"" ++ anchor ++ two_attributes (codes "x") x (codes "y") y
 
 -- words that begin at a place
 abbrev pub text : List ℕ → ℕ → ℕ → List ℕ → List ℕ
 text c x y words = text_start c x y ++ words ++ codes "</text>\n"
 
+-- a number that is anchored at a place, by its end or its middle
+abbrev pub anchored_number : List ℕ → List ℕ → ℕ → ℕ → ℕ → List ℕ
+anchored_number anchor c x y n = anchored_start anchor c x y ++ decimal n ++ codes "</text>\n"
+
 -- a number that ends at a place
 abbrev pub number_before : List ℕ → ℕ → ℕ → ℕ → List ℕ
-number_before c x y n = before_start c x y ++ decimal n ++ codes "</text>\n"
+number_before c x y n = anchored_number (codes "end") c x y n
 
 -- `<path class="C" d="`
 unfoldable pub area_start : List ℕ → List ℕ
@@ -49,6 +53,6 @@ area_at c x y shape = area_start c ++ at_place x y ++ shape ++ codes "\"/>\n"
 abbrev pub stroke_at : List ℕ → ℕ → ℕ → ℕ → List ℕ → List ℕ
 stroke_at c w x y shape = stroke_start c w ++ at_place x y ++ shape ++ codes "\"/>\n"
 
--- a line from a place so far down
-abbrev pub down : List ℕ → ℕ → ℕ → ℕ → ℕ → List ℕ
-down c w x y far = stroke_start c w ++ at_place x y ++ codes "v" ++ decimal far ++ codes "\"/>\n"
+-- a straight line from a place: the way is `v`, so far down, or `h`, so far to the right
+abbrev pub straight : List ℕ → ℕ → ℕ → ℕ → List ℕ → ℕ → List ℕ
+straight c w x y way far = stroke_start c w ++ at_place x y ++ way ++ decimal far ++ codes "\"/>\n"

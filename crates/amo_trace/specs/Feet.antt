@@ -5,10 +5,8 @@ use Rattle.amo_kk.specs.World.{process}
 use Rattle.amo_kk.specs.declared.event.Event.{Event}
 use Rattle.amo_kk.specs.declared.model.World.{World}
 use Rattle.amo_texts.specs.Happened.{is_claim_of, is_done_of, state_of}
-use Rattle.amo_trace.specs.declared.wording.Wording.TheVariants.{LanesKey, BarsKey, HandsKey, LinesKey, CrossesKey}
-use Rattle.amo_trace.specs.Elements.{text, text_start}
+use Rattle.amo_trace.specs.Elements.{text_start}
 use Rattle.amo_trace.specs.Marks.{lane}
-use Rattle.amo_trace.specs.Wording.{fixed_text}
 
 -- `STATE turns T`, as the report's line of worker p has it
 unfoldable pub state_text : List Event → ℕ → ℕ → ℕ → List ℕ
@@ -30,13 +28,3 @@ lane_foot w y p = state_text w.history y p (process w p).local.steps ++ counts_t
 abbrev pub lane_feet : World → ℕ → ℕ → List ℕ
 lane_feet w y zero = []
 lane_feet w y (suc n) = lane_feet w y n ++ lane_foot w y (suc n)
-
--- what the marks say, below height y
-unfoldable pub rows_key : ℕ → List ℕ
-rows_key y =
-    text (codes "f") 16 (y + 44) (fixed_text LanesKey)
-    ++ text (codes "f") 16 (y + 60) (fixed_text BarsKey)
-    ++ text (codes "f") 16 (y + 76) (fixed_text HandsKey)
-    ++ text (codes "f") 16 (y + 92) (fixed_text LinesKey)
-    ++ text (codes "f") 16 (y + 108) (fixed_text CrossesKey)
-    ++ codes "</svg>\n"

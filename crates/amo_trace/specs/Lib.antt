@@ -8,6 +8,8 @@ pub mod Rows
 pub mod Frame
 pub mod Feet
 pub mod Scale
+pub mod Pieces
+pub mod Band
 pub mod Jobs
 pub mod Picture
 pub mod Shown

@@ -1,15 +1,16 @@
 -- What a picture shows of a transition.
-use Rattle.std.specs.Prelude.{ℕ, ◌+◌, ◌-◌, ◌*◌, Bool, true, false, ◌&&◌, List, [], ◌++◌, length, nat_lt, ◌==◌, if◌then◌else◌, codes}
+use Rattle.std.specs.Prelude.{ℕ, ◌+◌, ◌-◌, ◌*◌, ◌/◌, Bool, true, false, ◌&&◌, List, [], ◌++◌, length, nat_lt, ◌==◌, if◌then◌else◌, codes}
 use Rattle.std.specs.Fmt.{decimal}
 use Rattle.std.specs.List.{position_or_len}
 use Rattle.amo_kk.specs.declared.phase.Want.{Want}
 use Rattle.amo_kk.specs.declared.phase.Want.TheVariants.{StoreNext, LoadNext, LoadDone, StoreClaim, StoreDone, Nothing}
+use Rattle.amo_trace.specs.declared.marks.TheConstants.{RULED_ROWS}
 use Rattle.amo_trace.specs.declared.marks.Mark.{Mark}
 use Rattle.amo_trace.specs.declared.marks.Mark.TheVariants.{Stop, Fail, Zero, Own, Other, Leave, Announcement, Claim, Filing, Still}
 use Rattle.amo_trace.specs.declared.transition.Act.{Act}
 use Rattle.amo_trace.specs.declared.transition.Act.TheVariants.{Turned, Leaves, Stops}
 use Rattle.amo_trace.specs.declared.transition.Transition.{Transition}
-use Rattle.amo_trace.specs.Elements.{stroke_start, dotted_start, at_place, area_at, stroke_at, down}
+use Rattle.amo_trace.specs.Elements.{stroke_start, dotted_start, at_place, area_at, stroke_at, straight}
 use Rattle.amo_trace.specs.Transitions.{fails, job_of}
 use Rattle.amo_trace.specs.Trace.{next_word, done_word, equals}
 
@@ -80,9 +81,9 @@ label_of Still over = []
 abbrev pub lane : ℕ → ℕ
 lane p = 176 * p - 100
 
--- how far down row r is
+-- how far down row r is: each time that the heads of the lanes come again they take the place of a row
 abbrev pub row : ℕ → ℕ
-row r = 72 + 18 * r
+row r = 72 + 18 * (r + (r - 1) / RULED_ROWS)
 
 -- 1, and the number of transitions of these before the first of worker p that passes, or all where none does
 abbrev pub until : (Transition → Bool) → ℕ → List Transition → ℕ
@@ -126,14 +127,19 @@ line_start p want label = if nat_lt (loaded_of want) p then lane p else lane p +
 abbrev pub line_to : ℕ → ℕ → Want → List ℕ → List ℕ
 line_to p y want label = at_place (line_start p want label) y ++ level_to (seen_at want)
 
--- what leads up to the mark of worker p in a row at height y, the transitions after it being these: the line of a load, the bar of an
+-- how far row r and the row so many rows below it are apart
+abbrev pub apart : ℕ → ℕ → ℕ
+apart r rows = row (r + rows) - row r
+
+-- what leads up to the mark of worker p in row r, the transitions after it being these: the line of a load, the bar of an
 -- announcement, which is as long as it stands, and the bar of a claim, which is as long as the job is in hand
 unfoldable pub lead_at : ℕ → ℕ → List ℕ → List Transition → Mark → List ℕ
-lead_at p y label rest (Own want v) = stroke_start (codes "x") 2 ++ line_to p y want label
-lead_at p y label rest (Other want v) = dotted_start (codes "f") ++ line_to p y want label
-lead_at p y label rest (Announcement j) = down (codes "b") 6 (lane p - 12) (y - 5) (18 * until (λ s. is_announcement (mark_of s)) p rest - 3)
-lead_at p y label rest (Claim j) = down (codes "c") 4 (lane p) y (18 * until (λ s. is_filing (mark_of s)) p rest)
-lead_at p y label rest mark = []
+lead_at p r label rest (Own want v) = stroke_start (codes "x") 2 ++ line_to p (row r) want label
+lead_at p r label rest (Other want v) = dotted_start (codes "f") ++ line_to p (row r) want label
+lead_at p r label rest (Announcement j) =
+    straight (codes "b") 6 (lane p - 12) (row r - 5) (codes "v") (apart r (until (λ s. is_announcement (mark_of s)) p rest) - 3)
+lead_at p r label rest (Claim j) = straight (codes "c") 4 (lane p) (row r) (codes "v") (apart r (until (λ s. is_filing (mark_of s)) p rest))
+lead_at p r label rest mark = []
 
 -- the shape of a mark at its place
 unfoldable pub shape_at : ℕ → ℕ → Mark → List ℕ

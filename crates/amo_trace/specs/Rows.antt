@@ -1,11 +1,12 @@
 -- The rows of a picture: one for each transition that changes something.
-use Rattle.std.specs.Prelude.{ℕ, zero, suc, ◌+◌, ◌-◌, ◌*◌, Bool, true, false, List, [], ◌∷◌, ◌++◌, if◌then◌else◌, codes}
+use Rattle.std.specs.Prelude.{ℕ, zero, suc, ◌+◌, ◌-◌, ◌*◌, ◌%◌, max, Bool, true, false, List, [], ◌∷◌, ◌++◌, ◌==◌, if◌then◌else◌, codes}
 use Rattle.std.specs.Fmt.{decimal}
 use Rattle.amo_kk.specs.Record.{is_over}
+use Rattle.amo_trace.specs.declared.marks.TheConstants.{RULED_ROWS}
 use Rattle.amo_trace.specs.declared.transition.Act.{Act}
 use Rattle.amo_trace.specs.declared.transition.Act.TheVariants.{Stays, Idles}
 use Rattle.amo_trace.specs.declared.transition.Transition.{Transition}
-use Rattle.amo_trace.specs.Elements.{text, text_start, number_before, stroke_start, stroke_at}
+use Rattle.amo_trace.specs.Elements.{text, text_start, number_before, stroke_at, straight}
 use Rattle.amo_trace.specs.Marks.{lane, row, until, mark_of, class_of, label_of, lead_at, shape_at}
 use Rattle.amo_trace.specs.Trace.{transition_words}
 
@@ -27,26 +28,48 @@ row_title s = codes "<g><title>" ++ transition_words s ++ codes "</title>\n"
 abbrev pub label_in : Transition → List ℕ
 label_in s = label_of (mark_of s) (is_over s.after)
 
--- its marks in a row at height y, and these words
+-- its marks in row r, and these words
 unfoldable pub row_drawn : ℕ → List ℕ → Transition → List Transition → List ℕ
-row_drawn y label s rest =
-    lead_at s.worker y label rest (mark_of s) ++ shape_at (lane s.worker) y (mark_of s) ++ end_mark s.worker y (is_over s.after)
-    ++ text (class_of (mark_of s)) (lane s.worker + 14) (y + 4) label
+row_drawn r label s rest =
+    lead_at s.worker r label rest (mark_of s) ++ shape_at (lane s.worker) (row r) (mark_of s) ++ end_mark s.worker (row r) (is_over s.after)
+    ++ text (class_of (mark_of s)) (lane s.worker + 14) (row r + 4) label
 
 -- row r, of transition s, these transitions being those after it
 unfoldable pub row_text : ℕ → Transition → List Transition → List ℕ
-row_text r s rest = row_title s ++ number_before (codes "f") 44 (row r + 4) s.number ++ row_drawn (row r) (label_in s) s rest ++ codes "</g>\n"
+row_text r s rest = row_title s ++ number_before (codes "f") 44 (row r + 4) s.number ++ row_drawn r (label_in s) s rest ++ codes "</g>\n"
+
+-- `worker P` at a place
+unfoldable pub head_text : ℕ → ℕ → ℕ → List ℕ
+head_text x y p = text_start (codes "i") x y ++ codes "worker " ++ decimal p ++ codes "</text>\n"
+
+-- the heads of the lanes of the workers 1..n once more, at height y
+abbrev pub heads_again : ℕ → ℕ → List ℕ
+heads_again y zero = []
+heads_again y (suc n) = heads_again y n ++ head_text (lane (suc n) + 14) (y + 4) (suc n)
+
+-- how wide a picture of rows is
+abbrev pub rows_width : ℕ → ℕ
+rows_width workers = 56 + 176 * max workers 3
+
+-- the ruler at height y: a level line with the number of the move above it and the heads of the lanes
+unfoldable pub ruler : ℕ → ℕ → ℕ → List ℕ
+ruler workers y number =
+    straight (codes "b") 1 16 (y + 9) (codes "h") (rows_width workers - 32) ++ number_before (codes "i") 44 (y + 4) number
+    ++ heads_again y workers
+
+-- it stands below each row whose number is a multiple of RULED_ROWS
+abbrev pub ruler_below : ℕ → ℕ → Transition → List ℕ
+ruler_below workers r s = if r % RULED_ROWS == 0 then ruler workers (row r + 18) s.number else []
 
 -- the rows of these transitions, the first being row r
-abbrev pub row_texts : ℕ → List Transition → List ℕ
-row_texts r [] = []
-row_texts r (s ∷ rest) = row_text r s rest ++ row_texts (r + 1) rest
+abbrev pub row_texts : ℕ → ℕ → List Transition → List ℕ
+row_texts workers r [] = []
+row_texts workers r (s ∷ rest) = row_text r s rest ++ ruler_below workers r s ++ row_texts workers (r + 1) rest
 
 -- the head of the lane of worker p with its lifeline, which ends where the worker is gone
 unfoldable pub lane_head : List Transition → ℕ → List ℕ
 lane_head rows p =
-    text_start (codes "i") (lane p - 20) 56 ++ codes "worker " ++ decimal p ++ codes "</text>\n"
-    ++ stroke_start (codes "f") 1 ++ codes "M" ++ decimal (lane p) ++ codes " 64v" ++ decimal (18 * until (λ s. s.gone) p rows + 8) ++ codes "\"/>\n"
+    head_text (lane p - 20) 56 p ++ straight (codes "f") 1 (lane p) 64 (codes "v") (row (until (λ s. s.gone) p rows) - 64)
 
 -- those of the workers 1..n
 abbrev pub lane_heads : List Transition → ℕ → List ℕ

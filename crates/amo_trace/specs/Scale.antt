@@ -36,10 +36,14 @@ power v =
     if nat_lt v 1000 then 100 else
     if nat_lt v 10000 then 1000 else 10000
 
--- how many moves there are from one level line to the next: an eighth of all, and up to the next multiple of such a power
+-- how far apart the numbers on an axis are that goes up to this one: an eighth, and up to the next multiple of such a power
 abbrev pub grid_step : ℕ → ℕ
 grid_step last = last / 8 / power (last / 8) * power (last / 8) + power (last / 8)
 
 -- where the lane of worker p is
 abbrev pub narrow_lane : ℕ → ℕ
 narrow_lane p = 848 + 36 * p
+
+-- how far down the marks of the jobs stand that worker p has claimed; those of the jobs of nobody follow the last worker's
+abbrev pub band : ℕ → ℕ
+band p = 1052 + 14 * p

@@ -1,9 +1,10 @@
 -- The texts that are the same in each picture of a kind.
-use Rattle.std.specs.Prelude.{ℕ, List, codes}
+use Rattle.std.specs.Prelude.{ℕ, List, [], ◌∷◌, codes}
 use Rattle.amo_trace.specs.declared.wording.Wording.{Wording}
-use Rattle.amo_trace.specs.declared.wording.Wording.TheVariants.{SvgOpen, Title, More, LightStyle, DarkStyle, LanesKey, BarsKey, HandsKey, LinesKey, CrossesKey, ColumnsKey, NarrowLanesKey}
+use Rattle.amo_trace.specs.declared.wording.Wording.TheVariants.{SvgOpen, Title, More, LightStyle, DarkStyle, LanesKey, BarsKey, HandsKey, LinesKey, CrossesKey, ColumnsKey, NarrowLanesKey, BandKey, FreeTitle}
 
--- how a picture begins, its title, what else a reader is told who doesn't see it, its colours, and what the marks say
+-- how a picture begins, its title, what else a reader is told who doesn't see it, its colours, what the marks say, and the title
+-- of the last lane of the band
 unfoldable pub fixed_text : Wording → List ℕ
 fixed_text SvgOpen = codes "<svg xmlns=\"http://www.w3.org/2000/svg\" lang=\"en\" role=\"img\" font-family=\"monospace\" font-size=\"12\" viewBox=\"0 0 "
 fixed_text Title = codes "<title>Run of a plan</title>\n<desc>"
@@ -17,3 +18,12 @@ fixed_text LinesKey = codes "a line to whose word it is, thick where it makes th
 fixed_text CrossesKey = codes "the attempt has failed. Small square: a load of 0."
 fixed_text ColumnsKey = codes "Down are the moves. Left, a column is a job: marked from its claim on, grey once it is done, empty while unclaimed."
 fixed_text NarrowLanesKey = codes "Right, a lane is a worker: a tick on the left is a claim, on the right a failed attempt. Below, how many it has done."
+fixed_text BandKey = codes "Under the columns: who has claimed a job, by a mark in that worker's lane, a low one where it hasn't done it; none: nobody."
+fixed_text FreeTitle = codes "<g><title>unclaimed</title>\n"
+
+-- the lines of what the marks say, in a picture of rows and in one of jobs
+abbrev pub rows_key : List Wording
+rows_key = LanesKey ∷ BarsKey ∷ HandsKey ∷ LinesKey ∷ CrossesKey ∷ []
+
+abbrev pub jobs_key : List Wording
+jobs_key = ColumnsKey ∷ NarrowLanesKey ∷ BandKey ∷ []

@@ -1,6 +1,6 @@
 //! Writes the elements of a picture.
 ghost use Rattle.std.specs.Prelude.{◌≡◌, ◌++◌, OnOk, string_bytes};
-ghost use Rattle.amo_trace.specs.Elements.{attribute, two_attributes, text_start, before_start, text, number_before, area_start, stroke_start, dotted_start, at_place, area_at, stroke_at, down};
+ghost use Rattle.amo_trace.specs.Elements.{attribute, two_attributes, text_start, anchored_start, text, anchored_number, number_before, area_start, stroke_start, dotted_start, at_place, area_at, stroke_at, straight};
 
 use std::alloc::AllocError;
 
@@ -45,14 +45,21 @@ pub(crate) fn push_text_start(
     push_two_attributes(out, "x", x, "y", y)
 }
 
-/// Appends the start of words that end at a place.
-#[tactic(auto, unfolding(crate::specs::Elements::before_start))]
-fn push_before_start(out: &mut String, class: &str, x: u128, y: u128) -> Result<(), AllocError>
-    ensures { OnOk result (string_bytes out.new ≡ string_bytes out.old ++ before_start class.now x y) }
+/// Appends the start of words that are anchored at a place by their `end` or their `middle`.
+#[tactic(auto, unfolding(crate::specs::Elements::anchored_start))]
+pub(crate) fn push_anchored_start(
+    out: &mut String,
+    anchor: &str,
+    class: &str,
+    x: u128,
+    y: u128,
+) -> Result<(), AllocError>
+    ensures { OnOk result (string_bytes out.new ≡ string_bytes out.old ++ anchored_start anchor.now class.now x y) }
 {
     out.push_str("<text class=\"")?;
     out.push_str(class)?;
-    out.push_str("\" text-anchor=\"end")?;
+    out.push_str("\" text-anchor=\"")?;
+    out.push_str(anchor)?;
     push_two_attributes(out, "x", x, "y", y)
 }
 
@@ -71,6 +78,21 @@ pub(crate) fn push_text(
     out.push_str("</text>\n")
 }
 
+/// Appends a number that is anchored at a place by its `end` or its `middle`.
+pub(crate) fn push_anchored_number(
+    out: &mut String,
+    anchor: &str,
+    class: &str,
+    x: u128,
+    y: u128,
+    number: u128,
+) -> Result<(), AllocError>
+    ensures { OnOk result (string_bytes out.new ≡ string_bytes out.old ++ anchored_number anchor.now class.now x y number) }
+{
+    push_anchored_start(out, anchor, class, x, y)?;
+    write!(out, "{number}</text>\n")
+}
+
 /// Appends a number that ends at a place.
 pub(crate) fn push_number_before(
     out: &mut String,
@@ -81,8 +103,7 @@ pub(crate) fn push_number_before(
 ) -> Result<(), AllocError>
     ensures { OnOk result (string_bytes out.new ≡ string_bytes out.old ++ number_before class.now x y number) }
 {
-    push_before_start(out, class, x, y)?;
-    write!(out, "{number}</text>\n")
+    push_anchored_number(out, "end", class, x, y, number)
 }
 
 /// Appends the start of a filled path.
@@ -161,18 +182,20 @@ pub(crate) fn push_stroke(
     out.push_str("\"/>\n")
 }
 
-/// Appends a line of this width from a place so far down.
-pub(crate) fn push_down(
+/// Appends a straight line of this width from a place: the way is `v`, so far down, or `h`, so far to the right.
+pub(crate) fn push_straight(
     out: &mut String,
     class: &str,
     width: u128,
     x: u128,
     y: u128,
+    way: &str,
     far: u128,
 ) -> Result<(), AllocError>
-    ensures { OnOk result (string_bytes out.new ≡ string_bytes out.old ++ down class.now width x y far) }
+    ensures { OnOk result (string_bytes out.new ≡ string_bytes out.old ++ straight class.now width x y way.now far) }
 {
     push_stroke_start(out, class, width)?;
     push_place(out, x, y)?;
-    write!(out, "v{far}\"/>\n")
+    out.push_str(way)?;
+    write!(out, "{far}\"/>\n")
 }

@@ -1,11 +1,10 @@
 //! Writes what stands below the lanes of a picture of rows.
 ghost use Rattle.std.specs.Prelude.{◌≡◌, ◌++◌, ◌<◌, ◌^◌, OnOk, string_bytes};
 ghost use Rattle.amo_kk.specs.Givens.{IsWorker};
-ghost use Rattle.amo_trace.specs.Feet.{state_text, counts_words, counts_text, lane_foot, lane_feet, rows_key};
+ghost use Rattle.amo_trace.specs.Feet.{state_text, counts_words, counts_text, lane_foot, lane_feet};
 
-use crate::elements::{push_text, push_text_start};
+use crate::elements::push_text_start;
 use crate::marks::lane;
-use crate::wording::{Wording, fixed_text};
 use amo_kk::Event;
 use amo_texts::{claims_of, dones_of, state_of};
 use amo_world::World;
@@ -76,18 +75,4 @@ pub(crate) fn push_lane_feet(out: &mut String, world: &World, y: u128) -> Result
         push_lane_foot(out, world, y, before + 1)?;
     }
     Ok(())
-}
-
-/// Appends what the marks say, below this height, and the end of the picture.
-#[tactic(auto, unfolding(crate::specs::Feet::rows_key))]
-pub(crate) fn push_rows_key(out: &mut String, y: u128) -> Result<(), AllocError>
-    requires { y < 2 ^ 100 }
-    ensures { OnOk result (string_bytes out.new ≡ string_bytes out.old ++ rows_key y) }
-{
-    push_text(out, "f", 16, y + 44, fixed_text(Wording::LanesKey))?;
-    push_text(out, "f", 16, y + 60, fixed_text(Wording::BarsKey))?;
-    push_text(out, "f", 16, y + 76, fixed_text(Wording::HandsKey))?;
-    push_text(out, "f", 16, y + 92, fixed_text(Wording::LinesKey))?;
-    push_text(out, "f", 16, y + 108, fixed_text(Wording::CrossesKey))?;
-    out.push_str("</svg>\n")
 }

@@ -1,29 +1,23 @@
 //! Writes what the picture of a long run has besides its frame: a column for each job, and a narrow lane for each worker.
 ghost use Rattle.std.specs.Prelude.{◌≡◌, ◌++◌, ◌<◌, ◌≤◌, ◌^◌, OnOk, string_bytes};
 ghost use Rattle.amo_plan.specs.PlanSeen.{plan_seen};
-ghost use Rattle.amo_trace.specs.Jobs.{worker_class, worker_paths, going, going_shape, lifeline, lane_number, lane_numbers, worker_title, worker_drawn, workers_drawn, level_line, grid_line, grid, what_columns_are, jobs_head, jobs_key, jobs_ground, columns_of, jobs_width};
+ghost use Rattle.amo_trace.specs.Jobs.{worker_paths, going, going_shape, lifeline, lane_number, lane_numbers, worker_title, worker_drawn, workers_drawn, grid_line, grid, jobs_head, columns_of, jobs_width, band_end, jobs_ground};
 ghost use Rattle.amo_trace.specs.Scale.{last_number};
 
+use crate::band::{push_axes, push_band_lane};
 use crate::elements::{
-    push_number_before, push_stroke, push_stroke_start, push_text, push_text_start,
+    push_number_before, push_straight, push_stroke, push_stroke_start, push_text, push_text_start,
 };
-use crate::pieces::{Kind, push_path};
+use crate::frame::jobs_word;
+use crate::pieces::{Kind, push_path, worker_class};
 use crate::rows::until_gone;
-use crate::scale::{at, end_of, grid_step, last_number, narrow_lane, wide};
+use crate::scale::{at, band, end_of, grid_step, last_number, narrow_lane, wide};
 use crate::scene::Scene;
 use crate::transition::{Transition, transition_at};
-use crate::wording::{Wording, fixed_text};
 use amo_kk::{Event, Phase};
 use amo_plan::Plan;
 use amo_texts::dones_of;
 use std::alloc::AllocError;
-
-/// The colour of a worker.
-fn worker_class(worker: u32) -> &'static str
-    ensures { result.now ≡ worker_class worker }
-{
-    if worker % 2 == 1 { "c" } else { "i" }
-}
 
 /// Appends what a worker claimed and where it failed, by paths of these kinds and this width.
 #[tactic(auto, unfolding(crate::specs::Jobs::worker_paths))]
@@ -105,8 +99,7 @@ fn push_lane_numbers(out: &mut String, history: &[Event], worker: u32) -> Result
 {
     let dones = dones_of(worker as usize, history);
     push_lane_number(out, worker, 56, worker as usize)?;
-    push_lane_number(out, worker, 1052, dones)?;
-    out.push_str("</g>\n")
+    push_lane_number(out, worker, 1052, dones)
 }
 
 /// Appends the title of a worker's marks.
@@ -122,13 +115,21 @@ fn push_worker_title(out: &mut String, worker: u32) -> Result<(), AllocError>
 fn push_worker_drawn(out: &mut String, scene: &Scene<'_>, worker: u32) -> Result<(), AllocError>
     ensures { OnOk result (string_bytes out.new ≡ string_bytes out.old ++ worker_drawn scene.now.world.now.world.history (columns_of (plan_seen scene.now.plan.now)) scene.now.rows.now worker) }
 {
-    let Scene { plan, world, rows } = *scene;
-    let width = wide(columns_of(plan)) + 1;
+    let Scene {
+        plan,
+        world,
+        rows,
+        ..
+    } = *scene;
+    let jobs = columns_of(plan);
+    let width = wide(jobs) + 1;
     push_worker_title(out, worker)?;
     push_worker_paths(out, scene, width, Kind::Stays, Kind::Failures, worker)?;
     push_worker_paths(out, scene, 2, Kind::Ticks, Kind::Crosses, worker)?;
     push_lifeline(out, last_number(rows), worker, going(worker, rows))?;
-    push_lane_numbers(out, world.history(), worker)
+    push_lane_numbers(out, world.history(), worker)?;
+    push_band_lane(out, jobs, worker, rows)?;
+    out.push_str("</g>\n")
 }
 
 /// Appends the marks of so many workers.
@@ -143,16 +144,6 @@ pub(crate) fn push_workers_drawn(
         push_worker_drawn(out, scene, before + 1)?;
     }
     Ok(())
-}
-
-/// Appends a level line.
-#[tactic(auto, unfolding(crate::specs::Jobs::level_line))]
-fn push_level_line(out: &mut String, width: u128, y: u128) -> Result<(), AllocError>
-    ensures { OnOk result (string_bytes out.new ≡ string_bytes out.old ++ level_line width y) }
-{
-    let far = width.saturating_sub(88);
-    push_stroke_start(out, "p", 1)?;
-    write!(out, "M72 {y}h{far}\"/>\n")
 }
 
 /// Appends the level line of a move that has one, and its number.
@@ -171,7 +162,7 @@ fn push_grid_line(
     }
     let y = at(last, number);
     push_number_before(out, "f", 64, y + 4, number as u128)?;
-    push_level_line(out, width, y)
+    push_straight(out, "p", 1, 72, y, "h", width.saturating_sub(88))
 }
 
 /// Appends the level lines below this number.
@@ -185,36 +176,20 @@ fn push_grid(out: &mut String, width: u128, last: usize, end: usize) -> Result<(
     Ok(())
 }
 
-/// What the columns are.
-fn what_columns_are(version: u32) -> &'static str
-    ensures { result.now ≡ what_columns_are version }
-{
-    if version == 1 { "jobs" } else { "blocks" }
-}
-
-/// Appends what stands above the columns and the lanes.
+/// Appends what stands above the columns, the lanes and the band.
 #[tactic(auto, unfolding(crate::specs::Jobs::jobs_head))]
 fn push_jobs_head(out: &mut String, version: u32, jobs: u32) -> Result<(), AllocError>
     ensures { OnOk result (string_bytes out.new ≡ string_bytes out.old ++ jobs_head version jobs) }
 {
-    push_text_start(out, "i", 72, 56)?;
-    out.push_str(what_columns_are(version))?;
+    push_text_start(out, "i", 72, 40)?;
+    out.push_str(jobs_word(version))?;
     write!(out, " 1 to {jobs}</text>\n")?;
-    push_text(out, "i", 872, 40, "workers")
-}
-
-/// Appends what the marks say, and the end of the picture.
-#[tactic(auto, unfolding(crate::specs::Jobs::jobs_key))]
-pub(crate) fn push_jobs_key(out: &mut String) -> Result<(), AllocError>
-    ensures { OnOk result (string_bytes out.new ≡ string_bytes out.old ++ jobs_key) }
-{
-    push_text(out, "f", 16, 1136, fixed_text(Wording::ColumnsKey))?;
-    push_text(out, "f", 16, 1152, fixed_text(Wording::NarrowLanesKey))?;
-    out.push_str("</svg>\n")
+    push_text(out, "i", 872, 40, "workers")?;
+    push_text(out, "i", 16, 1048, "claimed by")
 }
 
 /// How many jobs the columns are placed by.
-fn columns_of(plan: &Plan) -> u32
+pub(crate) fn columns_of(plan: &Plan) -> u32
     ensures value { result ≡ columns_of (plan_seen plan.now) }
     ensures some { 1 ≤ result }
 {
@@ -228,6 +203,14 @@ pub(crate) fn jobs_width(plan: &Plan) -> u128
     880 + 36 * plan.heads.givens.workers.max(2) as u128
 }
 
+/// How far down the band ends.
+pub(crate) fn band_end(plan: &Plan) -> u128
+    ensures value { result ≡ band_end (plan_seen plan.now) }
+    ensures near { result < 2 ^ 40 }
+{
+    band(plan.heads.givens.workers + 1)
+}
+
 /// Appends what is behind the workers' marks.
 #[tactic(auto, unfolding(crate::specs::Jobs::jobs_ground))]
 pub(crate) fn push_jobs_ground(out: &mut String, scene: &Scene<'_>) -> Result<(), AllocError>
@@ -237,6 +220,7 @@ pub(crate) fn push_jobs_ground(out: &mut String, scene: &Scene<'_>) -> Result<()
     let jobs = columns_of(plan);
     let last = last_number(rows);
     push_jobs_head(out, plan.heads.version, plan.heads.givens.jobs)?;
+    push_axes(out, jobs, band_end(plan))?;
     push_grid(out, jobs_width(plan), last, last)?;
     push_grid_line(out, jobs_width(plan), last, last)?;
     push_path(out, "p", wide(jobs), Kind::Columns, jobs, 0, rows)

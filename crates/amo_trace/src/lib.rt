@@ -2,6 +2,7 @@
 //! the theorem over these transitions: when an attempt fails.
 #![tactic(auto)]
 
+mod band;
 mod elements;
 mod feet;
 mod frame;
@@ -18,6 +19,7 @@ mod shown;
 mod tracing;
 mod transition;
 mod transitions;
+mod unclaimed;
 mod wording;
 
 pub use picturing::picture_text;

@@ -1,12 +1,12 @@
 //! What a picture shows of a transition.
-ghost use Rattle.std.specs.Prelude.{◌≡◌, ◌++◌, ◌<◌, ◌≤◌, ◌^◌, ◌&&◌, ◌==◌, OnOk, IfOk, string_bytes, length};
+ghost use Rattle.std.specs.Prelude.{◌≡◌, ◌++◌, ◌+◌, ◌<◌, ◌≤◌, ◌^◌, ◌&&◌, ◌==◌, OnOk, IfOk, string_bytes, length};
 ghost use Rattle.std.specs.List.{position_or_len};
 ghost use Rattle.amo_kk.specs.Record.{is_over};
 ghost use Rattle.amo_trace.specs.declared.picturing.TheConstants.{MOST_ROWS};
-ghost use Rattle.amo_trace.specs.Marks.{mark_of_load, mark_of_want, mark_of_act, mark_of, class_of, loaded_word, sees_more, sees, ends, label_of, lane, row, until, is_announcement, is_claim, is_filing, loaded_of, seen_at, line_start, level_to, line_to, lead_at, shape_at};
+ghost use Rattle.amo_trace.specs.Marks.{mark_of_load, mark_of_want, mark_of_act, mark_of, class_of, loaded_word, sees_more, sees, ends, label_of, lane, row, until, is_announcement, is_claim, is_filing, loaded_of, seen_at, line_start, level_to, line_to, apart, lead_at, shape_at};
 
 use crate::elements::{
-    push_area, push_dotted_start, push_down, push_place, push_stroke, push_stroke_start,
+    push_area, push_dotted_start, push_place, push_straight, push_stroke, push_stroke_start,
 };
 use crate::lines::{push_done, push_equals, push_next};
 use crate::transition::{Act, Transition, job_of};
@@ -168,6 +168,18 @@ pub(crate) fn push_label(out: &mut String, mark: Mark, over: bool) -> Result<(),
     }
 }
 
+/// The heads of the lanes come again each time that so many rows have been drawn.
+pub(crate) const RULED_ROWS: usize = 50;
+
+/// How far down a row is.
+pub(crate) fn row(number: usize) -> u128
+    ensures value { result ≡ row number }
+    ensures near { result < 2 ^ 80 }
+{
+    let heads = number.saturating_sub(1) / RULED_ROWS;
+    72 + 18 * (number as u128 + heads as u128)
+}
+
 /// Where the lifeline of a worker is.
 pub(crate) fn lane(worker: u32) -> u128
     ensures value { result ≡ lane worker }
@@ -285,20 +297,31 @@ fn push_line(
     push_level(out, seen_at(want))
 }
 
-/// Appends what leads up to a mark in a row at this height, the transitions after it being these.
+/// How far a row and the row so many rows below it are apart.
+fn apart(number: usize, rows: usize) -> u128
+    requires number { number ≤ MOST_ROWS }
+    requires rows { rows ≤ MOST_ROWS + 1 }
+    ensures { result ≡ apart number rows }
+{
+    row(number + rows).saturating_sub(row(number))
+}
+
+/// Appends what leads up to a mark in the row with this number, the transitions after it being these.
 #[tactic(auto, unfolding(crate::specs::Marks::lead_at))]
 pub(crate) fn push_lead(
     out: &mut String,
     worker: u32,
-    y: u128,
+    number: usize,
     label: &str,
     rest: &[Transition],
     mark: Mark,
 ) -> Result<(), AllocError>
-    requires { length rest.now ≤ MOST_ROWS }
-    ensures { OnOk result (string_bytes out.new ≡ string_bytes out.old ++ lead_at worker y label.now rest.now mark) }
+    requires few { number ≤ MOST_ROWS }
+    requires short { length rest.now ≤ MOST_ROWS }
+    ensures { OnOk result (string_bytes out.new ≡ string_bytes out.old ++ lead_at worker number label.now rest.now mark) }
 {
     let x = lane(worker);
+    let y = row(number);
     match mark {
         Mark::Own(want, _) => {
             push_stroke_start(out, "x", 2)?;
@@ -309,12 +332,20 @@ pub(crate) fn push_lead(
             push_line(out, worker, y, want, label)
         }
         Mark::Announcement(_) => {
-            let far = (18 * (until_announcement(worker, rest) as u128 + 1)).saturating_sub(3);
-            push_down(out, "b", 6, x.saturating_sub(12), y.saturating_sub(5), far)
+            let far = apart(number, until_announcement(worker, rest) + 1).saturating_sub(3);
+            push_straight(
+                out,
+                "b",
+                6,
+                x.saturating_sub(12),
+                y.saturating_sub(5),
+                "v",
+                far,
+            )
         }
         Mark::Claim(_) => {
-            let far = 18 * (until_filing(worker, rest) as u128 + 1);
-            push_down(out, "c", 4, x, y, far)
+            let far = apart(number, until_filing(worker, rest) + 1);
+            push_straight(out, "c", 4, x, y, "v", far)
         }
         Mark::Stop | Mark::Fail(_) | Mark::Zero(_) | Mark::Leave | Mark::Filing(_) | Mark::Still =>
             { Ok(()) }

@@ -7,13 +7,17 @@ ghost use Rattle.amo_trace.specs.Jobs.{jobs_picture};
 ghost use Rattle.amo_trace.specs.Picture.{rows_picture, picture_in, picture_of};
 ghost use Rattle.amo_trace.specs.Rows.{acts};
 
-use crate::feet::{push_lane_feet, push_rows_key};
-use crate::frame::{push_foot, push_head};
-use crate::jobs::{jobs_width, push_jobs_ground, push_jobs_key, push_workers_drawn};
-use crate::rows::{changes, push_lane_heads, push_rows};
+use crate::band::push_free_lane;
+use crate::feet::push_lane_feet;
+use crate::frame::{push_foot, push_head, push_key};
+use crate::jobs::{band_end, columns_of, jobs_width, push_jobs_ground, push_workers_drawn};
+use crate::marks::row;
+use crate::rows::{changes, push_lane_heads, push_rows, rows_width};
 use crate::scene::Scene;
 use crate::transition::Transition;
 use crate::transitions::run_of;
+use crate::unclaimed::unclaimed_jobs;
+use crate::wording::{jobs_key, rows_key};
 use amo_plan::Plan;
 use std::alloc::{AllocError, Global};
 
@@ -38,38 +42,39 @@ fn rows_of(alloc: Global, transitions: &[Transition]) -> Result<Vec<Transition>,
 fn push_rows_picture(alloc: Global, out: &mut String, scene: &Scene<'_>) -> Result<(), AllocError>
     requires short { length scene.now.rows.now ≤ MOST_ROWS }
     requires same { scene.now.world.now.givens ≡ scene.now.plan.now.heads.givens }
-    ensures { OnOk result (string_bytes out.new ≡ string_bytes out.old ++ rows_picture (plan_seen scene.now.plan.now) scene.now.world.now.world scene.now.rows.now) }
+    ensures { OnOk result (string_bytes out.new ≡ string_bytes out.old ++ rows_picture (plan_seen scene.now.plan.now) scene.now.world.now.world scene.now.unclaimed.now scene.now.rows.now) }
 {
-    let Scene { plan, world, rows } = *scene;
-    let workers = plan.heads.givens.workers;
-    let end = 72 + 18 * (rows.len() as u128 + 1);
-    let width = 56 + 176 * workers.max(3) as u128;
-    push_head(alloc, out, scene, width, end + 192)?;
+    let Scene { world, rows, .. } = *scene;
+    let workers = scene.plan.heads.givens.workers;
+    let end = row(rows.len() + 1);
+    push_head(alloc, out, scene, rows_width(workers), end + 192)?;
     push_lane_heads(out, rows, workers)?;
-    push_rows(alloc, out, rows)?;
+    push_rows(alloc, out, workers, rows)?;
     push_lane_feet(out, world, end)?;
     push_foot(out, scene, end + 60)?;
-    push_rows_key(out, end + 60)
+    push_key(out, end + 60, &rows_key())
 }
 
 /// Appends the picture with a column for each job.
 #[tactic(auto, unfolding(crate::specs::Jobs::jobs_picture))]
 fn push_jobs_picture(alloc: Global, out: &mut String, scene: &Scene<'_>) -> Result<(), AllocError>
     requires { scene.now.world.now.givens ≡ scene.now.plan.now.heads.givens }
-    ensures { OnOk result (string_bytes out.new ≡ string_bytes out.old ++ jobs_picture (plan_seen scene.now.plan.now) scene.now.world.now.world scene.now.rows.now) }
+    ensures { OnOk result (string_bytes out.new ≡ string_bytes out.old ++ jobs_picture (plan_seen scene.now.plan.now) scene.now.world.now.world scene.now.unclaimed.now scene.now.rows.now) }
 {
     let plan = scene.plan;
-    push_head(alloc, out, scene, jobs_width(plan), 1176)?;
+    let end = band_end(plan);
+    push_head(alloc, out, scene, jobs_width(plan), end + 160)?;
     push_jobs_ground(out, scene)?;
     push_workers_drawn(out, scene, plan.heads.givens.workers)?;
-    push_foot(out, scene, 1092)?;
-    push_jobs_key(out)
+    push_free_lane(out, columns_of(plan), end, scene.unclaimed)?;
+    push_foot(out, scene, end + 60)?;
+    push_key(out, end + 60, &jobs_key())
 }
 
 /// Appends the picture of a run with these rows.
 fn push_picture(alloc: Global, out: &mut String, scene: &Scene<'_>) -> Result<(), AllocError>
     requires { scene.now.world.now.givens ≡ scene.now.plan.now.heads.givens }
-    ensures { OnOk result (string_bytes out.new ≡ string_bytes out.old ++ picture_in (plan_seen scene.now.plan.now) scene.now.world.now.world scene.now.rows.now) }
+    ensures { OnOk result (string_bytes out.new ≡ string_bytes out.old ++ picture_in (plan_seen scene.now.plan.now) scene.now.world.now.world scene.now.unclaimed.now scene.now.rows.now) }
 {
     if scene.rows.len() <= MOST_ROWS {
         return push_rows_picture(alloc, out, scene);
@@ -83,11 +88,13 @@ pub fn picture_text(alloc: Global, plan: &Plan) -> Result<String, AllocError>
     ensures { IfOk result (λ s. string_bytes s ≡ picture_of (plan_seen plan.now)) }
 {
     let run = run_of(alloc, plan)?;
+    let unclaimed = unclaimed_jobs(alloc, &run.world)?;
     let rows = rows_of(alloc, &run.transitions)?;
     let mut out = String::new(alloc);
     let scene = Scene {
         plan,
         world: &run.world,
+        unclaimed: &unclaimed,
         rows: &rows,
     };
     push_picture(alloc, &mut out, &scene)?;

@@ -1,11 +1,11 @@
 //! Writes the paths of a picture of jobs, in which each transition of a kind has its piece.
 ghost use Rattle.std.specs.Prelude.{◌≡◌, ◌++◌, ◌≤◌, OnOk, string_bytes};
-ghost use Rattle.amo_trace.specs.Jobs.{is_drawn, piece_x, next_filing, piece_end, piece_in, pieces, path};
+ghost use Rattle.amo_trace.specs.Pieces.{is_drawn, piece_x, piece_y, next_filing, mark_end, piece_end, piece_in, pieces, path, worker_class};
 ghost use Rattle.amo_trace.specs.Scale.{last_number};
 
 use crate::elements::{push_place, push_stroke_start};
 use crate::marks::{is_claim, is_filing, until_filing};
-use crate::scale::{at, end_of, last_number, narrow_lane, place};
+use crate::scale::{at, band, end_of, last_number, narrow_lane, place};
 use crate::transition::{Transition, job_of, transition_at};
 use std::alloc::AllocError;
 
@@ -18,6 +18,8 @@ pub(crate) enum Kind {
     Stays,
     /// A worker's failed attempts, in the jobs' columns.
     Failures,
+    /// A worker's claims, in its lane of the band.
+    Shares,
     /// A worker's claims, beside its lane.
     Ticks,
     /// A worker's failed attempts, beside its lane.
@@ -30,7 +32,8 @@ fn is_drawn(kind: Kind, worker: u32, transition: &Transition) -> bool
 {
     match kind {
         Kind::Columns => is_filing(transition),
-        Kind::Stays | Kind::Ticks => transition.worker == worker && is_claim(transition),
+        Kind::Stays | Kind::Shares | Kind::Ticks => transition.worker == worker
+            && is_claim(transition),
         Kind::Failures | Kind::Crosses => transition.worker == worker && transition.fails(),
     }
 }
@@ -41,9 +44,24 @@ fn piece_x(kind: Kind, jobs: u32, worker: u32, transition: &Transition) -> u128
     ensures { result ≡ piece_x kind jobs worker transition.now }
 {
     match kind {
-        Kind::Columns | Kind::Stays | Kind::Failures => place(jobs, job_of(transition.before)),
+        Kind::Columns | Kind::Stays | Kind::Failures | Kind::Shares => {
+            place(jobs, job_of(transition.before))
+        }
         Kind::Ticks => narrow_lane(worker) - 12,
         Kind::Crosses => narrow_lane(worker) + 2,
+    }
+}
+
+/// How far down the piece is.
+fn piece_y(kind: Kind, last: usize, worker: u32, transition: &Transition) -> u128
+    requires { 1 ≤ last }
+    ensures { result ≡ piece_y kind last worker transition.now }
+{
+    match kind {
+        Kind::Shares => band(worker),
+        Kind::Columns | Kind::Stays | Kind::Failures | Kind::Ticks | Kind::Crosses => {
+            at(last, transition.number)
+        }
     }
 }
 
@@ -54,8 +72,18 @@ fn next_filing(worker: u32, rest: &[Transition]) -> Option<Transition>
     transition_at(rest, until_filing(worker, rest))
 }
 
+/// How a mark in the band goes on, by the performance of its job.
+fn mark_end(filing: Option<Transition>) -> &'static str
+    ensures { result.now ≡ mark_end filing }
+{
+    match filing {
+        None => "v-4",
+        Some(_) => "v-10",
+    }
+}
+
 /// Appends how a piece goes on, the transitions after its own being these.
-#[tactic(auto, unfolding(crate::specs::Jobs::piece_end))]
+#[tactic(auto, unfolding(crate::specs::Pieces::piece_end))]
 fn push_piece_end(
     out: &mut String,
     kind: Kind,
@@ -73,12 +101,13 @@ fn push_piece_end(
             write!(out, "V{end}")
         }
         Kind::Failures => out.push_str("v3"),
+        Kind::Shares => out.push_str(mark_end(next_filing(worker, rest))),
         Kind::Ticks | Kind::Crosses => out.push_str("h10"),
     }
 }
 
 /// Appends the piece of a transition that has one.
-#[tactic(auto, unfolding(crate::specs::Jobs::piece))]
+#[tactic(auto, unfolding(crate::specs::Pieces::piece))]
 fn push_piece_in(
     out: &mut String,
     kind: Kind,
@@ -96,7 +125,7 @@ fn push_piece_in(
         return Ok(());
     }
     let x = piece_x(kind, jobs, worker, transition);
-    push_place(out, x, at(last, transition.number))?;
+    push_place(out, x, piece_y(kind, last, worker, transition))?;
     push_piece_end(out, kind, last, worker, rest)
 }
 
@@ -120,7 +149,7 @@ fn push_pieces(
 }
 
 /// Appends the path of these rows, of this kind and width.
-#[tactic(auto, unfolding(crate::specs::Jobs::path))]
+#[tactic(auto, unfolding(crate::specs::Pieces::path))]
 pub(crate) fn push_path(
     out: &mut String,
     class: &str,
@@ -136,4 +165,11 @@ pub(crate) fn push_path(
     push_stroke_start(out, class, width)?;
     push_pieces(out, kind, jobs, last_number(rows), worker, rows)?;
     out.push_str("\"/>\n")
+}
+
+/// The colour of a worker.
+pub(crate) fn worker_class(worker: u32) -> &'static str
+    ensures { result.now ≡ worker_class worker }
+{
+    if worker % 2 == 1 { "c" } else { "i" }
 }

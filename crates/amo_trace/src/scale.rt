@@ -1,6 +1,6 @@
 //! Where a picture of jobs has its moves, its jobs and its workers.
 ghost use Rattle.std.specs.Prelude.{◌≡◌, ◌≤◌, ◌<◌, ◌^◌};
-ghost use Rattle.amo_trace.specs.Scale.{last_number, at, end_of, place, wide, power, grid_step, narrow_lane};
+ghost use Rattle.amo_trace.specs.Scale.{last_number, at, end_of, place, wide, power, grid_step, narrow_lane, band};
 
 use crate::transition::Transition;
 
@@ -72,7 +72,7 @@ fn power(number: usize) -> usize
     }
 }
 
-/// How many moves there are from one level line to the next.
+/// How far apart the numbers on an axis are that goes up to this one.
 pub(crate) fn grid_step(last: usize) -> u128
     ensures value { result ≡ grid_step last }
     ensures some { 1 ≤ result }
@@ -88,4 +88,12 @@ pub(crate) fn narrow_lane(worker: u32) -> u128
     ensures near { result < 2 ^ 40 }
 {
     848 + 36 * worker as u128
+}
+
+/// How far down the marks of the jobs stand that a worker has claimed; those of the jobs of nobody follow the last worker's.
+pub(crate) fn band(worker: u32) -> u128
+    ensures value { result ≡ band worker }
+    ensures near { result < 2 ^ 40 }
+{
+    1052 + 14 * worker as u128
 }

@@ -10,6 +10,8 @@ pub(crate) struct Scene<'a> {
     pub(crate) plan: &'a Plan,
     /// The world to which its moves lead.
     pub(crate) world: &'a World,
+    /// The jobs that nobody has claimed in it.
+    pub(crate) unclaimed: &'a [u32],
     /// The transitions that change something.
     pub(crate) rows: &'a [Transition],
 }

@@ -1,6 +1,6 @@
 //! The texts that are the same in each picture of a kind.
 ghost use Rattle.std.specs.Prelude.{◌≡◌};
-ghost use Rattle.amo_trace.specs.Wording.{fixed_text};
+ghost use Rattle.amo_trace.specs.Wording.{fixed_text, rows_key, jobs_key};
 
 /// A text that is the same in each picture of a kind.
 #[derive(Clone, Copy, Debug)]
@@ -27,8 +27,12 @@ pub(crate) enum Wording {
     CrossesKey,
     /// The key of jobs: columns,
     ColumnsKey,
-    /// and lanes.
+    /// lanes,
     NarrowLanesKey,
+    /// and the band.
+    BandKey,
+    /// The title of the last lane of the band.
+    FreeTitle,
 }
 
 /// The text.
@@ -58,5 +62,33 @@ pub(crate) fn fixed_text(wording: Wording) -> &'static str
             "Down are the moves. Left, a column is a job: marked from its claim on, grey once it is done, empty while unclaimed.",
         Wording::NarrowLanesKey =>
             "Right, a lane is a worker: a tick on the left is a claim, on the right a failed attempt. Below, how many it has done.",
+        Wording::BandKey => {
+            "Under the columns: who has claimed a job, by a mark in that worker's lane, a low one where it hasn't done it; none: nobody."
+        }
+        Wording::FreeTitle => "<g><title>unclaimed</title>\n",
     }
+}
+
+/// The lines of what the marks say in a picture of rows.
+pub(crate) fn rows_key() -> [Wording; 5]
+    ensures { result ≡ rows_key }
+{
+    [
+        Wording::LanesKey,
+        Wording::BarsKey,
+        Wording::HandsKey,
+        Wording::LinesKey,
+        Wording::CrossesKey,
+    ]
+}
+
+/// Those in a picture of jobs.
+pub(crate) fn jobs_key() -> [Wording; 3]
+    ensures { result ≡ jobs_key }
+{
+    [
+        Wording::ColumnsKey,
+        Wording::NarrowLanesKey,
+        Wording::BandKey,
+    ]
 }

@@ -1,5 +1,5 @@
 use Rattle.std.proofs.Common.{◌≡◌, ◌++◌, drop, string_bytes}
-use Rattle.amo_trace.specs.Jobs.{pieces}
+use Rattle.amo_trace.specs.Pieces.{pieces}
 use Rattle.amo_trace.proofs.pieces.push_pieces.Given as goal
 
 -- what is written and the pieces to come are what was there and all pieces
