@@ -52,7 +52,6 @@ impl<D: Device + Drop + Send, S: Write + Drop + Send, R: Threads + Wait + Clock 
     }
 
     /// Pays all in rounds, and answers what nobody began.
-    #[tactic(auto, using(crate::proofs::Floors::next_none))]
     fn pay_all<O: Write>(
         &self,
         out: &mut O,
@@ -91,7 +90,6 @@ impl<D: Device + Drop + Send, S: Write + Drop + Send, R: Threads + Wait + Clock 
     }
 
     /// Pays on floors of one worker until the flag is set, and answers what is left.
-    #[tactic(auto, using(crate::proofs::Floors::next_none))]
     fn try_all<O: Write>(
         &self,
         out: &mut O,

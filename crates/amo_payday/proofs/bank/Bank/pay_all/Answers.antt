@@ -1,6 +1,10 @@
-use Rattle.amo_payday.proofs.Floors.{next_more, part_more}
+use Rattle.std.proofs.Common.{rules}
+use Rattle.amo_payday.proofs.Floors.{next_none, next_more, part_more}
 use Rattle.amo_payday.proofs.Fronts.{on_err}
 use Rattle.amo_payday.proofs.bank.Bank.pay_all.Goals as goal
+
+pub paying-init : goal.paying-init
+paying-init g c = next_none _ _ _ _ _ _ (search rules)
 
 pub paying-preserved : goal.paying-preserved
 paying-preserved g c = next_more _ _ _ _ _ _ _ _ _ _ _ c.paying.invariant c.in_ok-pay_next.ensures.told

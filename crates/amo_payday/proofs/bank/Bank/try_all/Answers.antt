@@ -1,6 +1,10 @@
-use Rattle.amo_payday.proofs.Floors.{next_more, part_more}
+use Rattle.std.proofs.Common.{rules}
+use Rattle.amo_payday.proofs.Floors.{next_none, next_more, part_more}
 use Rattle.amo_payday.proofs.Fronts.{on_err}
 use Rattle.amo_payday.proofs.bank.Bank.try_all.Goals as goal
+
+pub trying-init : goal.trying-init
+trying-init g c = next_none _ _ _ _ _ _ (search rules)
 
 pub trying-preserved : goal.trying-preserved
 trying-preserved g c = next_more _ _ _ _ _ _ _ _ _ _ _ c.trying.invariant c.in_ok-try_next.ensures.told
