@@ -1,7 +1,5 @@
 -- While many jobs are free few turns are taken, whatever the threshold.
-use Rattle.std.proofs.Common.{◌≡◌, inr, ℕ, ◌+◌, ◌≤◌, Bool, true, false, not, ◌&&◌, ◌||◌, List, [], ◌∷◌, length, refl, sym, ap, ◌∙◌, arith}
-use Rattle.std.specs.Prelude.{if◌then◌else◌, ◌==◌, nat_eq}
-use Rattle.std.proofs.lemmas.Bool.{or_right}
+use Rattle.std.proofs.Common.{◌≡◌, inr, ℕ, ◌+◌, ◌≤◌, Bool, true, false, not, ◌&&◌, List, [], ◌∷◌, length, refl, sym, ap, ◌∙◌, arith}
 use Rattle.std.proofs.lemmas.List.{length-map}
 use Rattle.amo_sets.specs.Sets.{has}
 use Rattle.amo_sets.specs.Rank.{count}
@@ -9,7 +7,7 @@ use Rattle.amo_sets.proofs.Numbers.{count_has, count_neither, count_nothing}
 use Rattle.amo_kk.specs.Givens.{IsJob}
 use Rattle.amo_kk.specs.Run.{done_jobs}
 use Rattle.amo_kk.specs.World.{world_after_move, world_after_moves, opening_world}
-use Rattle.amo_kk.specs.Lawful.{IsLawful, HasRun, jobs_of, object_of}
+use Rattle.amo_kk.specs.Lawful.{IsLawful, HasRun, object_of}
 use Rattle.amo_kk.specs.declared.givens.Givens.{Givens}
 use Rattle.amo_kk.specs.declared.model.World.{World}
 use Rattle.amo_kk.specs.declared.event.Move.{Move}

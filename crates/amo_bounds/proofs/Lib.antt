@@ -17,6 +17,7 @@ mod Rounds
 -- how few jobs may be done:
 mod Stuck
 mod Lone
+mod LoneEnd
 mod Firsts
 mod Fewest
 mod Worst

@@ -44,40 +44,40 @@ count_step t i (suc e) l h = let m = count_more t i e (omega arith) in grind (ar
 
 module _ (g : Givens) (enough : g.beta ≤ g.jobs) where
   -- the fewest, in numbers
-  record IsFewest (x : ℕ) : Type 0 where
-    one : 1 ≤ x
+  pub record IsFewest (x : ℕ) : Type 0 where
+    pub one : 1 ≤ x
     most : g.jobs + 2 ≤ x + g.beta + g.workers
     least : (d : ℕ) → 1 ≤ d → g.jobs + 2 ≤ d + g.beta + g.workers → x ≤ d
 
-  fewest_is : IsFewest (fewest g)
+  pub fewest_is : IsFewest (fewest g)
   fewest_is = subst (λ b. IsFewest (if b then 0 else (if bound g == 0 then 1 else bound g))) (sym (le-ltb g.jobs g.beta enough)) (go (bound g == 0) refl)
     where
       go : (b : Bool) → (bound g == 0) ≡ b → IsFewest (if b then 1 else bound g)
       go true e = record { one = omega arith; most = let z : bound g ≡ 0 = grind (arith, nat_tests) in omega arith; least = λ d some h. some }
       go false e = record { one = let z : 1 ≤ bound g = grind (arith, nat_tests) in omega arith; most = let z : 1 ≤ bound g = grind (arith, nat_tests) in omega arith; least = λ d some h. omega arith }
 
-  o : IsWorker g 1
+  pub o : IsWorker g 1
   o = record { low = omega arith; high = g.limits.some }
 
   -- no other announced j
-  abbrev IsUntaken : ℕ → Type 0
+  abbrev pub IsUntaken : ℕ → Type 0
   IsUntaken j = (q : ℕ) → IsOther g 1 q → first g q ≢ j
 
   -- the announcements of the others before next were seen
-  abbrev HasSeen : List ℕ → ℕ → Type 0
+  abbrev pub HasSeen : List ℕ → ℕ → Type 0
   HasSeen tried next = (q : ℕ) → IsOther g 1 q → q < next → has tried (first g q) ≡ true
 
   -- and of all others
-  abbrev HasSeenAll : List ℕ → Type 0
+  abbrev pub HasSeenAll : List ℕ → Type 0
   HasSeenAll tried = (q : ℕ) → IsOther g 1 q → has tried (first g q) ≡ true
 
   -- worker 1 is to perform j, which nobody else announced
-  record IsAt (r : Record) (j : ℕ) : Type 0 where
-    unknown : has r.known j ≡ false
-    untaken : IsUntaken j
-    less : length r.dones < fewest g
+  pub record IsAt (r : Record) (j : ℕ) : Type 0 where
+    pub unknown : has r.known j ≡ false
+    pub untaken : IsUntaken j
+    pub less : length r.dones < fewest g
 
-  abbrev AtPhase : Record → Phase → Type 0
+  abbrev pub AtPhase : Record → Phase → Type 0
   AtPhase r (Announcing j) = IsAt r j
   AtPhase r (Trying j next) = IsAt r j × HasSeen r.tried next
   AtPhase r (Reading j next) = IsAt r j × HasSeenAll r.tried
@@ -87,11 +87,11 @@ module _ (g : Givens) (enough : g.beta ≤ g.jobs) where
   AtPhase r Left = ⊥
 
   -- what it knows it has done itself, and it has tried nothing but what others announced
-  record IsGood (r : Record) : Type 0 where
+  pub record IsGood (r : Record) : Type 0 where
     own : (i : ℕ) → has r.known i ≡ true → has r.dones i ≡ true
     apart : (i : ℕ) → has r.known i ≡ true → IsUntaken i
-    tried : (i : ℕ) → IsUntaken i → has r.tried i ≡ false
-    at : AtPhase r r.phase
+    pub tried : (i : ℕ) → IsUntaken i → has r.tried i ≡ false
+    pub at : AtPhase r r.phase
 
   -- the first choices of the first k others that were seen
   seen_count : (t : ℕ → Bool) (k : ℕ) → k + 1 ≤ g.workers → ((q : ℕ) → IsOther g 1 q → t (first g q) ≡ true) → k ≤ count (first g (k + 1)) t
@@ -153,8 +153,8 @@ module _ (g : Givens) (enough : g.beta ≤ g.jobs) where
     pub law : IsLawful g w
     pub stuck : (q : ℕ) → IsOther g 1 q → IsStuck (first g q) (process w q)
     counts : length (done_jobs w.history) ≡ length (process w 1).local.dones
-    gone : (process w 1).gone ≡ is_over (process w 1).local.phase
-    good : IsGood (view w 1).local
+    pub gone : (process w 1).gone ≡ is_over (process w 1).local.phase
+    pub good : IsGood (view w 1).local
 
   -- a turn of worker 1
   module _ (w : World) (run : IsRunning w) (here : (process w 1).gone ≡ false) where
@@ -226,7 +226,7 @@ module _ (g : Givens) (enough : g.beta ≤ g.jobs) where
         list : r.claimed ≡ r.dones ++ j ∷ []
         list = sound.local.claims ∙ ap (λ x. r.dones ++ jobs_in_hand x) is
 
-    good_turn : IsGood (now 1).local
+    pub good_turn : IsGood (now 1).local
     good_turn = turn_cases g (view w) now 1 (still_lawful g w run.law) (turn_of g w 1 run.law here) (IsGood (now 1).local)
         (λ j is none first e. let at = at_phase (Announcing j) is in
         goes_on (Trying j (next_other 1 0)) j r.tried at good.tried (still_at j (Trying j (next_other 1 0)) r.tried at, λ q other l. absurd (none_before g (view w) (still_lawful g w run.law) 1 o q other l)) e)
@@ -252,7 +252,7 @@ module _ (g : Givens) (enough : g.beta ≤ g.jobs) where
       go (Holding j) d = d.done
       go phase d = d.done
 
-  running_turn : (w : World) → IsRunning w → (process w 1).gone ≡ false → IsRunning (world_after_turn g w 1)
+  pub running_turn : (w : World) → IsRunning w → (process w 1).gone ≡ false → IsRunning (world_after_turn g w 1)
   running_turn w run here =
       record {
         law = t.law;

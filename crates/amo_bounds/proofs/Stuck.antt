@@ -1,5 +1,5 @@
 -- All others of worker 1 announce their first choices and are halted.
-use Rattle.std.proofs.Common.{◌≡◌, ◌≢◌, length, ⊎_elim, ℕ, zero, suc, ◌+◌, ◌<◌, ◌≤◌, Bool, true, false, List, [], ◌∷◌, ◌++◌, refl, sym, ap, ◌∙◌, subst, arith, append-nil}
+use Rattle.std.proofs.Common.{◌≡◌, ◌≢◌, length, ⊎_elim, ℕ, zero, suc, ◌+◌, ◌<◌, ◌≤◌, Bool, true, false, [], ◌∷◌, ◌++◌, refl, sym, ap, ◌∙◌, subst, arith, append-nil}
 use Rattle.std.specs.Prelude.{if◌then◌else◌}
 use Rattle.std.proofs.lemmas.Bool.{cases_eq, le-ltb}
 use Rattle.std.proofs.lemmas.List.{length_push}
@@ -19,7 +19,6 @@ use Rattle.amo_kk.specs.declared.model.Record.{Record}
 use Rattle.amo_kk.specs.declared.model.Process.{Process}
 use Rattle.amo_kk.specs.declared.model.World.{World}
 use Rattle.amo_kk.specs.declared.event.Event.TheVariants.{Halted, Ended}
-use Rattle.amo_kk.specs.declared.event.Move.{Move}
 use Rattle.amo_kk.specs.declared.event.Move.TheVariants.{Turn, Halt}
 use Rattle.amo_kk.proofs.Choice.{choice_cases}
 use Rattle.amo_kk.proofs.FirstChoice.{first_choice}
@@ -28,13 +27,9 @@ use Rattle.amo_kk.proofs.Claims.{done-append}
 use Rattle.amo_kk.proofs.Runs.{HasDone, has_done}
 use Rattle.amo_kk.proofs.Moves.{world_after_moves-append}
 use Rattle.amo_bounds.specs.Fewest.{stopped, leavers}
+use Rattle.amo_bounds.specs.Worst.{stuck_moves}
 use Rattle.amo_bounds.proofs.Turns.{next_after, IsAfterTurn, after_turn}
 use Rattle.amo_bounds.proofs.Ended.{stopped-append, leavers-append}
-
--- each of the first k others of worker 1 announces its first choice, and is halted
-abbrev pub stuck_moves : ℕ → List Move
-stuck_moves zero = []
-stuck_moves (suc k) = stuck_moves k ++ Turn (k + 2) ∷ Halt (k + 2) ∷ []
 
 -- the first choice of worker q, where there are at least beta jobs
 abbrev pub first : Givens → ℕ → ℕ

@@ -8,7 +8,6 @@ use Rattle.amo_kk.specs.World.{process, world_of}
 use Rattle.amo_kk.specs.declared.givens.Givens.{Givens}
 use Rattle.amo_kk.specs.declared.event.Move.{Move}
 use Rattle.amo_kk.specs.declared.event.Move.TheVariants.{Halt, Leave}
-use Rattle.amo_kk.specs.declared.model.World.{World}
 
 -- none where there are fewer jobs than the threshold, so that all are over from birth; else the bound, but at least one
 abbrev pub fewest : Givens → ℕ

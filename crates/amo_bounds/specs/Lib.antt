@@ -1,3 +1,4 @@
 pub mod Fewest
 pub mod Rest
 pub mod Turns
+pub mod Worst

@@ -15,6 +15,7 @@ ghost use Rattle.amo_kk.specs.declared.model.World.{World};
 ghost use Rattle.amo_bounds.specs.Fewest.{fewest, jobs_done, stopped, leavers, IsWorst, IsEffectiveness};
 ghost use Rattle.amo_bounds.specs.Rest.{turns_taken, turns_of, AreAlike};
 ghost use Rattle.amo_bounds.specs.Turns.{width, most_turns};
+ghost use Rattle.amo_bounds.specs.Worst.{worst_moves};
 
 /// Wherever a worker has ended by its own choice, after any turns, halts and leavings, at least `fewest` jobs are done:
 /// none where there are fewer jobs than the threshold, else the bound, but at least one.
@@ -27,6 +28,12 @@ pub fn fewest_are_done()
 /// that wasn't halted has ended, and no more jobs are done than `fewest`.
 pub fn fewest_are_met()
     ensures { (g : Givens) → (ms : List Move) × IsWorst g ms }
+{}
+
+/// And these are such moves: each other of worker 1 announces its first choice and is halted, and worker 1 takes 2 m + 1 turns
+/// for each of the fewest jobs; no moves where there are fewer jobs than the threshold.
+pub fn worst_moves_are_worst()
+    ensures { (g : Givens) → IsWorst g (worst_moves g) }
 {}
 
 /// The effectiveness is exactly `fewest`: over all turns, and fewer halts than workers, after which all are gone, it is the

@@ -1,5 +1,6 @@
-use Rattle.amo_bounds.proofs.Worst.{fewest_met}
+use Rattle.amo_bounds.specs.Worst.{worst_moves}
+use Rattle.amo_bounds.proofs.Worst.{worst_are}
 use Rattle.amo_bounds.proofs.laws.fewest_are_met.Goals as goal
 
 pub returns : goal.returns
-returns c = λ g. fewest_met g
+returns c = λ g. (worst_moves g, worst_are g)

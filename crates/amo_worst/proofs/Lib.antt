@@ -1,0 +1,4 @@
+mod Lengths
+mod ReadWords
+mod TreeTexts
+mod ReadPlan

@@ -1,0 +1,4 @@
+pub mod Schedule
+pub mod Text
+pub mod Tree
+pub mod Answer
