@@ -1,7 +1,7 @@
 -- What a command of `amo_show` writes, and what it leaves.
-use Rattle.std.specs.Prelude.{◌≡◌, ℕ, List, Option}
+use Rattle.std.specs.Prelude.{◌≡◌, ℕ, List, Option, Result, Ok}
 use Rattle.std.specs.Io.KnownBytes.{Keeps}
-use Rattle.amo_plan.specs.Plan.{plan_of}
+use Rattle.amo_plan.specs.Plan.{PlanSeen, plan_of}
 use Rattle.amo_plan.specs.declared.fault.PlanFault.{PlanFault}
 use Rattle.amo_texts.specs.declared.writing.ReplayFault.{ReplayFault}
 use Rattle.amo_texts.specs.declared.writing.ReplayFault.TheVariants as replay
@@ -10,9 +10,10 @@ use Rattle.amo_texts.specs.OfBytes.{WritesOf, RefusesOf}
 use Rattle.amo_explain.specs.Heading.{BeginsWith, explanation_head}
 use Rattle.amo_judge.specs.Judgement.{judgement}
 use Rattle.amo_trace.specs.Shown.{text_of}
+use Rattle.amo_worst.specs.Answer.{worst_of}
 use Rattle.amo_program.specs.Statuses.{Left}
 use Rattle.amo_show_work.specs.declared.show.Show.{Show}
-use Rattle.amo_show_work.specs.declared.show.Show.TheVariants.{Run, Explain, Judge}
+use Rattle.amo_show_work.specs.declared.show.Show.TheVariants.{Run, Explain, Judge, Worst}
 
 -- the text begins with the line `taken` where the bytes are a plan, and with the line of their fault where they are none
 abbrev pub Explains : List ℕ → List ℕ → Type 0
@@ -22,17 +23,23 @@ Explains bytes text = BeginsWith (explanation_head (plan_of bytes)) text
 abbrev pub Judges : List ℕ → List ℕ → Type 0
 Judges bytes text = text ≡ judgement bytes
 
+-- the text with the worst schedule; each plan has it, or the line that says why there is none
+abbrev pub worst_text_of : PlanSeen → Result (List ℕ) PlanFault
+worst_text_of plan = Ok (worst_of plan)
+
 -- the text that is wanted of a source with these bytes was written, and nothing else
 abbrev pub writes : Show → Left
 writes (Run shown) = Writes (text_of shown)
 writes Explain = WritesOf Explains
 writes Judge = WritesOf Judges
+writes Worst = Writes worst_text_of
 
 -- what is left where it was not written whole
 abbrev pub refuses : Show → ReplayFault → Left
 refuses (Run shown) fault = Refuses (text_of shown) fault
 refuses Explain fault = RefusesOf Explains fault
 refuses Judge fault = RefusesOf Judges fault
+refuses Worst fault = Refuses worst_text_of fault
 
 -- no thread is ever started
 abbrev pub others : Show → Left
@@ -43,3 +50,4 @@ pub plan_keeps : (show : Show) (f : PlanFault) (known old new : Option (List ℕ
 plan_keeps (Run shown) f known old new h = h.2
 plan_keeps Explain f known old new h = h.2
 plan_keeps Judge f known old new h = h.2
+plan_keeps Worst f known old new h = h.2

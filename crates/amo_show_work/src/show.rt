@@ -7,6 +7,7 @@ use amo_program::{Command, Fault};
 use amo_streams::{Sink, Source};
 use amo_texts::{write_of, write_of_bytes};
 use amo_trace::Shown;
+use amo_worst::Worst;
 use std::alloc::Global;
 
 /// A command of `amo_show`.
@@ -18,6 +19,8 @@ pub enum Show {
     Explain,
     /// To write what the judge says of the history that is read.
     Judge,
+    /// To write the plan that leaves the fewest jobs of the one that is read performed.
+    Worst,
 }
 
 /// What one word asks for.
@@ -29,6 +32,7 @@ fn command_asked(word: &str) -> Option<Show>
         "picture" => Some(Show::Run(Shown::Picture)),
         "explain" => Some(Show::Explain),
         "judge" => Some(Show::Judge),
+        "worst" => Some(Show::Worst),
         _ => None,
     }
 }
@@ -73,6 +77,7 @@ impl<R: Sync> Command<R> for Show {
             Show::Run(shown) => Ok(write_of(alloc, shown, reader, out)?),
             Show::Explain => Ok(write_of_bytes(alloc, &Explained, reader, out)?),
             Show::Judge => Ok(write_of_bytes(alloc, &Judged, reader, out)?),
+            Show::Worst => Ok(write_of(alloc, &Worst, reader, out)?),
         }
     }
 
