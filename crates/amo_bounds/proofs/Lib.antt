@@ -11,8 +11,8 @@ mod Return
 mod Digits
 mod Codes
 mod Neat
-mod Rest
-mod Ended
+pub mod Rest
+pub mod Ended
 mod Rounds
 -- how few jobs may be done:
 mod Stuck

@@ -3,7 +3,7 @@ use Rattle.std.proofs.Common.{ℕ, List, Option}
 use Rattle.std.specs.Io.KnownBytes.{Keeps}
 use Rattle.amo_texts.specs.declared.writing.ReplayFault.TheVariants as replay
 use Rattle.amo_show_work.specs.declared.show.Show.{Show}
-use Rattle.amo_show_work.specs.declared.show.Show.TheVariants.{Run, Explain, Judge, Worst}
+use Rattle.amo_show_work.specs.declared.show.Show.TheVariants.{Run, Explain, Judge, Worst, All}
 use Rattle.amo_show_work.specs.Shows.{refuses}
 
 -- where memory was refused nothing was written, whatever was wanted
@@ -12,3 +12,4 @@ memory_keeps (Run shown) known old new h = h
 memory_keeps Explain known old new h = h
 memory_keeps Judge known old new h = h
 memory_keeps Worst known old new h = h
+memory_keeps All known old new h = h

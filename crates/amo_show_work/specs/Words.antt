@@ -3,7 +3,7 @@ use Rattle.std.specs.Prelude.{ℕ, List, [], ◌∷◌, Option, Some, None, code
 use Rattle.std.specs.Str.{bytes_eq}
 use Rattle.amo_trace.specs.declared.shown.Shown.TheVariants.{Trace, Picture}
 use Rattle.amo_show_work.specs.declared.show.Show.{Show}
-use Rattle.amo_show_work.specs.declared.show.Show.TheVariants.{Run, Explain, Judge, Worst}
+use Rattle.amo_show_work.specs.declared.show.Show.TheVariants.{Run, Explain, Judge, Worst, All}
 
 -- what one word asks for
 abbrev pub command_asked : List ℕ → Option Show
@@ -12,7 +12,8 @@ command_asked word =
     if bytes_eq word (codes "picture") then Some (Run Picture) else
     if bytes_eq word (codes "explain") then Some Explain else
     if bytes_eq word (codes "judge") then Some Judge else
-    if bytes_eq word (codes "worst") then Some Worst else None
+    if bytes_eq word (codes "worst") then Some Worst else
+    if bytes_eq word (codes "all") then Some All else None
 
 -- what the words after the program's name ask for, or None where they are no command: it is just one word
 abbrev pub asked : List (List ℕ) → Option Show

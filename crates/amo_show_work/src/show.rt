@@ -3,6 +3,7 @@ ghost use Rattle.std.specs.Prelude.{◌≡◌, map, string_bytes};
 ghost use Rattle.amo_show_work.specs.Words.{command_asked, asked_after_name};
 
 use crate::told::{Explained, Judged};
+use amo_all::write_all;
 use amo_program::{Command, Fault};
 use amo_streams::{Sink, Source};
 use amo_texts::{write_of, write_of_bytes};
@@ -21,6 +22,8 @@ pub enum Show {
     Judge,
     /// To write the plan that leaves the fewest jobs of the one that is read performed.
     Worst,
+    /// To write what all worlds come to that the jobs and workers of the plan that is read can reach.
+    All,
 }
 
 /// What one word asks for.
@@ -33,6 +36,7 @@ fn command_asked(word: &str) -> Option<Show>
         "explain" => Some(Show::Explain),
         "judge" => Some(Show::Judge),
         "worst" => Some(Show::Worst),
+        "all" => Some(Show::All),
         _ => None,
     }
 }
@@ -78,6 +82,7 @@ impl<R: Sync> Command<R> for Show {
             Show::Explain => Ok(write_of_bytes(alloc, &Explained, reader, out)?),
             Show::Judge => Ok(write_of_bytes(alloc, &Judged, reader, out)?),
             Show::Worst => Ok(write_of(alloc, &Worst, reader, out)?),
+            Show::All => Ok(write_all(alloc, reader, out)?),
         }
     }
 

@@ -230,6 +230,14 @@ impl World {
         self.process(p).gone
     }
 
+    /// The job that worker p, in 1..=workers, has announced last; 0 where there is none.
+    pub fn announced(&self, p: u32) -> u32
+        requires { IsWorker self.now.givens p }
+        ensures { result ≡ (process self.now.world p).next }
+    {
+        self.process(p).next
+    }
+
     /// The machine of worker p, in 1..=workers.
     pub fn local(&self, p: u32) -> &Local
         requires { IsWorker self.now.givens p }

@@ -5,8 +5,9 @@ ghost use Rattle.amo_bounds.specs.Worst.{lone_turns, worst_moves};
 
 use amo_kk::Givens;
 
-/// How many jobs are done at least, wherever a worker has ended.
-fn fewest(givens: Givens) -> u32
+/// How many jobs are done at least, wherever a worker has ended: none where there are fewer jobs than the threshold, else the bound,
+/// but at least one.
+pub fn fewest(givens: Givens) -> u32
     ensures { result ≡ fewest givens }
 {
     if givens.jobs < givens.beta {

@@ -11,3 +11,5 @@ mod schedule;
 mod texts;
 
 pub use answer::{Worst, worst_text};
+pub use counts::fewest;
+pub use schedule::worst_schedule;

@@ -18,9 +18,10 @@ fn push_stuck(out: &mut String, others: u32) -> Result<(), AllocError>
     Ok(())
 }
 
-/// The worst schedule of these givens. The only error is out of memory.
+/// A schedule of these givens, in the words of a plan, after which all workers are gone and as few jobs are performed as may be. The
+/// only error is out of memory.
 #[tactic(auto, unfolding(crate::specs::Schedule::worst_schedule))]
-pub(crate) fn worst_schedule(alloc: Global, givens: Givens) -> Result<String, AllocError>
+pub fn worst_schedule(alloc: Global, givens: Givens) -> Result<String, AllocError>
     ensures { IfOk result (λ s. string_bytes s ≡ worst_schedule givens) }
 {
     let mut out = String::new(alloc);

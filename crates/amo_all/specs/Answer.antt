@@ -1,0 +1,52 @@
+-- What is said of a plan.
+use Rattle.std.specs.Prelude.{◌≡◌, ℕ, ◌-◌, ◌/◌, ◌^◌, Bool, true, false, List, [], ◌∷◌, ◌++◌, length, map, nat_lt, ◌==◌, if◌then◌else◌, codes}
+use Rattle.std.specs.Fmt.{decimal}
+use Rattle.amo_kk.specs.declared.givens.Givens.{Givens}
+use Rattle.amo_kk.specs.declared.event.Move.TheVariants.{Turn}
+use Rattle.amo_plan.specs.Plan.{PlanSeen}
+use Rattle.amo_bounds.specs.Fewest.{fewest}
+use Rattle.amo_texts.specs.Numbers.{spaced}
+use Rattle.amo_worst.specs.Schedule.{worst_schedule}
+use Rattle.amo_all.specs.declared.answer.TheConstants.{MOST_ALONE}
+use Rattle.amo_all.specs.Runs.{IsWholeRun}
+
+-- with so many workers no more jobs, or blocks, are looked through: half as many for each worker more
+abbrev pub most_jobs : ℕ → ℕ
+most_jobs workers = MOST_ALONE / 2 ^ (workers - 1)
+
+-- what the givens call jobs
+unfoldable pub unit_word : ℕ → List ℕ
+unit_word version = if version == 1 then codes "jobs" else codes "blocks"
+
+-- what stands in the place of the answer where they are too many
+unfoldable pub too_many : ℕ → Givens → List ℕ
+too_many version g =
+    codes "refused\nwith " ++ (decimal g.workers ++ (codes " workers at most " ++ (decimal (most_jobs g.workers) ++ (codes " " ++ (unit_word version ++ (codes " are looked through, and the plan has " ++ (decimal g.jobs ++ codes "\n")))))))
+
+-- a turn of each of these workers, as a schedule has them: `1 2 1`
+abbrev pub turn_words : List ℕ → List ℕ
+turn_words [] = []
+turn_words (p ∷ ps) = decimal p ++ spaced ps
+
+-- so many worlds; the fewest that are performed, with the schedule after which no more are; and a longest run, with its schedule
+unfoldable pub found_text : Givens → ℕ → List ℕ → List ℕ
+found_text g worlds turns =
+    codes "worlds " ++ (decimal worlds ++ (codes "\nleast " ++ (decimal (fewest g) ++ (codes "\nschedule = \"" ++ (worst_schedule g
+    ++ (codes "\"\nlongest " ++ (decimal (length turns) ++ (codes "\nschedule = \"" ++ (turn_words turns ++ codes "\"\n")))))))))
+
+-- The text says how many worlds there are, the fewest jobs, and a whole run. That there are so many, and that no run is longer, it
+-- only says.
+pub record SaysFound (g : Givens) (text : List ℕ) : Type 0 where
+  pub worlds : ℕ
+  pub turns : List ℕ
+  pub whole : IsWholeRun g (map Turn turns)
+  pub says : text ≡ found_text g worlds turns
+
+-- which of the two it is, by whether there are too many
+abbrev pub IsAnswer : Bool → PlanSeen → List ℕ → Type 0
+IsAnswer true p text = text ≡ too_many p.version p.givens
+IsAnswer false p text = SaysFound p.givens text
+
+-- the text is of this plan
+abbrev pub IsAllOf : PlanSeen → List ℕ → Type 0
+IsAllOf p text = IsAnswer (nat_lt (most_jobs p.givens.workers) p.givens.jobs) p text

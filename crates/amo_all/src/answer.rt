@@ -1,0 +1,108 @@
+//! What is said of a plan.
+ghost use Rattle.std.specs.Prelude.{◌≡◌, ◌++◌, ◌≤◌, map, OnOk, IfOk, string_bytes};
+ghost use Rattle.amo_plan.specs.PlanSeen.{plan_seen};
+ghost use Rattle.amo_texts.specs.Numbers.{spaced};
+ghost use Rattle.amo_all.specs.Answer.{IsAllOf, found_text, most_jobs, too_many, turn_words, unit_word};
+
+use crate::longest::{Found, find};
+use amo_kk::Givens;
+use amo_plan::Plan;
+use amo_worst::{fewest, worst_schedule};
+use std::alloc::{AllocError, Global};
+
+/// The most jobs with one worker whose worlds are looked through; with each worker more they are half as many.
+pub const MOST_ALONE: u32 = 16;
+
+/// The most jobs with so many workers whose worlds are looked through.
+fn most_jobs(workers: u32) -> u32
+    requires some { 1 ≤ workers }
+    requires few { workers ≤ 16 }
+    ensures { result ≡ most_jobs workers }
+{
+    MOST_ALONE >> (workers - 1)
+}
+
+/// Appends each of these numbers after a space.
+fn push_spaced(out: &mut String, numbers: &[u32]) -> Result<(), AllocError>
+    ensures { OnOk result (string_bytes out.new ≡ string_bytes out.old ++ spaced numbers.now) }
+{
+    for number in numbers {
+        write!(out, " {number}")?;
+    }
+    Ok(())
+}
+
+/// A turn of each of these workers, in the words of a plan.
+fn turn_words(alloc: Global, turns: &[u32]) -> Result<String, AllocError>
+    ensures { IfOk result (λ s. string_bytes s ≡ turn_words turns.now) }
+{
+    let mut out = String::new(alloc);
+    if let Some((first, others)) = turns.split_first() {
+        write!(out, "{first}")?;
+        push_spaced(&mut out, others)?;
+    }
+    Ok(out)
+}
+
+/// What the givens call jobs.
+#[tactic(auto, unfolding(crate::specs::Answer::unit_word))]
+fn unit_word(version: u32) -> &'static str
+    ensures { result.now ≡ unit_word version }
+{
+    if version == 1 { "jobs" } else { "blocks" }
+}
+
+/// Appends what stands in the place of the answer where there are too many jobs.
+#[tactic(auto, unfolding(crate::specs::Answer::too_many))]
+fn push_too_many(out: &mut String, version: u32, givens: Givens) -> Result<(), AllocError>
+    ensures { OnOk result (string_bytes out.new ≡ string_bytes out.old ++ too_many version givens) }
+{
+    let workers = givens.workers;
+    let most = most_jobs(workers);
+    let unit = unit_word(version);
+    let jobs = givens.jobs;
+    writeln!(
+        out,
+        "refused\nwith {workers} workers at most {most} {unit} are looked through, and the plan has {jobs}"
+    )
+}
+
+/// Appends what was found.
+#[tactic(auto, unfolding(crate::specs::Answer::found_text))]
+fn push_found(
+    alloc: Global,
+    out: &mut String,
+    givens: Givens,
+    found: &Found,
+) -> Result<(), AllocError>
+    ensures { OnOk result (string_bytes out.new ≡ string_bytes out.old ++ found_text givens found.now.worlds found.now.turns.items) }
+{
+    let worlds = found.worlds;
+    let least = fewest(givens);
+    let worst = worst_schedule(alloc, givens)?;
+    let turns = found.turns.as_slice();
+    let longest = turns.len();
+    let words = turn_words(alloc, turns)?;
+    writeln!(
+        out,
+        "worlds {worlds}\nleast {least}\nschedule = \"{worst}\"\nlongest {longest}\nschedule = \"{words}\""
+    )
+}
+
+/// Where the jobs of a plan, or its blocks, are at most 16 with one worker, 8 with two, 4 with three, and so on: how many worlds turns
+/// lead to, while not all workers but one are stopped; how few jobs are performed at least, once all are gone, with a schedule after
+/// which no more are; and how many turns a run may have, with the schedule of such a run. Else a line that says `refused`, and one
+/// that says why. The plan's own schedule has no part in it. The only error is out of memory.
+pub fn all_text(alloc: Global, plan: &Plan) -> Result<String, AllocError>
+    ensures { IfOk result (λ s. IsAllOf (plan_seen plan.now) (string_bytes s)) }
+{
+    let givens = plan.heads.givens;
+    let mut out = String::new(alloc);
+    if most_jobs(givens.workers) < givens.jobs {
+        push_too_many(&mut out, plan.heads.version, givens)?;
+        return Ok(out);
+    }
+    let found = find(alloc, givens)?;
+    push_found(alloc, &mut out, givens, &found)?;
+    Ok(out)
+}
