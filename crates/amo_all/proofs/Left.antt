@@ -1,6 +1,6 @@
 -- How many more moves a search can make.
-use Rattle.std.proofs.Common.{◌≡◌, ℕ, suc, ◌+◌, ◌-◌, ◌<◌, ◌≤◌, Bool, true, false, not, List, [], ◌∷◌, ◌++◌, length, refl, sym, ap, ◌∙◌, subst, length-append, add-one, arith}
-use Rattle.std.specs.Prelude.{if◌then◌else◌, nat_lt, ◌&&◌}
+use Rattle.std.proofs.Common.{◌≡◌, ℕ, suc, ◌+◌, ◌-◌, ◌<◌, ◌≤◌, true, false, not, List, [], ◌∷◌, ◌++◌, length, refl, sym, ap, ◌∙◌, subst, length-append, add-one, arith}
+use Rattle.std.specs.Prelude.{if◌then◌else◌, nat_lt}
 use Rattle.std.proofs.lemmas.Bool.{and_parts, ltb-true, not-true, true≢false}
 use Rattle.std.proofs.lemmas.List.{append-nil}
 use Rattle.amo_kk.specs.World.{process, world_of, world_after_move, world_after_moves, opening_world, is_halt}

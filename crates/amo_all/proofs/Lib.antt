@@ -1,3 +1,4 @@
 mod Left
 mod Paths
 mod Way
+mod ReadTurns

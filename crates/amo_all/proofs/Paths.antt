@@ -4,7 +4,7 @@ use Rattle.std.proofs.lemmas.Bool.{and_parts, and_from}
 use Rattle.std.proofs.lemmas.Bool.Decides.{nat_tests}
 use Rattle.amo_kk.specs.Object.{is_within}
 use Rattle.amo_kk.specs.Givens.{IsWorker}
-use Rattle.amo_kk.specs.World.{worker_of, are_in_range, world_of, world_after_moves, opening_world}
+use Rattle.amo_kk.specs.World.{worker_of, are_in_range, world_after_moves, opening_world}
 use Rattle.amo_kk.specs.declared.givens.Givens.{Givens}
 use Rattle.amo_kk.specs.declared.event.Move.{Move}
 use Rattle.amo_kk.proofs.Moves.{world_after_moves-append}

@@ -2,7 +2,7 @@
 use Rattle.std.proofs.Common.{◌≡◌, ℕ, suc, ◌-◌, ◌<◌, true, false, List, [], ◌∷◌, ◌++◌, length, map, refl, sym, ap, ◌∙◌, subst, length-append, Option, Some, None, arith}
 use Rattle.std.proofs.lemmas.List.{length-map, map-append}
 use Rattle.amo_kk.specs.Givens.{IsWorker}
-use Rattle.amo_kk.specs.World.{process, world_of, world_after_turn, opening_world}
+use Rattle.amo_kk.specs.World.{process, world_of, world_after_turn, opening_world, are_in_range}
 use Rattle.amo_kk.specs.declared.givens.Givens.{Givens}
 use Rattle.amo_kk.specs.declared.event.Move.{Move}
 use Rattle.amo_kk.specs.declared.event.Move.TheVariants.{Turn}
@@ -13,21 +13,26 @@ use Rattle.amo_bounds.specs.Rest.{turns_taken}
 use Rattle.amo_world.specs.Views.{WorldView}
 use Rattle.amo_all.specs.Runs.{IsWholeRun}
 use Rattle.amo_all.specs.Search.{IsNext}
+use Rattle.amo_plan.proofs.WithinLemmas.{in_range-append}
+use Rattle.amo_all.proofs.Paths.{one_in_range}
 use Rattle.amo_all.proofs.Left.{most_taken, few_taken, one_taken}
 
 -- the turns of these workers were all taken, and led to the world
 pub record IsOnTheWay (g : Givens) (w : WorldView) (turns : List ℕ) : Type 0 where
   pub led : w ≡ record { givens = g; world = world_of g (map Turn turns) }
+  pub in_range : are_in_range g (map Turn turns) ≡ true
   pub taken : turns_taken g (opening_world g) (map Turn turns) ≡ length turns
 
 abbrev turned : WorldView → ℕ → WorldView
 turned w p = record { givens = w.givens; world = world_after_turn w.givens w.world p }
 
 -- and one turn more of a worker that isn't gone
-pub way_more : (g : Givens) (w v : WorldView) (turns : List ℕ) (p : ℕ) → IsOnTheWay g w turns → (process w.world p).gone ≡ false
+pub way_more : (g : Givens) (w v : WorldView) (turns : List ℕ) (p : ℕ) → IsOnTheWay g w turns → IsWorker w.givens p → (process w.world p).gone ≡ false
     → v ≡ record { givens = w.givens; world = world_after_turn w.givens w.world p } → IsOnTheWay g v (turns ++ p ∷ [])
-way_more g w v turns p on here e = record {
+way_more g w v turns p on worker here e = record {
   led = e ∙ ap (λ (x : WorldView). turned x p) on.led ∙ ap leads (sym (world_more g (opening_world g) (map Turn turns) (Turn p)) ∙ ap (world_of g) more);
+  in_range = subst (λ (ms : List Move). are_in_range g ms ≡ true) more
+      (in_range-append g (map Turn turns) (Turn p ∷ []) on.in_range (one_in_range g (Turn p) (subst (λ (x : WorldView). IsWorker x.givens p) on.led worker)));
   taken = ap (turns_taken g (opening_world g)) (sym more) ∙ one_taken g (map Turn turns) p (subst (λ (x : WorldView). (process x.world p).gone ≡ false) on.led here)
       ∙ ap suc on.taken ∙ omega (arith, length-append turns (p ∷ []));
 }
@@ -62,12 +67,13 @@ way_whole g w turns on gone = record {
     gone = subst (λ (x : WorldView). (p : ℕ) → IsWorker x.givens p → (process x.world p).gone ≡ true) on.led gone;
   };
   nobody_stops = turns_stop turns;
+  in_range = on.in_range;
   all_taken = on.taken ∙ sym (length-map turns Turn);
 }
 
--- the worker whose turn is next isn't gone; where there is none, all are
-pub next_here : (g : Givens) (w : World) (next : Option ℕ) (p : ℕ) → next ≡ Some p → IsNext g w next → (process w p).gone ≡ false
-next_here g w next p e h = (subst (λ (n : Option ℕ). IsNext g w n) e h).1
+-- who is next is a worker that isn't gone; where there is none, all are gone
+pub next_here : (g : Givens) (w : World) (next : Option ℕ) (p : ℕ) → next ≡ Some p → IsNext g w next → IsWorker g p × ((process w p).gone ≡ false)
+next_here g w next p e h = subst (λ (n : Option ℕ). IsNext g w n) e h
 
 pub next_none : (g : Givens) (w : World) (next : Option ℕ) → next ≡ None → IsNext g w next → (p : ℕ) → IsWorker g p → (process w p).gone ≡ true
 next_none g w next e h = subst (λ (n : Option ℕ). IsNext g w n) e h

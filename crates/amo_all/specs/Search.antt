@@ -1,5 +1,5 @@
 -- Within this crate: a search, and the moves that it makes.
-use Rattle.std.specs.Prelude.{◌≡◌, ℕ, suc, ◌+◌, Bool, true, false, not, ◌&&◌, List, nat_lt, Option, Some, None}
+use Rattle.std.specs.Prelude.{◌≡◌, ℕ, ◌+◌, Bool, true, false, not, ◌&&◌, List, nat_lt, Option, Some, None}
 use Rattle.amo_kk.specs.Givens.{IsWorker}
 use Rattle.amo_kk.specs.World.{process, world_of, are_in_range}
 use Rattle.amo_kk.specs.declared.givens.Givens.{Givens}

@@ -4,6 +4,7 @@
 
 mod answer;
 mod known;
+pub mod laws;
 mod longest;
 mod search;
 mod writing;

@@ -1,4 +1,5 @@
 mod Lengths
-mod ReadWords
+-- crates above lean on this one too
+pub mod ReadWords
 mod TreeTexts
 mod ReadPlan

@@ -36,7 +36,7 @@ figures = decimal_by_steps (λ n ds. All IsFigure ds)
     (λ n low. figure (48 + n) (omega arith, omega arith))
     (λ n ds big so_far. All-append IsFigure ds ((48 + n % 10) ∷ []) so_far (figure (48 + n % 10) (omega arith, omega arith)))
 
-no_space : (n : ℕ) → n < 2 ^ 64 → All (λ b. is_space b ≡ false) (decimal n)
+pub no_space : (n : ℕ) → n < 2 ^ 64 → All (λ b. is_space b ≡ false) (decimal n)
 no_space n small k d l = let h = figures n small k d l in let low = h.0 in let high = h.1 in grind (arith, nat_tests)
 
 no_space_after_x : (ds : List ℕ) → All (λ b. is_space b ≡ false) ds → All (λ b. is_space b ≡ false) (120 ∷ ds)
@@ -48,10 +48,10 @@ no_space_after_x ds none (suc k) d l = none k d (omega arith)
 is_some_word : (w : List ℕ) → 0 < length w → is_word w ≡ true
 is_some_word w some = grind (arith, nat_tests)
 
-alone : (w : List ℕ) → All (λ b. is_space b ≡ false) w → 0 < length w → words_of w ≡ w ∷ []
+pub alone : (w : List ℕ) → All (λ b. is_space b ≡ false) w → 0 < length w → words_of w ≡ w ∷ []
 alone w none some = ap (filter is_word) (slice_split_none is_space w none) ∙ rw (is_some_word w some) refl
 
-before_space : (w rest : List ℕ) → All (λ b. is_space b ≡ false) w → 0 < length w → words_of (w ++ 32 ∷ rest) ≡ w ∷ words_of rest
+pub before_space : (w rest : List ℕ) → All (λ b. is_space b ≡ false) w → 0 < length w → words_of (w ++ 32 ∷ rest) ≡ w ∷ words_of rest
 before_space w rest none some = ap (filter is_word) (slice_split_at is_space w 32 rest none refl) ∙ rw (is_some_word w some) refl
 
 -- the words of the others
@@ -88,10 +88,10 @@ unfolding number_of
 number n low high = (within_is_decimal 1 HIGHEST_IN_WORD (decimal n) n (omega arith)).1 (refl, low, high)
 
 -- what is read of words, wherever they stand: these moves
-abbrev IsRead : ℕ → ℕ → List ℕ → List Move → Type 0
+abbrev pub IsRead : ℕ → ℕ → List ℕ → List Move → Type 0
 IsRead version m w moves = (i : ℕ) → (word_at version m i w >>= λ word. Ok (moves_of_word word)) ≡ Ok moves
 
-abbrev AreRead : ℕ → ℕ → List (List ℕ) → List Move → Type 0
+abbrev pub AreRead : ℕ → ℕ → List (List ℕ) → List Move → Type 0
 AreRead version m ws moves = (i : ℕ) → (each (word_at version m) i ws >>= λ words. Ok (moves_of words)) ≡ Ok moves
 
 -- one and the others
@@ -101,7 +101,7 @@ both f (Ok x) (Ok xs) a b e h = let first : f x ≡ a = cc in let rest : flat_ma
 both f (Ok x) (Err fault) a b e h = absurd cc
 both f (Err fault) s a b e h = absurd cc
 
-cons_read : (version m : ℕ) (w : List ℕ) (ws : List (List ℕ)) (a b : List Move) → IsRead version m w a → AreRead version m ws b → AreRead version m (w ∷ ws) (a ++ b)
+pub cons_read : (version m : ℕ) (w : List ℕ) (ws : List (List ℕ)) (a b : List Move) → IsRead version m w a → AreRead version m ws b → AreRead version m (w ∷ ws) (a ++ b)
 cons_read version m w ws a b here more i = both moves_of_word (word_at version m (capped i) w) (each (word_at version m) (i + 1) ws) a b (here (capped i)) (more (i + 1))
 
 module _ (version m n : ℕ) (low : 1 ≤ n) (high : n ≤ HIGHEST_IN_WORD) where
@@ -121,7 +121,7 @@ module _ (version m n : ℕ) (low : 1 ≤ n) (high : n ≤ HIGHEST_IN_WORD) wher
       (λ k l. let h = figures n (omega arith) k 0 l in let above = h.0 in let below = h.1 in grind (arith, nat_tests)) (λ l. absurd (omega arith)) in
       rw (at, le-ltb (length (decimal n)) (length (decimal n)) (omega arith)) refl
 
-  turn_read : n ≤ m → IsRead version m (decimal n) (Turn n ∷ [])
+  pub turn_read : n ≤ m → IsRead version m (decimal n) (Turn n ∷ [])
   unfolding word_at word_of turns_word
   turn_read here i = rw (not_x, not_l, no_asterisk, number n low high, le-leb n m here) refl
 
@@ -153,7 +153,7 @@ stuck_read version m (suc k) rest moves here few later i =
     ∙ ap Ok (sym (append_assoc (stuck_moves k) (Turn (k + 2) ∷ Halt (k + 2) ∷ []) moves))
 
 -- moves that are few enough
-kept : {A : Type 0} (f : A → List Move) (s : Result A PlanFault) (moves : List Move) → (s >>= λ x. Ok (f x)) ≡ Ok moves → nat_le (length moves) MOST_MOVES ≡ true
+pub kept : {A : Type 0} (f : A → List Move) (s : Result A PlanFault) (moves : List Move) → (s >>= λ x. Ok (f x)) ≡ Ok moves → nat_le (length moves) MOST_MOVES ≡ true
     → (s >>= λ x. unless (nat_le (length (f x)) MOST_MOVES) TooLong (Ok (f x))) ≡ Ok moves
 kept f (Ok x) moves e few = let same : f x ≡ moves = cc in rw (same, few) refl
 kept f (Err fault) moves e few = absurd cc
