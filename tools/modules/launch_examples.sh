@@ -1,0 +1,192 @@
+# What ./amo, ./amo_show and ./look do where there is a toolchain, where there is none and where a script is in its place, for
+# tools/examples, which reads this file: its calls are used here.
+
+# ./amo and ./amo_show hand on words, streams and status.
+run_amo() {
+  expect './amo explore 0 2 5' 0 examples/rounds.explore_0_2_5 /dev/null ./amo explore 0 2 5 <examples/rounds.toml
+  expect './amo_show trace' 0 examples/two_collide.trace /dev/null ./amo_show trace <examples/two_collide.toml
+  expect './amo stops 3' 1 /dev/null examples/each_stop.stops_3.fault ./amo stops 3 <examples/each_stop.toml
+}
+
+# on_terminal COMMAND..: runs it where its streams are a terminal, and gives what it wrote there, with its status.
+on_terminal() (
+  set -o pipefail
+  python3 -c 'import os, pty, sys; sys.exit(os.waitstatus_to_exitcode(pty.spawn(sys.argv[1:])))' "$@" </dev/null | tr -d '\r'
+)
+
+# The version of each program, the pages that stand for the help that two of them haven't, what these say to the same words beside
+# others and what ./amo check says first on a terminal.
+show_help() {
+  local name word version
+  read -r version <VERSION
+  for name in amo amo_show amo_worker amo_jobs; do
+    expect "./$name --version" 0 "$(lines "$name $version")" /dev/null "./$name" --version </dev/null
+  done
+  for name in amo amo_show; do
+    for word in --help -h; do
+      expect "./$name $word" 0 "docs/help/$name.txt" /dev/null "./$name" $word </dev/null
+    done
+    expect "./$name on a terminal" 0 "docs/help/$name.txt" /dev/null on_terminal "./$name"
+    expect "./$name, its input no terminal" 2 /dev/null "$(line 'fault words')" "./$name" </dev/null
+    for word in '--help trace' '--version trace' 'trace --version' -V; do
+      # shellcheck disable=SC2086 # each word is an argument
+      expect "./$name $word" 2 /dev/null "$(line 'fault words')" "./$name" $word </dev/null
+    done
+  done
+  expect './amo check on a terminal' 0 \
+    "$(lines 'amo: ./amo_show explain tells what is wrong with a plan' "$(cat examples/three_jobs.check)")" /dev/null \
+    on_terminal sh -c './amo check <examples/three_jobs.toml'
+  expect './amo replay on a terminal' 0 examples/three_jobs.report /dev/null on_terminal sh -c './amo replay <examples/three_jobs.toml'
+}
+
+# look_aside NAME WORDS..: ./look, whose texts and status become files of this name; and the same texts and status again.
+look_aside() {
+  local ended=0
+  ./look "${@:2}" >"$room/$1.out" 2>"$room/$1.err" || ended=$?
+  echo $ended >"$room/$1.ended"
+}
+looked() {
+  cat "$room/$1.out"
+  cat "$room/$1.err" >&2
+  return "$(cat "$room/$1.ended")"
+}
+
+# Two looks with the toolchain itself. Each takes a minute or two, so they run beside all else, and are compared last.
+looks='look: running the program with nothing proved, in a minute or two; ./amo with the same words proves it first'
+begin_looks() {
+  look_aside ended replay <examples/three_jobs.toml &
+  look_aside faulted stops 3 <examples/each_stop.toml &
+}
+compare_looks() {
+  wait
+  expect './look replay' 0 examples/three_jobs.report "$(lines "$looks")" looked ended
+  expect './look stops 3' 1 /dev/null "$(lines "$looks" "$(cat examples/each_stop.stops_3.fault)")" looked faulted
+}
+
+# A copy in which nothing is built, a path without the toolchain, and one with a script in its place, whose `rt try` keeps
+# the words and the input that it was given and writes the files out and err, whose `rt lib` makes an empty library, and whose
+# `rt run` makes a program that writes its words. The crate $UNPROVED is not proved.
+set_apart() {
+  local command
+  mkdir "$room/copy" "$room/bare" "$room/script"
+  cp -R --parents amo amo_show HANDLES crates.txt tools crates/*/src crates/*/specs crates/amo/stdin crates/amo_show/stdin "$room/copy"
+  for command in bash dirname env find readlink; do ln -s "$(command -v $command)" "$room/bare/"; done
+  cat >"$room/script/rt" <<'END'
+#!/bin/sh
+here=${0%/*} crate=${PWD##*/}
+case $1 in
+  try)
+    printf '%s\n' "$@" >"$here/words"
+    cat >"$here/given"
+    cat "$here/err" >&2
+    exec cat "$here/out"
+    ;;
+  lib) made=out/rlib/$crate.rlib/format ;;
+  run) made=out/$crate ;;
+esac
+[ "$crate" != "${UNPROVED-}" ] || { echo 'not proved' >&2 && exit 1; }
+mkdir -p "${made%/*}"
+printf '#!/bin/sh\nprintf "<%%s>" "$@"\necho\n' >"$made"
+chmod +x "$made"
+END
+  chmod +x "$room/script/rt"
+}
+without_rt() { PATH=$room/bare "$@"; }
+with_script() { PATH=$room/script:$PATH "$@"; }
+
+# Without the toolchain, what has to be built and what has to be proved says so in one line; what is built runs.
+do_without() {
+  local name missing="\`rt\` is not on the path; README.md says under 'Build and run' what has to be installed"
+  expect './look without the toolchain' 125 /dev/null "$(lines "look: $missing")" \
+    without_rt ./look replay <examples/three_jobs.toml
+  expect './test without the toolchain' 125 /dev/null "$(lines "test: $missing")" without_rt ./test
+  for name in amo amo_show; do
+    expect "./$name, to be built, without the toolchain" 125 /dev/null "$(lines "$name: $missing")" without_rt "$room/copy/$name"
+  done
+  expect './amo, built, without the toolchain' 0 examples/three_jobs.report /dev/null \
+    without_rt ./amo replay <examples/three_jobs.toml
+  expect './amo_show, built, without the toolchain' 0 examples/two_collide.trace /dev/null \
+    without_rt ./amo_show trace <examples/two_collide.toml
+}
+
+# build_copy NAME WORDS..: ./NAME of the copy. Of its lines that tell of a proved library there is one for all but the last, since
+# they come in no order.
+build_copy() {
+  local ended=0
+  with_script "$room/copy/$1" "${@:2}" 2>"$room/said" || ended=$?
+  sed 's/: amo_[a-z_]* is proved, 0 left/: all are proved/; s/: amo_[a-z_]* is proved, .* left/: some are proved/' "$room/said" |
+    uniq >&2
+  return $ended
+}
+
+# ./amo and ./amo_show prove the libraries below them and then their own crate; where either fails the status is 125.
+build_copies() {
+  local begun='proving and building the program' unbuilt='the program could not be built'
+  UNPROVED=amo_work expect './amo, a library not proved' 125 /dev/null "$(lines "amo: $begun" 'amo: some are proved' \
+    'not proved' 'amo: amo_work could not be proved' "amo: $unbuilt")" build_copy amo check <examples
+  UNPROVED=amo expect './amo, its own crate not proved' 125 /dev/null "$(lines "amo: $begun" 'amo: all are proved' \
+    'not proved' "amo: $unbuilt")" build_copy amo check <&-
+  expect './amo, built now' 0 "$(lines '<check><><a b>')" "$(lines "amo: $begun")" build_copy amo check '' 'a b' <examples
+  expect './amo, built before' 0 "$(lines '<check>')" /dev/null build_copy amo check
+  rm -r "$room/copy/crates/amo_plan/out"
+  expect './amo_show, built now' 0 "$(lines '<trace>')" "$(lines "amo_show: $begun" 'amo_show: some are proved' \
+    'amo_show: all are proved')" build_copy amo_show trace
+}
+
+# tried OUT LINE..: the script's `rt try` writes this file, and these lines on standard error.
+tried() {
+  cat "$1" >"$room/script/out"
+  printf '%s\n' "${@:2}" >"$room/script/err"
+}
+look_unread() { with_script ./look "$@" >/dev/full; }
+look_unheard() { with_script ./look "$@" 2>&-; }
+look_endlessly() { yes | with_script ./look "$@"; }
+look_by_link() (
+  ln -s "$PWD/look" "$room/link" && cd / && with_script "$room/link" "$@"
+)
+
+# What ./look makes of each end that `rt try` can come to.
+translate_ends() {
+  local status report=examples/three_jobs.report plan=examples/three_jobs.toml why
+  for status in 0 1 2 3 4; do
+    tried $report "fault of $status" "checked: ended status=$status" 'races: not looked for' \
+      "run=ended status=$status runners=1 races=unchecked proved=no"
+    expect "./look, status $status" $status $report "$(lines "$looks" "fault of $status")" with_script ./look replay <$plan
+  done
+  expect './look, its output not taken' 125 /dev/null "$(lines "$looks" "look: standard output didn't take the text")" \
+    look_unread replay <$plan
+  expect './look, its error stream closed' 4 $report /dev/null look_unheard replay <$plan
+  for why in 'the program did not end within the time limit' 'the program wrote more than 1048576 bytes'; do
+    tried /dev/null "the end of the program's standard output:" '| unclaimed' 'interpreter: no-answer: it lacks a call' \
+      "checked: no-answer: $why" 'run=no-answer proved=no'
+    expect "./look, $why" 125 /dev/null "$(lines "$looks" "look: \`rt try\` reached a limit: $why; ./amo has no such limit")" \
+      with_script ./look replay <$plan
+  done
+  tried /dev/null 'checked: fault kind=overflow in=amo::work' 'run=fault proved=no'
+  expect './look, a fault' 125 /dev/null "$(lines "$looks" "$(cat "$room/script/err")" \
+    'look: the program did what its proof has to rule out')" with_script ./look replay <$plan
+  tried /dev/null 'src/main.rt:12:45: error[mismatched-types]: expected `&str`, found an integer' 'run=none proved=no'
+  expect './look, not compiled' 125 /dev/null "$(lines "$looks" "$(cat "$room/script/err")" \
+    "look: the program could not be built and run by \`rt try\`")" with_script ./look replay <$plan
+  : >"$room/script/err"
+  expect './look, nothing said' 125 /dev/null "$(lines "$looks" "look: the program could not be built and run by \`rt try\`")" \
+    with_script ./look replay <$plan
+}
+
+# ./look hands on its words and its plan, as much of it as the program would read.
+hand_on() {
+  local none='look: no plan could be read from standard input'
+  expect './look, its input not given' 125 /dev/null "$(lines "$none")" with_script ./look replay <examples
+  expect './look, its input closed' 125 /dev/null "$(lines "$none")" with_script ./look replay <&-
+  tried examples/three_jobs.check 'checked: ended status=0' 'run=ended status=0 runners=1 proved=no'
+  expect './look, a plan of all bytes' 0 examples/three_jobs.check "$(lines "$looks")" \
+    with_script ./look '' 'a b' -- --help <"$room/limits.toml"
+  expect './look, the words' 0 "$(lines try -- '' 'a b' -- --help)" /dev/null cat "$room/script/words"
+  expect './look, the plan' 0 "$room/limits.toml" /dev/null cat "$room/script/given"
+  expect './look, an input without an end' 0 examples/three_jobs.check "$(lines "$looks")" look_endlessly replay
+  yes | head -c 1048577 >"$room/beginning"
+  expect './look, its beginning' 0 "$room/beginning" /dev/null cat "$room/script/given"
+  expect './look, by a link and from another folder' 0 examples/three_jobs.check "$(lines "$looks")" \
+    look_by_link check <examples/three_jobs.toml
+  expect './look, the same plan' 0 examples/three_jobs.toml /dev/null cat "$room/script/given"
+}
