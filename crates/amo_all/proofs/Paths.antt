@@ -1,29 +1,13 @@
 -- Moves that a search makes and takes back.
-use Rattle.std.proofs.Common.{◌≡◌, ℕ, zero, suc, ◌≤◌, true, List, [], ◌∷◌, ◌++◌, take, refl, sym, ap, ◌∙◌, subst, arith}
-use Rattle.std.proofs.lemmas.Bool.{and_parts, and_from}
-use Rattle.std.proofs.lemmas.Bool.Decides.{nat_tests}
-use Rattle.amo_kk.specs.Object.{is_within}
+use Rattle.std.proofs.Common.{◌≡◌, ℕ, true, List, [], ◌∷◌, ◌++◌, take, refl, sym, ap, ◌∙◌, subst}
 use Rattle.amo_kk.specs.Givens.{IsWorker}
 use Rattle.amo_kk.specs.World.{worker_of, are_in_range, world_after_moves, opening_world}
 use Rattle.amo_kk.specs.declared.givens.Givens.{Givens}
 use Rattle.amo_kk.specs.declared.event.Move.{Move}
 use Rattle.amo_kk.proofs.Moves.{world_after_moves-append}
-use Rattle.amo_plan.proofs.WithinLemmas.{in_range-append}
+use Rattle.amo_plan.proofs.WithinLemmas.{in_range-append, in_range-take, one_in_range}
 use Rattle.amo_world.specs.Views.{WorldView}
 use Rattle.amo_all.specs.Search.{IsSearch}
-
-within : (n p : ℕ) → 1 ≤ p → p ≤ n → is_within n p ≡ true
-within n p low high = grind (arith, nat_tests)
-
--- a move of a worker can be made
-pub one_in_range : (g : Givens) (m : Move) → IsWorker g (worker_of m) → are_in_range g (m ∷ []) ≡ true
-one_in_range g m is = and_from _ true (within g.workers (worker_of m) is.low is.high) refl
-
--- and so can the first of some moves
-pub in_range-take : (g : Givens) (n : ℕ) (moves : List Move) → are_in_range g moves ≡ true → are_in_range g (take n moves) ≡ true
-in_range-take g zero moves h = refl
-in_range-take g (suc n) [] h = refl
-in_range-take g (suc n) (m ∷ moves) h = let parts = and_parts _ _ h in and_from _ _ parts.0 (in_range-take g n moves parts.1)
 
 -- one move more
 pub search_more : (w v : WorldView) (moves : List Move) (m : Move) → IsSearch w moves → IsWorker w.givens (worker_of m)

@@ -13,8 +13,7 @@ use Rattle.amo_bounds.specs.Rest.{turns_taken}
 use Rattle.amo_world.specs.Views.{WorldView}
 use Rattle.amo_all.specs.Runs.{IsWholeRun}
 use Rattle.amo_all.specs.Search.{IsNext}
-use Rattle.amo_plan.proofs.WithinLemmas.{in_range-append}
-use Rattle.amo_all.proofs.Paths.{one_in_range}
+use Rattle.amo_plan.proofs.WithinLemmas.{in_range-append, one_in_range}
 use Rattle.amo_all.proofs.Left.{most_taken, few_taken, one_taken}
 
 -- the turns of these workers were all taken, and led to the world

@@ -1,9 +1,11 @@
 -- The moves that are read are those of the workers that there are.
-use Rattle.std.proofs.Common.{◌≡◌, ℕ, zero, suc, ◌+◌, ◌≤◌, Bool, true, false, cond, leb, List, [], ◌∷◌, ◌++◌, length, slice_index, take, drop, Option, Some, None, option_map, Result, Ok, refl, subst, replicate}
+use Rattle.std.proofs.Common.{◌≡◌, ℕ, zero, suc, ◌+◌, ◌≤◌, Bool, true, false, cond, leb, List, [], ◌∷◌, ◌++◌, length, slice_index, take, drop, Option, Some, None, option_map, Result, Ok, refl, subst, replicate, arith}
 use Rattle.std.specs.Prelude.{position}
 use Rattle.std.specs.List.{list_all}
-use Rattle.std.proofs.lemmas.Bool.{le-leb, and_parts}
+use Rattle.std.proofs.lemmas.Bool.{le-leb, and_parts, and_from}
+use Rattle.std.proofs.lemmas.Bool.Decides.{nat_tests}
 use Rattle.amo_kk.specs.Object.{is_within}
+use Rattle.amo_kk.specs.Givens.{IsWorker}
 use Rattle.amo_kk.specs.World.{are_in_range, worker_of as mover}
 use Rattle.amo_kk.specs.declared.givens.Givens.{Givens}
 use Rattle.amo_kk.specs.declared.event.Move.{Move}
@@ -79,6 +81,19 @@ in_range-append g [] ys front back = back
 in_range-append g (x ∷ xs) ys front back =
     let (here, more) = and_parts (is_within g.workers (mover x)) (are_in_range g xs) front in
     rw (here, in_range-append g xs ys more back) refl
+
+-- the first of some moves
+pub in_range-take : (g : Givens) (n : ℕ) (moves : List Move) → are_in_range g moves ≡ true → are_in_range g (take n moves) ≡ true
+in_range-take g zero moves h = refl
+in_range-take g (suc n) [] h = refl
+in_range-take g (suc n) (m ∷ moves) h = let parts = and_parts _ _ h in and_from _ _ parts.0 (in_range-take g n moves parts.1)
+
+within : (n p : ℕ) → 1 ≤ p → p ≤ n → is_within n p ≡ true
+within n p low high = grind (arith, nat_tests)
+
+-- one move of a worker that there is
+pub one_in_range : (g : Givens) (m : Move) → IsWorker g (mover m) → are_in_range g (m ∷ []) ≡ true
+one_in_range g m is = and_from _ true (within g.workers (mover m) is.low is.high) refl
 
 turns_in_range : (g : Givens) (k c : ℕ) → is_within g.workers k ≡ true → are_in_range g (replicate c (Turn k)) ≡ true
 turns_in_range g k zero h = refl

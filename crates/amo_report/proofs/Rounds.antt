@@ -1,6 +1,5 @@
 -- The moves of a plan, one part after the other.
-use Rattle.std.proofs.Common.{◌≡◌, ℕ, zero, suc, ◌+◌, true, List, [], ◌∷◌, ◌++◌, take, refl, sym, ap, ◌∙◌, add-one}
-use Rattle.std.proofs.lemmas.Bool.{and_parts, and_from}
+use Rattle.std.proofs.Common.{◌≡◌, ℕ, ◌+◌, true, List, [], ◌∷◌, ◌++◌, refl, sym, ap, ◌∙◌, add-one}
 use Rattle.amo_sets.specs.Lists.{table}
 use Rattle.amo_kk.specs.World.{world_after_moves, are_in_range, round, rounds}
 use Rattle.amo_kk.specs.declared.givens.Givens.{Givens}
@@ -12,12 +11,6 @@ use Rattle.amo_world.specs.Views.{WorldView}
 -- moves that a plan keeps can be run, wherever it hands them
 pub range_of : (g h : Givens) (moves handed : List Move) → h ≡ g → handed ≡ moves → are_in_range g moves ≡ true → are_in_range h handed ≡ true
 range_of g h moves handed e f within = (λ i. are_in_range (e i) (f i)) ∙ within
-
--- and so can the first of them
-pub in_range-take : (g : Givens) (n : ℕ) (moves : List Move) → are_in_range g moves ≡ true → are_in_range g (take n moves) ≡ true
-in_range-take g zero moves h = refl
-in_range-take g (suc n) [] h = refl
-in_range-take g (suc n) (m ∷ moves) h = let parts = and_parts _ _ h in and_from _ _ parts.0 (in_range-take g n moves parts.1)
 
 -- the world of a view after more moves
 pub moves_more : (g : Givens) (w : World) (moves all : List Move) (more : Givens → List Move) (old new : WorldView)

@@ -1,22 +1,11 @@
 -- All moves of a plan are of its workers.
 use Rattle.std.proofs.Common.{◌≡◌, ℕ, zero, suc, ◌≤◌, true, List, [], ◌∷◌, ◌++◌, refl, arith}
-use Rattle.std.proofs.lemmas.Bool.{and_from}
-use Rattle.std.proofs.lemmas.Bool.Decides.{nat_tests}
 use Rattle.amo_sets.specs.Lists.{table}
-use Rattle.amo_kk.specs.Object.{is_within}
-use Rattle.amo_kk.specs.Givens.{IsWorker}
-use Rattle.amo_kk.specs.World.{worker_of, are_in_range, round, rounds}
+use Rattle.amo_kk.specs.World.{are_in_range, round, rounds}
 use Rattle.amo_kk.specs.declared.event.Move.{Move}
 use Rattle.amo_kk.specs.declared.event.Move.TheVariants.{Turn}
 use Rattle.amo_kk.specs.declared.givens.Givens.{Givens}
-use Rattle.amo_plan.proofs.WithinLemmas.{in_range-append}
-
-within : (n p : ℕ) → 1 ≤ p → p ≤ n → is_within n p ≡ true
-within n p low high = grind (arith, nat_tests)
-
--- a move of a worker is in range
-pub one_in_range : (g : Givens) (m : Move) → IsWorker g (worker_of m) → are_in_range g (m ∷ []) ≡ true
-one_in_range g m is = and_from _ true (within g.workers (worker_of m) is.low is.high) refl
+use Rattle.amo_plan.proofs.WithinLemmas.{in_range-append, one_in_range}
 
 turns_in_range : (g : Givens) (n : ℕ) → n ≤ g.workers → are_in_range g (table n (λ p. Turn p)) ≡ true
 turns_in_range g zero l = refl

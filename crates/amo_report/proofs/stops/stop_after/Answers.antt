@@ -1,6 +1,7 @@
 use Rattle.std.proofs.Common.{take, ap, ◌∙◌}
 use Rattle.amo_world.specs.Views.{WorldView}
-use Rattle.amo_report.proofs.Rounds.{range_of, in_range-take}
+use Rattle.amo_plan.proofs.WithinLemmas.{in_range-take}
+use Rattle.amo_report.proofs.Rounds.{range_of}
 use Rattle.amo_report.proofs.stops.stop_after.Goals as goal
 
 pub run-requires : goal.run-requires

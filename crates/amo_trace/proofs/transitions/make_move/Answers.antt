@@ -1,4 +1,4 @@
-use Rattle.amo_trace.proofs.Range.{one_in_range}
+use Rattle.amo_plan.proofs.WithinLemmas.{one_in_range}
 use Rattle.amo_trace.proofs.transitions.make_move.Goals as goal
 
 pub run-requires : goal.run-requires

@@ -1,5 +1,6 @@
 use Rattle.std.proofs.Common.{take, ap, ◌∙◌}
-use Rattle.amo_all.proofs.Paths.{in_range-take, search_back}
+use Rattle.amo_plan.proofs.WithinLemmas.{in_range-take}
+use Rattle.amo_all.proofs.Paths.{search_back}
 use Rattle.amo_all.proofs.search.Search.back.Goals as goal
 
 pub run-requires : goal.run-requires
