@@ -36,11 +36,11 @@ writes Judge = WritesOf Judges
 writes Worst = Writes worst_text_of
 writes All = WritesAll
 
--- what is left where it was not written whole
+-- what is left where it was not written whole; to explain and to judge no bytes are a fault, but where they are too many
 abbrev pub refuses : Show → ReplayFault → Left
 refuses (Run shown) fault = Refuses (text_of shown) fault
-refuses Explain fault = RefusesOf Explains fault
-refuses Judge fault = RefusesOf Judges fault
+refuses Explain fault = RefusesOf Explains (λ _ _. ⊥) fault
+refuses Judge fault = RefusesOf Judges (λ _ _. ⊥) fault
 refuses Worst fault = Refuses worst_text_of fault
 refuses All fault = RefusesAll fault
 
@@ -51,7 +51,7 @@ others show known old new = ⊥
 -- where the plan was refused nothing was written
 pub plan_keeps : (show : Show) (f : PlanFault) (known old new : Option (List ℕ)) → refuses show (replay.Plan f) known old new → Keeps old new
 plan_keeps (Run shown) f known old new h = h.2
-plan_keeps Explain f known old new h = h.2
-plan_keeps Judge f known old new h = h.2
+plan_keeps Explain f known old new h = h.1
+plan_keeps Judge f known old new h = h.1
 plan_keeps Worst f known old new h = h.2
 plan_keeps All f known old new h = h.2

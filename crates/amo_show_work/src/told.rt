@@ -1,8 +1,8 @@
 //! The texts of whatever bytes are read.
 use amo_explain::explanation;
 use amo_judge::judgement;
-use amo_texts::BytesText;
-use std::alloc::{AllocError, Global};
+use amo_texts::{BytesText, ReplayFault};
+use std::alloc::Global;
 
 /// What a plan asks for, or what is wrong with it.
 pub(crate) struct Explained;
@@ -12,8 +12,10 @@ impl BytesText for Explained {
 
     ghost is_of = { λ _. Explains };
 
-    fn make(&self, alloc: Global, bytes: &[u8]) -> Result<String, AllocError> {
-        explanation(alloc, bytes)
+    ghost is_refused = { λ _ _ _. ⊥ };
+
+    fn make(&self, alloc: Global, bytes: &[u8]) -> Result<String, ReplayFault> {
+        Ok(explanation(alloc, bytes)?)
     }
 }
 
@@ -25,7 +27,9 @@ impl BytesText for Judged {
 
     ghost is_of = { λ _. Judges };
 
-    fn make(&self, alloc: Global, bytes: &[u8]) -> Result<String, AllocError> {
-        judgement(alloc, bytes)
+    ghost is_refused = { λ _ _ _. ⊥ };
+
+    fn make(&self, alloc: Global, bytes: &[u8]) -> Result<String, ReplayFault> {
+        Ok(judgement(alloc, bytes)?)
     }
 }

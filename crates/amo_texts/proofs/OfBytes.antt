@@ -1,10 +1,14 @@
 -- What was read is all that the source had, or more than is read.
-use Rattle.std.proofs.Common.{◌≡◌, ℕ, ◌<◌, List, [], ◌++◌, length, Option, Some, None, sym, ap, ◌∙◌, subst, length-append, arith}
+use Rattle.std.proofs.Common.{◌≡◌, ℕ, ◌<◌, List, [], ◌++◌, length, Option, Some, None, inr, sym, ap, ◌∙◌, subst, length-append, arith}
 use Rattle.std.specs.Prelude.{IfSome}
-use Rattle.std.specs.Io.KnownBytes.{Appends, Consumes, IsAtEnd}
+use Rattle.std.specs.Io.KnownBytes.{Appends, Consumes, IsAtEnd, Keeps}
 use Rattle.std.proofs.lemmas.List.{append-nil}
 use Rattle.amo_streams.specs.Streams.{AppendsFront}
-use Rattle.amo_texts.specs.OfBytes.{WritesOf, WritesFrontOf}
+use Rattle.amo_plan.specs.declared.fault.PlanFault.{PlanFault}
+use Rattle.amo_texts.specs.declared.writing.ReplayFault.{ReplayFault}
+use Rattle.amo_texts.specs.declared.writing.ReplayFault.TheVariants.{Plan, Read, Write, NoMemory}
+use Rattle.amo_texts.specs.OfBytes.{WritesOf, WritesFrontOf, RefusesOf}
+use Rattle.amo_texts.specs.Written.{IsNoText}
 
 -- at the end of the source, what was read is what it had
 pub all_read : (known left : Option (List ℕ)) (bytes : List ℕ) → Consumes known left bytes → IsAtEnd left → IfSome known (λ xs. xs ≡ bytes)
@@ -29,3 +33,11 @@ pub front_of : (is_of : List ℕ → List ℕ → Type 0) (known old new : Optio
     → AppendsFront old new text → WritesFrontOf is_of known old new
 front_of is_of None old new bytes text same is front = tt
 front_of is_of (Some xs) old new bytes text same is front = (text, subst (λ (ys : List ℕ). is_of ys text) (sym same) is, front)
+
+-- the bytes that were read have no text, so those of the source have none
+pub refused_of : (is_of : List ℕ → List ℕ → Type 0) (is_refused : List ℕ → PlanFault → Type 0) (e : ReplayFault) (known old new : Option (List ℕ)) (bytes : List ℕ)
+    → IfSome known (λ xs. xs ≡ bytes) → IsNoText (is_refused bytes) e → Keeps old new → RefusesOf is_of is_refused e known old new
+refused_of is_of is_refused (Plan f) known old new bytes same none keeps = (inr (record { bytes = bytes; same = same; refused = none.0; not_memory = none.1 }), keeps)
+refused_of is_of is_refused Read known old new bytes same none keeps = keeps
+refused_of is_of is_refused Write known old new bytes same none keeps = absurd none
+refused_of is_of is_refused NoMemory known old new bytes same none keeps = keeps

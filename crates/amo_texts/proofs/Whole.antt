@@ -8,6 +8,9 @@ use Rattle.amo_plan.specs.declared.fault.PlanFault.{PlanFault}
 use Rattle.amo_plan.specs.declared.fault.PlanFault.TheVariants.{TooLong}
 use Rattle.amo_plan.specs.declared.limits.TheConstants.{MOST_BYTES}
 use Rattle.amo_plan.specs.Plan.{PlanSeen, plan_of}
+use Rattle.amo_texts.specs.declared.writing.ReplayFault.{ReplayFault}
+use Rattle.amo_texts.specs.declared.writing.ReplayFault.TheVariants.{Plan, Read, Write, NoMemory}
+use Rattle.amo_texts.specs.Written.{IsNotMade, IsNoPlan}
 use Rattle.amo_streams.specs.declared.copying.TheConstants.{MOST_READ}
 
 -- a text above the limit is too long, whatever it holds
@@ -28,6 +31,13 @@ pub whole : (known left : Option (List ℕ)) (bytes : List ℕ) (answer : Result
 whole None left bytes answer taken end is = tt
 whole (Some xs) None bytes answer taken end is = absurd taken
 whole (Some xs) (Some rest) bytes answer taken end is = same_plan xs rest bytes taken end ∙ is
+
+-- and so is why there is no plan
+pub no_plan : (known left : Option (List ℕ)) (bytes : List ℕ) (e : ReplayFault) → Consumes known left bytes → (length bytes < MOST_READ → IsAtEnd left) → IsNotMade e (plan_of bytes) → IsNoPlan e known
+no_plan known left bytes (Plan f) taken end none = (whole known left bytes (Err f) taken end none.0, none.1)
+no_plan known left bytes Read taken end none = tt
+no_plan known left bytes Write taken end none = none
+no_plan known left bytes NoMemory taken end none = tt
 
 -- where a plan was read the source is at its end
 pub at_end : (left : Option (List ℕ)) (bytes : List ℕ) (plan : PlanSeen) → (length bytes < MOST_READ → IsAtEnd left) → plan_of bytes ≡ Ok plan → IsAtEnd left

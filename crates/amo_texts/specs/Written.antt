@@ -25,12 +25,16 @@ is_failed_write answer = false
 abbrev pub made_in : (PlanSeen → Result (List ℕ) PlanFault) → List ℕ → Result (List ℕ) PlanFault
 made_in made bytes = plan_of bytes >>= made
 
--- why something wasn't made, of which this is the definition; out of memory is never given as a fault of the plan
+-- why there is no text: a fault of a plan of which this holds, or out of memory, which is never given as a fault of a plan
+abbrev pub IsNoText : (PlanFault → Type 0) → ReplayFault → Type 0
+IsNoText is_refused (Plan f) = is_refused f × (f ≢ fault.NoMemory)
+IsNoText is_refused Read = ⊥
+IsNoText is_refused Write = ⊥
+IsNoText is_refused NoMemory = Unit {0}
+
+-- why something wasn't made, of which this is the definition
 abbrev pub IsNotMade : {A : Type 0} → ReplayFault → Result A PlanFault → Type 0
-IsNotMade (Plan f) made = (made ≡ Err f) × (f ≢ fault.NoMemory)
-IsNotMade Read made = ⊥
-IsNotMade Write made = ⊥
-IsNotMade NoMemory made = Unit {0}
+IsNotMade e made = IsNoText (λ f. made ≡ Err f) e
 
 -- why no plan was read from a source that had these bytes
 abbrev pub IsNoPlan : ReplayFault → Option (List ℕ) → Type 0

@@ -1,28 +1,33 @@
-//! From all bytes of a source to the bytes of a text of them, whatever they are.
+//! From all bytes of a source to the bytes of a text of them.
 ghost use Rattle.std.specs.Prelude.{◌≡◌, ℕ, List, false, OnOk, IfOk, IfErr, string_bytes};
 ghost use Rattle.std.specs.Io.KnownBytes.{IsAtEnd};
+ghost use Rattle.amo_plan.specs.declared.fault.PlanFault.{PlanFault};
 ghost use Rattle.amo_texts.specs.OfBytes.{RefusesOf, WritesOf};
-ghost use Rattle.amo_texts.specs.Written.{is_failed_read, is_failed_write};
+ghost use Rattle.amo_texts.specs.Written.{IsNoText, is_failed_read, is_failed_write};
 
 use crate::writing::{ReplayFault, write_text};
 use amo_plan::PlanFault;
 use amo_streams::{MOST_READ, ReadFault, Sink, Source, read_all};
-use std::alloc::{AllocError, Global};
+use std::alloc::Global;
 
-/// A text that is made of bytes, whatever they are.
+/// A text that is made of bytes.
 pub trait BytesText {
     /// Whether the second are the bytes of this text of the first.
     ghost is_of: { Self → List ℕ → List ℕ → Type 0 };
 
-    /// The text of these bytes. The only error is out of memory.
-    fn make(&self, alloc: Global, bytes: &[u8]) -> Result<String, AllocError>
-        ensures { IfOk result (λ s. is_of self.now bytes.now (string_bytes s)) };
+    /// Whether the bytes have no such text, for this fault of a plan.
+    ghost is_refused: { Self → List ℕ → PlanFault → Type 0 };
+
+    /// The text of these bytes. `Plan(f)` comes only where they have none for the fault f; the only other one is out of memory.
+    fn make(&self, alloc: Global, bytes: &[u8]) -> Result<String, ReplayFault>
+        ensures text { IfOk result (λ s. is_of self.now bytes.now (string_bytes s)) }
+        ensures refused { IfErr result (λ e. IsNoText (is_refused self.now bytes.now) e) };
 }
 
 /// Reads to the end of the reader, and writes the text that is made of all its bytes and nothing else. Neither stream may have
-/// failed. `Plan(TooLong)`, the only fault of a plan, comes just where there are more than 1,048,576 bytes; what each fault
-/// leaves is said at `ReplayFault`.
-#[tactic(auto, using(crate::proofs::OfBytes::all_read, crate::proofs::OfBytes::too_many, crate::proofs::OfBytes::written_of, crate::proofs::OfBytes::front_of))]
+/// failed. A fault of a plan comes only where the bytes have no such text for it, or TooLong where they are more than 1,048,576;
+/// what each fault leaves is said at `ReplayFault`.
+#[tactic(auto, using(crate::proofs::OfBytes::all_read, crate::proofs::OfBytes::too_many, crate::proofs::OfBytes::written_of, crate::proofs::OfBytes::front_of, crate::proofs::OfBytes::refused_of))]
 pub fn write_of_bytes<T: BytesText, R: Source, W: Sink>(
     alloc: Global,
     text: &T,
@@ -36,7 +41,7 @@ pub fn write_of_bytes<T: BytesText, R: Source, W: Sink>(
     ensures passed { OnOk result (W.waiting writer.new ≡ false) }
     ensures source { R.failed reader.new ≡ is_failed_read result }
     ensures sink { W.failed writer.new ≡ is_failed_write result }
-    ensures refused { IfErr result (λ e. RefusesOf (T.is_of text.now) e (R.remaining reader.old) (W.contents writer.old) (W.contents writer.new)) }
+    ensures refused { IfErr result (λ e. RefusesOf (T.is_of text.now) (T.is_refused text.now) e (R.remaining reader.old) (W.contents writer.old) (W.contents writer.new)) }
 {
     let bytes = match read_all(alloc, reader) {
         Ok(bytes) => bytes,
@@ -46,9 +51,6 @@ pub fn write_of_bytes<T: BytesText, R: Source, W: Sink>(
     if bytes.len() == MOST_READ {
         return Err(ReplayFault::Plan(PlanFault::TooLong));
     }
-    let made = match text.make(alloc, &bytes) {
-        Ok(made) => made,
-        Err(AllocError) => return Err(ReplayFault::NoMemory),
-    };
+    let made = text.make(alloc, &bytes)?;
     write_text(writer, &made)
 }

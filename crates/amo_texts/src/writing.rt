@@ -5,7 +5,7 @@ ghost use Rattle.amo_plan.specs.Keeps.{Keeps};
 ghost use Rattle.amo_plan.specs.Plan.{plan_of};
 ghost use Rattle.amo_plan.specs.PlanSeen.{plan_seen};
 ghost use Rattle.amo_streams.specs.Streams.{AppendsFront};
-ghost use Rattle.amo_texts.specs.Written.{IsNoPlan, Refuses, Writes, is_failed_read, is_failed_write};
+ghost use Rattle.amo_texts.specs.Written.{IsNoPlan, IsNotMade, Refuses, Writes, is_failed_read, is_failed_write};
 ghost use Rattle.amo_texts.specs.declared.writing.ReplayFault.TheVariants.{Write, NoMemory};
 
 use crate::text::PlanText;
@@ -35,9 +35,24 @@ impl From<AllocError> for ReplayFault {
     }
 }
 
+/// The plan that these bytes are. `Plan(f)` comes just where they give the fault f, memory aside; the only other one is out of
+/// memory. What is read keeps what each plan keeps.
+pub fn plan_in(alloc: Global, bytes: &[u8]) -> Result<Plan, ReplayFault>
+    ensures plan { IfOk result (λ p. plan_of bytes.now ≡ Ok (plan_seen p)) }
+    ensures kept { IfOk result (λ p. Keeps (plan_seen p)) }
+    ensures refused { IfErr result (λ e. IsNotMade e (plan_of bytes.now)) }
+{
+    plans_keep_their_rules();
+    match read_plan(alloc, bytes) {
+        Ok(plan) => Ok(plan),
+        Err(fault) if fault.is_memory() => Err(ReplayFault::NoMemory),
+        Err(fault) => Err(ReplayFault::Plan(fault)),
+    }
+}
+
 /// Reads a plan from all bytes of a source that has not failed. `Plan(f)` comes just where the bytes give the fault
 /// f, memory aside; `Read` just where the source has failed; `Write` never. What is read keeps what each plan keeps.
-#[tactic(auto, using(crate::proofs::Whole::whole, crate::proofs::Whole::at_end))]
+#[tactic(auto, using(crate::proofs::Whole::at_end, crate::proofs::Whole::no_plan))]
 pub fn read_source<R: Source>(alloc: Global, reader: &mut R) -> Result<Plan, ReplayFault>
     requires { R.failed reader.old ≡ false }
     ensures plan { IfOk result (λ p. IfSome (R.remaining reader.old) (λ bytes. plan_of bytes ≡ Ok (plan_seen p))) }
@@ -51,12 +66,8 @@ pub fn read_source<R: Source>(alloc: Global, reader: &mut R) -> Result<Plan, Rep
         Err(ReadFault::Failed) => return Err(ReplayFault::Read),
         Err(ReadFault::NoMemory) => return Err(ReplayFault::NoMemory),
     };
-    plans_keep_their_rules();
-    match read_plan(alloc, &bytes) {
-        Ok(plan) => Ok(plan),
-        Err(fault) if fault.is_memory() => Err(ReplayFault::NoMemory),
-        Err(fault) => Err(ReplayFault::Plan(fault)),
-    }
+    let plan = plan_in(alloc, &bytes)?;
+    Ok(plan)
 }
 
 /// Writes a text and flushes the sink. `Write`, the only fault, comes just where the sink has failed; then a beginning of
