@@ -1,9 +1,11 @@
 -- What is said of a plan.
-use Rattle.std.specs.Prelude.{◌≡◌, ℕ, ◌-◌, ◌/◌, ◌^◌, Bool, true, false, List, [], ◌∷◌, ◌++◌, length, map, nat_lt, ◌==◌, if◌then◌else◌, codes}
+use Rattle.std.specs.Prelude.{◌≡◌, ℕ, ◌-◌, ◌/◌, ◌^◌, Bool, true, false, List, [], ◌∷◌, ◌++◌, length, map, nat_lt, ◌==◌, if◌then◌else◌, codes, Err}
 use Rattle.std.specs.Fmt.{decimal}
+use Rattle.std.specs.Result.{IsOkAnd}
 use Rattle.amo_kk.specs.declared.givens.Givens.{Givens}
 use Rattle.amo_kk.specs.declared.event.Move.TheVariants.{Turn}
-use Rattle.amo_plan.specs.Plan.{PlanSeen}
+use Rattle.amo_plan.specs.declared.fault.PlanFault.{PlanFault}
+use Rattle.amo_plan.specs.Plan.{PlanSeen, plan_of}
 use Rattle.amo_bounds.specs.Fewest.{fewest}
 use Rattle.amo_texts.specs.Numbers.{spaced}
 use Rattle.amo_worst.specs.Schedule.{worst_schedule}
@@ -50,3 +52,11 @@ IsAnswer false p text = SaysFound p.givens text
 -- the text is of this plan
 abbrev pub IsAllOf : PlanSeen → List ℕ → Type 0
 IsAllOf p text = IsAnswer (nat_lt (most_jobs p.givens.workers) p.givens.jobs) p text
+
+-- the bytes are a plan, and the text is of it
+abbrev pub IsAllOfBytes : List ℕ → List ℕ → Type 0
+IsAllOfBytes bytes text = IsOkAnd (plan_of bytes) (λ p. IsAllOf p text)
+
+-- the bytes are no plan, for this fault
+abbrev pub AreNoPlan : List ℕ → PlanFault → Type 0
+AreNoPlan bytes f = plan_of bytes ≡ Err f

@@ -1,4 +1,3 @@
 pub mod Runs
 pub mod Search
 pub mod Answer
-pub mod Written

@@ -7,6 +7,7 @@ ghost use Rattle.amo_all.specs.Answer.{IsAllOf, found_text, most_jobs, too_many,
 use crate::longest::{Found, find};
 use amo_kk::Givens;
 use amo_plan::Plan;
+use amo_texts::{BytesText, ReplayFault, plan_in};
 use amo_worst::{fewest, worst_schedule};
 use std::alloc::{AllocError, Global};
 
@@ -105,4 +106,22 @@ pub fn all_text(alloc: Global, plan: &Plan) -> Result<String, AllocError>
     let found = find(alloc, givens)?;
     push_found(alloc, &mut out, givens, &found)?;
     Ok(out)
+}
+
+/// What is said of the plan that the bytes are.
+#[derive(Clone, Copy, Debug, PartialEq, Eq)]
+pub struct All;
+
+impl BytesText for All {
+    ghost use Rattle.amo_all.specs.Answer.{AreNoPlan, IsAllOfBytes};
+
+    ghost is_of = { λ _. IsAllOfBytes };
+
+    ghost is_refused = { λ _. AreNoPlan };
+
+    /// The text. `Plan(f)` comes just where the bytes are no plan, for the fault f; the only other one is out of memory.
+    fn make(&self, alloc: Global, bytes: &[u8]) -> Result<String, ReplayFault> {
+        let plan = plan_in(alloc, bytes)?;
+        Ok(all_text(alloc, &plan)?)
+    }
 }

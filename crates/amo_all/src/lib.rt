@@ -7,7 +7,5 @@ mod known;
 pub mod laws;
 mod longest;
 mod search;
-mod writing;
 
-pub use answer::{MOST_ALONE, all_text};
-pub use writing::write_all;
+pub use answer::{All, MOST_ALONE, all_text};

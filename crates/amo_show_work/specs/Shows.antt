@@ -11,7 +11,7 @@ use Rattle.amo_explain.specs.Heading.{BeginsWith, explanation_head}
 use Rattle.amo_judge.specs.Judgement.{judgement}
 use Rattle.amo_trace.specs.Shown.{text_of}
 use Rattle.amo_worst.specs.Answer.{worst_of}
-use Rattle.amo_all.specs.Written.{WritesAll, RefusesAll}
+use Rattle.amo_all.specs.Answer.{IsAllOfBytes, AreNoPlan}
 use Rattle.amo_program.specs.Statuses.{Left}
 use Rattle.amo_show_work.specs.declared.show.Show.{Show}
 use Rattle.amo_show_work.specs.declared.show.Show.TheVariants.{Run, Explain, Judge, Worst, All}
@@ -34,7 +34,7 @@ writes (Run shown) = Writes (text_of shown)
 writes Explain = WritesOf Explains
 writes Judge = WritesOf Judges
 writes Worst = Writes worst_text_of
-writes All = WritesAll
+writes All = WritesOf IsAllOfBytes
 
 -- what is left where it was not written whole; to explain and to judge no bytes are a fault, but where they are too many
 abbrev pub refuses : Show → ReplayFault → Left
@@ -42,7 +42,7 @@ refuses (Run shown) fault = Refuses (text_of shown) fault
 refuses Explain fault = RefusesOf Explains (λ _ _. ⊥) fault
 refuses Judge fault = RefusesOf Judges (λ _ _. ⊥) fault
 refuses Worst fault = Refuses worst_text_of fault
-refuses All fault = RefusesAll fault
+refuses All fault = RefusesOf IsAllOfBytes AreNoPlan fault
 
 -- no thread is ever started
 abbrev pub others : Show → Left
@@ -54,4 +54,4 @@ plan_keeps (Run shown) f known old new h = h.2
 plan_keeps Explain f known old new h = h.1
 plan_keeps Judge f known old new h = h.1
 plan_keeps Worst f known old new h = h.2
-plan_keeps All f known old new h = h.2
+plan_keeps All f known old new h = h.1

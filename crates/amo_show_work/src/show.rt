@@ -3,7 +3,7 @@ ghost use Rattle.std.specs.Prelude.{◌≡◌, map, string_bytes};
 ghost use Rattle.amo_show_work.specs.Words.{command_asked, asked_after_name};
 
 use crate::told::{Explained, Judged};
-use amo_all::write_all;
+use amo_all::All;
 use amo_program::{Command, Fault};
 use amo_streams::{Sink, Source};
 use amo_texts::{write_of, write_of_bytes};
@@ -82,7 +82,7 @@ impl<R: Sync> Command<R> for Show {
             Show::Explain => Ok(write_of_bytes(alloc, &Explained, reader, out)?),
             Show::Judge => Ok(write_of_bytes(alloc, &Judged, reader, out)?),
             Show::Worst => Ok(write_of(alloc, &Worst, reader, out)?),
-            Show::All => Ok(write_all(alloc, reader, out)?),
+            Show::All => Ok(write_of_bytes(alloc, &All, reader, out)?),
         }
     }
 
