@@ -7,10 +7,12 @@ import signal
 import subprocess
 import tempfile
 
+import stubs
 from crates import PARTS
 
-# Of what is proved it may be said too that it may wait, or, of a closure, that it is so where its callers give what it asks.
-FUNCTION = re.compile(r"(?:fn|struct|enum|impl|trait|const) (\S+): (?:(proved)(?:,? .*)?|(.*))")
+# Of what is proved it may be said too that it may wait, or, of a closure, that it is so where its callers give what it asks. Past
+# holes, of which there are those of stand-ins alone, it has none or rests on some.
+FUNCTION = re.compile(r"(?:fn|struct|enum|impl|trait|const) (\S+): (?:(proved|no holes|depends on a hole in )(?:,? .*|`.*)?|(.*))")
 PLACE = re.compile(r"(?:note: )?(?:\./)?(\S+?):(\d+):\d+: (.*)")
 # A function that calls one that isn't proved, passes it on, or is made of it.
 OTHERS = re.compile(r"(; )?(it calls|it passes|it waits for the proof of|a call of) .*")
@@ -27,11 +29,11 @@ class Said:
     def __init__(self, text, status):
         self.text, self.status = text, status
         lines = text.rstrip("\n").split("\n")
-        self.told = {found[1]: found[2] or found[3] for found in map(FUNCTION.fullmatch, lines) if found}
+        self.told = {found[1]: "proved" if found[2] else found[3] for found in map(FUNCTION.fullmatch, lines) if found}
         self.places = [(found[1], int(found[2]), line) for line in lines for found in [PLACE.match(line)] if found]
         self.waiting = {found[1].split("::")[-1] for found in map(WAITS.match, lines) if found}
         self.is_stale = bool(STALE.search(text))
-        self.reached = status in (0, 1) and lines[-1].startswith(("logic=", "only=")) and not self.is_stale
+        self.reached = status in (0, 1) and lines[-1].startswith(("logic=", "only=", "holes=")) and not self.is_stale
         self.last = next((it for it in lines if "error" in it), lines[0]) if not self.reached else lines[-1]
 
     def own_reason(self, symbol):
@@ -54,11 +56,13 @@ class Said:
         return None
 
 
-def run(crate, bodies, kept, functions):
-    """One check of a copy of the crate with these bodies in it, over what `kept` holds: of these functions and those that they
-    call. Where one of them can't be named, all of the crate is checked."""
-    paths = sorted({it.path() for it in functions})
+def run(crate, bodies, kept, functions=(), real=()):
+    """One check of a copy of the crate with these bodies in it, over what `kept` holds. Of these functions, those that are not real
+    have stand-ins there, and the real ones are looked at; where no functions are given, or one of them can't be named, all that
+    is in the copy."""
+    paths = sorted({it.path() for it in real})
     only = [word for it in paths for word in ("--only", it)] if paths and "" not in paths else []
+    only += ["--allow-holes"] if functions else []
     with tempfile.TemporaryDirectory(prefix="wrong-bodies-") as room:
         for part in PARTS:
             if os.path.isdir(f"{crate.folder}/{part}"):
@@ -70,6 +74,7 @@ def run(crate, bodies, kept, functions):
                 lines[number - 1] = text
             with open(f"{room}/{path}", "w", encoding="utf-8") as held:
                 held.write("\n".join(lines))
+        stubs.put(crate, room, functions, real)
         how = {"cwd": room, "stdin": subprocess.DEVNULL, "stdout": subprocess.PIPE, "stderr": subprocess.STDOUT, "errors": "replace"}
         ran = subprocess.run([*crate.check(kept), *only], **how)
         if ran.returncode == -signal.SIGKILL:
@@ -77,7 +82,7 @@ def run(crate, bodies, kept, functions):
             ran = subprocess.run([*crate.check(kept), *only], **how)
         if only and ran.returncode == 2:
             # a name fits none, or several
-            ran = subprocess.run(crate.check(kept), **how)
+            ran = subprocess.run([*crate.check(kept), *["--allow-holes"] * bool(functions)], **how)
     return Said(ran.stdout, ran.returncode)
 
 

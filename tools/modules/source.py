@@ -17,10 +17,16 @@ class Function:
         self.first, self.opens, self.last = lines
         self.words = set(words)
         self.called = called_in(words)
+        self.home = self.module()
 
     def module(self):
-        inside = self.file.removeprefix("src/").removesuffix(".rt").split("/")
-        return [] if inside in (["lib"], ["main"]) else [it for it in inside if it != "mod"]
+        return module_of(self.file)
+
+    def place(self):
+        """Where a check looks for its proof, below proofs/: in the module of its type, of a trait's method below both names in one
+        word."""
+        owner = [self.block.type + "".join(it for it in self.block.words if it != self.block.type)] if self.block else []
+        return [*self.home, *owner, self.name]
 
     def has(self, line):
         return self.first <= line <= self.last
@@ -68,6 +74,11 @@ class Block:
         self.trait = cut is not None or keyword == "trait"
         self.type = last_name(named)
         self.words = [it for it in head if WORD.match(it) and it not in (*generics, "for", "mut", "dyn")]
+
+
+def module_of(file):
+    inside = file.removeprefix("src/").removesuffix(".rt").split("/")
+    return [] if inside in (["lib"], ["main"]) else [it for it in inside if it != "mod"]
 
 
 def called_in(words):
@@ -146,11 +157,16 @@ def functions_in(file, rows, at=0, end=None, block=None):
 
 def functions_of(rattle, folder):
     """All functions of a crate's src/, its tests left out."""
-    found = []
+    found, homes = [], {}
     for place, folders, files in os.walk(f"{folder}/src"):
         folders[:] = sorted(it for it in folders if it != "tests")
         for name in sorted(files):
             if name.endswith(".rt") and name != "tests.rt":
                 file = os.path.relpath(f"{place}/{name}", folder)
-                found += functions_in(file, tokens(rattle, folder, file))
+                rows = tokens(rattle, folder, file)
+                found += functions_in(file, rows)
+                words = [it for _, it in rows]
+                homes.update({name: module_of(file) for word, name in zip(words, words[1:]) if word in ("struct", "enum", "trait")})
+    for it in found:
+        it.home = homes.get(it.block.type, it.home) if it.block else it.home
     return found
