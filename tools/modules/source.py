@@ -23,9 +23,9 @@ class Function:
         return module_of(self.file)
 
     def place(self):
-        """Where a check looks for its proof, below proofs/: in the module of its type, of a trait's method below both names in one
-        word."""
-        owner = [self.block.type + "".join(it for it in self.block.words if it != self.block.type)] if self.block else []
+        """Where a check looks for its proof, below proofs/: in the module of its type, and of a trait's method in its own, below both
+        names in one word."""
+        owner = [self.block.type + "".join(it[0].upper() + it[1:] for it in self.block.of_trait)] if self.block else []
         return [*self.home, *owner, self.name]
 
     def has(self, line):
@@ -63,7 +63,7 @@ class Function:
 
 
 class Block:
-    """The head of an impl or a trait: the type that it is of, and the words of both names."""
+    """The head of an impl or a trait: the type that it is of, the words of both names, and of an impl those of its trait."""
 
     def __init__(self, keyword, head):
         past = past_angles(head) if head[:1] == ["<"] else 0
@@ -73,7 +73,8 @@ class Block:
         named = head if cut is None else head[cut + 1:]
         self.trait = cut is not None or keyword == "trait"
         self.type = last_name(named)
-        self.words = [it for it in head if WORD.match(it) and it not in (*generics, "for", "mut", "dyn")]
+        words_of = lambda part: [it for it in part if WORD.match(it) and it not in (*generics, "for", "mut", "dyn")]
+        self.words, self.of_trait = words_of(head), words_of(head[:cut or 0])
 
 
 def module_of(file):
@@ -168,5 +169,5 @@ def functions_of(rattle, folder):
                 words = [it for _, it in rows]
                 homes.update({name: module_of(file) for word, name in zip(words, words[1:]) if word in ("struct", "enum", "trait")})
     for it in found:
-        it.home = homes.get(it.block.type, it.home) if it.block else it.home
+        it.home = homes.get(it.block.type, it.home) if it.block and not it.block.trait else it.home
     return found
