@@ -7,7 +7,8 @@ exec 9>>"$room/lock.$p" && flock -n 9 && mkfifo "$pipes/to" "$pipes/from" || exi
 say() { printf '%s\n' "$1" >&7; }
 keep() { printf '%s\n' "$2" >"$1.$p" && sync "$1.$p" && mv "$1.$p" "$1" && sync "$room"; }
 note() { printf '%s\n' "$1" >>"$room/journal.$p" && sync "$room/journal.$p" "$room"; }
-"$worker" lines "$p" "$m" "$beta" "$(grep -c '' "$jobs")" <"$pipes/to" >"$pipes/from" 9>&- &
+# (the worker, which waits here for both pipes, gives up the lock first: else it keeps it for ever where its partner is killed just now)
+(exec 9>&-; exec "$worker" lines "$p" "$m" "$beta" "$(grep -c '' "$jobs")" <"$pipes/to" >"$pipes/from") &
 exec 7>"$pipes/to" 8<"$pipes/from"; rm -r "$pipes"
 while read -r word a b c <&8; do
   case $word in
