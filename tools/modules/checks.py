@@ -11,7 +11,7 @@ import stubs
 from crates import PARTS
 
 # Of what is proved it may be said too that it may wait, or, of a closure, that it is so where its callers give what it asks. Past
-# holes, of which there are those of stand-ins alone, it has none or rests on some.
+# holes, of which there are those of stubs alone, it has none or rests on some.
 FUNCTION = re.compile(r"(?:fn|struct|enum|impl|trait|const) (\S+): (?:(proved|no holes|depends on a hole in )(?:,? .*|`.*)?|(.*))")
 PLACE = re.compile(r"(?:note: )?(?:\./)?(\S+?):(\d+):\d+: (.*)")
 # A function that calls one that isn't proved, passes it on, or is made of it.
@@ -58,7 +58,7 @@ class Said:
 
 def run(crate, bodies, kept, functions=(), real=()):
     """One check of a copy of the crate with these bodies in it, over what `kept` holds. Of these functions, those that are not real
-    have stand-ins there, and the real ones are looked at; where no functions are given, or one of them can't be named, all that
+    have stubs there, and the real ones are looked at; where no functions are given, or one of them can't be named, all that
     is in the copy."""
     paths = sorted({it.path() for it in real})
     only = [word for it in paths for word in ("--only", it)] if paths and "" not in paths else []

@@ -1,6 +1,6 @@
-"""Stand-ins for the functions that a check says nothing of, so that it needs no proof of what they do.
+"""Stubs for the functions that a check says nothing of, so that it needs no proof of what they do.
 
-A stand-in has the head of its function, with its contract, a loop without end in place of the body, and a hole in place of the proof,
+A stub has the head of its function, with its contract, a loop without end in place of the body, and a hole in place of the proof,
 which a check that goes past holes takes as proved: `rt ci` says whether it is. So nothing below such a function is checked.
 """
 
@@ -10,8 +10,8 @@ import shutil
 PROOF = "use Rattle.{crate}.proofs.{path}.Statement.{{statement}}\n\npub {name}_spec : {{M : Type 1}} → statement M\n{name}_spec = ?\n"
 
 
-def can_stand(function, lines, real):
-    """Whether a stand-in can be put for this function: its body is some lines by itself, and none of the functions that are to
+def can_be_stub(function, lines, real):
+    """Whether a stub can be put in place of this function: its body is some lines by itself, and none of the functions that are to
     stay stands within it."""
     opens, closes = lines[function.opens - 1], lines[function.last - 1]
     has_lines = function.last - function.opens > 1 and opens.endswith("{") and closes.strip() == "}"
@@ -19,14 +19,14 @@ def can_stand(function, lines, real):
 
 
 def put(crate, room, functions, real):
-    """Puts stand-ins into this copy of the crate for all functions that can have one, but for those that are to stay real."""
+    """Puts stubs into this copy of the crate for all functions that can have one, but for those that are to stay real."""
     texts = {}
     for it in functions:
         if it.file not in texts:
             with open(f"{room}/{it.file}", encoding="utf-8") as held:
                 texts[it.file] = held.read().split("\n")
         lines = texts[it.file]
-        if it not in real and it.name != "main" and can_stand(it, lines, real):
+        if it not in real and it.name != "main" and can_be_stub(it, lines, real):
             lines[it.opens: it.last - 1] = ["loop {}"] + [""] * (it.last - it.opens - 2)
             put_proof(crate, room, it)
     for file, lines in texts.items():
