@@ -62,7 +62,7 @@ def run(crate, bodies, kept, functions=(), real=()):
     is in the copy."""
     paths = sorted({it.path() for it in real})
     only = [word for it in paths for word in ("--only", it)] if paths and "" not in paths else []
-    only += ["--allow-holes"] if functions else []
+    check = [*crate.check(kept), *(["--allow-holes"] if functions else [])]
     with tempfile.TemporaryDirectory(prefix="wrong-bodies-") as room:
         for part in PARTS:
             if os.path.isdir(f"{crate.folder}/{part}"):
@@ -76,13 +76,13 @@ def run(crate, bodies, kept, functions=(), real=()):
                 held.write("\n".join(lines))
         stubs.put(crate, room, functions, real)
         how = {"cwd": room, "stdin": subprocess.DEVNULL, "stdout": subprocess.PIPE, "stderr": subprocess.STDOUT, "errors": "replace"}
-        ran = subprocess.run([*crate.check(kept), *only], **how)
+        ran = subprocess.run([*check, *only], **how)
         if ran.returncode == -signal.SIGKILL:
             # most likely for memory
-            ran = subprocess.run([*crate.check(kept), *only], **how)
+            ran = subprocess.run([*check, *only], **how)
         if only and ran.returncode == 2:
             # a name fits none, or several
-            ran = subprocess.run([*crate.check(kept), *["--allow-holes"] * bool(functions)], **how)
+            ran = subprocess.run(check, **how)
     return Said(ran.stdout, ran.returncode)
 
 

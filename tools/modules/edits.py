@@ -6,6 +6,7 @@ import re
 import source
 
 FOLDER = "wrong-bodies"
+HOLE = re.compile(r"(?<!\w)\?")
 
 
 class Body:
@@ -89,6 +90,8 @@ def applied(text, folder):
                 raise ValueError("a 'new:' line stands before any 'file:' or 'old:' line")
             if now[path].count(old) != 1:
                 raise ValueError(f"an 'old:' text is in {path} {now[path].count(old)} times, and not once")
+            if path.startswith("proofs/") and HOLE.search(line.removeprefix("new:")):
+                raise ValueError(f"a proof in {path} gets a hole, which would be taken for that of a stub")
             now[path] = now[path].replace(old, line.removeprefix("new:").removeprefix(" "))
             old, pairs = None, pairs + 1
         elif line.strip():

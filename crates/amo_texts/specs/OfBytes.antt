@@ -1,6 +1,7 @@
 -- What is left where a text is made of all bytes of a source, and is written to a sink.
 use Rattle.std.specs.Prelude.{◌≡◌, ◌≢◌, ◌<◌, ◌⊎◌, List, ℕ, Option, IfSome, length}
 use Rattle.std.specs.Io.KnownBytes.{Keeps, Appends}
+use Rattle.amo_plan.specs.declared.limits.TheConstants.{MOST_BYTES}
 use Rattle.amo_plan.specs.declared.fault.PlanFault.{PlanFault}
 use Rattle.amo_plan.specs.declared.fault.PlanFault.TheVariants as fault
 use Rattle.amo_texts.specs.declared.writing.ReplayFault.{ReplayFault}
@@ -17,7 +18,7 @@ WritesFrontOf is_of known old new = IfSome known (λ bytes. (text : List ℕ) ×
 
 -- A source with these bytes has more than a plan may have.
 abbrev pub IsTooMuch : Option (List ℕ) → Type 0
-IsTooMuch known = IfSome known (λ bytes. 1048576 < length bytes)
+IsTooMuch known = IfSome known (λ bytes. MOST_BYTES < length bytes)
 
 -- A source with these bytes has no text, for this fault, which isn't out of memory: it has just some bytes that have none for it.
 pub record HasNoText (is_refused : List ℕ → PlanFault → Type 0) (f : PlanFault) (known : Option (List ℕ)) : Type 0 where
