@@ -20,7 +20,7 @@ fn push_event(out: &mut String, number: usize, event: Event) -> Result<(), Alloc
     }
 }
 
-/// Appends a line for each event, numbered from 1.
+/// Appends a line for each event, numbered from 1. The only error is out of memory.
 pub fn push_events(out: &mut String, history: &[Event]) -> Result<(), AllocError>
     ensures { OnOk result (string_bytes out.new ≡ string_bytes out.old ++ event_lines 1 history.now) }
 {

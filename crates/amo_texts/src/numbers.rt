@@ -18,7 +18,7 @@ fn push_block(out: &mut String, version: u32, block: u32, givens: Givens) -> Res
     write!(out, " block {block} blocks {blocks}")
 }
 
-/// Appends the numbers of jobs and workers and the threshold.
+/// Appends the numbers of jobs and workers and the threshold. The only error is out of memory.
 #[tactic(auto, unfolding(crate::specs::Numbers::numbers_part))]
 pub fn push_numbers(out: &mut String, heads: &Heads) -> Result<(), AllocError>
     ensures { OnOk result (string_bytes out.new ≡ string_bytes out.old

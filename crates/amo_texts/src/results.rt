@@ -83,7 +83,7 @@ fn push_block_results(
     push_tasks(alloc, out, before, names, tasks)
 }
 
-/// Appends the results of each block that the history performs.
+/// Appends the results of each block that the history performs. The only error is out of memory.
 pub fn push_results(
     alloc: Global,
     out: &mut String,

@@ -65,7 +65,7 @@ fn push_tally_words(
     }
 }
 
-/// Appends the line of what was performed.
+/// Appends the line of what was performed. The only error is out of memory.
 #[tactic(auto, unfolding(crate::specs::Tallies::tally_line))]
 pub fn push_tally(out: &mut String, version: u32, dones: usize, jobs: u64) -> Result<(), AllocError>
     ensures { OnOk result (string_bytes out.new ≡ string_bytes out.old ++ tally_line version dones jobs) }

@@ -17,7 +17,8 @@ use std::alloc::{AllocError, Global};
 /// Why the text of a plan was not written, or not all of it.
 #[derive(Clone, Copy, Debug, PartialEq, Eq)]
 pub enum ReplayFault {
-    /// The source holds no plan, for this fault, which isn't out of memory. Nothing was written.
+    /// What the source holds has no such text, for this fault, which isn't out of memory: it is no plan, or one that the text refuses,
+    /// or has too many bytes. Nothing was written.
     Plan(PlanFault),
     /// The source failed. Nothing was written.
     Read,

@@ -16,8 +16,9 @@ ghost use Rattle.amo_worst.specs.Tree.{are_integers, tree_of};
 
 use amo_bounds::laws::worst_moves_are_worst;
 
-/// The moves of the plan that is written come to an end at which just the fewest jobs are performed: all workers are gone then,
-/// each that wasn't stopped has ended, and no other moves and fewer stops than workers leave fewer performed.
+/// The moves of the plan that is written come to an end at which just the fewest jobs are performed: all workers are gone then, and
+/// each that wasn't stopped has ended. That no moves after which all are gone, none has left and not every worker was stopped leave
+/// fewer, is `effectiveness_is_fewest` of `amo_bounds`.
 pub fn written_moves_are_worst()
     ensures { (p : PlanSeen) → IsWorst p.givens (worst_plan p).moves }
 {
