@@ -2,6 +2,7 @@
    library's read of descriptor 0 and write of descriptor 1.
 
    READ_ROOM      so many bytes are given, and then read answers EIO
+   READ_TO_END    once a read has answered that no byte is left, each later one answers EIO
    WRITE_ROOM     so many bytes are taken, and then write answers ENOSPC, or 0 where WRITE_NOTHING is set
    PIECE          each read and write moves at most so many bytes
    READ_INTERRUPTED, WRITE_INTERRUPTED   the read or write of this number, from 1, answers EINTR */
@@ -18,7 +19,7 @@ struct stream {
 };
 
 static struct stream input, output;
-static int takes_nothing;
+static int ends_once, takes_nothing;
 
 static long number_of(const char *name, long otherwise) {
   const char *number = getenv(name);
@@ -29,6 +30,7 @@ __attribute__((constructor)) static void begin(void) {
   long piece = number_of("PIECE", LONG_MAX);
   input = (struct stream){number_of("READ_ROOM", LONG_MAX), piece, number_of("READ_INTERRUPTED", 0), 0};
   output = (struct stream){number_of("WRITE_ROOM", LONG_MAX), piece, number_of("WRITE_INTERRUPTED", 0), 0};
+  ends_once = getenv("READ_TO_END") != NULL;
   takes_nothing = getenv("WRITE_NOTHING") != NULL;
 }
 
@@ -52,6 +54,8 @@ ssize_t read(int file, void *bytes, size_t count) {
   long most = allowed(&input, count, EIO);
   long moved = most < 0 ? -1 : syscall(SYS_read, file, bytes, most);
   input.room -= moved > 0 ? moved : 0;
+  if (moved == 0 && count > 0 && ends_once)
+    input.room = 0;
   return moved;
 }
 

@@ -8,13 +8,50 @@ counted() {
       print "events", all + 0, "claimed", of["claimed"] + 0, "done", of["done"] + 0, "ended", of["ended"] + 0, "halted", of["halted"] + 0, "left", of["left"] + 0 }' "$1"
 }
 
-# amo_show judge: each report's history is a run; a log that was brought into that form; what is no history; the longest text.
+# make_history JOBS WORKERS [names]: a history of so many jobs, each claimed and done by the next of the workers, in history, and what
+# is judged of it, in lawful; with job 1 claimed once more at its end in unlawful.history and unlawful.
+make_history() {
+  awk -v jobs="$1" -v workers="$2" -v names="${3:+ names}" -v room="$room" 'BEGIN {
+    first = "jobs " jobs " workers " workers " beta " workers names
+    history = room "/history"; again = room "/unlawful.history"
+    print first >history; print first >again
+    for (j = 1; j <= jobs; j++) {
+      worker = (j - 1) % workers + 1
+      of = names ? " consumer@" worker " orders-" j % 4 "-" j : " " worker " " j
+      print 2 * j - 1 " claimed" of >history; print 2 * j - 1 " claimed" of >again
+      print 2 * j " done" of >history; print 2 * j " done" of >again
+    }
+    print "lawful\nevents " 2 * jobs " claimed " jobs " done " jobs " ended 0 halted 0 left 0" >(room "/lawful")
+    of = names ? " consumer@1 orders-1-1" : " 1 1"
+    print 2 * jobs + 1 " claimed" of >again
+    print "unlawful " 2 * jobs + 1 "\nline " 2 * jobs + 2 ": " 2 * jobs + 1 " claimed" of >(room "/unlawful")
+    split(of, words, " ")
+    print "job " words[2] " was claimed by worker " words[1] " in event 1" >(room "/unlawful")
+  }'
+}
+
+# judge_sizes [names]: histories of each number of jobs up to 70, and of some more up to the most.
+judge_sizes() {
+  local jobs
+  for jobs in {1..70} 100 333 1000 2049 4096; do
+    make_history "$jobs" $((jobs % 16 + 1)) "$@"
+    "$show" judge <"$room/history" >"$room/out" 2>"$room/err" && is_left "$room/lawful" /dev/null &&
+      "$show" judge <"$room/unlawful.history" >"$room/out" 2>"$room/err" && is_left "$room/unlawful" /dev/null || break
+  done
+  expect "amo_show judge of up to $jobs jobs${1:+ with $1}" 0 "$room/lawful" /dev/null "$show" judge <"$room/history"
+  expect "amo_show judge of a claim more after up to $jobs jobs${1:+ with $1}" 0 "$room/unlawful" /dev/null "$show" judge <"$room/unlawful.history"
+}
+
+# amo_show judge: each report's history is a run, that of the longest too; histories of all sizes; a log that was brought into that form;
+# what is no history; the longest text.
 judge_runs() {
   local text log=examples/histories/celery
-  for text in examples/*.report; do
+  for text in examples/*.report "$room/limits.report"; do
     counted "$text" >"$room/counted"
     expect "amo_show judge of $text" 0 "$room/counted" /dev/null "$show" judge <"$text"
   done
+  judge_sizes
+  judge_sizes names
   expect "$log.awk" 0 "$log.history" /dev/null awk -f "$log.awk" "$log.log"
   expect "amo_show judge of $log.history" 0 "$log.answer" /dev/null "$show" judge <"$log.history"
   expect 'amo_show judge of nothing' 0 "$(lines refused 'line 1: this is no first line of a history')" /dev/null "$show" judge </dev/null
@@ -23,6 +60,49 @@ judge_runs() {
   echo >>"$room/longest"
   expect 'amo_show judge of a byte more' 1 /dev/null "$(line 'fault 11 TooLong')" "$show" judge <"$room/longest"
   expect 'amo_show explain of a byte more' 1 /dev/null "$(line 'fault 11 TooLong')" "$show" explain <"$room/longest"
+}
+
+# asked_for PLAN: what is explained of a plan that is taken, by the numbers that `amo check` writes of it.
+asked_for() {
+  "$program" check <"$1" | awk '
+    function some(count, one) { return count " " one (count == 1 ? "" : "s") }
+    { for (i = 2; i < NF; i += 2) of[$i] = $(i + 1)
+      blocks = "block" in of
+      print "taken"
+      print "A plan of version " 1 + blocks ": " some(of["jobs"], "job") (blocks ? " in " some(of["blocks"], "block") " of up to " of["block"] : "") \
+        " for " some(of["workers"], "worker") ", with threshold " of["beta"] ". The schedule has " some(of["moves"], "move") \
+        ", followed by " some(of["rounds"], "round") "." }'
+}
+
+# explained_first PLAN: the first line that is explained, where one to three lines more follow, of text each.
+explained_first() {
+  "$show" explain <"$1" | awk 'NR == 1 { print; next } /^.+$/ { more++ } END { exit !(more == NR - 1 && 1 <= more && more <= 3) }'
+}
+
+# expect_explained LINE PLAN: what is explained begins with this line.
+expect_explained() { expect "amo_show explain, $1" 0 "$(line "$1")" /dev/null explained_first "$2"; }
+
+# amo_show explain: of each plan that is taken what it asks for, of each other its fault; plans of all sizes.
+explain_runs() {
+  local plan jobs workers
+  for plan in examples/*.toml "$room"/{limits,crowd,crowd_blocks,wide_blocks,rows,few_moves,stops}.toml; do
+    if "$program" check <"$plan" >/dev/null 2>"$room/fault"; then
+      asked_for "$plan" >"$room/asked"
+      expect "amo_show explain of $plan" 0 "$room/asked" /dev/null "$show" explain <"$plan"
+    else
+      expect "amo_show explain of $plan" 0 "$room/fault" /dev/null explained_first "$plan"
+    fi
+  done
+  for jobs in {0..70} 100 333 1000 2049 4096; do
+    workers=$((jobs % 16 + 1))
+    {
+      printf 'version = 1\nworkers = %d\nbeta = %d\nrounds = %d\nschedule = "%d*%d"\n' $workers $((workers + jobs)) "$jobs" $workers $((jobs + 1))
+      jobs_of "$jobs"
+    } >"$room/given.toml"
+    asked_for "$room/given.toml" >"$room/asked"
+    "$show" explain <"$room/given.toml" >"$room/out" 2>"$room/err" && is_left "$room/asked" /dev/null || break
+  done
+  expect "amo_show explain of up to $jobs jobs" 0 "$room/asked" /dev/null "$show" explain <"$room/given.toml"
 }
 
 # jobs_of COUNT: so many jobs.
@@ -97,6 +177,8 @@ show_runs() {
   expect "amo_show ''" 2 /dev/null "$(line 'fault words')" "$show" '' <examples/each_stop.toml
   expect "amo_show trace ''" 2 /dev/null "$(line 'fault words')" "$show" trace '' <examples/each_stop.toml
   expect 'amo_show and a word that is no text' 3 /dev/null "$(line 'fault memory')" "$show" $'\xff' <examples/each_stop.toml
+  program=$show refuse_more_words trace
+  program=$show refuse_more_words explain
   expect_picture docs/two_collide.svg examples/two_collide.toml
   expect 'amo_show picture of two names' 1 /dev/null examples/two_names.fault "$show" picture <examples/two_names.toml
   program=$show expect 'amo_show picture, its output not taken' 4 /dev/null "$(line 'fault write')" with_full_output picture <examples/each_stop.toml
