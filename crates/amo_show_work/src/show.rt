@@ -1,5 +1,7 @@
 //! What the words of a command line ask for, and how it is done.
 ghost use Rattle.std.specs.Prelude.{◌≡◌, map, string_bytes};
+ghost use Rattle.std.specs.Option.{ok_or};
+ghost use Rattle.amo_program.specs.declared.fault.Fault.TheVariants.{NoCommand};
 ghost use Rattle.amo_show_work.specs.Words.{command_asked, asked_after_name};
 
 use crate::told::{Explained, Judged};
@@ -65,7 +67,10 @@ impl<R: Sync> Command<R> for Show {
 
     ghost others = { others };
 
-    fn of_words(_alloc: Global, words: &[String]) -> Result<Show, Fault> {
+    /// What the words ask for, or `NoCommand` where they are no command. It takes no memory, and so never answers `NoMemory`.
+    fn of_words(_alloc: Global, words: &[String]) -> Result<Show, Fault>
+        ensures { result ≡ ok_or (asked_after_name (map string_bytes words.now)) NoCommand }
+    {
         asked(words).ok_or(Fault::NoCommand)
     }
 
