@@ -1,12 +1,16 @@
 -- Turns that were all taken, one after the other.
 use Rattle.std.proofs.Common.{◌≡◌, ℕ, suc, ◌-◌, ◌<◌, true, false, List, [], ◌∷◌, ◌++◌, length, map, refl, sym, ap, ◌∙◌, subst, length-append, Option, Some, None, arith}
 use Rattle.std.proofs.lemmas.List.{length-map, map-append}
+use Rattle.amo_sets.proofs.Tables.{numbered-table}
 use Rattle.amo_kk.specs.Givens.{IsWorker}
-use Rattle.amo_kk.specs.World.{process, world_of, world_after_turn, opening_world, are_in_range}
+use Rattle.amo_kk.specs.Record.{wants_nothing}
+use Rattle.amo_kk.specs.World.{nobody, process, first_process, world_of, world_after_turn, opening_world, are_in_range}
 use Rattle.amo_kk.specs.declared.givens.Givens.{Givens}
 use Rattle.amo_kk.specs.declared.event.Move.{Move}
 use Rattle.amo_kk.specs.declared.event.Move.TheVariants.{Turn}
+use Rattle.amo_kk.specs.declared.model.Process.{Process}
 use Rattle.amo_kk.specs.declared.model.World.{World}
+use Rattle.amo_kk.proofs.FirstChoice.{first_over}
 use Rattle.amo_kk.proofs.Moves.{world_more}
 use Rattle.amo_bounds.specs.Fewest.{stopped, leavers}
 use Rattle.amo_bounds.specs.Rest.{turns_taken}
@@ -69,6 +73,11 @@ way_whole g w turns on gone = record {
   in_range = on.in_range;
   all_taken = on.taken ∙ sym (length-map turns Turn);
 }
+
+-- with fewer jobs than the threshold no turn is needed: all have ended from birth
+pub whole_from_birth : (g : Givens) → g.jobs < g.beta → IsWholeRun g []
+whole_from_birth g few = way_whole g (record { givens = g; world = opening_world g }) [] (record { led = refl; in_range = refl; taken = refl })
+    (λ p o. ap (λ (x : Process). x.gone) (numbered-table nobody (first_process g) g.workers p o.low o.high) ∙ ap wants_nothing (first_over g p few))
 
 -- who is next is a worker that isn't gone; where there is none, all are gone
 pub next_here : (g : Givens) (w : World) (next : Option ℕ) (p : ℕ) → next ≡ Some p → IsNext g w next → IsWorker g p × ((process w p).gone ≡ false)

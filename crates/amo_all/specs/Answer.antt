@@ -1,5 +1,5 @@
 -- What is said of a plan.
-use Rattle.std.specs.Prelude.{◌≡◌, ℕ, ◌-◌, ◌/◌, ◌^◌, Bool, true, false, List, [], ◌∷◌, ◌++◌, length, map, nat_lt, ◌==◌, if◌then◌else◌, codes, Err}
+use Rattle.std.specs.Prelude.{◌≡◌, ℕ, ◌<◌, ◌-◌, ◌/◌, ◌^◌, Bool, true, false, List, [], ◌∷◌, ◌++◌, length, map, nat_lt, ◌==◌, if◌then◌else◌, codes, Err}
 use Rattle.std.specs.Fmt.{decimal}
 use Rattle.std.specs.Result.{IsOkAnd}
 use Rattle.amo_kk.specs.declared.givens.Givens.{Givens}
@@ -36,11 +36,12 @@ found_text g worlds turns =
     codes "worlds " ++ (decimal worlds ++ (codes "\nleast " ++ (decimal (fewest g) ++ (codes "\nschedule = \"" ++ (worst_schedule g
     ++ (codes "\"\nlongest " ++ (decimal (length turns) ++ (codes "\nschedule = \"" ++ (turn_words turns ++ codes "\"\n")))))))))
 
--- The text says how many worlds there are, the fewest jobs, and a whole run. That there are so many, and that no run is longer, it
--- only says.
+-- The text says how many worlds there are, the fewest jobs, and a whole run. With fewer jobs than the threshold, where all workers
+-- have ended from birth, there is one world. That elsewhere there are so many, and that no run is longer, it only says.
 pub record SaysFound (g : Givens) (text : List ℕ) : Type 0 where
   pub worlds : ℕ
   pub turns : List ℕ
+  pub one : g.jobs < g.beta → worlds ≡ 1
   pub whole : IsWholeRun g (map Turn turns)
   pub says : text ≡ found_text g worlds turns
 

@@ -1,5 +1,5 @@
 //! The longest run, along what the search came to know.
-ghost use Rattle.std.specs.Prelude.{◌≡◌, map, IfOk};
+ghost use Rattle.std.specs.Prelude.{◌≡◌, ◌<◌, map, IfOk};
 ghost use Rattle.amo_kk.specs.declared.event.Move.TheVariants.{Turn};
 ghost use Rattle.amo_all.specs.Runs.{IsWholeRun};
 ghost use Rattle.amo_all.specs.Search.{IsNext};
@@ -51,10 +51,18 @@ fn longest_turns(alloc: Global, search: &Search, givens: Givens) -> Result<Vec<u
     Ok(turns)
 }
 
-/// What is found from the opening world of these givens on. The only error is out of memory.
+/// What is found from the opening world of these givens on. Where there are fewer jobs than the threshold, all workers have ended
+/// from birth, so there is no other world. The only error is out of memory.
 pub(crate) fn find(alloc: Global, givens: Givens) -> Result<Found, AllocError>
-    ensures { IfOk result (λ found. IsWholeRun givens (map Turn found.turns.items)) }
+    ensures whole { IfOk result (λ found. IsWholeRun givens (map Turn found.turns.items)) }
+    ensures one { IfOk result (λ found. givens.jobs < givens.beta → found.worlds ≡ 1) }
 {
+    if givens.jobs < givens.beta {
+        return Ok(Found {
+            worlds: 1,
+            turns: Vec::new(alloc),
+        });
+    }
     let mut search = Search::new(alloc, givens)?;
     let _longest = search.look(alloc, 0)?;
     let turns = longest_turns(alloc, &search, givens)?;
