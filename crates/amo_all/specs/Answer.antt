@@ -5,7 +5,7 @@ use Rattle.std.specs.Result.{IsOkAnd}
 use Rattle.amo_kk.specs.declared.givens.Givens.{Givens}
 use Rattle.amo_kk.specs.declared.event.Move.TheVariants.{Turn}
 use Rattle.amo_plan.specs.declared.fault.PlanFault.{PlanFault}
-use Rattle.amo_plan.specs.Plan.{PlanSeen, plan_of}
+use Rattle.amo_plan.specs.Plan.{plan_of}
 use Rattle.amo_bounds.specs.Fewest.{fewest}
 use Rattle.amo_texts.specs.Numbers.{spaced}
 use Rattle.amo_worst.specs.Schedule.{worst_schedule}
@@ -46,17 +46,17 @@ pub record SaysFound (g : Givens) (text : List ℕ) : Type 0 where
   pub says : text ≡ found_text g worlds turns
 
 -- which of the two it is, by whether there are too many
-abbrev pub IsAnswer : Bool → PlanSeen → List ℕ → Type 0
-IsAnswer true p text = text ≡ too_many p.version p.givens
-IsAnswer false p text = SaysFound p.givens text
+abbrev pub IsAnswer : Bool → ℕ → Givens → List ℕ → Type 0
+IsAnswer true version g text = text ≡ too_many version g
+IsAnswer false version g text = SaysFound g text
 
--- the text is of this plan
-abbrev pub IsAllOf : PlanSeen → List ℕ → Type 0
-IsAllOf p text = IsAnswer (nat_lt (most_jobs p.givens.workers) p.givens.jobs) p text
+-- the text is of the plans of this version that have these givens
+abbrev pub IsAllOf : ℕ → Givens → List ℕ → Type 0
+IsAllOf version g text = IsAnswer (nat_lt (most_jobs g.workers) g.jobs) version g text
 
--- the bytes are a plan, and the text is of it
+-- the bytes are a plan, and the text is of its version and its givens
 abbrev pub IsAllOfBytes : List ℕ → List ℕ → Type 0
-IsAllOfBytes bytes text = IsOkAnd (plan_of bytes) (λ p. IsAllOf p text)
+IsAllOfBytes bytes text = IsOkAnd (plan_of bytes) (λ p. IsAllOf p.version p.givens text)
 
 -- the bytes are no plan, for this fault
 abbrev pub AreNoPlan : List ℕ → PlanFault → Type 0

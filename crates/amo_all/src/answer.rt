@@ -1,12 +1,10 @@
 //! What is said of a plan.
 ghost use Rattle.std.specs.Prelude.{◌≡◌, ◌++◌, ◌≤◌, map, OnOk, IfOk, string_bytes};
-ghost use Rattle.amo_plan.specs.PlanSeen.{plan_seen};
 ghost use Rattle.amo_texts.specs.Numbers.{spaced};
 ghost use Rattle.amo_all.specs.Answer.{IsAllOf, found_text, most_jobs, too_many, turn_words, unit_word};
 
 use crate::longest::{Found, find};
 use amo_kk::Givens;
-use amo_plan::Plan;
 use amo_texts::{BytesText, ReplayFault, plan_in};
 use amo_worst::{fewest, worst_schedule};
 use std::alloc::{AllocError, Global};
@@ -90,17 +88,16 @@ fn push_found(
     )
 }
 
-/// Where the jobs of a plan, or its blocks, are at most 16 with one worker, 8 with two, 4 with three, and so on: how many worlds turns
-/// lead to, while not all workers but one are stopped; how few jobs are performed at least, once all are gone, with a schedule after
-/// which no more are; and how many turns a run may have, with the schedule of such a run. Else a line that says `refused`, and one
-/// that says why. The plan's own schedule has no part in it. The only error is out of memory.
-pub fn all_text(alloc: Global, plan: &Plan) -> Result<String, AllocError>
-    ensures { IfOk result (λ s. IsAllOf (plan_seen plan.now) (string_bytes s)) }
+/// What is said of the plans of a version that have these givens. Where the jobs, or in version 2 the blocks, are at most 16 with one
+/// worker, 8 with two, 4 with three, and so on: how many worlds turns lead to, while not all workers but one are stopped; how few jobs
+/// are performed at least, once all are gone, with a schedule after which no more are; and how many turns a run may have, with the
+/// schedule of such a run. Else a line that says `refused`, and one that says why. The only error is out of memory.
+pub fn all_text(alloc: Global, version: u32, givens: Givens) -> Result<String, AllocError>
+    ensures { IfOk result (λ s. IsAllOf version givens (string_bytes s)) }
 {
-    let givens = plan.heads.givens;
     let mut out = String::new(alloc);
     if most_jobs(givens.workers) < givens.jobs {
-        push_too_many(&mut out, plan.heads.version, givens)?;
+        push_too_many(&mut out, version, givens)?;
         return Ok(out);
     }
     let found = find(alloc, givens)?;
@@ -119,9 +116,10 @@ impl BytesText for All {
 
     ghost is_refused = { λ _. AreNoPlan };
 
-    /// The text. `Plan(f)` comes just where the bytes are no plan, for the fault f; the only other one is out of memory.
+    /// The text, in which nothing of the plan but its version and its givens has a part. `Plan(f)` comes just where the bytes are
+    /// no plan, for the fault f; the only other one is out of memory.
     fn make(&self, alloc: Global, bytes: &[u8]) -> Result<String, ReplayFault> {
         let plan = plan_in(alloc, bytes)?;
-        Ok(all_text(alloc, &plan)?)
+        Ok(all_text(alloc, plan.heads.version, plan.heads.givens)?)
     }
 }
