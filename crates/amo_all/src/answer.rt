@@ -1,5 +1,5 @@
 //! What is said of a plan.
-ghost use Rattle.std.specs.Prelude.{◌≡◌, ◌++◌, ◌≤◌, map, OnOk, IfOk, string_bytes};
+ghost use Rattle.std.specs.Prelude.{◌≡◌, ◌++◌, ◌≤◌, OnOk, IfOk, string_bytes};
 ghost use Rattle.amo_texts.specs.Numbers.{spaced};
 ghost use Rattle.amo_all.specs.Answer.{IsAllOf, found_text, most_jobs, too_many, turn_words, unit_word};
 
@@ -89,9 +89,9 @@ fn push_found(
 }
 
 /// What is said of the plans of a version that have these givens. Where the jobs, or in version 2 the blocks, are at most 16 with one
-/// worker, 8 with two, 4 with three, and so on: how many worlds turns lead to, while not all workers but one are stopped; how few jobs
-/// are performed at least, once all are gone, with a schedule after which no more are; and how many turns a run may have, with the
-/// schedule of such a run. Else a line that says `refused`, and one that says why. The only error is out of memory.
+/// worker, 8 with two, 4 with three, and so on: how many worlds turns in any order lead to, and stops of all workers but one at most;
+/// how few jobs are performed at least, once all are gone, with a schedule after which no more are; and how many turns a run may have,
+/// with the schedule of such a run. Else a line that says `refused`, and one that says why. The only error is out of memory.
 pub fn all_text(alloc: Global, version: u32, givens: Givens) -> Result<String, AllocError>
     ensures { IfOk result (λ s. IsAllOf version givens (string_bytes s)) }
 {
