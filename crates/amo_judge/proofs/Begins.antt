@@ -89,30 +89,34 @@ drop_front : (xs ys : List Event) → drop (length xs) (xs ++ ys) ≡ ys
 drop_front [] ys = refl
 drop_front (x ∷ xs) ys = drop_front xs ys
 
+take_front : (xs ys : List Event) → take (length xs) (xs ++ ys) ≡ xs
+take_front [] ys = refl
+take_front (x ∷ xs) ys = ap (λ (zs : List Event). x ∷ zs) (take_front xs ys)
+
+pub told_unlawful : (text : List ℕ) (number : ℕ) (t : IsUnlawfulText text number)
+    → judgement text ≡ unlawful_lines number (event_text t.history number t.bad.bad) (why t.history t.bad.before t.bad.bad)
+told_unlawful text number t =
+    let h = t.history in
+    let b = t.bad in
+    let k = length b.before in
+    let place : suc k ≡ number = omega (arith, b.place) in
+    let one_less : suc k - 1 ≡ k = omega arith in
+    let first : first_bad h.givens (first_object h.givens) h.events ≡ suc k = ap (first_bad h.givens (first_object h.givens)) b.parts ∙ behind_run h.givens (first_object h.givens) b.before b.bad b.rest b.run b.refused in
+    let front : take k h.events ≡ b.before = ap (take k) b.parts ∙ take_front b.before (b.bad ∷ b.rest) in
+    let behind : drop k h.events ≡ b.bad ∷ b.rest = ap (drop k) b.parts ∙ drop_front b.before (b.bad ∷ b.rest) in
+    of_history text h t.told ∙ ap (verdict_text h) (of_bad h.givens h.events k first)
+    ∙ ap (λ (n : ℕ). bad_text h (suc k) (take n h.events) (drop n h.events)) one_less
+    ∙ ap (λ (before : List Event). bad_text h (suc k) before (drop k h.events)) front
+    ∙ ap (bad_text h (suc k) b.before) behind
+    ∙ ap (λ (n : ℕ). unlawful_lines n (event_text h n b.bad) (why h b.before b.bad)) place
+
 record IsToldBad (text : List ℕ) (number : ℕ) : Type 0 where
   pub event : List ℕ
   pub reason : List ℕ
   pub is : judgement text ≡ unlawful_lines number event reason
 
 of_unlawful : (text : List ℕ) (number : ℕ) → IsUnlawfulText text number → IsToldBad text number
-of_unlawful text number t =
-    let h = t.history in
-    let b = t.bad in
-    let k = length b.before in
-    let place : suc k ≡ number = omega (arith, b.place) in
-    let one_less : suc k - 1 ≡ k = omega arith in
-    let before = take k h.events in
-    let first : first_bad h.givens (first_object h.givens) h.events ≡ suc k = ap (first_bad h.givens (first_object h.givens)) b.parts ∙ behind_run h.givens (first_object h.givens) b.before b.bad b.rest b.run b.refused in
-    let behind : drop k h.events ≡ b.bad ∷ b.rest = ap (drop k) b.parts ∙ drop_front b.before (b.bad ∷ b.rest) in
-    record {
-      event = event_text h number b.bad;
-      reason = why h before b.bad;
-      is =
-          of_history text h t.told ∙ ap (verdict_text h) (of_bad h.givens h.events k first)
-          ∙ ap (λ (n : ℕ). bad_text h (suc k) (take n h.events) (drop n h.events)) one_less
-          ∙ ap (bad_text h (suc k) before) behind
-          ∙ ap (λ (n : ℕ). unlawful_lines n (event_text h n b.bad) (why h before b.bad)) place;
-    }
+of_unlawful text number t = record { event = event_text t.history number t.bad.bad; reason = why t.history t.bad.before t.bad.bad; is = told_unlawful text number t }
 
 -- a history is a run, or has a first event that is no step
 pub one_of_two : (text : List ℕ) (h : HistoryView) → Tells text h → IsLawfulText text ⊎ ((number : ℕ) × IsUnlawfulText text number)

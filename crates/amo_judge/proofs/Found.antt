@@ -18,7 +18,7 @@ use Rattle.amo_judge.specs.declared.reasons.Reason.{Reason}
 use Rattle.amo_judge.specs.declared.reasons.Reason.TheVariants.{NoWorker, Gone, NoJob, InHand, NotInHand, ClaimedBefore, Early}
 use Rattle.amo_judge.proofs.Searches.{gone_is, hand_is, unclaimed_is}
 
-within_worker : (g : Givens) (p : ℕ) → is_within g.workers p ≡ true → IsWorker g p
+pub within_worker : (g : Givens) (p : ℕ) → is_within g.workers p ≡ true → IsWorker g p
 within_worker g p h = let a = and_parts (nat_le 1 p) (nat_le p g.workers) h in record { low = leb-true 1 p a.0; high = leb-true p g.workers a.1 }
 
 -- a search that finds nothing gives no reason, and one that finds something gives one
@@ -27,14 +27,14 @@ found_is : {A : Type 0} (f : A → Reason) (o : Option A) → is_some o ≡ is_s
 found_is f None = refl
 found_is f (Some x) = refl
 
-gone_found : (g : Givens) (before : List Event) (p : ℕ) → IsWorker g p → numbered true (object_after_all (first_object g) before).gone p ≡ is_some (gone_reason p before)
+pub gone_found : (g : Givens) (before : List Event) (p : ℕ) → IsWorker g p → numbered true (object_after_all (first_object g) before).gone p ≡ is_some (gone_reason p before)
 gone_found g before p w = gone_is g before p w ∙ found_is (λ found. Gone p found.1 found.0) (end_of p before)
 
 empty : (hand : Option (ℕ × ℕ)) → is_some hand ≡ false → (hand_job hand == 0) ≡ true
 empty None none = refl
 empty (Some found) none = absurd (true≢false none)
 
-hand_free : (g : Givens) (before : List Event) (p : ℕ) → IsWorker g p → is_some (hand_reason p before) ≡ false → has_in_hand (object_after_all (first_object g) before) p 0 ≡ true
+pub hand_free : (g : Givens) (before : List Event) (p : ℕ) → IsWorker g p → is_some (hand_reason p before) ≡ false → has_in_hand (object_after_all (first_object g) before) p 0 ≡ true
 hand_free g before p w none =
     ap (λ (j : ℕ). j == 0) (hand_is g before p w) ∙ empty (hand_of p before) (found_is (λ found. InHand p found.0 found.1) (hand_of p before) ∙ none)
 
@@ -72,7 +72,7 @@ at_worker false a b x rest = refl
 at_worker true (Some r) b x rest = refl
 at_worker true None b x rest = rest refl refl
 
-tests_fail : (g : Givens) (before : List Event) (p : ℕ) (tests : Bool) → is_within g.workers p ≡ true → is_some (gone_reason p before) ≡ false
+pub tests_fail : (g : Givens) (before : List Event) (p : ℕ) (tests : Bool) → is_within g.workers p ≡ true → is_some (gone_reason p before) ≡ false
     → (is_here g (object_after_all (first_object g) before) p && tests) ≡ false → tests ≡ false
 tests_fail g before p tests here stays fails =
     left_tests (is_within g.workers p) (numbered true (object_after_all (first_object g) before).gone p) tests here (gone_found g before p (within_worker g p here) ∙ stays) fails

@@ -1,5 +1,7 @@
 pub mod Begins
 pub mod Found
 pub mod NextLine
+pub mod Order
 pub mod Searches
 pub mod Texts
+pub mod Told

@@ -2,6 +2,7 @@ pub mod FirstLine
 pub mod History
 pub mod Judgement
 pub mod Lines
+pub mod Places
 pub mod Results
 pub mod Roll
 pub mod Telling

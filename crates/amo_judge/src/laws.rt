@@ -1,19 +1,23 @@
-//! What the answers begin with, each as the contract of a function that does nothing.
-ghost use Rattle.std.specs.Prelude.{◌≡◌, ◌↔◌, ◌⊎◌, ◌++◌, ℕ, true, false, not, List, [], length, codes};
+//! What the answers begin with, and that the reasons in them are so, each as the contract of a function that does nothing.
+ghost use Rattle.std.specs.Prelude.{◌≡◌, ◌≢◌, ◌<◌, ◌↔◌, ◌⊎◌, ◌++◌, ℕ, true, false, not, List, [], length, Some, codes};
 ghost use Rattle.std.specs.Fmt.{decimal};
 ghost use Rattle.std.specs.Option.{is_some};
 ghost use Rattle.amo_sets.specs.Lists.{numbered};
 ghost use Rattle.amo_sets.specs.Sets.{has};
-ghost use Rattle.amo_kk.specs.Givens.{IsJob, IsWorker};
-ghost use Rattle.amo_kk.specs.Object.{first_object, is_step};
+ghost use Rattle.amo_kk.specs.Givens.{bound, IsJob, IsWorker};
+ghost use Rattle.amo_kk.specs.Object.{first_object, is_here, has_in_hand, is_step};
 ghost use Rattle.amo_kk.specs.Run.{object_after_all, done_jobs};
 ghost use Rattle.amo_kk.specs.declared.event.Event.{Event};
+ghost use Rattle.amo_kk.specs.declared.event.Event.TheVariants.{Claimed, Done, Ended, Halted, Left};
 ghost use Rattle.amo_kk.specs.declared.givens.Givens.{Givens as GivensView};
 ghost use Rattle.amo_judge.specs.History.{HistoryView};
-ghost use Rattle.amo_judge.specs.Judgement.{judgement};
-ghost use Rattle.amo_judge.specs.Telling.{worker_of};
+ghost use Rattle.amo_judge.specs.Judgement.{judgement, unlawful_lines};
+ghost use Rattle.amo_judge.specs.Places.{event_at};
+ghost use Rattle.amo_judge.specs.Telling.{event_text, worker_of};
 ghost use Rattle.amo_judge.specs.Verdicts.{BeginsWith, Tells, IsLawfulText, IsUnlawfulText};
-ghost use Rattle.amo_judge.specs.Why.{end_of, claim_of, hand_of, hand_job, reason_of};
+ghost use Rattle.amo_judge.specs.Why.{end_of, claim_of, hand_of, hand_job, reason_of, reason_text};
+ghost use Rattle.amo_judge.specs.declared.reasons.Reason.{Reason};
+ghost use Rattle.amo_judge.specs.declared.reasons.Reason.TheVariants.{NoWorker, Gone, NoJob, InHand, NotInHand, ClaimedBefore, Early};
 
 /// The answer begins with the line `lawful` just where the text is a history, by its lines, whose events are a run.
 pub fn lawful_is_a_run()
@@ -45,4 +49,94 @@ pub fn why_tests_the_state()
     ensures unclaimed { (g : GivensView) (before : List Event) (j : ℕ) → IsJob g j → has (object_after_all (first_object g) before).unclaimed j ≡ not (is_some (claim_of j before)) }
     ensures performed { (g : GivensView) (before : List Event) → length (object_after_all (first_object g) before).performed ≡ length (done_jobs before) }
     ensures found { (g : GivensView) (before : List Event) (event : Event) → is_step g (object_after_all (first_object g) before) event ≡ false → is_some (reason_of g before (worker_of event) event) ≡ true }
+{}
+
+/// The answer to a history whose events aren't a run tells the first event that is no step, and behind it the reason that is found
+/// for this event. That what it says is so, for each reason, are the laws that follow.
+pub fn unlawful_tells_the_reason()
+    ensures { (text : List ℕ) (number : ℕ) (t : IsUnlawfulText text number) → (reason : Reason)
+        × (reason_of t.history.givens t.bad.before (worker_of t.bad.bad) t.bad.bad ≡ Some reason)
+        × (judgement text ≡ unlawful_lines number (event_text t.history number t.bad.bad) (reason_text t.history reason)) }
+{}
+
+/// A worker or a job of which it is told that there is none is that of the event, and none of the givens.
+pub fn who_is_not_there_is_none()
+    ensures worker { (g : GivensView) (before : List Event) (event : Event) (p : ℕ)
+        → reason_of g before (worker_of event) event ≡ Some (NoWorker p)
+        → (worker_of event ≡ p) × (IsWorker g p → ⊥) }
+    ensures job { (g : GivensView) (before : List Event) (event : Event) (j : ℕ)
+        → reason_of g before (worker_of event) event ≡ Some (NoJob j)
+        → ((event ≡ Claimed (worker_of event) j) ⊎ (event ≡ Done (worker_of event) j)) × (IsJob g j → ⊥) }
+{}
+
+/// A worker of which it is told that it was gone is that of the event, and the event before it whose number is told is the one by
+/// which it was gone: it had ended, was halted or had left.
+pub fn who_was_gone_went_in_that_event()
+    ensures { (g : GivensView) (before : List Event) (event end : Event) (p i : ℕ)
+        → reason_of g before (worker_of event) event ≡ Some (Gone p end i)
+        → (worker_of event ≡ p) × (event_at before i ≡ Some end) × ((end ≡ Ended p) ⊎ ((end ≡ Halted p) ⊎ (end ≡ Left p))) }
+{}
+
+/// A worker of which it is told that it has a job in its hand is that of the event, and has it there in the state that the events
+/// before leave. In the event whose number is told it claimed this job, and no later one of those before is a claim or a done of it.
+pub fn what_is_in_hand_was_claimed_in_that_event()
+    ensures hand { (g : GivensView) (before : List Event) (event : Event) (p j i : ℕ)
+        → reason_of g before (worker_of event) event ≡ Some (InHand p j i)
+        → (worker_of event ≡ p) × (numbered 0 (object_after_all (first_object g) before).in_hand p ≡ j) }
+    ensures claim { (g : GivensView) (before : List Event) (event : Event) (p j i : ℕ)
+        → reason_of g before (worker_of event) event ≡ Some (InHand p j i)
+        → event_at before i ≡ Some (Claimed p j) }
+    ensures later { (g : GivensView) (before : List Event) (event : Event) (p j i : ℕ)
+        → reason_of g before (worker_of event) event ≡ Some (InHand p j i)
+        → (later job : ℕ) → i < later → (event_at before later ≢ Some (Claimed p job)) × (event_at before later ≢ Some (Done p job)) }
+{}
+
+/// A job of which it is told that it was claimed is the one that the event claims, and the event before it whose number is told is a
+/// claim of this job by the worker that is told.
+pub fn what_was_claimed_was_claimed_in_that_event()
+    ensures { (g : GivensView) (before : List Event) (event : Event) (j q i : ℕ)
+        → reason_of g before (worker_of event) event ≡ Some (ClaimedBefore j q i)
+        → (event ≡ Claimed (worker_of event) j) × (event_at before i ≡ Some (Claimed q j)) }
+{}
+
+/// Where it is told that a worker doesn't have a job in its hand, the event, which is no step, is a done of this job by this worker,
+/// and in the state that the events before leave this worker has another job in its hand, or none.
+pub fn what_is_not_in_hand_is_not_there()
+    ensures { (g : GivensView) (before : List Event) (event : Event) (p j : ℕ)
+        → is_step g (object_after_all (first_object g) before) event ≡ false
+        → reason_of g before (worker_of event) event ≡ Some (NotInHand p j)
+        → (event ≡ Done p j) × (numbered 0 (object_after_all (first_object g) before).in_hand p ≢ j) }
+{}
+
+/// Where it is told how many jobs are performed, the event, which is no step, is an end by the worker's own choice, so many are
+/// performed in the state that the events before leave, and they are fewer than the bound, which is told beside them.
+pub fn who_ends_early_ends_below_the_bound()
+    ensures { (g : GivensView) (before : List Event) (event : Event) (performed least : ℕ)
+        → is_step g (object_after_all (first_object g) before) event ≡ false
+        → reason_of g before (worker_of event) event ≡ Some (Early performed least)
+        → (event ≡ Ended (worker_of event)) × (length (object_after_all (first_object g) before).performed ≡ performed) × (least ≡ bound g) × (performed < least) }
+{}
+
+/// The reason that is told is the first that holds, in the order of the table of docs/FORMATS.md: the worker is there where another
+/// reason is told than that there is none, and isn't gone where one behind that is told; then the job is there; then the worker has
+/// nothing in its hand.
+pub fn no_reason_before_it_holds()
+    ensures gone { (g : GivensView) (before : List Event) (event end : Event) (p i : ℕ)
+        → reason_of g before (worker_of event) event ≡ Some (Gone p end i)
+        → IsWorker g p }
+    ensures job { (g : GivensView) (before : List Event) (event : Event) (j : ℕ)
+        → reason_of g before (worker_of event) event ≡ Some (NoJob j)
+        → is_here g (object_after_all (first_object g) before) (worker_of event) ≡ true }
+    ensures in_hand { (g : GivensView) (before : List Event) (event : Event) (p j i : ℕ)
+        → reason_of g before (worker_of event) event ≡ Some (InHand p j i)
+        → (is_here g (object_after_all (first_object g) before) p ≡ true) × ((job : ℕ) → event ≡ Claimed p job → IsJob g job) }
+    ensures not_in_hand { (g : GivensView) (before : List Event) (event : Event) (p j : ℕ)
+        → reason_of g before (worker_of event) event ≡ Some (NotInHand p j)
+        → (is_here g (object_after_all (first_object g) before) p ≡ true) × IsJob g j }
+    ensures claimed { (g : GivensView) (before : List Event) (event : Event) (j q i : ℕ)
+        → reason_of g before (worker_of event) event ≡ Some (ClaimedBefore j q i)
+        → (is_here g (object_after_all (first_object g) before) (worker_of event) ≡ true) × IsJob g j × (has_in_hand (object_after_all (first_object g) before) (worker_of event) 0 ≡ true) }
+    ensures early { (g : GivensView) (before : List Event) (event : Event) (performed least : ℕ)
+        → reason_of g before (worker_of event) event ≡ Some (Early performed least)
+        → (is_here g (object_after_all (first_object g) before) (worker_of event) ≡ true) × (has_in_hand (object_after_all (first_object g) before) (worker_of event) 0 ≡ true) }
 {}
