@@ -52,10 +52,9 @@ class Crate:
             found += [it for it in [*dep.below(), dep] if it not in found]
         return found
 
-    def check(self, kept):
-        """The words of a check of this crate, in a folder that holds its files, over what earlier checks kept."""
-        words = [f"{self.kit}/bin/rattle", "check", "--crate-name", self.name]
-        words += ["src/main.rt" if self.is_program else "src/lib.rt"]
+    def words(self, jobs):
+        """What each call of the prover on this crate says, in a folder that holds its files, with so many processes."""
+        words = ["--crate-name", self.name, "src/main.rt" if self.is_program else "src/lib.rt"]
         for name in ["std", *self.of_kit]:
             words += ["--extern", f"{name}={self.kit}/rlibs/{name}.rlib"]
         words += ["-L", f"dependency={self.kit}/rlibs"]
@@ -64,17 +63,25 @@ class Crate:
         for dep in self.below():
             words += ["-L", f"dependency={os.path.dirname(dep.rlib)}"]
         words += ["--antt-project", f"{self.kit}/rattle/logic/antt-project.json"]
-        words += ["--logic-built", f"{self.kit}/logic_built", "--jobs", "1", "--links", f"{self.name}="]
-        return [*words, "--incremental", kept]
+        return [*words, "--logic-built", f"{self.kit}/logic_built", "--jobs", str(jobs), "--links", f"{self.name}="]
+
+    def check(self, kept):
+        """The command of a check of this crate over what earlier checks kept."""
+        return [f"{self.kit}/bin/rattle", "check", *self.words(1), "--incremental", kept]
+
+    def make(self, jobs):
+        """The command that proves this library from nothing, and writes it with all that is stated and no proof of it: so whoever
+        stands on it reads less."""
+        return [f"{self.kit}/bin/rattle", "build", *self.words(jobs), "--statements", "-o", self.rlib]
 
     def build(self, made, kept):
         """Proves the crate over the libraries that are made, and compiles it: a program, which is linked, or a static library. It is
         made beside its place, so that one that is half written is never there. Answers the status."""
-        rattle, _, *words = self.check(kept)
         compiled = f"{made}.new.o" if self.is_program else f"{made}.new"
+        words = [f"{self.kit}/bin/rattle", "build", *self.words(1), "--incremental", kept]
         words += ["--crate-type", "staticlib"] * self.is_static
         words += ["--toolchain", f"{self.kit}/toolchain", "--backend", "llvm", "-o", compiled]
-        status = subprocess.run([rattle, "build", *words], cwd=self.folder, stdin=subprocess.DEVNULL).returncode
+        status = subprocess.run(words, cwd=self.folder, stdin=subprocess.DEVNULL).returncode
         if status == 0 and self.is_program:
             words = ["--target", "x86_64-unknown-linux-gnu", "--toolchain", f"{self.kit}/toolchain", "-o", f"{made}.new", compiled]
             words += [f"{self.kit}/c/libos_c.a", f"{self.kit}/c/liblibc_c.a"]
@@ -112,6 +119,18 @@ class Crate:
     def is_over(self):
         """Whether each library below is made."""
         return all(it.is_made() for it in self.deps)
+
+    def is_stale(self):
+        """Whether there is a library, and a source has changed since."""
+        return os.path.isdir(self.rlib) and not self.is_current()
+
+    def is_kept(self):
+        """Whether `rt lib` made the library, so that `rt` takes it as made."""
+        return os.path.isfile(f"{self.folder}/out/rlib/stamp")
+
+    def has_kept(self):
+        """Whether proofs of the crate were kept, from which the next ones go on."""
+        return os.path.isdir(f"{self.folder}/out/incremental")
 
 
 def copy_of(kept, to):

@@ -63,15 +63,16 @@ compare_looks() {
   expect './look stops 3' 1 /dev/null "$(lines "$looks" "$(cat examples/each_stop.stops_3.fault)")" looked faulted
 }
 
-# A copy in which nothing is built, a path without the toolchain, and one with a script in its place, whose `rt try` keeps
-# the words and the input that it was given and writes the files out and err, whose `rt lib` makes an empty library, and whose
-# `rt run` makes a program that writes its words. The crate $UNPROVED is not proved.
+# A copy in which nothing is built, a path without the toolchain, and one with scripts in its place: `rt try` keeps the words and the
+# input that it was given and writes the files out and err, `rt lib` and the prover make an empty library, the prover and the linker
+# a program that writes its words, and each library of the prover's is noted in the file made. The crate $UNPROVED is not proved.
 set_apart() {
   local command
-  mkdir "$room/copy" "$room/bare" "$room/script"
+  mkdir -p "$room/copy" "$room/bare" "$room/kit/bin"
+  script=$room/kit/bin
   cp -R --parents amo amo_show HANDLES crates.txt tools crates/*/src crates/*/specs crates/amo/stdin crates/amo_show/stdin "$room/copy"
   for command in bash dirname env find readlink; do ln -s "$(command -v $command)" "$room/bare/"; done
-  cat >"$room/script/rt" <<'END'
+  cat >"$script/rt" <<'END'
 #!/bin/sh
 here=${0%/*} crate=${PWD##*/}
 case $1 in
@@ -81,18 +82,34 @@ case $1 in
     cat "$here/err" >&2
     exec cat "$here/out"
     ;;
-  lib) made=out/rlib/$crate.rlib/format ;;
-  run) made=out/$crate ;;
+  lib)
+    [ "$crate" != "${UNPROVED-}" ] || { echo 'not proved' >&2 && exit 1; }
+    mkdir -p "out/rlib/$crate.rlib" out/incremental
+    echo >"out/rlib/$crate.rlib/format" && echo >out/rlib/stamp
+    ;;
 esac
-[ "$crate" != "${UNPROVED-}" ] || { echo 'not proved' >&2 && exit 1; }
-mkdir -p "${made%/*}"
-printf '#!/bin/sh\nprintf "<%%s>" "$@"\necho\n' >"$made"
-chmod +x "$made"
 END
-  chmod +x "$room/script/rt"
+  cat >"$script/rattle" <<'END'
+#!/bin/sh
+while [ $# -gt 0 ]; do
+  case $1 in --crate-name) crate=$2 ;; -o) made=$2 ;; esac
+  shift
+done
+[ "$crate" != "${UNPROVED-}" ] || { echo 'not proved' >&2 && exit 1; }
+case $made in
+  *.rlib) mkdir -p "$made" && echo >"$made/format" && echo "$crate" >>"${0%/*}/made" ;;
+  *) printf '#!/bin/sh\nprintf "<%%s>" "$@"\necho\n' >"$made" ;;
+esac
+END
+  cat >"$script/rattle-link" <<'END'
+#!/bin/sh
+while [ "$1" != -o ]; do shift; done
+cp "$3" "$2" && chmod +x "$2"
+END
+  chmod +x "$script/rt" "$script/rattle" "$script/rattle-link"
 }
 without_rt() { PATH=$room/bare "$@"; }
-with_script() { PATH=$room/script:$PATH "$@"; }
+with_script() { PATH=$script:$PATH "$@"; }
 
 # Without the toolchain, what has to be built and what has to be proved says so in one line; what is built runs.
 do_without() {
@@ -128,15 +145,25 @@ build_copies() {
     'not proved' "amo: $unbuilt")" build_copy amo check <&-
   expect './amo, built now' 0 "$(lines '<check><><a b>')" "$(lines "amo: $begun")" build_copy amo check '' 'a b' <examples
   expect './amo, built before' 0 "$(lines '<check>')" /dev/null build_copy amo check
+  expect 'what ./amo made again' 0 /dev/null /dev/null made_again
   rm -r "$room/copy/crates/amo_plan/out"
   expect './amo_show, built now' 0 "$(lines '<trace>')" "$(lines "amo_show: $begun" 'amo_show: some are proved' \
     'amo_show: all are proved')" build_copy amo_show trace
+  expect 'what is kept before a change' 1 /dev/null /dev/null find_kept
+  echo >>"$room/copy/crates/amo_kk/src/lib.rt"
+  expect './amo, a source changed' 0 "$(lines '<check>')" "$(lines "amo: $begun" 'amo: some are proved' 'amo: all are proved')" \
+    build_copy amo check
+  expect 'what is kept after it' 0 /dev/null /dev/null find_kept
 }
+# The libraries that the prover has made more than once.
+made_again() { sort "$script/made" | uniq -d; }
+# Whether `rt` keeps the proofs of each library below amo, of which amo_words is one.
+find_kept() { [ -e "$room/copy/crates/amo_words/out/rlib/stamp" ] && [ -d "$room/copy/crates/amo_words/out/incremental" ]; }
 
 # tried OUT LINE..: the script's `rt try` writes this file, and these lines on standard error.
 tried() {
-  cat "$1" >"$room/script/out"
-  printf '%s\n' "${@:2}" >"$room/script/err"
+  cat "$1" >"$script/out"
+  printf '%s\n' "${@:2}" >"$script/err"
 }
 look_unread() { with_script ./look "$@" >/dev/full; }
 look_unheard() { with_script ./look "$@" 2>&-; }
@@ -163,12 +190,12 @@ translate_ends() {
       with_script ./look replay <$plan
   done
   tried /dev/null 'checked: fault kind=overflow in=amo::work' 'run=fault proved=no'
-  expect './look, a fault' 125 /dev/null "$(lines "$looks" "$(cat "$room/script/err")" \
+  expect './look, a fault' 125 /dev/null "$(lines "$looks" "$(cat "$script/err")" \
     'look: the program did what its proof has to rule out')" with_script ./look replay <$plan
   tried /dev/null 'src/main.rt:12:45: error[mismatched-types]: expected `&str`, found an integer' 'run=none proved=no'
-  expect './look, not compiled' 125 /dev/null "$(lines "$looks" "$(cat "$room/script/err")" \
+  expect './look, not compiled' 125 /dev/null "$(lines "$looks" "$(cat "$script/err")" \
     "look: the program could not be built and run by \`rt try\`")" with_script ./look replay <$plan
-  : >"$room/script/err"
+  : >"$script/err"
   expect './look, nothing said' 125 /dev/null "$(lines "$looks" "look: the program could not be built and run by \`rt try\`")" \
     with_script ./look replay <$plan
 }
@@ -181,12 +208,12 @@ hand_on() {
   tried examples/three_jobs.check 'checked: ended status=0' 'run=ended status=0 runners=1 proved=no'
   expect './look, a plan of all bytes' 0 examples/three_jobs.check "$(lines "$looks")" \
     with_script ./look '' 'a b' -- --help <"$room/limits.toml"
-  expect './look, the words' 0 "$(lines try -- '' 'a b' -- --help)" /dev/null cat "$room/script/words"
-  expect './look, the plan' 0 "$room/limits.toml" /dev/null cat "$room/script/given"
+  expect './look, the words' 0 "$(lines try -- '' 'a b' -- --help)" /dev/null cat "$script/words"
+  expect './look, the plan' 0 "$room/limits.toml" /dev/null cat "$script/given"
   expect './look, an input without an end' 0 examples/three_jobs.check "$(lines "$looks")" look_endlessly replay
   yes | head -c 1048577 >"$room/beginning"
-  expect './look, its beginning' 0 "$room/beginning" /dev/null cat "$room/script/given"
+  expect './look, its beginning' 0 "$room/beginning" /dev/null cat "$script/given"
   expect './look, by a link and from another folder' 0 examples/three_jobs.check "$(lines "$looks")" \
     look_by_link check <examples/three_jobs.toml
-  expect './look, the same plan' 0 examples/three_jobs.toml /dev/null cat "$room/script/given"
+  expect './look, the same plan' 0 examples/three_jobs.toml /dev/null cat "$script/given"
 }
