@@ -51,16 +51,25 @@ looked() {
   return "$(cat "$room/$1.ended")"
 }
 
-# Two looks with the toolchain itself. Each takes a minute or two, so they run beside all else, and are compared last.
+# What docs/EMBEDDING.md has a reader do from nothing on, but for the last command, which proves.
+embed() {
+  sed -n '/^AMO=/,/^rt try$/p' docs/EMBEDDING.md | sed "s|/tmp/letters|$room/letters|g" >"$room/embed"
+  sh -e "$room/embed" </dev/null 2>"$room/embed.err" | grep '^job '
+}
+
+# Two looks with the toolchain itself, and that page. Each takes a minute or two, so they run beside all else, and are compared last.
 looks='look: running the program with nothing proved, in a minute or two; ./amo with the same words proves it first'
 begin_looks() {
   look_aside ended replay <examples/three_jobs.toml &
   look_aside faulted stops 3 <examples/each_stop.toml &
+  embed >"$room/embedded" &
 }
 compare_looks() {
   wait
   expect './look replay' 0 examples/three_jobs.report "$(lines "$looks")" looked ended
   expect './look stops 3' 1 /dev/null "$(lines "$looks" "$(cat examples/each_stop.stops_3.fault)")" looked faulted
+  sed -n '/^job 1: a letter/,/^```$/p' docs/EMBEDDING.md | grep '^job ' >"$room/letters.page"
+  expect 'what EMBEDDING begins with' 0 "$room/letters.page" /dev/null cat "$room/embedded"
 }
 
 # A copy in which nothing is built, a path without the toolchain, and one with scripts in its place: `rt try` keeps the words and the
