@@ -36,7 +36,7 @@ def main():
     if is_current(crate, archive):
         return 0
     if not crate.is_over():
-        status = subprocess.run([f"{ROOT}/tools/build", *[it.name for it in crate.deps]], stdin=subprocess.DEVNULL).returncode
+        status = subprocess.run([f"{ROOT}/tools/build", "--once", *[it.name for it in crate.deps]], stdin=subprocess.DEVNULL).returncode
         if status != 0:
             return status
     os.makedirs(os.path.dirname(archive), exist_ok=True)

@@ -46,13 +46,13 @@ pub record SaysFound (g : Givens) (text : List ℕ) : Type 0 where
   pub says : text ≡ found_text g worlds turns
 
 -- which of the two it is, by whether there are too many
-abbrev pub IsAnswer : Bool → ℕ → Givens → List ℕ → Type 0
-IsAnswer true version g text = text ≡ too_many version g
-IsAnswer false version g text = SaysFound g text
+abbrev pub IsAllText : Bool → ℕ → Givens → List ℕ → Type 0
+IsAllText true version g text = text ≡ too_many version g
+IsAllText false version g text = SaysFound g text
 
 -- the text is of the plans of this version that have these givens
 abbrev pub IsAllOf : ℕ → Givens → List ℕ → Type 0
-IsAllOf version g text = IsAnswer (nat_lt (most_jobs g.workers) g.jobs) version g text
+IsAllOf version g text = IsAllText (nat_lt (most_jobs g.workers) g.jobs) version g text
 
 -- the bytes are a plan, and the text is of its version and its givens
 abbrev pub IsAllOfBytes : List ℕ → List ℕ → Type 0

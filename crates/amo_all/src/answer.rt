@@ -5,7 +5,7 @@ ghost use Rattle.amo_all.specs.Answer.{IsAllOf, found_text, most_jobs, too_many,
 
 use crate::longest::{Found, find};
 use amo_kk::Givens;
-use amo_texts::{BytesText, ReplayFault, plan_in};
+use amo_texts::{BytesText, ReplayFault, plan_of_bytes};
 use amo_worst::{fewest, worst_schedule};
 use std::alloc::{AllocError, Global};
 
@@ -107,9 +107,9 @@ pub fn all_text(alloc: Global, version: u32, givens: Givens) -> Result<String, A
 
 /// What is said of the plan that the bytes are.
 #[derive(Clone, Copy, Debug, PartialEq, Eq)]
-pub struct All;
+pub struct AllWorlds;
 
-impl BytesText for All {
+impl BytesText for AllWorlds {
     ghost use Rattle.amo_all.specs.Answer.{AreNoPlan, IsAllOfBytes};
 
     ghost is_of = { λ _. IsAllOfBytes };
@@ -119,7 +119,7 @@ impl BytesText for All {
     /// The text, in which nothing of the plan but its version and its givens has a part. `Plan(f)` comes just where the bytes are
     /// no plan, for the fault f; the only other one is out of memory.
     fn make(&self, alloc: Global, bytes: &[u8]) -> Result<String, ReplayFault> {
-        let plan = plan_in(alloc, bytes)?;
+        let plan = plan_of_bytes(alloc, bytes)?;
         Ok(all_text(alloc, plan.heads.version, plan.heads.givens)?)
     }
 }

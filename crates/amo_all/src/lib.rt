@@ -8,4 +8,4 @@ pub mod laws;
 mod longest;
 mod search;
 
-pub use answer::{All, MOST_ALONE, all_text};
+pub use answer::{AllWorlds, MOST_ALONE, all_text};

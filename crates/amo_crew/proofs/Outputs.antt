@@ -15,7 +15,7 @@ use Rattle.amo_mailbox.specs.declared.output.Output.{Output}
 use Rattle.amo_mailbox.specs.declared.outlet.Outlet.{Outlet}
 use Rattle.amo_mailbox.specs.Mailbox.{of}
 use Rattle.amo_mailbox.specs.Endpoints.{given, has_worker}
-use Rattle.amo_crew.specs.Running.{IsAnswer}
+use Rattle.amo_crew.specs.Running.{IsRelated}
 use Rattle.amo_crew.specs.Outcomes.{spot_of, dones_in, AreOutputs}
 use Rattle.amo_crew.specs.Collecting.{HasOutlet, OutletFits, dones_upto, AreCollected}
 
@@ -59,9 +59,9 @@ module _ {P Out : Type 0} (related : ℕ → ℕ → P → Out → Type 0) (payl
         (λ t. ap (map (λ (x : Output Out). x.job)) (of_outlet p (dones_in (spot_of spots p)) t) ∙ t.jobs)
         (λ t. ap (map (λ (x : Output Out). x.job)) (none_of os p xs only t.0) ∙ sym t.1)
         (fits p);
-    answers = all_from (IsAnswer related payloads) xs (λ p. ⊎_elim
-        (λ t. subst (All (IsAnswer related payloads)) (sym (of_outlet p (dones_in (spot_of spots p)) t)) t.answers)
-        (λ t. subst (All (IsAnswer related payloads)) (sym (none_of os p xs only t.0)) (All-nil (IsAnswer related payloads)))
+    answers = all_from (IsRelated related payloads) xs (λ p. ⊎_elim
+        (λ t. subst (All (IsRelated related payloads)) (sym (of_outlet p (dones_in (spot_of spots p)) t)) t.answers)
+        (λ t. subst (All (IsRelated related payloads)) (sym (none_of os p xs only t.0)) (All-nil (IsRelated related payloads)))
         (fits p));
   }
 

@@ -22,7 +22,7 @@ use Rattle.amo_mailbox.specs.declared.queue.Queue.{Queue}
 use Rattle.amo_mailbox.specs.declared.outlet.Outlet.{Outlet}
 use Rattle.amo_crew.specs.declared.member.Member.{Member}
 use Rattle.amo_mailbox.specs.Endpoints.{IsOutletOf, given}
-use Rattle.amo_crew.specs.Running.{IsAnswer, HasFiled, EndsSo, IsInHand, HasRun, IsMember}
+use Rattle.amo_crew.specs.Running.{IsRelated, HasFiled, EndsSo, IsInHand, HasRun, IsMember}
 
 abbrev some_job : List ℕ → Bool
 some_job [] = false
@@ -66,7 +66,7 @@ module _ {P Out : Type 0} (related : ℕ → ℕ → P → Out → Type 0) (queu
     worker = is.worker;
     room = is.room;
     jobs = ap (map (λ (x : Output Out). x.job)) is.empty ∙ sym is.fresh.dones;
-    answers = subst (All (IsAnswer related payloads)) (sym is.empty) (λ k d lt. absurd (omega arith));
+    answers = subst (All (IsRelated related payloads)) (sym is.empty) (λ k d lt. absurd (omega arith));
   }
 
   pub moves : (b w : Seated P) (o : Outlet Out) → HF b o → IsOneStepOn b w → (machine w).state.dones ≡ (machine b).state.dones → (machine b).state.steps < budget → HF w o
@@ -84,7 +84,7 @@ module _ {P Out : Type 0} (related : ℕ → ℕ → P → Out → Type 0) (queu
   }
 
   pub files : (b w : Seated P) (o o' : Outlet Out) (x : Output Out) → HF b o → IsOneStepOn b w → (machine w).state.dones ≡ (machine b).state.dones ++ x.job ∷ [] → (machine b).state.steps < budget
-      → IsOutletOf queue o' → o'.worker ≡ o.worker → o'.room ≡ o.room → given o' ≡ given o ++ x ∷ [] → IsAnswer related payloads x → HF w o'
+      → IsOutletOf queue o' → o'.worker ≡ o.worker → o'.room ≡ o.room → given o' ≡ given o ++ x ∷ [] → IsRelated related payloads x → HF w o'
   files b w o o' x h on more less belongs worker room grows answer = record {
     table_is = on.table ∙ h.table_is;
     givens = on.givens ∙ h.givens;
@@ -95,7 +95,7 @@ module _ {P Out : Type 0} (related : ℕ → ℕ → P → Out → Type 0) (queu
     worker = worker ∙ h.worker;
     room = room ∙ h.room;
     jobs = ap (map (λ (y : Output Out). y.job)) grows ∙ map_push (λ (y : Output Out). y.job) (given o) x ∙ ap (λ l. l ++ x.job ∷ []) h.jobs ∙ sym more;
-    answers = subst (All (IsAnswer related payloads)) (sym grows) (All-push (IsAnswer related payloads) (given o) x h.answers answer);
+    answers = subst (All (IsRelated related payloads)) (sym grows) (All-push (IsRelated related payloads) (given o) x h.answers answer);
   }
 
   -- there is room for one more

@@ -21,7 +21,7 @@ use Rattle.amo_crew.specs.declared.member.Finish.TheVariants.{Ran as HasRan, Not
 use Rattle.amo_crew.specs.Crew.{EachAt, IsFinishOf}
 use Rattle.amo_crew.specs.Unsettling.{UnsettledView}
 use Rattle.amo_mailbox.specs.Endpoints.{IsOutletOf, given, has_worker}
-use Rattle.amo_crew.specs.Running.{IsAnswer}
+use Rattle.amo_crew.specs.Running.{IsRelated}
 use Rattle.amo_crew.specs.Outcomes.{spot_of, dones_in, IsBare, AreEnds, AreInHand}
 
 module _ {P Out : Type 0} where
@@ -32,7 +32,7 @@ module _ {P Out : Type 0} where
     pub there : get_elem? outlets at ≡ some outlet
     pub worker : outlet.worker ≡ p
     pub jobs : map (λ x. x.job) (given outlet) ≡ dones
-    pub answers : All (IsAnswer related payloads) (given outlet)
+    pub answers : All (IsRelated related payloads) (given outlet)
 
   -- or none is, and nothing was done
   abbrev pub OutletFits : (ℕ → ℕ → P → Out → Type 0) → List P → List (Outlet Out) → ℕ → List ℕ → Type 0

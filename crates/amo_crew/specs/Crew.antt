@@ -1,4 +1,4 @@
--- The members of a crew, before and after their threads.
+-- Within this crate, but for EachAt: the members of a crew, before and after their threads.
 use Rattle.std.specs.Prelude.{◌≡◌, ℕ, ◌-◌, ◌<◌, ◌≤◌, ◌^◌, List, length, All, ⊤, Result, Ok, Err}
 use Rattle.std.specs.List.{AllZip}
 use mathlib.Core.Option.{some}

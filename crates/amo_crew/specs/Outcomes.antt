@@ -14,7 +14,7 @@ use Rattle.amo_crew.specs.declared.outcome.End.{End}
 use Rattle.amo_crew.specs.declared.outcome.End.TheVariants.{Ended, Halted, NotStarted}
 use Rattle.amo_crew.specs.declared.outcome.Outcome.{Outcome}
 use Rattle.amo_mailbox.specs.Mailbox.{of}
-use Rattle.amo_crew.specs.Running.{IsAnswer, EndsSo}
+use Rattle.amo_crew.specs.Running.{IsRelated, EndsSo}
 use Rattle.amo_crew.specs.Crew.{EachAt}
 
 -- the book's spot of worker p
@@ -64,7 +64,7 @@ jobs_of outputs = map (λ x. x.job) outputs
 -- and to the job's payload.
 pub record AreOutputs {P Out : Type 0} (related : ℕ → ℕ → P → Out → Type 0) (payloads : List P) (spots : List Spot) (outputs : List (Output Out)) : Type 0 where
   pub jobs : (p : ℕ) → jobs_of (of p outputs) ≡ dones_in (spot_of spots p)
-  pub answers : All (IsAnswer related payloads) outputs
+  pub answers : All (IsRelated related payloads) outputs
 
 -- What the threads leave, where the book has these spots.
 pub record HaveRun {P Out : Type 0} (related : ℕ → ℕ → P → Out → Type 0) (g : Givens) (payloads : List P) (budgets : List ℕ) (spots : List Spot) (ends : List End) (outputs : List (Output Out)) (in_hand : List (ℕ × ℕ × P)) : Type 0 where

@@ -1,4 +1,4 @@
--- What a worker's thread does.
+-- Within this crate, but for IsRelated and EndsSo: what a worker's thread does.
 use Rattle.std.specs.Prelude.{◌≡◌, ℕ, ◌-◌, ◌≤◌, true, false, List, [], ◌∷◌, map, All, Option, Some, None, slice_get}
 use Rattle.amo_kk.specs.Record.{is_over, wants_nothing, jobs_in_hand}
 use Rattle.amo_kk.specs.declared.model.Record.{Record}
@@ -25,8 +25,8 @@ pub record IsFresh {P : Type 0} (w : Seated P) : Type 0 where
   pub over : wants_nothing (machine w).state.phase ≡ is_over (machine w).state.phase
 
 -- the answer is related to its job and to the job's payload
-abbrev pub IsAnswer : {P Out : Type 0} → (ℕ → ℕ → P → Out → Type 0) → List P → Output Out → Type 0
-IsAnswer {P} related payloads x = (y : P) × (slice_get payloads (x.job - 1) ≡ Some y) × related x.worker x.job y x.out
+abbrev pub IsRelated : {P Out : Type 0} → (ℕ → ℕ → P → Out → Type 0) → List P → Output Out → Type 0
+IsRelated {P} related payloads x = (y : P) × (slice_get payloads (x.job - 1) ≡ Some y) × related x.worker x.job y x.out
 
 -- The worker p of this table, with these givens and payloads, has taken at most `budget` steps, and its outlet was
 -- given just the answers of its dones, in their order.
@@ -40,7 +40,7 @@ pub record HasFiled {P Out : Type 0} (related : ℕ → ℕ → P → Out → Ty
   pub worker : o.worker ≡ p
   pub room : o.room ≡ g.jobs
   pub jobs : map (λ x. x.job) (given o) ≡ (machine w).state.dones
-  pub answers : All (IsAnswer related payloads) (given o)
+  pub answers : All (IsRelated related payloads) (given o)
 
 -- what is told of the end of a worker with this record is so: it is over within its budget, or its budget is used up
 -- and it still wants a step

@@ -12,7 +12,7 @@ use Rattle.amo_judge.specs.Roll.{RollView, empty_roll, number_on, with_word}
 use Rattle.amo_judge.specs.declared.first_line.Opening.{Opening}
 use Rattle.amo_judge.specs.declared.refusal.Refusal.{Refusal}
 use Rattle.amo_judge.specs.declared.refusal.Wrong.{Wrong}
-use Rattle.amo_judge.specs.declared.refusal.Wrong.TheVariants.{NoFirstLine, NoEvent, NotDue, TooManyWorkers, TooManyJobs}
+use Rattle.amo_judge.specs.declared.refusal.Wrong.TheVariants.{NoFirstLine, NoEvent, NotDue, WorkerBeyond, JobBeyond}
 
 -- the givens, what workers and jobs are called, and the events
 pub record HistoryView : Type 0 where
@@ -35,11 +35,11 @@ due_in due word = next (ok_or (number_in word) NoEvent) (λ number. if_due due n
 
 -- the worker that a word names
 abbrev pub worker_in : HistoryView → List ℕ → Result ℕ Wrong
-worker_in h word = number_on h.workers h.givens.workers (TooManyWorkers h.givens.workers) word
+worker_in h word = number_on h.workers h.givens.workers (WorkerBeyond h.givens.workers) word
 
 -- the job that a word names
 abbrev pub job_in : HistoryView → List ℕ → Result ℕ Wrong
-job_in h word = number_on h.jobs h.givens.jobs (TooManyJobs h.givens.jobs) word
+job_in h word = number_on h.jobs h.givens.jobs (JobBeyond h.givens.jobs) word
 
 -- the worker of an event, whose number is due: `I WORD P ..`
 abbrev pub worker_due : HistoryView → List (List ℕ) → Result ℕ Wrong

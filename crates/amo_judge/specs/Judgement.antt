@@ -2,7 +2,7 @@
 use Rattle.std.specs.Prelude.{ℕ, ◌+◌, ◌-◌, nat_lt, if◌then◌else◌, List, [], ◌∷◌, ◌++◌, codes, length, take, drop, Result, Ok, Err}
 use Rattle.std.specs.Fmt.{decimal}
 use Rattle.amo_kk.specs.declared.event.Event.{Event}
-use Rattle.amo_kk.specs.declared.givens.GivensFault.TheVariants.{TooManyJobs as MoreJobs, NoWorkers, TooManyWorkers as MoreWorkers, BetaLow, BetaHigh}
+use Rattle.amo_kk.specs.declared.givens.GivensFault.TheVariants.{TooManyJobs, NoWorkers, TooManyWorkers, BetaLow, BetaHigh}
 use Rattle.amo_kk.specs.declared.limits.TheConstants.{MAX_JOBS, MAX_WORKERS, MAX_BETA}
 use Rattle.amo_world.specs.Answer.{verdict}
 use Rattle.amo_world.specs.declared.answer.Verdict.{Verdict}
@@ -13,7 +13,7 @@ use Rattle.amo_judge.specs.Telling.{event_text, lawful_text}
 use Rattle.amo_judge.specs.Why.{why}
 use Rattle.amo_judge.specs.declared.refusal.Refusal.{Refusal}
 use Rattle.amo_judge.specs.declared.refusal.Wrong.{Wrong}
-use Rattle.amo_judge.specs.declared.refusal.Wrong.TheVariants.{NoFirstLine, NoGivens, OtherBound, NoEvent, NotDue, TooManyWorkers, TooManyJobs}
+use Rattle.amo_judge.specs.declared.refusal.Wrong.TheVariants.{NoFirstLine, NoGivens, OtherBound, NoEvent, NotDue, WorkerBeyond, JobBeyond}
 
 -- the longest text that is read has so many bytes
 abbrev pub most_bytes : ℕ
@@ -22,16 +22,16 @@ most_bytes = 1048576
 -- what is wrong with a line
 unfoldable pub wrong_text : Wrong → List ℕ
 wrong_text NoFirstLine = codes "this is no first line of a history"
-wrong_text (NoGivens MoreJobs) = codes "there are more than " ++ (decimal MAX_JOBS ++ codes " jobs")
+wrong_text (NoGivens TooManyJobs) = codes "there are more than " ++ (decimal MAX_JOBS ++ codes " jobs")
 wrong_text (NoGivens NoWorkers) = codes "there is no worker"
-wrong_text (NoGivens MoreWorkers) = codes "there are more than " ++ (decimal MAX_WORKERS ++ codes " workers")
+wrong_text (NoGivens TooManyWorkers) = codes "there are more than " ++ (decimal MAX_WORKERS ++ codes " workers")
 wrong_text (NoGivens BetaLow) = codes "the threshold is below the number of workers"
 wrong_text (NoGivens BetaHigh) = codes "the threshold is above " ++ decimal MAX_BETA
 wrong_text (OtherBound bound) = codes "the bound of these numbers is " ++ decimal bound
 wrong_text NoEvent = codes "this is no event"
 wrong_text (NotDue due) = codes "the event that is due has number " ++ decimal due
-wrong_text (TooManyWorkers most) = codes "this names a worker beyond " ++ decimal most
-wrong_text (TooManyJobs most) = codes "this names a job beyond " ++ decimal most
+wrong_text (WorkerBeyond most) = codes "this names a worker beyond " ++ decimal most
+wrong_text (JobBeyond most) = codes "this names a job beyond " ++ decimal most
 
 -- `refused`, and a line, and why
 unfoldable pub refused_line : ℕ → List ℕ → List ℕ

@@ -66,14 +66,14 @@ impl<'a> History<'a> {
     {
         let workers = self.givens.workers;
         self.workers
-            .number_on(workers, Wrong::TooManyWorkers(workers), word)
+            .number_on(workers, Wrong::WorkerBeyond(workers), word)
     }
 
     fn job_in(&self, word: &[u8]) -> Result<u32, Wrong>
         ensures { result ≡ job_in self.now word.now }
     {
         let jobs = self.givens.jobs;
-        self.jobs.number_on(jobs, Wrong::TooManyJobs(jobs), word)
+        self.jobs.number_on(jobs, Wrong::JobBeyond(jobs), word)
     }
     /// The worker of an event, whose number is due.
     fn worker_due(&self, words: &[&[u8]]) -> Result<u32, Wrong>

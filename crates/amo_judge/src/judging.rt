@@ -41,8 +41,8 @@ fn wrong_text(alloc: Global, wrong: Wrong) -> Result<String, AllocError>
         Wrong::OtherBound(bound) => format!(in alloc; "the bound of these numbers is {bound}"),
         Wrong::NoEvent => format!(in alloc; "this is no event"),
         Wrong::NotDue(due) => format!(in alloc; "the event that is due has number {due}"),
-        Wrong::TooManyWorkers(most) => format!(in alloc; "this names a worker beyond {most}"),
-        Wrong::TooManyJobs(most) => format!(in alloc; "this names a job beyond {most}"),
+        Wrong::WorkerBeyond(most) => format!(in alloc; "this names a worker beyond {most}"),
+        Wrong::JobBeyond(most) => format!(in alloc; "this names a job beyond {most}"),
     }
 }
 

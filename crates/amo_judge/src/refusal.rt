@@ -16,9 +16,9 @@ pub(crate) enum Wrong {
     /// The number of its event isn't this one, which is due.
     NotDue(usize),
     /// It names a worker beyond so many.
-    TooManyWorkers(u32),
+    WorkerBeyond(u32),
     /// It names a job beyond so many.
-    TooManyJobs(u32),
+    JobBeyond(u32),
 }
 
 /// The line of this number, from 1, is refused, for this.

@@ -20,7 +20,7 @@ use Rattle.amo_words.proofs.Worlds.{lawful}
 use Rattle.amo_words.proofs.Meetings.{stands_back, worker_back}
 use Rattle.amo_mailbox.specs.declared.output.Output.{Output}
 use Rattle.amo_crew.specs.Outcomes.{jobs_of}
-use Rattle.amo_crew.specs.Running.{IsAnswer}
+use Rattle.amo_crew.specs.Running.{IsRelated}
 use Rattle.amo_crew.proofs.Hires.{fresh_first}
 use Rattle.amo_payday.specs.declared.second.Leftover.{Leftover}
 use Rattle.amo_payday.specs.Second.{IsLeftover}
@@ -80,7 +80,7 @@ module _ {P Out : Type 0} (related : ℕ → ℕ → P → Out → Type 0) (b c 
 
   pub rest_of : (r : Leftover P Out) → r.outputs.items ≡ outputs → r.free.items ≡ s.free.items → IsLeftover related b.view.payloads r
   rest_of r is free = record {
-    answers = subst (λ l. All (IsAnswer related b.view.payloads) l) (sym is) (subst (λ xs. All (IsAnswer related xs) outputs) hired.worker.payloads paid.answers);
+    answers = subst (λ l. All (IsRelated related b.view.payloads) l) (sym is) (subst (λ xs. All (IsRelated related xs) outputs) hired.worker.payloads paid.answers);
     distinct = subst AreDistinct (claimed ∙ ap jobs_of (sym is)) sound.distinct;
     free = free ∙ whole.free ∙ free_filtered (world_of d.view.givens whole.log).processes (has (jobs_of outputs)) only 1 d.view.payloads
         ∙ ap (λ xs. filter (λ (t : ℕ × P). not (has (jobs_of outputs) t.0)) (enumerate_from 1 xs)) payloads

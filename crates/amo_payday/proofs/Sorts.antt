@@ -12,7 +12,7 @@ use Rattle.amo_kk.specs.World.{world_of}
 use Rattle.amo_words.specs.Logs.{is_claimed}
 use Rattle.amo_mailbox.specs.declared.output.Output.{Output}
 use Rattle.amo_crew.specs.declared.outcome.Outcome.{Outcome}
-use Rattle.amo_crew.specs.Running.{IsAnswer}
+use Rattle.amo_crew.specs.Running.{IsRelated}
 use Rattle.amo_crew.specs.Outcomes.{jobs_of, IsOutcome, HasAPlace, IsOfNoThread}
 use Rattle.amo_payday.specs.declared.day.payment.Payment.{Payment}
 use Rattle.amo_payday.specs.declared.bank.Answer.{Answer}
@@ -147,7 +147,7 @@ sorted g payloads ids budgets o s is named all free doubt = record {
       (ap (λ xs. has_job xs j) doubt ∙ listed unsure (enumerate_from 1 ids) j (has_all 1 ids j low (size j high)))
       (apart j);
   distinct = subst (λ xs. AreDistinct (jobs_of xs)) (sym all) (answered_once Answers g payloads budgets o is);
-  answers = subst (All (IsAnswer Answers payloads)) (sym all) is.run.outputs_are.answers;
+  answers = subst (All (IsRelated Answers payloads)) (sym all) is.run.outputs_are.answers;
   own = subst (All (IsOwn payloads)) (sym all_free) (subst (All (IsOwn payloads)) (sym (free_filtered processes (is_claimed processes) (λ j. refl) 1 payloads))
       (All-filter (λ (t : ℕ × Payment). not (is_claimed processes t.0)) (IsOwn payloads) (enumerate_from 1 payloads) (at_places payloads 1 payloads (λ k x e. place k x e))));
   numbers = subst (All (IsNumberOf payloads)) (sym doubt) (All-filter (λ (t : ℕ × ℕ). unsure t.0) (IsNumberOf payloads) (enumerate_from 1 ids)

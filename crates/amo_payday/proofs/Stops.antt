@@ -11,7 +11,7 @@ use Rattle.amo_claims.specs.Calls.{IsOneStepOn, IsOverNow, FilesOn, state_of, wo
 use Rattle.amo_claims.specs.declared.states.After.{After}
 use Rattle.amo_claims.specs.declared.states.After.TheVariants.{More, Over}
 use Rattle.amo_mailbox.specs.declared.output.Output.{Output}
-use Rattle.amo_crew.specs.Running.{IsAnswer}
+use Rattle.amo_crew.specs.Running.{IsRelated}
 use Rattle.amo_payday.specs.Stopping.{HasPaid, HasEnded, EndsIfOver, StaysAs}
 
 module _ {P : Type 0} where
@@ -62,7 +62,7 @@ module _ {P Out : Type 0} (related : ℕ → ℕ → P → Out → Type 0) (b : 
     answers = h.answers;
   }
 
-  pub files : (v w : Seated P) (xs : List (Output Out)) (x : Output Out) → HP v xs → IsOneStepOn v w → (machine w).state.dones ≡ (machine v).state.dones ++ x.job ∷ [] → IsAnswer related b.view.payloads x → HP w (xs ++ x ∷ [])
+  pub files : (v w : Seated P) (xs : List (Output Out)) (x : Output Out) → HP v xs → IsOneStepOn v w → (machine w).state.dones ≡ (machine v).state.dones ++ x.job ∷ [] → IsRelated related b.view.payloads x → HP w (xs ++ x ∷ [])
   files v w xs x h on more answer = record {
     table = on.table ∙ h.table;
     givens = on.givens ∙ h.givens;
@@ -70,7 +70,7 @@ module _ {P Out : Type 0} (related : ℕ → ℕ → P → Out → Type 0) (b : 
     number = on.number ∙ h.number;
     dones = more ∙ ap (λ l. l ++ x.job ∷ []) h.dones ∙ append_assoc (machine b).state.dones (map (λ (y : Output Out). y.job) xs) (x.job ∷ [])
         ∙ ap (λ l. (machine b).state.dones ++ l) (sym (map_push (λ (y : Output Out). y.job) xs x));
-    answers = All-push (IsAnswer related b.view.payloads) xs x h.answers answer;
+    answers = All-push (IsRelated related b.view.payloads) xs x h.answers answer;
   }
 
   -- a claim, its performance and its filing

@@ -9,7 +9,7 @@ use Rattle.std.proofs.lemmas.Option.{slice_get-get_or, slice_get-map}
 use Rattle.amo_sets.specs.Sets.{has}
 use Rattle.amo_mailbox.specs.declared.output.Output.{Output}
 use Rattle.amo_crew.specs.Outcomes.{jobs_of}
-use Rattle.amo_crew.specs.Running.{IsAnswer}
+use Rattle.amo_crew.specs.Running.{IsRelated}
 use Rattle.amo_payday.specs.declared.day.Day.{Day}
 use Rattle.amo_payday.specs.declared.day.payment.Payment.{Payment}
 use Rattle.amo_ledger.specs.declared.journal.Attempt.{Attempt}
@@ -93,9 +93,9 @@ ended_answer x = go x.out
 
 module _ (payments : List Payment) (j : ℕ) (p : Payment) (at : slice_get payments (j - 1) ≡ Some p) where
   -- of which there is a receipt
-  done : (xs : List (Output Answer)) → All (IsAnswer Answers payments) xs → has_receipt_of xs j ≡ true → HasLine (done_lines xs) (codes "done") p.id
+  done : (xs : List (Output Answer)) → All (IsRelated Answers payments) xs → has_receipt_of xs j ≡ true → HasLine (done_lines xs) (codes "done") p.id
   done [] all h = absurd (true≢false (sym h))
-  done (x ∷ xs) all h = go (λ n. line_after (done_line x.out) (done_lines xs) (codes "done") p.id (ended_done x) (done xs (All-tail (IsAnswer Answers payments) x xs all) n)) (eqb x.job j) refl (is_paid x.out) refl h
+  done (x ∷ xs) all h = go (λ n. line_after (done_line x.out) (done_lines xs) (codes "done") p.id (ended_done x) (done xs (All-tail (IsRelated Answers payments) x xs all) n)) (eqb x.job j) refl (is_paid x.out) refl h
     where
       here : (a : Answer) (y : Payment) → x.job ≡ j → slice_get payments (x.job - 1) ≡ Some y → Answers x.worker x.job y a → is_paid a ≡ true → HasLine (done_line a ++ done_lines xs) (codes "done") p.id
       here (Paid r) y e s is paid =
@@ -104,7 +104,7 @@ module _ (payments : List Payment) (j : ℕ) (p : Payment) (at : slice_get payme
       here (Unpaid q) y e s is paid = absurd (true≢false (sym paid))
 
       go : (has_receipt_of xs j ≡ true → HasLine (done_lines (x ∷ xs)) (codes "done") p.id) → (b : Bool) → eqb x.job j ≡ b → (c : Bool) → is_paid x.out ≡ c → (b && c) || has_receipt_of xs j ≡ true → HasLine (done_lines (x ∷ xs)) (codes "done") p.id
-      go more true e true paid n = let first = All-head (IsAnswer Answers payments) x xs all in here x.out first.0 (eqb-true x.job j e) first.1 first.2 paid
+      go more true e true paid n = let first = All-head (IsRelated Answers payments) x xs all in here x.out first.0 (eqb-true x.job j e) first.1 first.2 paid
       go more true e false paid n = more n
       go more false e c paid n = more n
 
@@ -134,9 +134,9 @@ module _ (payments : List Payment) (j : ℕ) (p : Payment) (at : slice_get payme
       go more false e n = more n
 
   -- that has an answer
-  answered : (xs : List (Output Answer)) → All (IsAnswer Answers payments) xs → has (jobs_of xs) j ≡ true → IsTold (answer_lines xs) p
+  answered : (xs : List (Output Answer)) → All (IsRelated Answers payments) xs → has (jobs_of xs) j ≡ true → IsTold (answer_lines xs) p
   answered [] all h = absurd (true≢false (sym h))
-  answered (x ∷ xs) all h = go (λ n. told_after (answer_line x.out) (answer_lines xs) p (ended_answer x) (answered xs (All-tail (IsAnswer Answers payments) x xs all) n)) (eqb x.job j) refl h
+  answered (x ∷ xs) all h = go (λ n. told_after (answer_line x.out) (answer_lines xs) p (ended_answer x) (answered xs (All-tail (IsRelated Answers payments) x xs all) n)) (eqb x.job j) refl h
     where
       own : (y : Payment) → x.job ≡ j → slice_get payments (x.job - 1) ≡ Some y → y ≡ p
       own y e s = same_some (slice_get payments (j - 1)) p y at (subst (λ k. slice_get payments (k - 1) ≡ Some y) e s)
@@ -146,7 +146,7 @@ module _ (payments : List Payment) (j : ℕ) (p : Payment) (at : slice_get payme
       here (Unpaid q) y e is = inr (inr (inl (subst (λ (o : Payment). HasLine (line (codes "doubt") q.id ++ answer_lines xs) (codes "doubt") o.id) (is ∙ e) (line_here (codes "doubt") q.id (answer_lines xs)))))
 
       go : (has (jobs_of xs) j ≡ true → IsTold (answer_lines (x ∷ xs)) p) → (b : Bool) → eqb x.job j ≡ b → b || has (jobs_of xs) j ≡ true → IsTold (answer_lines (x ∷ xs)) p
-      go more true e n = let first = All-head (IsAnswer Answers payments) x xs all in here x.out first.0 (own first.0 (eqb-true x.job j e) first.1) first.2
+      go more true e n = let first = All-head (IsRelated Answers payments) x xs all in here x.out first.0 (own first.0 (eqb-true x.job j e) first.1) first.2
       go more false e n = more n
 
 -- ---- all of a round, and of a floor of one worker: what is free holds, and what is told

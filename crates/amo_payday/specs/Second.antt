@@ -7,7 +7,7 @@ use Rattle.amo_words.specs.declared.floor.settling.Settlement.{Settlement}
 use Rattle.amo_words.specs.Faces.{spots}
 use Rattle.amo_words.specs.Settling.{IsWhole}
 use Rattle.amo_crew.specs.Outcomes.{jobs_of}
-use Rattle.amo_crew.specs.Running.{IsAnswer}
+use Rattle.amo_crew.specs.Running.{IsRelated}
 use Rattle.amo_payday.specs.declared.second.Leftover.{Leftover}
 use Rattle.amo_payday.specs.declared.second.LeftoverFault.{LeftoverFault}
 use Rattle.amo_payday.specs.declared.second.LeftoverFault.TheVariants.{Untried, Unhired, Unsettled}
@@ -15,7 +15,7 @@ use Rattle.amo_payday.specs.declared.second.LeftoverFault.TheVariants.{Untried, 
 -- Each answer is that of its job's payload, no job has two, and the others come back, each with its own payload, in the order of
 -- their numbers. None is in doubt.
 pub record IsLeftover {P Out : Type 0} (related : ℕ → ℕ → P → Out → Type 0) (payloads : List P) (r : Leftover P Out) : Type 0 where
-  pub answers : All (IsAnswer related payloads) r.outputs.items
+  pub answers : All (IsRelated related payloads) r.outputs.items
   pub distinct : AreDistinct (jobs_of r.outputs.items)
   pub free : r.free.items ≡ filter (λ t. not (has (jobs_of r.outputs.items) t.0)) (enumerate_from 1 payloads)
 

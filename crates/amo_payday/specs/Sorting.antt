@@ -9,7 +9,7 @@ use Rattle.amo_payday.specs.declared.bank.Answer.{Answer}
 use Rattle.amo_payday.specs.declared.bank.Answer.TheVariants.{Paid, Unpaid}
 use Rattle.amo_payday.specs.declared.sorting.Sorted.{Sorted}
 use Rattle.amo_crew.specs.Outcomes.{jobs_of, answered, in_hand, IsOfNoThread}
-use Rattle.amo_crew.specs.Running.{IsAnswer}
+use Rattle.amo_crew.specs.Running.{IsRelated}
 use Rattle.amo_payday.specs.Payments.{Answers}
 
 -- it is a receipt
@@ -65,6 +65,6 @@ pub record IsSortingOf (ids : List ℕ) (o : Outcome Payment Answer) (s : Sorted
 pub record IsSorted (payloads : List Payment) (s : Sorted) : Type 0 where
   pub one : (j : ℕ) → 1 ≤ j → j ≤ length payloads → IsOneOf (has_receipt_of s.answers.items j) (has_job s.free.items j) (has_job s.in_doubt.items j)
   pub distinct : AreDistinct (jobs_of s.answers.items)
-  pub answers : All (IsAnswer Answers payloads) s.answers.items
+  pub answers : All (IsRelated Answers payloads) s.answers.items
   pub own : All (IsOwn payloads) s.free.items
   pub numbers : All (IsNumberOf payloads) s.in_doubt.items

@@ -5,7 +5,7 @@ use Rattle.amo_words.specs.Faces.{Seated, machine}
 use Rattle.amo_claims.specs.declared.states.After.{After}
 use Rattle.amo_claims.specs.declared.states.After.TheVariants.{More, Over}
 use Rattle.amo_mailbox.specs.declared.output.Output.{Output}
-use Rattle.amo_crew.specs.Running.{IsAnswer}
+use Rattle.amo_crew.specs.Running.{IsRelated}
 
 -- The worker b, now w, has filed just the jobs of these outputs, in their order, and each answer is that of its job's payload.
 pub record HasPaid {P Out : Type 0} (related : ℕ → ℕ → P → Out → Type 0) (b w : Seated P) (outputs : List (Output Out)) : Type 0 where
@@ -14,7 +14,7 @@ pub record HasPaid {P Out : Type 0} (related : ℕ → ℕ → P → Out → Typ
   pub payloads_are : w.view.payloads ≡ b.view.payloads
   pub number : (machine w).number ≡ (machine b).number
   pub dones : (machine w).state.dones ≡ (machine b).state.dones ++ map (λ x. x.job) outputs
-  pub answers : All (IsAnswer related b.view.payloads) outputs
+  pub answers : All (IsRelated related b.view.payloads) outputs
 
 -- nothing is in the worker's hand
 abbrev pub IsEmpty : {P : Type 0} → Seated P → Type 0

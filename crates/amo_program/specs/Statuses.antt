@@ -13,8 +13,8 @@ abbrev pub Left : Type 1
 Left = (known old new : Option (List ℕ)) → Type 0
 
 -- What the words ask for was found out: a command, or that they are none, or out of memory.
-abbrev pub IsAnswer : {C : Type 0} → Option C → Result C Fault → Type 0
-IsAnswer wanted found = MatchResult found (λ command. wanted ≡ Some command) (λ fault. ((fault ≡ NoCommand) × (wanted ≡ None)) ⊎ (fault ≡ NoMemory))
+abbrev pub IsAsked : {C : Type 0} → Option C → Result C Fault → Type 0
+IsAsked wanted found = MatchResult found (λ command. wanted ≡ Some command) (λ fault. ((fault ≡ NoCommand) × (wanted ≡ None)) ⊎ (fault ≡ NoMemory))
 
 -- Nothing that was written to `out` waits for a flush where it is a text that was written whole before the fault came.
 abbrev pub IsPassedOn : Fault → Bool → Type 0

@@ -6,7 +6,7 @@ ghost use Rattle.amo_plan.specs.declared.fault.PlanFault.{PlanFault};
 ghost use Rattle.amo_texts.specs.declared.writing.ReplayFault.{ReplayFault};
 ghost use Rattle.amo_texts.specs.declared.writing.ReplayFault.TheVariants.{Plan, NoMemory};
 ghost use Rattle.amo_program.specs.Endings.{change};
-ghost use Rattle.amo_program.specs.Statuses.{Left, IsAnswer, IsDone, IsFault, IsPassedOn};
+ghost use Rattle.amo_program.specs.Statuses.{Left, IsAsked, IsDone, IsFault, IsPassedOn};
 
 use crate::fault::Fault;
 use amo_streams::{Sink, Source};
@@ -33,7 +33,7 @@ pub trait Command<R: Sync>: Drop + Sized {
     /// What these words ask for, the program's name first: a command whose numbers are within their ranges, or `NoCommand`, or
     /// `NoMemory`.
     fn of_words(alloc: Global, words: &[String]) -> Result<Self, Fault>
-        ensures answer { IsAnswer (asked (map string_bytes words.now)) result }
+        ensures answer { IsAsked (asked (map string_bytes words.now)) result }
         ensures ranges { IfOk result (λ c. fits c) };
 
     /// Does it. That threads may share what it runs by is asked here, since a trait's method has no bound of its own that says so.

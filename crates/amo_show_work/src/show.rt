@@ -5,7 +5,7 @@ ghost use Rattle.amo_program.specs.declared.fault.Fault.TheVariants.{NoCommand};
 ghost use Rattle.amo_show_work.specs.Words.{command_asked, asked_after_name};
 
 use crate::told::{Explained, Judged};
-use amo_all::All;
+use amo_all::AllWorlds;
 use amo_program::{Command, Fault};
 use amo_streams::{Sink, Source};
 use amo_texts::{write_of, write_of_bytes};
@@ -87,7 +87,7 @@ impl<R: Sync> Command<R> for Show {
             Show::Explain => Ok(write_of_bytes(alloc, &Explained, reader, out)?),
             Show::Judge => Ok(write_of_bytes(alloc, &Judged, reader, out)?),
             Show::Worst => Ok(write_of(alloc, &Worst, reader, out)?),
-            Show::All => Ok(write_of_bytes(alloc, &All, reader, out)?),
+            Show::All => Ok(write_of_bytes(alloc, &AllWorlds, reader, out)?),
         }
     }
 

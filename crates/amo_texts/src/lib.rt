@@ -24,4 +24,4 @@ pub use results::push_results;
 pub use tallies::{jobs_in_block, push_performed, push_performed_words, push_tally};
 pub use text::PlanText;
 pub use unclaimed::push_unclaimed;
-pub use writing::{ReplayFault, plan_in, read_source, write_of, write_text};
+pub use writing::{ReplayFault, plan_of_bytes, read_source, write_of, write_text};

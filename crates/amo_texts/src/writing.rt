@@ -38,7 +38,7 @@ impl From<AllocError> for ReplayFault {
 
 /// The plan that these bytes are. `Plan(f)` comes just where they give the fault f, memory aside; the only other one is out of
 /// memory. What is read keeps what each plan keeps.
-pub fn plan_in(alloc: Global, bytes: &[u8]) -> Result<Plan, ReplayFault>
+pub fn plan_of_bytes(alloc: Global, bytes: &[u8]) -> Result<Plan, ReplayFault>
     ensures plan { IfOk result (λ p. plan_of bytes.now ≡ Ok (plan_seen p)) }
     ensures kept { IfOk result (λ p. Keeps (plan_seen p)) }
     ensures refused { IfErr result (λ e. IsNotMade e (plan_of bytes.now)) }
@@ -67,7 +67,7 @@ pub fn read_source<R: Source>(alloc: Global, reader: &mut R) -> Result<Plan, Rep
         Err(ReadFault::Failed) => return Err(ReplayFault::Read),
         Err(ReadFault::NoMemory) => return Err(ReplayFault::NoMemory),
     };
-    let plan = plan_in(alloc, &bytes)?;
+    let plan = plan_of_bytes(alloc, &bytes)?;
     Ok(plan)
 }
 

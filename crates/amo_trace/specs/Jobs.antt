@@ -11,7 +11,7 @@ use Rattle.amo_plan.specs.Plan.{PlanSeen}
 use Rattle.amo_texts.specs.Happened.{is_done_of}
 use Rattle.amo_trace.specs.declared.transition.Transition.{Transition}
 use Rattle.amo_trace.specs.declared.pieces.Kind.{Kind}
-use Rattle.amo_trace.specs.declared.pieces.Kind.TheVariants.{Columns, Stays, Failures, Ticks, Crosses}
+use Rattle.amo_trace.specs.declared.pieces.Kind.TheVariants.{Columns, Holds, Failures, Ticks, Crosses}
 use Rattle.amo_trace.specs.Band.{axes, band_lane, free_lane}
 use Rattle.amo_trace.specs.Elements.{text, text_start, number_before, stroke_start, stroke_at, straight}
 use Rattle.amo_trace.specs.Frame.{jobs_word, head, foot, key}
@@ -55,7 +55,7 @@ worker_title p = codes "<g><title>worker " ++ decimal p ++ codes "</title>\n"
 -- all of worker p
 unfoldable pub worker_drawn : List Event → ℕ → List Transition → ℕ → List ℕ
 worker_drawn history n rows p =
-    worker_title p ++ worker_paths (wide n + 1) Stays Failures n p rows ++ worker_paths 2 Ticks Crosses n p rows
+    worker_title p ++ worker_paths (wide n + 1) Holds Failures n p rows ++ worker_paths 2 Ticks Crosses n p rows
     ++ lifeline (last_number rows) p (going p rows) ++ lane_numbers history p ++ band_lane n p rows ++ codes "</g>\n"
 
 -- of the workers 1..m

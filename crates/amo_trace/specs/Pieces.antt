@@ -5,7 +5,7 @@ use Rattle.std.specs.Fmt.{decimal}
 use Rattle.std.specs.List.{position_or_len}
 use Rattle.amo_trace.specs.declared.transition.Transition.{Transition}
 use Rattle.amo_trace.specs.declared.pieces.Kind.{Kind}
-use Rattle.amo_trace.specs.declared.pieces.Kind.TheVariants.{Columns, Stays, Failures, Shares, Ticks, Crosses}
+use Rattle.amo_trace.specs.declared.pieces.Kind.TheVariants.{Columns, Holds, Failures, Shares, Ticks, Crosses}
 use Rattle.amo_trace.specs.Elements.{stroke_start, at_place}
 use Rattle.amo_trace.specs.Marks.{mark_of, is_claim, is_filing}
 use Rattle.amo_trace.specs.Scale.{last_number, at, end_of, place, narrow_lane, band}
@@ -41,7 +41,7 @@ mark_end (Some s) = codes "v-10"
 -- how the path goes on: to the foot, to the performance among the transitions to come, a little, up, or to the right
 unfoldable pub piece_end : Kind → ℕ → ℕ → List Transition → List ℕ
 piece_end Columns last p rest = codes "V1032"
-piece_end Stays last p rest = codes "V" ++ decimal (end_of last 2 (next_filing p rest))
+piece_end Holds last p rest = codes "V" ++ decimal (end_of last 2 (next_filing p rest))
 piece_end Failures last p rest = codes "v3"
 piece_end Shares last p rest = mark_end (next_filing p rest)
 piece_end kind last p rest = codes "h10"

@@ -124,7 +124,7 @@ fn push_worker_drawn(out: &mut String, scene: &Scene<'_>, worker: u32) -> Result
     let jobs = columns_of(plan);
     let width = wide(jobs) + 1;
     push_worker_title(out, worker)?;
-    push_worker_paths(out, scene, width, Kind::Stays, Kind::Failures, worker)?;
+    push_worker_paths(out, scene, width, Kind::Holds, Kind::Failures, worker)?;
     push_worker_paths(out, scene, 2, Kind::Ticks, Kind::Crosses, worker)?;
     push_lifeline(out, last_number(rows), worker, going(worker, rows))?;
     push_lane_numbers(out, world.history(), worker)?;

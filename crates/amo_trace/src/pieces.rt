@@ -15,7 +15,7 @@ pub(crate) enum Kind {
     /// The jobs that were performed, grey from then on.
     Columns,
     /// How long a worker had each of its jobs in hand, in the jobs' columns.
-    Stays,
+    Holds,
     /// A worker's failed attempts, in the jobs' columns.
     Failures,
     /// A worker's claims, in its lane of the band.
@@ -32,7 +32,7 @@ fn is_drawn(kind: Kind, worker: u32, transition: &Transition) -> bool
 {
     match kind {
         Kind::Columns => is_filing(transition),
-        Kind::Stays | Kind::Shares | Kind::Ticks => transition.worker == worker
+        Kind::Holds | Kind::Shares | Kind::Ticks => transition.worker == worker
             && is_claim(transition),
         Kind::Failures | Kind::Crosses => transition.worker == worker && transition.fails(),
     }
@@ -44,7 +44,7 @@ fn piece_x(kind: Kind, jobs: u32, worker: u32, transition: &Transition) -> u128
     ensures { result ≡ piece_x kind jobs worker transition.now }
 {
     match kind {
-        Kind::Columns | Kind::Stays | Kind::Failures | Kind::Shares => {
+        Kind::Columns | Kind::Holds | Kind::Failures | Kind::Shares => {
             place(jobs, job_of(transition.before))
         }
         Kind::Ticks => narrow_lane(worker) - 12,
@@ -59,7 +59,7 @@ fn piece_y(kind: Kind, last: usize, worker: u32, transition: &Transition) -> u12
 {
     match kind {
         Kind::Shares => band(worker),
-        Kind::Columns | Kind::Stays | Kind::Failures | Kind::Ticks | Kind::Crosses => {
+        Kind::Columns | Kind::Holds | Kind::Failures | Kind::Ticks | Kind::Crosses => {
             at(last, transition.number)
         }
     }
@@ -96,7 +96,7 @@ fn push_piece_end(
 {
     match kind {
         Kind::Columns => out.push_str("V1032"),
-        Kind::Stays => {
+        Kind::Holds => {
             let end = end_of(last, 2, next_filing(worker, rest));
             write!(out, "V{end}")
         }
