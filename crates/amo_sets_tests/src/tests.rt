@@ -98,11 +98,49 @@ fn the_largest_set_is_copied_and_ranked(rt: HostRuntime) -> Result<(), Fail> {
     Ok(())
 }
 
+/// A set of all these jobs, one of none, and a copy.
+fn make_each(rt: &impl Abort, alloc: Global, n: u32) -> Result<(), AllocError> {
+    let all = JobSet::full(alloc, n)?;
+    let none = JobSet::empty(alloc, n)?;
+    let copy = all.copy(alloc)?;
+    assert!(rt; all.len() == n && none.len() == 0, "{n} jobs");
+    assert!(rt; copy.range() == n && none.range() == n, "{n} jobs");
+    assert_eq!(rt; filled(alloc, n as usize, 7u32)?.len(), n as usize);
+    Ok(())
+}
+
+#[test]
+fn a_set_of_each_size_is_made(rt: HostRuntime) -> Result<(), Fail> {
+    for n in 0..4097 {
+        make_each(&rt, rt.alloc(), n)?;
+    }
+    Ok(())
+}
+
 #[test]
 fn a_list_is_filled(rt: HostRuntime) -> Result<(), Fail> {
     let list = filled(rt.alloc(), 3, 7u32)?;
     assert_eq!(rt; list.as_slice(), [7, 7, 7].as_slice());
     Ok(())
+}
+
+/// Makes each call that takes constant time so often, on a set of so many jobs.
+fn call_often(rt: &impl Abort, alloc: Global, n: u32, times: u32) -> Result<(), AllocError> {
+    let mut set = JobSet::empty(alloc, n)?;
+    for before in 0..times {
+        let job = before.wrapping_mul(97).wrapping_add(1);
+        assert!(rt; set.covers(job) && set.range() == n);
+        set.add(job);
+        assert!(rt; set.covers(job) && set.has(job) && set.len() == 1 && !set.is_empty());
+        set.take_out(job);
+    }
+    Ok(())
+}
+
+#[test]
+fn calls_of_constant_time_do_not_go_through_the_set(rt: HostRuntime) -> Result<(), Fail> {
+    // a million and a half words, which take a millisecond: gone through so often they would take hours
+    Ok(call_often(&rt, rt.alloc(), 100_000_000, 1_000_000)?)
 }
 
 /// Makes two sets, and then so many times each call that takes no memory.
@@ -121,6 +159,12 @@ fn use_sets(rt: &impl Abort, alloc: Global, times: u32) -> Result<(), AllocError
         let ranks = set.rank_without(&other, 1) == Some(3);
         assert!(rt; has && counts && ranks, "round {round}");
         set.clear();
+        set.take_out(3);
+        let lacks = !set.has(3) && set.is_empty() && set.len() == 0;
+        assert!(rt;
+            lacks && set.rank_without(&other, 1) == None,
+            "round {round}"
+        );
     }
     Ok(())
 }
