@@ -59,6 +59,20 @@ fn the_longest_run_is_lawful(rt: HostRuntime) -> Result<(), Fail> {
 }
 
 #[test]
+fn a_run_of_each_length_is_lawful(rt: HostRuntime) -> Result<(), Fail> {
+    for jobs in 0..4097 {
+        let workers = jobs % 16 + 1;
+        let givens = Givens::try_new(jobs, workers, workers)?;
+        let events = longest_run(rt.alloc(), givens)?;
+        assert!(rt;
+            judge(rt.alloc(), givens, &events)? == Lawful,
+            "{jobs} jobs"
+        );
+    }
+    Ok(())
+}
+
+#[test]
 fn refused_judge(rt: HostRuntime) {
     if let Ok(givens) = Givens::try_new(2, 2, 2) {
         match judge(rt.alloc(), givens, &[Claimed(1, 1), Claimed(2, 1)]) {

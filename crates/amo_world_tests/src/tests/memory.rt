@@ -11,6 +11,22 @@ fn the_largest_world_opens(rt: HostRuntime) -> Result<(), Fail> {
 }
 
 #[test]
+fn a_world_of_each_size_opens(rt: HostRuntime) -> Result<(), Fail> {
+    for jobs in 0..4097 {
+        let workers = jobs % 16 + 1;
+        let world = opening(rt.alloc(), (jobs, workers, workers + jobs % 100))?;
+        assert_eq!(rt; world.unclaimed_len() as u64, jobs);
+    }
+    for jobs in 0..71 {
+        for workers in 1..17 {
+            let world = opening(rt.alloc(), (jobs, workers, 100))?;
+            assert_eq!(rt; world.unclaimed_len() as u64, jobs);
+        }
+    }
+    Ok(())
+}
+
+#[test]
 fn refused_world(rt: HostRuntime) {
     if let Ok(givens) = Givens::try_new(5, 2, 2) {
         match World::new(rt.alloc(), givens) {
@@ -25,6 +41,8 @@ fn look(rt: &impl Abort, world: &World, p: u32, j: u32) {
     let givens = world.givens();
     assert!(rt; 1 <= p && p <= givens.workers() && 1 <= j && j <= givens.jobs());
     let _gone = world.is_gone(p);
+    let _heard = world.heard(p);
+    let _announced = world.announced(p);
     let _phase = world.local(p).phase();
     let _events = world.history();
     let _turns = world.turns_of(p);
@@ -41,7 +59,7 @@ fn call_each(alloc: Global, rt: &impl Abort, rounds: u32) -> Result<(), Fail> {
         let stopped = 2 + round % 7;
         let leaver = 9 + round % 7;
         let moves = [Turn(1), Halt(stopped), Leave(leaver), Turn(16)];
-        assert!(rt; world.in_range(&moves));
+        assert!(rt; world.in_range(&moves) && !world.in_range(&[Turn(17)]));
         world.run(&moves);
         let _turned = turn(rt, &mut world, leaver);
         let _stopped = halt(rt, &mut world, leaver);
@@ -50,6 +68,7 @@ fn call_each(alloc: Global, rt: &impl Abort, rounds: u32) -> Result<(), Fail> {
         if !world.is_gone(1) {
             let _alone = world.run_alone(1);
         }
+        let _held = leave(rt, &mut world, 1);
     }
     Ok(())
 }
