@@ -1,6 +1,7 @@
 //! Out of memory, and the calls that take no memory.
 ghost use Rattle.std.specs.Prelude.{◌≡◌, IfSome};
 
+use super::rows::{look, words_of};
 use super::*;
 
 /// Whether a request for memory is granted. Where one was refused and this is, what was refused has to succeed now.
@@ -124,9 +125,11 @@ fn refused_closed_floor(rt: HostRuntime) -> Result<(), Fail> {
 }
 
 /// Opens a floor and hires its two workers. Where they are used, both make each call that takes no memory: one does a job,
-/// holds another and is collected, the other leaves and is collected.
+/// holds another and is collected, the other leaves and is collected. Then all that the book shows is looked at, the floor is
+/// closed, and its words are.
 fn use_floor(rt: &impl Abort, alloc: Global, used: bool) -> Result<(), Fail> {
-    let (floor, mut book) = open_letters(rt, alloc, (5, 2, 2))?;
+    let givens = Givens::try_new(5, 2, 2)?;
+    let (floor, mut book) = open(rt, alloc, givens, letters(alloc, 5)?);
     let mut first = hire(rt, alloc, &floor, &mut book, 1);
     let mut second = hire(rt, alloc, &floor, &mut book, 2);
     if used {
@@ -137,6 +140,9 @@ fn use_floor(rt: &impl Abort, alloc: Global, used: bool) -> Result<(), Fail> {
         assert!(rt; first.number() == 1 && first.steps() == 9 && second.steps() == 1);
         book.collect(&floor, first);
         book.collect(&floor, second);
+        assert!(rt; look(givens, &book, 1) == Some((9, false, 2, 1)));
+        let closed = floor.close(book);
+        assert!(rt; words_of(&closed, 1) == Some((2, 2, 1)));
     }
     Ok(())
 }

@@ -71,7 +71,7 @@ fn a_worker_may_be_dropped_anywhere(rt: HostRuntime) -> Result<(), Fail> {
 
 /// What the book says of worker p where it is back: its steps, whether it has ended, and how many jobs it has claimed and
 /// done.
-fn look(givens: Givens, book: &Book<char>, p: u32) -> Option<(u64, bool, usize, usize)>
+pub(super) fn look(givens: Givens, book: &Book<char>, p: u32) -> Option<(u64, bool, usize, usize)>
     requires { book.now.view.givens ≡ givens }
 {
     if p == 0 || p > givens.workers() {
@@ -174,7 +174,7 @@ fn the_book_says_what_came_back(rt: HostRuntime) -> Result<(), Fail> {
 }
 
 /// The announcement, the count of claims and the first entry of the row of worker p, as they stood.
-fn words_of(closed: &ClosedFloor<char>, p: u32) -> Option<(u64, u64, u64)> {
+pub(super) fn words_of(closed: &ClosedFloor<char>, p: u32) -> Option<(u64, u64, u64)> {
     if p == 0 || p > closed.givens().workers() {
         return None;
     }

@@ -3,10 +3,8 @@ ghost use Rattle.std.specs.Prelude.{◌≡◌};
 
 use super::*;
 
-/// Numbers of jobs at the limits, at the borders of a word of 64 bits, and between.
-const JOBS: [u32; 9] = [0, 1, 63, 64, 65, 1000, 1001, 4095, 4096];
-/// Numbers of workers at the limits and between.
-const WORKERS: [u32; 6] = [1, 2, 3, 8, 15, 16];
+/// Numbers of jobs that are tried with each number of workers, as all up to 70 are.
+const JOBS: [u32; 4] = [1000, 1001, 4095, 4096];
 
 /// The free jobs rise, each comes with its own payload, and with those that were claimed they are all jobs.
 fn expect_all_told(rt: &impl Abort, end: &Settlement<u32>, givens: Givens) {
@@ -77,7 +75,7 @@ fn settle_each_threshold(
     jobs: u32,
     workers: u32,
 ) -> Result<(), Fail> {
-    for beta in [workers as u64, workers as u64 + 1, 65535] {
+    for beta in [workers as u64, workers as u64 + jobs as u64 / 2, 65535] {
         let givens = Givens::try_new(jobs as u64, workers as u64, beta)?;
         settle_at_once(rt, alloc, givens)?;
         settle_after_work(rt, alloc, givens)?;
@@ -85,12 +83,32 @@ fn settle_each_threshold(
     Ok(())
 }
 
+/// Floors with so many jobs, and each number of workers.
+fn settle_each_crew(rt: &impl Abort, alloc: Global, jobs: u32) -> Result<(), Fail> {
+    for workers in 1..17 {
+        settle_each_threshold(rt, alloc, jobs, workers)?;
+    }
+    Ok(())
+}
+
 #[test]
 fn a_floor_of_each_size_is_settled(rt: HostRuntime) -> Result<(), Fail> {
+    for jobs in 0..71 {
+        settle_each_crew(&rt, rt.alloc(), jobs)?;
+    }
     for jobs in JOBS {
-        for workers in WORKERS {
-            settle_each_threshold(&rt, rt.alloc(), jobs, workers)?;
-        }
+        settle_each_crew(&rt, rt.alloc(), jobs)?;
+    }
+    Ok(())
+}
+
+#[test]
+fn a_floor_of_each_number_of_jobs_is_settled(rt: HostRuntime) -> Result<(), Fail> {
+    for jobs in 0..4097u64 {
+        let workers = jobs % 16 + 1;
+        let givens = Givens::try_new(jobs, workers, workers)?;
+        settle_at_once(&rt, rt.alloc(), givens)?;
+        settle_after_work(&rt, rt.alloc(), givens)?;
     }
     Ok(())
 }
