@@ -128,14 +128,16 @@ fn refused_twice_in_a_run(rt: HostRuntime) -> Result<(), Fail> {
     Ok(())
 }
 
-/// Makes a queue. Where it is used, one output goes through it, one is left to be gathered.
+/// Makes a queue. Where it is used, more is put than goes into it, one output goes through it, and the others are left to be
+/// gathered.
 fn use_queue<R: Abort + Wait>(rt: &R, alloc: Global, used: bool) -> Result<(), Fail> {
-    let (queue, mut inlet, mut ends) = outlets::<u32>(alloc, Givens::try_new(2, 1, 1)?)?;
+    let (queue, mut inlet, mut ends) = outlets::<u32>(alloc, Givens::try_new(71, 1, 1)?)?;
     if used {
-        put_jobs(rt, &queue, &mut ends[0], 1, 3);
+        put_jobs(rt, &queue, &mut ends[0], 1, 71);
+        assert!(rt; ends[0].kept().len() == 6 && ends[0].has_room());
         assert_eq!(rt; take_jobs(rt, &queue, &mut inlet, 1), 1);
-        assert!(rt; ends[0].put_count() <= inlet.room());
-        assert_eq!(rt; inlet.gather(rt, queue, ends).len(), 2);
+        assert!(rt; inlet.taken().len() == 1 && ends[0].put_count() <= inlet.room());
+        assert_eq!(rt; inlet.gather(rt, queue, ends).len(), 70);
     }
     Ok(())
 }

@@ -82,13 +82,13 @@ fn run_gate<R: Threads + Wait + Abort + Sync>(
 }
 
 #[test]
-fn gate_workers(rt: HostRuntime) -> Result<(), Fail> {
-    run_gate(&rt, rt.alloc(), 4, &[10_000; 4])
-}
-
-#[test]
-fn gate_of_16_workers(rt: HostRuntime) -> Result<(), Fail> {
-    run_gate(&rt, rt.alloc(), 16, &[10_000_000; 16])
+fn all_threads_are_started_before_one_is_joined(rt: HostRuntime) -> Result<(), Fail> {
+    let budgets = [10_000_000; 16];
+    for workers in 1..17 {
+        let own = budgets.get(..workers as usize).unwrap_or(&[]);
+        run_gate(&rt, rt.alloc(), workers, own)?;
+    }
+    Ok(())
 }
 
 /// One worker with a budget of so many steps for two jobs: its end, the job in its hand, and how many it has done.

@@ -3,10 +3,8 @@
 use super::runs::run;
 use super::*;
 
-/// Numbers of jobs at the limits, at the borders of a word of 64 bits, and between.
-const JOBS: [u32; 9] = [0, 1, 63, 64, 65, 1000, 1001, 4095, 4096];
-/// Numbers of workers at the limits and between.
-const WORKERS: [u32; 6] = [1, 2, 3, 8, 15, 16];
+/// Numbers of jobs that are tried with each number of workers, as all up to 70 are.
+const JOBS: [u32; 4] = [1000, 1001, 4095, 4096];
 /// A budget for each worker, each another one.
 const BUDGETS: [u64; 16] = [
     11, 23, 35, 48, 62, 77, 93, 110, 128, 147, 167, 188, 210, 233, 257, 282,
@@ -23,37 +21,63 @@ fn expect_outlets(rt: &impl Abort, alloc: Global, givens: Givens) -> Result<(), 
     Ok(())
 }
 
-/// Runs with so many jobs and workers, thresholds at both limits and between, and budgets that are all different.
-fn run_each_threshold<R: Threads + Wait + Abort + Sync>(
+/// A threshold for so many jobs and workers: one of both limits, or between.
+fn threshold(jobs: u32, workers: u32) -> u32 {
+    match jobs.wrapping_add(workers) % 3 {
+        0 => workers,
+        1 => workers.saturating_add(jobs / 2),
+        _ => 65535,
+    }
+}
+
+/// A run with so many jobs and workers, and budgets that are all different.
+fn run_each_job<R: Threads + Wait + Abort + Sync>(
     rt: &R,
     alloc: Global,
     jobs: u32,
     workers: u32,
 ) -> Result<(), Fail> {
     let budgets = BUDGETS.get(..workers as usize).unwrap_or(&[]);
-    for beta in [workers, workers.saturating_add(1), 65535] {
-        expect_outlets(
-            rt,
-            alloc,
-            Givens::try_new(jobs as u64, workers as u64, beta as u64)?,
-        )?;
-        let outcome = run(rt, alloc, (jobs, workers, beta), budgets, &Echo)?;
-        let told = outcome.outputs.len().saturating_add(outcome.in_hand.len());
-        assert_eq!(rt;
-            told.saturating_add(outcome.settlement.free.len()),
-            jobs as usize
-        );
-        assert_eq!(rt; outcome.ends.len(), workers as usize);
+    let beta = threshold(jobs, workers);
+    let givens = Givens::try_new(jobs as u64, workers as u64, beta as u64)?;
+    expect_outlets(rt, alloc, givens)?;
+    let outcome = run(rt, alloc, (jobs, workers, beta), budgets, &Echo)?;
+    let told = outcome.outputs.len().saturating_add(outcome.in_hand.len());
+    assert_eq!(rt;
+        told.saturating_add(outcome.settlement.free.len()),
+        jobs as usize
+    );
+    assert_eq!(rt; outcome.ends.len(), workers as usize);
+    Ok(())
+}
+
+/// Runs with so many jobs, and each number of workers.
+fn run_each_crew<R: Threads + Wait + Abort + Sync>(
+    rt: &R,
+    alloc: Global,
+    jobs: u32,
+) -> Result<(), Fail> {
+    for workers in 1..17 {
+        run_each_job(rt, alloc, jobs, workers)?;
     }
     Ok(())
 }
 
 #[test]
 fn a_run_of_each_size_is_settled(rt: HostRuntime) -> Result<(), Fail> {
+    for jobs in 0..71 {
+        run_each_crew(&rt, rt.alloc(), jobs)?;
+    }
     for jobs in JOBS {
-        for workers in WORKERS {
-            run_each_threshold(&rt, rt.alloc(), jobs, workers)?;
-        }
+        run_each_crew(&rt, rt.alloc(), jobs)?;
+    }
+    Ok(())
+}
+
+#[test]
+fn runs_of_sizes_in_between_are_settled(rt: HostRuntime) -> Result<(), Fail> {
+    for step in 0..111 {
+        run_each_job(&rt, rt.alloc(), 37 * step, step % 4 + 1)?;
     }
     Ok(())
 }
@@ -65,12 +89,7 @@ fn expect_all_in_hand<R: Threads + Wait + Abort + Sync>(
     alloc: Global,
     workers: u32,
 ) -> Result<(), Fail> {
-    let steps = [2, 4, 6, 16, 30, 32];
-    let place = WORKERS
-        .iter()
-        .position(|count| *count == workers)
-        .unwrap_or(0);
-    let budgets = [steps[place.min(5)]; 16];
+    let budgets = [2 * workers as u64; 16];
     let own = budgets.get(..workers as usize).unwrap_or(&[]);
     let outcome = run(rt, alloc, (1000, workers, workers), own, &Echo)?;
     assert_eq!(rt; outcome.in_hand.len(), workers as usize);
@@ -86,7 +105,7 @@ fn expect_all_in_hand<R: Threads + Wait + Abort + Sync>(
 
 #[test]
 fn each_worker_is_stopped_with_a_job_in_its_hand(rt: HostRuntime) -> Result<(), Fail> {
-    for workers in WORKERS {
+    for workers in 1..17 {
         expect_all_in_hand(&rt, rt.alloc(), workers)?;
     }
     Ok(())
