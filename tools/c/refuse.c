@@ -1,5 +1,6 @@
 /* Refuses the library's requests for memory, each in turn alone, and each with all after it. The call has to answer code 8 and
-   write nothing, or what it answers with all memory; and it has to give back all that it took.
+   write nothing, or what it answers with all memory; and it has to give back all that it took. How often a call asks for memory
+   hangs on the givens alone: of a list that can't be amo_batch asks for none for its items.
 
      refuse
 
@@ -16,12 +17,13 @@ void *__wrap_malloc(size_t size);
 void *__wrap_realloc(void *old, size_t size);
 void __wrap_free(void *old);
 
-/* How many requests come before the next that is refused, or negative; how many were refused; how many blocks are held. */
-static long until = -1, refusals, held;
+/* How many requests come before the next that is refused, or negative; how many there were, and were refused; how many blocks are held. */
+static long until = -1, requests, refusals, held;
 static int all_after; /* whether all requests after one that is refused are refused too */
 
 static int is_refused(void) {
   int refuses = until == 0;
+  requests++;
   if (until > 0 || (until == 0 && !all_after))
     until--;
   refusals += refuses;
@@ -61,6 +63,15 @@ static uint32_t call(int which, const uint64_t *heard, size_t len, written_t *to
   return (which == LEAVE ? amo_leave : amo_next)(&givens, 1, heard, len, &to->next);
 }
 
+/* How often this call requests memory of this list. */
+static long requests_of(int which, const uint64_t *heard, size_t len) {
+  written_t found;
+  long before = requests;
+  until = -1;
+  call(which, heard, len, &found);
+  return requests - before;
+}
+
 /* Refuses each request of this call; how many answers were wrong. */
 static long refuse_each(int which, const uint64_t *heard, size_t len) {
   written_t untouched, wanted, found;
@@ -85,7 +96,10 @@ int main(void) {
   /* Nothing heard, to announce, a job in doubt, in the middle of an attempt, a job in hand, a word that can't be. */
   static const uint64_t lists[6][8] = {{0}, {0}, {3, 2, 2, 0}, {0}, {0}, {1, 2, 0}};
   static const size_t lens[6] = {0, 3, 4, 5, 8, 3};
-  long wrong = 0;
+  long wrong = 0, asked = requests_of(NEXT, lists[0], lens[0]), for_batch = requests_of(BATCH, lists[0], lens[0]);
+  for (int list = 0; list < 6; list++)
+    for (int which = 0; which < CALLS; which++)
+      wrong += requests_of(which, lists[list], lens[list]) != (which == BATCH && list < 5 ? for_batch : asked);
   for (all_after = 0; all_after < 2; all_after++)
     for (int list = 0; list < 6; list++)
       for (int which = 0; which < CALLS; which++)

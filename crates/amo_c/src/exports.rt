@@ -109,8 +109,8 @@ pub extern "C" fn amo_next(
 
 /// What `amo_next` tells, and with it the worker's batch: all loads and stores that are known before anything more is heard, in
 /// their order. As many of its items are written as there are places, the first ones, and `count` says how many; the other
-/// places stay as they were. 2 * `workers` + 1 places are room for any batch. How much memory is asked for hangs on the givens
-/// alone here too.
+/// places stay as they were. 2 * `workers` + 1 places are room for any batch. How much memory is asked for of a list that can
+/// come hangs on the givens alone here too.
 #[unsafe(no_mangle)]
 pub extern "C" fn amo_batch(
     alloc: Global,

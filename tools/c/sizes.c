@@ -1,0 +1,117 @@
+/* Calls at each number of jobs and workers, and on lists of each length: no contract says that memory is really wanting where a call
+   answers so. What has to be told follows from the numbers.
+
+     sizes
+
+   First, a worker that has loaded its own words, all 0: it announces a job, by its share of the list, and then reads what each other
+   worker has announced and filed; or it has ended, where there are fewer jobs than beta. Then a worker alone, with lists of zeros: after
+   its own words each three accesses announce, claim and file a job, in their order. The last line says how many lists were tried. */
+#include "amo.h"
+#include <stdio.h>
+#include <string.h>
+
+enum { ROOM = 33, JOBS = 4096 };
+
+static long tried, wrong;
+
+/* What the three calls have to answer of one list. */
+typedef struct {
+  amo_givens_t givens;
+  uint64_t worker, len, count;
+  amo_next_t next, leaving;
+  uint32_t left;
+  amo_item_t items[ROOM];
+} case_t;
+
+static const uint64_t zeros[3 + 3 * JOBS + 1];
+
+static void count(const char *call, const case_t *it, int holds) {
+  wrong += !holds;
+  if (!holds && wrong < 10)
+    printf("sizes: FAILED: %s: %llu jobs, worker %llu of %llu, %llu heard\n", call, (unsigned long long)it->givens.jobs,
+           (unsigned long long)it->worker, (unsigned long long)it->givens.workers, (unsigned long long)it->len);
+}
+
+static void try_case(const case_t *it) {
+  amo_next_t next, leaving, same;
+  amo_item_t items[ROOM];
+  uint64_t found = 99;
+  memset(&next, 0, sizeof next), memset(&leaving, 0, sizeof leaving), memset(items, 0, sizeof items);
+  uint32_t code = amo_next(&it->givens, it->worker, zeros, it->len, &next);
+  count("amo_next", it, code == AMO_OK && !memcmp(&next, &it->next, sizeof next));
+  code = amo_leave(&it->givens, it->worker, zeros, it->len, &leaving);
+  count("amo_leave", it, code == it->left && !memcmp(&leaving, &it->leaving, sizeof leaving));
+  code = amo_batch(&it->givens, it->worker, zeros, it->len, items, ROOM, &found, &same);
+  int holds = code == AMO_OK && !memcmp(&same, &next, sizeof same) && found == it->count;
+  count("amo_batch", it, holds && !memcmp(items, it->items, sizeof items));
+  tried++;
+}
+
+static void add(case_t *it, uint64_t access, uint64_t word, uint64_t value) {
+  it->items[it->count++] = (amo_item_t){access, word, value};
+}
+
+/* The store that comes next, and in its phase what the worker may do. */
+static void told(case_t *it, uint32_t phase, uint64_t word, uint64_t value, uint64_t claims, uint64_t dones) {
+  it->next = (amo_next_t){AMO_STORE, phase, word, value, phase == AMO_HOLDING ? (uint32_t)value : 0, 0, claims, dones};
+  it->left = phase == AMO_HOLDING ? AMO_MAY_NOT_LEAVE : AMO_OK;
+  if (it->left == AMO_OK)
+    it->leaving = (amo_next_t){AMO_STORE, AMO_LEFT, it->worker, 0, 0, 0, claims, dones};
+  add(it, AMO_STORE, word, value);
+}
+
+static void ended(case_t *it, uint64_t dones) {
+  it->next = (amo_next_t){AMO_NOTHING, AMO_OVER, 0, 0, 0, 0, dones, dones};
+  it->left = AMO_MAY_NOT_LEAVE;
+}
+
+static void try_first(uint64_t jobs, uint64_t workers, uint64_t p, uint64_t beta) {
+  case_t it = {.givens = {jobs, workers, beta}, .worker = p, .len = 3};
+  if (jobs < beta) {
+    ended(&it, 0);
+  } else {
+    uint64_t spare = jobs - (workers - 1);
+    told(&it, AMO_ANNOUNCING, p, 1 + (spare >= workers ? (p - 1) * spare / workers : p - 1), 0, 0);
+    for (uint64_t q = 1; q <= workers; q++)
+      if (q != p)
+        add(&it, AMO_LOAD, q, 0);
+    for (uint64_t q = 1; q <= workers; q++)
+      if (q != p)
+        add(&it, AMO_LOAD_ROW, 2 * workers + (q - 1) * (jobs + 1) + 1, 2 * workers + q * (jobs + 1));
+  }
+  try_case(&it);
+}
+
+static void try_alone(uint64_t jobs, uint64_t len) {
+  case_t it = {.givens = {jobs, 1, 1}, .worker = 1, .len = len, .left = AMO_MAY_NOT_LEAVE};
+  uint64_t job = len < 3 ? 0 : (len - 3) / 3 + 1;
+  if (len < 3) {
+    it.next = (amo_next_t){AMO_LOAD, AMO_BEGINNING, len + 1, 0, 0, 0, 0, 0};
+    for (uint64_t word = len + 1; word < 3; word++)
+      add(&it, AMO_LOAD, word, 0);
+    add(&it, AMO_LOAD_ROW, 3, 3 + jobs);
+  } else if (job > jobs) {
+    ended(&it, jobs);
+  } else if (len % 3 == 0) {
+    told(&it, AMO_ANNOUNCING, 1, job, job - 1, job - 1);
+  } else if (len % 3 == 1) {
+    told(&it, AMO_CLAIMING, 2, job, job - 1, job - 1);
+  } else {
+    told(&it, AMO_HOLDING, 2 + job, job, job, job - 1);
+    if (job < jobs)
+      add(&it, AMO_STORE, 1, job + 1);
+  }
+  try_case(&it);
+}
+
+int main(void) {
+  for (uint64_t jobs = 0; jobs <= JOBS; jobs++)
+    for (uint64_t workers = 1; workers <= 16; workers++)
+      try_first(jobs, workers, jobs % workers + 1, workers + jobs % 2);
+  for (uint64_t len = 0; len <= 3 + 3 * 300; len++)
+    try_alone(300, len);
+  for (uint64_t len = 0; len <= 3 + 3 * JOBS; len += 61)
+    try_alone(JOBS, len);
+  printf("%ld lists, %ld answers wrong\n", tried, wrong);
+  return wrong != 0;
+}
