@@ -114,7 +114,7 @@ static int name_of(int folder, const char *path, char *name) {
   }
   snprintf(whole + length, sizeof whole - length, "%s", path);
   length = strlen(whole);
-  while (length > 1 && whole[length - 1] == '/')
+  while (length > 1 && (whole[length - 1] == '/' || (whole[length - 1] == '.' && whole[length - 2] == '/')))
     whole[--length] = 0;
   long front = strlen(run);
   const char *above = strrchr(run, '/');

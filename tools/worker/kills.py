@@ -143,6 +143,12 @@ def names_file(said, file, scene):
     return any(name in said or name.endswith(".new") and name[:-4] in said for name in names.get(file, (file,)))
 
 
+def status_of(call, file):
+    """With which status it ends where this call is refused: 74 where a file can't be read, the jobs' file synced, or a file opened
+    that has to be there; else 73."""
+    return {READ} if call == "read" or (call, file) == ("sync", "JOBS") else {READ, WRITE} if call in ("open", "look") else {WRITE}
+
+
 def refuse_one(bench, number, call, file, fault):
     """One call fails. An interrupted or a short one is made again, or it ends as one that failed. Nothing is said after it."""
     scene = bench.scene(4, 2)
@@ -151,7 +157,7 @@ def refuse_one(bench, number, call, file, fault):
     later = [it for it in scene.logged() if int(it[1]) > number and it[2] == "say"]
     goes_on = fault in ("short", str(errno.EINTR)) and status == LATER
     if not goes_on:
-        named = status in (WRITE, READ) and names_file(runner.said, file, scene)
+        named = status in status_of(call, file) and names_file(runner.said, file, scene)
         named = named or file in ("IN", "OUT") and status == LEFT
         want(named and runner.said.count("\n") == 1, f"status {status}, {runner.said!r}")
         want(not later, "it says something after the failure")
@@ -162,16 +168,17 @@ def refuse_one(bench, number, call, file, fault):
 
 
 def refusals(bench):
-    """Each call with each fault; in the short form, of calls that are alike the first and the last."""
+    """Each call with each fault; in the short form, of calls that are alike the first and the last, and all on folders."""
     calls, alike = first_life(bench), {}
     for it in calls:
         if int(it[7]) >= 0 or it[2] == "open":
-            alike.setdefault((it[2], it[3].rstrip("0123456789"), it[8] if it[2] == "open" else ""), []).append(it)
+            kind = it[2], it[3].rstrip("0123456789"), it[8] if it[2] == "open" else "", it[1] if it[3] in (".", "..") else ""
+            alike.setdefault(kind, []).append(it)
     ends = {it[1]: it for group in alike.values() for it in (group[0], group[-1])}
     for it in calls if bench.is_long else ends.values():
         number, call, file = int(it[1]), it[2], it[3]
         faults = [errno.ENOSPC if number % 2 and call in ("write", "open", "rename") and it[8] != "r" else errno.EIO]
-        faults = [] if call in ("say", "hear") else faults
+        faults = [errno.EPIPE] if call in ("say", "hear") else faults
         faults += [errno.EINTR] if call in INTERRUPTED else []
         faults += ["short"] if call in ("read", "write", "say") and int(it[6]) > 1 else []
         yield from ((bench, number, call, file, str(fault)) for fault in faults)
@@ -373,10 +380,11 @@ def try_two_of_one_number(bench):
     return f"{each(((bench, int(it[1])) for it in calls[:until]), stop_one)} stops"
 
 
-def swap_one(bench, name):
-    """A process is stopped before it asks for a lock; the file is changed for another of the same name, which others lock."""
+def swap_one(bench, name, which):
+    """A process is stopped before it asks for a lock, for the first time or later; the file is changed for another of the same name,
+    which others lock."""
     calls = first_life(bench)
-    number = next(int(it[1]) for it in calls if it[2:4] == ["lock", name])
+    number = [int(it[1]) for it in calls if it[2:4] == ["lock", name]][which]
     scene = bench.scene(4, 2)
     first, other = Runner(scene, 1), Runner(scene, 1 if name == "journal.1" else 2, is_stray=True)
     first.start(f"{number}:stop_before")
@@ -392,7 +400,7 @@ def swap_one(bench, name):
 
 def try_locks_of_old_files(bench):
     """a lock that was got on a file which has its name no more counts for nothing"""
-    each(((bench, it) for it in ("journal.1", "lock.round")), swap_one)
+    each(((bench, *it) for it in (("journal.1", 0), ("lock.round", 0), ("lock.round", 1))), swap_one)
 
 
 PARTS = {"killed": [try_killed, try_killed_beside, try_killed_and_dropped, try_killed_with_its_runner, try_killed_answers,

@@ -81,8 +81,10 @@ def try_counts(bench):
     scene = prepared(bench, ["done 0", "done 3", "doubt", "untouched 75", "unbegun", "dies"])
     kinds = agree(scene)
     want([kinds[k] for k in range(1, 7)] == ["done", "failed", "doubt", "untouched", "open", "doubt"], f"{kinds}")
-    finish(scene)
+    runner, = finish(scene)
     agree(scene)
+    counted = counts_of(scene)[1].split("\n")[0]
+    want(runner.said.endswith(f"{counted}\n"), f"at the end it says {runner.said}, and the status {counted}")
 
 
 def answered(scene, name, line, text, verdict, status, taken):
@@ -92,7 +94,7 @@ def answered(scene, name, line, text, verdict, status, taken):
     after = len(texts_of(read(f"{scene.run}/answers")))
     said = f"{name} {line} {text} {verdict}: status {ended}, {after - before} taken, {err}"
     want((ended, after - before) == (status, taken), said)
-    want(status == OVER or err.count("\n") == 1, f"{name} {verdict} is refused without a word: {err}")
+    want(status == OVER or err.count("\n") == 1 and "answer 1" in err, f"{name} {verdict} is refused without a word: {err}")
 
 
 def try_answers(bench):
@@ -135,20 +137,37 @@ def try_answers_from_file(bench):
     rows = scene.call("status", scene.run, "--lines", "doubt")[1].splitlines()
     path = f"{scene.room}/verdicts"
 
-    def given(lines, status, taken):
+    def given(lines, status, taken, refused=None):
         with open(path, "w") as file:
             file.write("".join(lines))
         before = len(texts_of(read(f"{scene.run}/answers")))
         ended, _, err = scene.call("answer", scene.run, "--from", path)
         count = len(texts_of(read(f"{scene.run}/answers"))) - before
         want((ended, count) == (status, taken), f"{lines}: status {ended}, {count} taken, {err}")
+        want(refused is None or f"answer {refused}" in err, f"{lines}: answer {refused} is refused, and it says: {err}")
 
-    given([f"{rows[0]}\tdone\n", "1.4\t4\tjob 4\tnot-done\n"], REFUSED, 0)
-    given([f"{rows[0]}\tdone\n", f"{rows[1]}\tperhaps\n"], REFUSED, 0)
-    given([f"{rows[0]}\tdone\n", f"{rows[0]}\tnot-done\n"], REFUSED, 0)
-    given([f"{rows[0]}\tdone\n", f"{rows[2]}\tdone\n"], OVER, 2)
+    given(["1.4\t4\tjob 4\tnot-done\n", f"{rows[0]}\tdone\n"], REFUSED, 0, 1)
+    given([f"{rows[0]}\tdone\n", "1.4\t4\tjob 4\tnot-done\n"], REFUSED, 0, 2)
+    given([f"{rows[0]}\tdone\n", f"{rows[1]}\tperhaps\n"], REFUSED, 0, 2)
+    given([f"{rows[0]}\tdone\n", f"{rows[1]}\tdone\n", f"{rows[0]}\tnot-done\n"], REFUSED, 0, 3)
+    given([f"{rows[0]}\tdone\n", f"{rows[2]}\tdone\n", f"{rows[0]}\tdone\n"], OVER, 2)
     want(sorted(agree(scene).values()) == ["done", "done", "done", "doubt"], f"{agree(scene)}")
     finish(scene)
+
+
+def try_many_answers(bench):
+    """files of 0 to 11 answers, each of which is taken, and as many lines that are opened again at once"""
+    scene = prepared(bench, ["doubt"] * 66 + ["untouched 75"] * 12, lines=78)
+    rows, path = scene.call("status", scene.run, "--lines", "doubt")[1].splitlines(), f"{scene.room}/verdicts"
+    for count in range(12):
+        with open(path, "w") as file:
+            file.write("".join(f"{row}\tdone\n" for row in rows[:count]))
+        status, _, err = scene.call("answer", scene.run, "--from", path)
+        rows = rows[count:]
+        counts, _ = counts_of(scene)
+        want(status == OVER and counts["doubt"] == len(rows), f"of {count} answers: status {status}, {counts}, {err}")
+    scene.again()
+    want(counts_of(scene)[0]["open"] == 12, "again opens another number of lines")
 
 
 class Lasting(Runner):
@@ -321,7 +340,8 @@ def try_words(bench):
                   ["work", run, "--workers", "2", jobs], ["door", run, "--workers", "2"], ["status"],
                   ["status", run, "--lines", "all"], ["status", run, "more"], ["doubts", run, "--lines", "open"],
                   ["answer", run, "1.1", "1"], ["again"], ["work", run, "1", "--workers", "2", "--json", jobs],
-                  ["work", run, "1", "--workers", "two", jobs]]:
+                  ["work", run, "1", "--workers", "two", jobs], ["status", run, "--json", "--lines", "open"],
+                  ["answer", run, "--from", jobs, "1.1", "1", "job 1", "done"], ["answer", run], ["doubts", run, "--from", jobs]]:
         ran = subprocess.run([*bench.command(), *words], stdin=subprocess.DEVNULL, capture_output=True, timeout=20)
         want(ran.returncode == WORDS and ran.stderr.count(b"\n") >= 1, f"{words}: status {ran.returncode}, {ran.stderr}")
     want(not os.path.exists(run), "the folder was made")
@@ -336,15 +356,16 @@ def try_door(bench):
         refuse_run(scene, run)
     finish(scene)
     record = read(f"{scene.run}/record")
-    with open(f"{scene.run}/record", "wb") as file:
-        file.write(record.replace(b"amo-run 1", b"amo-run 2", 1))
-    for command in (["door", scene.run], ["work", scene.run, "1"]):
-        want(scene.call(*command, *scene.givens(), scene.jobs)[0] == DOOR, f"{command[0]}: a run of another version is taken")
+    for version in (b"amo-run 2\n", b"amo-run 10\n"):
+        with open(f"{scene.run}/record", "wb") as file:
+            file.write(record.replace(b"amo-run 1\n", version, 1))
+        refuse_run(scene, scene.run)
 
 
 def refuse_run(scene, run, *more):
     """No command takes this folder."""
-    for command in (["door", run, *scene.givens(), scene.jobs], ["work", run, "1", *scene.givens(), scene.jobs], ["status", run]):
+    for command in (["door", run, *scene.givens(), scene.jobs], ["work", run, "1", *scene.givens(), scene.jobs], ["status", run],
+                    ["doubts", run], ["answer", run, "1.1", "1", "job 1", "done"], ["answer", run, "--from", scene.jobs], ["again", run]):
         status, out, err = scene.call(*command, *more)
         want(status == DOOR and not out and err.count("\n") == 1, f"{command[0]} {run} {more}: status {status}, {err}")
 
@@ -373,8 +394,7 @@ def try_owner(bench):
         bench.skipped.append("not root, so no folder of somebody else")
         return
     os.chown(scene.run, 12345, -1)
-    status, _, err = scene.call("work", scene.run, "1", *scene.givens(), scene.jobs)
-    want(status == DOOR, f"status {status}, {err}")
+    refuse_run(scene, scene.run)
 
 
 def try_door_is_kept(bench):
@@ -423,6 +443,6 @@ exec {" ".join(bench.command())} "$@" --boot-id {scene.boot}
     want(not [it for it in os.listdir(scene.run) if it.startswith("command.")], "a command's lock is left")
 
 
-PARTS = {"persons": [try_counts, try_answers, try_answers_open, try_answers_from_file],
+PARTS = {"persons": [try_counts, try_answers, try_answers_open, try_answers_from_file, try_many_answers],
          "commands": [try_commands_that_stay, try_pending, try_locks_of_a_doubt, try_senseless_answers, try_ends, try_no_partner],
          "door": [try_jobs, try_words, try_door, try_file_system, try_owner, try_door_is_kept], "shell": [try_partner_of_shell]}

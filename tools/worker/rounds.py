@@ -71,6 +71,29 @@ def try_givens(bench):
         runner.close()
 
 
+def size_one(bench, lines, workers, beta):
+    """A round of so many lines is begun by one of these workers, who performs one of them: its record and its words."""
+    scene, first = bench.scene(lines, workers, beta=beta), lines % workers + 1
+    runner = Runner(scene, first)
+    runner.leaves = True
+    live(runner)
+    runner.close()
+    want(len(scene.effects()) == 1, f"status {runner.statuses}: {runner.said}")
+    m = min(workers, lines // 4 + 1)
+    threshold = max(beta, m) if m > 1 and lines >= 2 * (beta + m - 2) else m
+    record = folder.record_of(scene.run)
+    found = [record[name] for name in ("round", "n", "m", "beta", "workers", "first")]
+    want(found == [1, lines, m, threshold, workers, first], f"record {record}")
+    want(record["lines"] == list(range(1, lines + 1)), f"record {record}")
+    want(os.path.getsize(f"{scene.run}/words") == 512 + 8 * (m * (lines + 3) + 1), "the words have another size")
+
+
+def try_sizes(bench):
+    """a round of each number of lines up to 70, and some larger ones: its givens, its words, and a line that is performed"""
+    sizes = [*range(1, 71), 100, 255, 256, 257, 500, 1000, 2000, 3000, 4095]
+    return f"{each(((bench, n, 5 * n % 16 + 1, n % 9 + 1) for n in sizes), size_one)} rounds"
+
+
 def try_seats(bench):
     """while a worker is at work in a round for one, no other has a seat in it"""
     scene = bench.scene(3, 4)
@@ -121,6 +144,7 @@ def try_last_line(bench):
     scene = begun(bench)
     with open(scene.jobs, "a") as file:
         file.write("job 10\njob 1")
+    scene.door()
     runner = Says(scene, 1, ["done 0"])
     live(runner)
     record = folder.record_of(scene.run)
@@ -181,7 +205,7 @@ def try_many_lines(bench):
     live(runner)
     runner.close()
     want(len(scene.effects()) == 4097, f"{len(scene.effects())} lines are performed")
-    finish(scene, (2, 1))
+    finish(scene, (3, 2, 1))
     if bench.is_long:
         scene = bench.scene(100000, 16)
         runner = Runner(scene, 16)
@@ -494,7 +518,7 @@ def try_failed_readers(bench):
     return f"{count} refusals"
 
 
-PARTS = {"rounds": [try_changes, try_givens, try_seats, try_closing_wins, try_jobs_changed, try_jobs_torn, try_last_line,
+PARTS = {"rounds": [try_changes, try_givens, try_sizes, try_seats, try_closing_wins, try_jobs_changed, try_jobs_torn, try_last_line,
                     try_many_lines],
          "crews": [try_crews, try_collisions, try_words_spoiled, try_stopped_in_a_round, try_stopped_between_rounds],
          "readers": [try_readers, try_unreadable, try_failed_readers]}

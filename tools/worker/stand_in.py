@@ -280,7 +280,7 @@ def jobs_of(jobs, known, is_first):
     if data is None:
         raise End(74, f"{jobs}: there is no such file")
     file = opened(jobs, os.O_RDONLY, 74)
-    sync(file, jobs)
+    called(74, jobs, os.fsync, file)
     os.close(file)
     if not data.startswith(known or b""):
         line = os.path.commonprefix([known, data]).count(b"\n") + 1

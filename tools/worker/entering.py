@@ -1,0 +1,280 @@
+"""What lets a worker in, and what it waits for: its number, the boot id, the path of the folder, folders that two make at once, what
+earlier processes have left half made, locks that others hold for a while or for ever."""
+
+import fcntl
+import os
+import signal
+import subprocess
+import tempfile
+import time
+
+from worker import folder
+from worker.crowd import Reader
+from worker.kills import first_life, state_of
+from worker.persons import prepared
+from worker.scene import DOOR, LATER, LEFT, OVER, READ, REFUSED, WORDS, Runner, each, finish, live, serve, want
+
+
+def is_stand_in(bench):
+    """The stand-in does less here than the program."""
+    if bench.is_slow():
+        bench.skipped.append("the stand-in is let in by less")
+    return bench.is_slow()
+
+
+def get_in(scene, worker, status, named=""):
+    """Worker P begins over a list without lines, of which all is done at once; or it is refused."""
+    ended, out, err = scene.call("work", scene.run, str(worker), *scene.givens(), scene.jobs)
+    said = f"worker {worker} {scene.givens()}: status {ended}, {err}"
+    want((ended, out) == (status, "") and named in err and err.count("\n") == 1, said)
+
+
+def try_each_number(bench):
+    """each number of a worker beside each number of workers, and thresholds of all sizes: it begins, or the number is none"""
+    scene = bench.scene(0)
+    for workers in range(1, 17):
+        scene.workers = workers
+        for worker in range(1, workers + 1):
+            get_in(scene, worker, OVER, "lines 0 done 0 failed 0 doubt 0 running 0 untouched 0 open 0\n")
+        get_in(scene, workers + 1, WORDS)
+    for beta in [*range(1, 71), *(2**k + more for k in range(7, 16) for more in (-1, 0, 1)), 65534, 65535]:
+        scene.beta = beta
+        get_in(scene, 1, OVER)
+
+
+def try_boot_ids(bench):
+    """a boot id of each length that one may have; none, a longer one and two lines are refused; with no word it is the system's"""
+    if is_stand_in(bench):
+        return
+    scene = bench.scene(0)
+
+    def boot(text, status):
+        with open(scene.boot, "w") as file:
+            file.write(text)
+        get_in(scene, 1, status, "" if status == OVER else "the boot id")
+
+    for length in range(1, 201):
+        boot("b" * length + "\n" * (length % 2), OVER)
+    for text in ("", "\n", "b" * 201 + "\n", "b\nb\n", "b\n\n"):
+        boot(text, REFUSED)
+    scene.write_jobs(["job 1", "job 2"])
+    with open(scene.boot, "w") as file:
+        file.write("b" * 200 + "\n")
+    finish(scene)
+    want(folder.record_of(scene.run)["boot"] == "b" * 200, "the record has another boot id")
+    os.unlink(scene.boot)
+    get_in(scene, 1, READ, "the boot id")
+    words = [*bench.command(), "work", scene.run, "1", *scene.givens(), scene.jobs]
+    scene.write_jobs(["job 1", "job 2", "job 3"])
+    subprocess.run(words, stdin=subprocess.DEVNULL, capture_output=True, timeout=60, env=scene.environment())
+    system = folder.read("/proc/sys/kernel/random/boot_id").decode().strip()
+    want(folder.record_of(scene.run)["boot"] == system, "with no other word it isn't the system's boot id")
+
+
+def go_by(bench, path):
+    """The run's folder by another path: the door makes it and syncs the one above, and a worker works there."""
+    scene = bench.scene(2, 1, makes=False)
+    os.chdir(scene.room)
+    os.symlink(scene.room, "link")
+    scene.logs = True
+    status, _, err = scene.call("door", path, *scene.givens(), scene.jobs)
+    want(status == OVER and os.path.isdir(scene.run), f"status {status}, {err}")
+    calls = [it[2:4] for it in scene.logged()]  # (those by another path than this one aren't told)
+    is_synced = ["sync", ".."] in calls[calls.index(["folder", "."]):] if path.startswith("run") else True
+    want(is_synced, "the folder above isn't synced")
+    status, _, err = scene.call("work", path, "1", *scene.givens(), scene.jobs)
+    want(status == LEFT and folder.record_of(scene.run), f"status {status}, {err}")
+    finish(scene)
+
+
+def try_paths(bench):
+    """a path that is relative, ends in slashes, or goes by a link above: the same folder"""
+    each(((bench, path) for path in ("run", "run/", "run//", "./run", "link/run")), go_by)
+
+
+def refused_before(bench, prepare, status):
+    """What can't be that of a run is refused before the folder is made."""
+    scene = bench.scene(1, 1, makes=False)
+    run = prepare(scene) or scene.run
+    for command in (["door", run], ["work", run, "1"]):
+        ended, out, err = scene.call(*command, *scene.givens(), scene.jobs)
+        want(ended == status and not out and err.count("\n") == 1, f"{command}: status {ended}, {err}")
+        want(not os.path.exists(run), f"{command[0]} makes a folder though it refuses")
+
+
+def in_memory(scene):
+    """A folder that isn't there, by a link that leads to a file system in memory."""
+    scene.memory = tempfile.TemporaryDirectory(dir="/dev/shm")
+    os.symlink(scene.memory.name, f"{scene.room}/link")
+    return f"{scene.room}/link/run"
+
+
+def try_nothing_is_made(bench):
+    """a list that is refused or isn't there, a folder above that isn't there or lies in memory: the run's folder isn't made"""
+    if is_stand_in(bench):
+        return
+    rows = [(lambda scene: scene.write_jobs(["a", "", "b"]), REFUSED), (lambda scene: scene.write_jobs(["a"], ""), REFUSED),
+            (lambda scene: os.unlink(scene.jobs), READ), (lambda scene: f"{scene.room}/none/run", READ)]
+    if any(" /dev/shm " in it and " - tmpfs " in it for it in folder.read("/proc/self/mountinfo").decode().splitlines()):
+        rows.append((in_memory, DOOR))
+    each(((bench, *row) for row in rows), refused_before)
+
+
+def two_at_the_door(bench, between, status):
+    """A door is stopped before it makes the folder, which is made meanwhile, or something else of its name."""
+    scene = bench.scene(1, 1, makes=False)
+    scene.logs = True
+    scene.door()
+    number = next(int(it[1]) for it in scene.logged() if it[2] == "folder")
+    scene = bench.scene(1, 1, makes=False)
+    scene.logs = True
+    door = Reader(scene, "door", *scene.givens(), scene.jobs, faults=f"{number}:stop_before")
+    while state_of(door) not in "TZ":
+        time.sleep(0.002)
+    between(scene)
+    door.process.send_signal(signal.SIGCONT)
+    ended, _, err = door.ended()
+    want(ended == status, f"status {ended}, {err}")
+    calls = scene.logged()
+    failed = next(k for k, it in enumerate(calls) if it[2] == "folder" and int(it[7]) < 0)
+    is_synced = any(it[2:4] == ["sync", ".."] and it[0] == calls[failed][0] for it in calls[failed:])
+    want(is_synced == (status == OVER), f"the folder above is synced: {is_synced}")
+
+
+def try_two_at_the_door(bench):
+    """the folder is made by another door, or its name taken by a file, between the look and the making"""
+    if is_stand_in(bench):
+        return
+    rows = [(lambda scene: scene.door(), OVER), (lambda scene: open(scene.run, "w").close(), DOOR)]
+    each(((bench, *row) for row in rows), two_at_the_door)
+
+
+def try_half_made(bench):
+    """what a killed process left under the names of files that are made whole is written over, all of it"""
+    for kind in (b"x" * 10000 + b"\n", b""):
+        scene = bench.scene(4)
+        for name in ("record", "jobs", "words"):
+            with open(f"{scene.run}/{name}.new", "wb") as file:
+                file.write(kind)
+        runner = Runner(scene, 1)
+        want(live(runner) == LATER and len(scene.effects()) == 4, f"status {runner.statuses}: {runner.said}")
+        runner.close()
+        want(folder.read(f"{scene.run}/jobs") == folder.read(scene.jobs), "jobs holds something else than the list")
+        finish(scene)
+
+
+def try_nothing_is_removed(bench):
+    """in a life no file is removed, files are their owner's alone, and each word is read and written whole, at its place"""
+    if is_stand_in(bench):
+        return
+    os.umask(0)
+    calls = first_life(bench)
+    want(not [it for it in calls if it[2] == "remove"], "it removes a file")
+    for it in calls:
+        place, length = int(it[5]), int(it[6])
+        if it[3] == "words" and it[2] in ("read", "write") and place >= 512:
+            want(length == 8 and place % 8 == 0, f"{it[2]} of {length} bytes of words at {place}")
+    run = bench.last.run
+    modes = {name: os.stat(f"{run}/{name}").st_mode & 0o777 for name in ("journal.1", "lock.round", "record", "jobs", "words")}
+    want(set(modes.values()) == {0o600}, f"modes: {modes}")
+
+
+def hold_one(bench, number):
+    """A worker stopped at this call has its number and its part in the round, or begins one alone."""
+    scene = bench.scene(4, 2)
+    runner = Runner(scene, 1)
+    serve([runner.start(f"{number}:stop_before")], until=lambda: state_of(runner) in "TZ")
+    free = [name for name in ("journal.1", "lock.round") if folder.is_free(f"{scene.run}/{name}")]
+    want(state_of(runner) == "T" and not free, f"at call {number} nobody holds {free}")
+
+
+def try_what_a_worker_holds(bench):
+    """who begins a round or is at work in it holds its lock, and that of its number, to the end"""
+    calls = first_life(bench)
+    chosen = [it for it in calls if it[2] == "rename" or it[2:4] == ["sync", "."] or it[2] == "say"]
+    chosen = [it for it in chosen if int(it[1]) > next(int(it[1]) for it in calls if it[2:4] == ["lock", "lock.round"])]
+    return f"{each(((bench, int(it[1])) for it in [*chosen, calls[-1]]), hold_one)} stops"
+
+
+def refused_locks(scene, name):
+    """How often a lock on this file was asked for and not got."""
+    return sum(it[2:4] == ["lock", name] and int(it[7]) < 0 for it in scene.logged())
+
+
+def wait_for(bench, name, times):
+    """Another holds this lock until it was asked for so often; then the worker goes on."""
+    scene = bench.scene(4, 2)
+    runner = Runner(scene, 1)
+    runner.leaves = True
+    live(runner)
+    held = runner.taken(name)
+    runner.leaves, scene.logs = False, True
+    serve([runner.start()], until=lambda: not runner.process or refused_locks(scene, name) >= times)
+    want(runner.process, f"it doesn't wait for {name}: status {runner.statuses}, {runner.said}")
+    held.close()
+    serve([runner])
+    want(runner.statuses[-1] == LATER and len(scene.effects()) > 1, f"it does nothing then: {runner.statuses}, {runner.said}")
+    runner.close()
+    finish(scene, (1, 2))
+
+
+def try_locks_that_come_free(bench):
+    """a number, or a round that is begun, held by another for a moment: it is tried again, and the worker goes on"""
+    if is_stand_in(bench):
+        return
+    each(((bench, *row) for row in (("journal.1", 3), ("lock.round", 4))), wait_for)
+
+
+def try_locks_for_ever(bench):
+    """locks that others keep: after some seconds a worker and a person are told so; who only looks is shown all the same"""
+    if is_stand_in(bench):
+        return
+    scene = prepared(bench, ["doubt", "untouched 75"], lines=3)
+    other, beside = bench.scene(3, 1), bench.scene(3, 1)
+    runner = Runner(beside, 1)
+    runner.leaves = True
+    live(runner)
+    held = (f"{scene.run}/answers", f"{other.run}/journal.1", f"{other.run}/journal.16", f"{beside.run}/lock.round")
+    holders = [open(path, "ab") for path in held]
+    for it in holders:
+        fcntl.flock(it, fcntl.LOCK_EX | fcntl.LOCK_NB)
+    working = lambda scene: Reader(scene, "work", "1", *scene.givens(), scene.jobs)
+    rows = [(Reader(scene, "answer", "1.1", "1", "job 1", "done"), LATER, "others are answering"),
+            (Reader(scene, "again"), LATER, "others are answering"),
+            (Reader(scene, "status"), OVER, ""), (Reader(scene, "doubts"), OVER, ""),
+            (working(other), LATER, "has this number"), (working(beside), LATER, "a round is being begun")]
+    alive = other.call("status", other.run)[1].split("\n")[1]
+    want(alive == "alive 1 16", f"who has put nothing yet isn't alive: {alive}")
+    before = time.monotonic()
+    for it, status, said in rows:
+        ended, _, err = it.ended()
+        want(ended == status and said in err and time.monotonic() < before + 15, f"{it.words}: status {ended}, {err}")
+        named = "process " not in err or f"process {os.getpid()} has this number" in err
+        want(named, f"another process is named than the one that has the number: {err}")
+    want(not folder.texts_of(folder.read(f"{scene.run}/answers")), "an answer was taken without the lock")
+    for it in holders:
+        it.close()
+    runner.close()
+
+
+def try_last_words(bench):
+    """the last words of the largest round: worker 16 comes back to a row of all jobs but one, and files that"""
+    scene = bench.scene(4096, 16)
+    runner, last = Runner(scene, 1), Runner(scene, 16)
+    runner.leaves = True
+    live(runner)
+    with open(f"{scene.run}/lock.round", "ab") as held, open(f"{scene.run}/words", "r+b") as words:
+        fcntl.flock(held, fcntl.LOCK_SH | fcntl.LOCK_NB)
+        row = 2 * 16 + 15 * 4097 + 1
+        for first, values in ((16, [4096]), (32, [4096]), (row, range(1, 4096))):
+            words.seek(512 + 8 * first)
+            words.write(b"".join(it.to_bytes(8, "little") for it in values))
+        words.flush()
+        want(live(last) == LATER and not last.lines and "is over" in last.said, f"{last.statuses}: {last.said}")
+    entry = folder.read(f"{scene.run}/words")[512 + 8 * (row + 4095):][:8]
+    want(int.from_bytes(entry, "little") == 4096, "the job in hand isn't filed in the last entry")
+
+
+PARTS = {"door": [try_each_number, try_boot_ids, try_paths, try_nothing_is_made, try_two_at_the_door],
+         "crews": [try_half_made, try_nothing_is_removed, try_what_a_worker_holds, try_locks_that_come_free, try_locks_for_ever,
+                   try_last_words]}
