@@ -183,6 +183,10 @@ def try_outputs(bench):
         for fault in ("short", errno.EINTR):
             again = scene.call(words[0], scene.run, *words[1:], faults=f"{number}:{fault}")
             want(again == whole, f"{words}, {fault}: {again}, and not {whole}")
+    for words in (["--help"], ["answer", "--help"]):
+        failing_output(scene, words)
+        ran = subprocess.run([*bench.command(), *words], stdin=subprocess.DEVNULL, capture_output=True, timeout=60)
+        want(ran.returncode == OVER and b"amo_worker" in ran.stdout and not ran.stderr, f"{words}: {ran}")
 
 
 def try_times(bench):

@@ -1,16 +1,19 @@
 //! The whole program.
 use crate::answering::{answer, answer_from, once_more};
 use crate::door::{check_jobs, enter, look_at};
-use crate::fault::Fault;
+use crate::fault::{Fault, written};
+use crate::item::Item;
 use crate::lines::work_by_lines;
 use crate::living::work;
 use crate::request::{Misuse, Request, asked};
 use crate::setting::Setting;
 use crate::showing::{show_doubts, show_status};
 use amo_standing::{Counts, Said, read_one, status_text};
+use clap::Error;
 use std::alloc::AllocError;
 use std::env::Args;
 use std::io;
+use std::io::Write;
 use std::process::ExitCode;
 use std::rt::HostRuntime;
 
@@ -65,10 +68,22 @@ fn serve_words(rt: HostRuntime, words: &[String]) -> u8 {
             );
             64
         }
-        Err(Misuse::Words(error)) => {
-            let _ = error.print(&rt);
-            if error.exit_code() == 0 { 0 } else { 64 }
-        }
+        Err(Misuse::Words(error)) => tell_words(rt, &error),
+    }
+}
+
+/// Shows the help that was asked for, all of it, or what is wrong with the words, and answers the status.
+fn tell_words(rt: HostRuntime, error: &Error) -> u8 {
+    let mut shown = error.print(&rt);
+    if error.exit_code() != 0 {
+        return 64;
+    }
+    if shown.is_ok() {
+        shown = rt.stdout().flush();
+    }
+    match written(Item::Output, shown) {
+        Ok(()) => 0,
+        Err(fault) => tell_fault(rt, &fault),
     }
 }
 
