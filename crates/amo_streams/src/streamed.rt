@@ -1,7 +1,7 @@
 //! A source or a sink over a reader or a writer of std.
 ghost use Rattle.std.specs.Prelude.{◌≡◌, ◌<◌, ◌||◌, false, Ok, IfOk, OnOk, OnErr, is_ok, is_err, length};
-ghost use Rattle.std.specs.Io.{WritesAtMost};
-ghost use Rattle.std.specs.Io.KnownBytes.{Keeps, WriteAppends};
+ghost use Rattle.std.specs.Io.{ReadsAtMost, WritesAtMost};
+ghost use Rattle.std.specs.Io.KnownBytes.{Keeps, ReadConsumes, WriteAppends};
 
 use super::streams::{Failed, Sink, Source};
 use std::io;
@@ -71,7 +71,13 @@ impl<S: Read> Source for Streamed<S> {
 
     ghost failed = { λ s. s.failed };
 
-    fn read(&mut self, buf: &mut [u8]) -> Result<usize, Failed> {
+    /// What waits for a flush still does.
+    fn read(&mut self, buf: &mut [u8]) -> Result<usize, Failed>
+        ensures bound { ReadsAtMost result buf.new }
+        ensures bytes { ReadConsumes (S.remaining self.old.inner) (S.remaining self.new.inner) result buf.new }
+        ensures waits { self.new.waiting ≡ self.old.waiting }
+        ensures fails { self.new.failed ≡ (self.old.failed || is_err result) }
+    {
         let answer = self.inner.read(buf);
         self.answered(answer)
     }
