@@ -2,10 +2,11 @@
    library's read of descriptor 0 and write of descriptor 1.
 
    READ_ROOM      so many bytes are given, and then read answers EIO
-   READ_TO_END    once a read has answered that no byte is left, each later one answers EIO
    WRITE_ROOM     so many bytes are taken, and then write answers ENOSPC, or 0 where WRITE_NOTHING is set
    PIECE          each read and write moves at most so many bytes
-   READ_INTERRUPTED, WRITE_INTERRUPTED   the read or write of this number, from 1, answers EINTR */
+   READ_INTERRUPTED, WRITE_INTERRUPTED   the read or write of this number, from 1, answers EINTR
+
+   A stream that has come to its end or has failed may not be called again: who does so is ended, with status 99. */
 #define _GNU_SOURCE
 #include <errno.h>
 #include <limits.h>
@@ -13,13 +14,14 @@
 #include <sys/syscall.h>
 #include <unistd.h>
 
-/* What is left to give or to take, the most that moves at once, and how many calls were made. */
+/* What is left to give or to take, the most that moves at once, how many calls were made, and whether it is over. */
 struct stream {
   long room, piece, interrupted, calls;
+  int over;
 };
 
 static struct stream input, output;
-static int ends_once, takes_nothing;
+static int takes_nothing;
 
 static long number_of(const char *name, long otherwise) {
   const char *number = getenv(name);
@@ -28,35 +30,34 @@ static long number_of(const char *name, long otherwise) {
 
 __attribute__((constructor)) static void begin(void) {
   long piece = number_of("PIECE", LONG_MAX);
-  input = (struct stream){number_of("READ_ROOM", LONG_MAX), piece, number_of("READ_INTERRUPTED", 0), 0};
-  output = (struct stream){number_of("WRITE_ROOM", LONG_MAX), piece, number_of("WRITE_INTERRUPTED", 0), 0};
-  ends_once = getenv("READ_TO_END") != NULL;
+  input = (struct stream){number_of("READ_ROOM", LONG_MAX), piece, number_of("READ_INTERRUPTED", 0), 0, 0};
+  output = (struct stream){number_of("WRITE_ROOM", LONG_MAX), piece, number_of("WRITE_INTERRUPTED", 0), 0, 0};
   takes_nothing = getenv("WRITE_NOTHING") != NULL;
 }
 
 /* How many of so many bytes may move, or -1 with errno. */
 static long allowed(struct stream *stream, size_t count, int fault) {
-  if (++stream->calls == stream->interrupted) {
-    errno = EINTR;
+  if (stream->over)
+    _exit(99);
+  errno = ++stream->calls == stream->interrupted ? EINTR : stream->room == 0 && count > 0 ? fault : 0;
+  if (errno)
     return -1;
-  }
-  if (stream->room == 0 && count > 0) {
-    errno = fault;
-    return -1;
-  }
   long most = stream->room < stream->piece ? stream->room : stream->piece;
   return count < (size_t)most ? (long)count : most;
+}
+
+/* Counts what has moved of so many bytes; where nothing has, the stream is over. */
+static ssize_t moved(struct stream *stream, size_t count, long bytes) {
+  stream->over = bytes <= 0 && (bytes < 0 || count > 0);
+  stream->room -= bytes > 0 ? bytes : 0;
+  return bytes;
 }
 
 ssize_t read(int file, void *bytes, size_t count) {
   if (file != 0)
     return syscall(SYS_read, file, bytes, count);
   long most = allowed(&input, count, EIO);
-  long moved = most < 0 ? -1 : syscall(SYS_read, file, bytes, most);
-  input.room -= moved > 0 ? moved : 0;
-  if (moved == 0 && count > 0 && ends_once)
-    input.room = 0;
-  return moved;
+  return moved(&input, count, most < 0 ? -1 : syscall(SYS_read, file, bytes, most));
 }
 
 ssize_t write(int file, const void *bytes, size_t count) {
@@ -64,8 +65,6 @@ ssize_t write(int file, const void *bytes, size_t count) {
     return syscall(SYS_write, file, bytes, count);
   long most = allowed(&output, count, ENOSPC);
   if (most < 0 && errno == ENOSPC && takes_nothing)
-    return 0;
-  long moved = most < 0 ? -1 : syscall(SYS_write, file, bytes, most);
-  output.room -= moved > 0 ? moved : 0;
-  return moved;
+    return moved(&output, count, 0);
+  return moved(&output, count, most < 0 ? -1 : syscall(SYS_write, file, bytes, most));
 }

@@ -1,5 +1,5 @@
-# Plans of each size up to 70, for tools/examples, which reads this file: a call that gives up at a size between those of the other
-# tests shows. Its calls are used here, and so is `counted` of show_examples.sh.
+# Plans of each size up to 70 and of some above, for tools/examples, which reads this file: a call that gives up at a size between those
+# of the other tests shows. Its calls are used here, and so is `counted` of show_examples.sh.
 
 # make_small SIZE VERSION: a plan in small.toml with so many jobs, so many moves and rounds, names and texts of so many bytes, and so many
 # numbers to add; and in small.check the line that checks it.
@@ -32,7 +32,7 @@ is_small_taken() {
   local words
   is_taken "$program" check && cmp -s "$room/small.check" "$room/out" && is_taken "$program" replay && counted "$room/out" >"$room/counted" &&
     "$show" judge <"$room/out" 2>>"$room/err" | cmp -s - "$room/counted" && [ ! -s "$room/err" ] || return
-  for words in run "explore 0 2 $1" "stops $(($1 % 16 + 1))"; do
+  for words in run "explore $(($1 * 2345678901)) $(($1 % 50 + 1)) $1" "stops $(($1 % 16 + 1))"; do
     # shellcheck disable=SC2086
     is_taken "$program" $words || return
   done
@@ -44,7 +44,7 @@ is_small_taken() {
 try_smalls() {
   local size version
   for version in 1 2; do
-    for size in {0..70}; do
+    for size in {0..70} 85 100 128 150 200 256 300 400; do
       make_small "$size" $version
       if ! is_small_taken "$size"; then
         fail "each command of a plan of size $size in version $version" 'another end' 'what it asks for'
@@ -52,6 +52,6 @@ try_smalls() {
         continue 2
       fi
     done
-    pass "each command of plans of each size up to $size in version $version"
+    pass "each command of plans of each size up to 70 and of some up to $size in version $version"
   done
 }
