@@ -7,10 +7,10 @@ ghost use Rattle.amo_c.specs.Codes.{fault_code};
 ghost use Rattle.amo_c.specs.Reply.{givens_in, worker_in, next_reply, leave_reply, code_of, has_worker, words_in, bound_in, announcement_in, claims_in, entry_in};
 ghost use Rattle.amo_c.specs.declared.codes.FaultCode.TheVariants.{NoMemory};
 
-use super::codes::FaultCode;
-use super::item::{AmoItem, write_items};
-use super::told::{AmoGivens, AmoNext, leave_by, next_of};
-use super::worker::{givens_of, standing_after, worker_of};
+use crate::codes::FaultCode;
+use crate::item::{AmoItem, write_items};
+use crate::told::{AmoGivens, AmoNext, leave_by, next_of};
+use crate::worker::{givens_of, standing_after, worker_of};
 use amo_process::{Item, done_word, items_of};
 use std::alloc::Global;
 

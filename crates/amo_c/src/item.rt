@@ -2,7 +2,7 @@
 ghost use Rattle.std.specs.Prelude.{◌≡◌, ◌≤◌, map, take, drop, length};
 ghost use Rattle.amo_c.specs.Batch.{item_told};
 
-use super::codes::AccessCode;
+use crate::codes::AccessCode;
 use amo_process::Item;
 
 /// One thing to do in a batch. Each number that is loaded is noted, and 0 for a store.

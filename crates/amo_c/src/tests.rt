@@ -1,11 +1,11 @@
 //! Worked values of what C is told. They stand here, since no crate can stand on a static library. Words of 3 jobs and 2 workers:
 //! the announcements are 1 and 2, the counts of claims 3 and 4, the rows 5 to 8 and 9 to 12.
-use super::exports::{
+use crate::exports::{
     amo_announcement_word, amo_batch, amo_bound, amo_claims_word, amo_entry_word, amo_leave,
     amo_next, amo_words,
 };
-use super::item::AmoItem;
-use super::told::{AmoGivens, AmoNext};
+use crate::item::AmoItem;
+use crate::told::{AmoGivens, AmoNext};
 use std::alloc::Global;
 use std::process::Abort;
 use std::test::Fail;

@@ -7,8 +7,8 @@ ghost use Rattle.amo_process.specs.Heard.{IsOf};
 ghost use Rattle.amo_process.specs.declared.standing.Standing.TheVariants.{Going};
 ghost use Rattle.amo_c.specs.Told.{told_of, next_of, leave_by};
 
-use super::codes::{AccessCode, FaultCode, PhaseCode};
-use super::worker::Worker;
+use crate::codes::{AccessCode, FaultCode, PhaseCode};
+use crate::worker::Worker;
 use amo_kk::{Local, Phase};
 use amo_process::{Access, Standing, access_for};
 

@@ -5,8 +5,8 @@ ghost use Rattle.amo_process.specs.Heard.{IsOf};
 ghost use Rattle.amo_c.specs.Reply.{givens_in, worker_in, standing_in};
 ghost use Rattle.amo_c.specs.declared.codes.FaultCode.TheVariants.{NoMemory};
 
-use super::codes::FaultCode;
-use super::told::AmoGivens;
+use crate::codes::FaultCode;
+use crate::told::AmoGivens;
 use amo_kk::{Givens, Local};
 use amo_process::{NoSuchNumber, Standing, standing_of};
 use std::alloc::Global;

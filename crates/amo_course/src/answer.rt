@@ -2,7 +2,7 @@
 ghost use Rattle.std.specs.Prelude.{◌≡◌};
 ghost use Rattle.amo_course.specs.Life.{heard_of};
 
-use super::stop::Stop;
+use crate::stop::Stop;
 
 /// What became of a job. It is noted.
 #[derive(Clone, Copy, Debug, PartialEq, Eq)]

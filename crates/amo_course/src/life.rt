@@ -10,9 +10,9 @@ ghost use Rattle.amo_course.specs.Course.{stage_replied, first_stage, Stands, Ma
 ghost use Rattle.amo_course.specs.Stops.{EndsAt, StopsAt};
 ghost use Rattle.amo_course.specs.Life.{beginning, IsGoing, HasHeard, TurnsTo};
 
-use super::answer::{Answer, Heard, Reply, Way};
-use super::outside::Outside;
-use super::stop::{LifeEnd, Stop};
+use crate::answer::{Answer, Heard, Reply, Way};
+use crate::outside::Outside;
+use crate::stop::{LifeEnd, Stop};
 use amo_kk::Givens;
 use amo_process::{Access, NoSuchNumber, Process};
 use std::alloc::{AllocError, Global};

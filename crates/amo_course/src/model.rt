@@ -1,5 +1,5 @@
 //! The values of which the definitions speak.
-use super::answer::{Answer, Reply};
+use crate::answer::{Answer, Reply};
 
 /// What a process tries to do outside of itself.
 #[derive(Clone, Copy, Debug, PartialEq, Eq)]

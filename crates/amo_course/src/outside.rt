@@ -6,7 +6,7 @@ ghost use Rattle.amo_course.specs.declared.model.Deed.TheVariants.{Loaded, Store
 ghost use Rattle.amo_course.specs.declared.model.Try.{Try};
 ghost use Rattle.amo_course.specs.declared.model.Try.TheVariants.{Load, Store, Find, Intend, Perform, Note};
 
-use super::answer::{Answer, Reply};
+use crate::answer::{Answer, Reply};
 
 /// Something outside has failed.
 #[derive(Clone, Copy, Debug, PartialEq, Eq)]

@@ -9,9 +9,9 @@ ghost use Rattle.amo_course.specs.Course.{with_deed, stage_asked, Stands, MayTry
 ghost use Rattle.amo_course.specs.Stops.{AsksTo, StopsAt};
 ghost use Rattle.amo_course.specs.Life.{AsksOn, asked_after};
 
-use super::answer::{Answer, Heard, Reply, Way};
-use super::outside::Failed;
-use super::stop::Stop;
+use crate::answer::{Answer, Heard, Reply, Way};
+use crate::outside::Failed;
+use crate::stop::Stop;
 
 /// An intent of a journal: its serial number, and the number of the line that was to be performed.
 #[derive(Clone, Copy, Debug, PartialEq, Eq)]

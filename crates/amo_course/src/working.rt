@@ -5,9 +5,9 @@ ghost use Rattle.amo_course.specs.declared.model.Try.{Try};
 ghost use Rattle.amo_course.specs.Course.{first_stage, Stands, MayTry};
 ghost use Rattle.amo_course.specs.Stops.{EndsAt, StopsAt};
 
-use super::life::Life;
-use super::outside::Outside;
-use super::stop::{LifeEnd, Stop};
+use crate::life::Life;
+use crate::outside::Outside;
+use crate::stop::{LifeEnd, Stop};
 use amo_kk::Givens;
 use std::alloc::Global;
 

@@ -2,7 +2,7 @@
 ghost use Rattle.std.specs.Prelude.{◌≡◌};
 ghost use Rattle.amo_kk.specs.Limits.{AreWithinLimits};
 
-use super::limits::{MAX_BETA, MAX_JOBS, MAX_WORKERS};
+use crate::limits::{MAX_BETA, MAX_JOBS, MAX_WORKERS};
 use thiserror::Error;
 
 /// Why three numbers are no givens: the first limit, in this order, that they break.

@@ -8,8 +8,8 @@ ghost use Rattle.amo_kk.specs.Choice.{chosen_rank, record_after_choice, record_a
 ghost use Rattle.amo_kk.specs.Step.{with_announced, record_at_row, record_at_announcement};
 ghost use Rattle.amo_kk.specs.Knowledge.{LeadsTo};
 
-use super::givens::Givens;
-use super::phase::{Phase, next_other};
+use crate::givens::Givens;
+use crate::phase::{Phase, next_other};
 use amo_sets::JobSet;
 use std::alloc::{AllocError, Global};
 use std::marker::Model;

@@ -4,7 +4,7 @@ ghost use Rattle.std.specs.Prelude.{◌≡◌, ◌≤◌, ◌+◌};
 ghost use Rattle.amo_kk.specs.Givens.{IsWorker};
 ghost use Rattle.amo_kk.specs.Words.{word_count, next_word, claim_word, done_word};
 
-use super::givens::Givens;
+use crate::givens::Givens;
 
 /// How many words there are: the book word, and for each worker its announcement, its count of claims and its row.
 pub fn word_count(givens: Givens) -> usize

@@ -16,10 +16,10 @@ ghost use Rattle.amo_kk.specs.Machine.{LocalView};
 
 mod again;
 
-use super::event::Shown;
-use super::givens::Givens;
-use super::knowledge::Knowledge;
-use super::phase::{Phase, Want, next_other};
+use crate::event::Shown;
+use crate::givens::Givens;
+use crate::knowledge::Knowledge;
+use crate::phase::{Phase, Want, next_other};
 pub use again::NoSuchWords;
 use amo_sets::filled;
 use std::alloc::{AllocError, Global};

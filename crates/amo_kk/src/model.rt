@@ -1,6 +1,6 @@
 //! The values of which the definitions speak. No code makes one: contracts see the code's own types as these.
-use super::event::Event;
-use super::phase::Phase;
+use crate::event::Event;
+use crate::phase::Phase;
 use std::collections::LinkedList;
 
 /// The state of the sequential object: the unclaimed jobs in rising order, for each worker the job in its hand

@@ -2,7 +2,7 @@
 ghost use Rattle.std.specs.Prelude.{◌≡◌, ◌<◌, ◌^◌};
 ghost use Rattle.amo_kk.specs.Givens.{next_other};
 
-use super::event::Leaving;
+use crate::event::Leaving;
 
 /// Where a worker stands. The first number is the job of its attempt, the second another worker.
 #[derive(Clone, Copy, Debug, PartialEq, Eq)]

@@ -2,7 +2,7 @@
 ghost use Rattle.std.specs.Prelude.{◌≡◌, true, false, OnOk, OnErr, option_map};
 ghost use Rattle.amo_lines.specs.Lines.{is_agreed};
 
-use super::wire::Wire;
+use crate::wire::Wire;
 use amo_course::{Answer, Failed, Outside, Reply, Try};
 use amo_ledger::number_of_bytes;
 use amo_talk::reply_in;

@@ -9,10 +9,10 @@ ghost use Rattle.amo_process.specs.Stepped.{new_process, process_after, access_f
 ghost use Rattle.amo_process.specs.Batch.{items_to_filing};
 ghost use Rattle.amo_process.specs.declared.access.Access.TheVariants.{Store};
 
-use super::access::Access;
-use super::batch::{Item, add_wanted, items_beginning, room_for};
-use super::stage::Stage;
-use super::standing::{NoSuchNumber, done_word};
+use crate::access::Access;
+use crate::batch::{Item, add_wanted, items_beginning, room_for};
+use crate::stage::Stage;
+use crate::standing::{NoSuchNumber, done_word};
 use amo_kk::{Givens, Local, Want};
 use std::alloc::{AllocError, Global};
 use std::marker::Model;

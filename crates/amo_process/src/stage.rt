@@ -7,7 +7,7 @@ ghost use Rattle.amo_process.specs.Heard.{standing_of};
 ghost use Rattle.amo_process.specs.Stepped.{own_after, standing_after};
 ghost use Rattle.amo_process.specs.Stage.{standing_in_stage, IsLoading, StageFits};
 
-use super::standing::hear;
+use crate::standing::hear;
 use amo_kk::{Givens, Local, NoSuchWords};
 
 /// How far a process is.

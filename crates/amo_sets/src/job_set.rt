@@ -4,7 +4,7 @@ ghost use Rattle.amo_sets.specs.Bits.{bit, is_one, is_without};
 ghost use Rattle.amo_sets.specs.Lists.{numbered, put};
 ghost use Rattle.amo_sets.specs.Rank.{count, has_rank, number_of_rank};
 
-use super::lists::filled;
+use crate::lists::filled;
 use std::alloc::{AllocError, Global};
 use std::marker::Model;
 

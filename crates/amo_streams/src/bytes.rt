@@ -3,7 +3,7 @@ ghost use Rattle.std.specs.Prelude.{◌≡◌, false, Some, Ok, min, length};
 ghost use Rattle.std.specs.Io.{ReadsAtMost};
 ghost use Rattle.std.specs.Io.KnownBytes.{ReadConsumes};
 
-use super::streams::{Failed, Source};
+use crate::streams::{Failed, Source};
 use std::marker::Model;
 
 /// A source over memory, which never fails. Contracts see it as the bytes that are left.

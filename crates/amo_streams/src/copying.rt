@@ -5,7 +5,7 @@ ghost use Rattle.amo_streams.specs.Streams.{AppendsFront};
 ghost use Rattle.amo_streams.specs.ReadFaults.{is_failure};
 ghost use Rattle.amo_streams.specs.declared.copying.TheConstants.{MOST_READ};
 
-use super::streams::{Failed, Sink, Source};
+use crate::streams::{Failed, Sink, Source};
 use std::alloc::{AllocError, Global};
 
 /// Why a source was not read.

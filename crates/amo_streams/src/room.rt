@@ -4,7 +4,7 @@ ghost use Rattle.std.specs.Io.{WritesAtMost};
 ghost use Rattle.std.specs.Io.KnownBytes.{WriteAppends};
 ghost use Rattle.amo_streams.specs.RoomSeen.{HasNoRoomFor};
 
-use super::streams::{Failed, Sink};
+use crate::streams::{Failed, Sink};
 use std::alloc::{AllocError, Global};
 use std::marker::Model;
 

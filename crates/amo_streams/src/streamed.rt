@@ -3,7 +3,7 @@ ghost use Rattle.std.specs.Prelude.{◌≡◌, ◌<◌, ◌||◌, false, Ok, IfO
 ghost use Rattle.std.specs.Io.{ReadsAtMost, WritesAtMost};
 ghost use Rattle.std.specs.Io.KnownBytes.{Keeps, ReadConsumes, WriteAppends};
 
-use super::streams::{Failed, Sink, Source};
+use crate::streams::{Failed, Sink, Source};
 use std::io;
 use std::io::{Read, Write};
 use std::marker::Model;

@@ -3,7 +3,7 @@ ghost use Rattle.std.specs.Prelude.{◌≡◌};
 ghost use Rattle.amo_words.specs.Faces.{machine};
 ghost use Rattle.amo_words.specs.Hiring.{HasCollected};
 
-use super::Gone;
+use crate::states::Gone;
 use amo_words::{Book, Floor};
 
 impl<P> Gone<P> {

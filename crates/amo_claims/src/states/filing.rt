@@ -4,7 +4,7 @@ ghost use Rattle.amo_words.specs.Faces.{machine};
 ghost use Rattle.amo_claims.specs.States.{HoldsJob};
 ghost use Rattle.amo_claims.specs.Calls.{Files, FilesOn};
 
-use super::{After, Gone, Performed, Ready};
+use crate::states::{After, Gone, Performed, Ready};
 use amo_words::{Filed, Floor};
 
 impl<P, Out> Performed<P, Out> {

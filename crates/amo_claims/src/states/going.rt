@@ -5,7 +5,7 @@ ghost use Rattle.amo_words.specs.Faces.{machine};
 ghost use Rattle.amo_claims.specs.States.{IsReady};
 ghost use Rattle.amo_claims.specs.Calls.{state_of, Goes, GoesOn, HasGone};
 
-use super::{After, Go, Gone, Held, Ready};
+use crate::states::{After, Go, Gone, Held, Ready};
 use amo_words::{Floor, Step, Worker};
 
 /// The state of a worker that has nothing in its hand: it goes on, unless it has ended or left. The worker stays as it is.

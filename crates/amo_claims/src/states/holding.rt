@@ -3,7 +3,7 @@ ghost use Rattle.std.specs.Prelude.{◌≡◌, ◌<◌, length};
 ghost use Rattle.amo_words.specs.Faces.{machine};
 ghost use Rattle.amo_claims.specs.States.{Holds};
 
-use super::{Gone, Held, Performed};
+use crate::states::{Gone, Held, Performed};
 use crate::work::Work;
 
 impl<P> Held<P> {

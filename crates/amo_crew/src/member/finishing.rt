@@ -5,7 +5,7 @@ ghost use Rattle.amo_claims.specs.Calls.{worker_in};
 ghost use Rattle.amo_crew.specs.declared.member.Ran.{Ran};
 ghost use Rattle.amo_crew.specs.Crew.{IsFinishOf, IsRunOf, TellsStart};
 
-use super::{Finish, Ran, Uncalled};
+use crate::member::{Finish, Ran, Uncalled};
 use crate::threads::Runs;
 use amo_claims::Work;
 use std::thread::{PromisedHandle, SpawnError, Threads};

@@ -1,8 +1,8 @@
 //! What a run left, as it is shown.
 ghost use Rattle.std.specs.Prelude.{◌≡◌};
 
-use super::Unsettled;
 use crate::outcome::End;
+use crate::unsettled::Unsettled;
 use amo_mailbox::Output;
 use std::fmt;
 use std::fmt::{Debug, Formatter};

@@ -10,9 +10,9 @@ ghost use Rattle.amo_kk.specs.Machine.{record_of, IsHeld, IsTakenUp};
 ghost use Rattle.amo_kk.specs.declared.phase.Phase.{Phase};
 ghost use Rattle.amo_kk.specs.declared.phase.Phase.TheVariants.{Holding};
 
-use super::Local;
 use crate::givens::Givens;
 use crate::knowledge::Knowledge;
+use crate::local::Local;
 use crate::phase::Phase;
 use thiserror::Error;
 

@@ -5,7 +5,7 @@ ghost use Rattle.amo_kk.specs.Words.{next_word, claim_word, done_word};
 ghost use Rattle.amo_words.specs.Faces.{spots};
 ghost use Rattle.amo_words.specs.Settling.{HasClosed};
 
-use super::{Book, ClosedFloor, Floor};
+use crate::floor::{Book, ClosedFloor, Floor};
 use amo_kk::Givens;
 use amo_kk::layout::{claim_word, done_word, next_word};
 use std::alloc::Global;

@@ -8,7 +8,7 @@ ghost use Rattle.amo_words.specs.declared.rule.Spot.TheVariants.{Back};
 ghost use Rattle.amo_words.specs.Faces.{spots};
 ghost use Rattle.amo_words.specs.Looking.{where_is, HasSpotOf, IsBack};
 
-use super::Book;
+use crate::floor::Book;
 use crate::rule::Spot;
 use amo_kk::Local;
 

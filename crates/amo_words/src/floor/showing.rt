@@ -7,7 +7,7 @@ ghost use Rattle.amo_kk.specs.Lawful.{IsSoundRecord};
 ghost use Rattle.amo_kk.specs.declared.phase.Phase.{Phase};
 ghost use Rattle.amo_words.specs.Faces.{machine};
 
-use super::Worker;
+use crate::floor::Worker;
 
 impl<P> Worker<P> {
     /// The worker's number, from 1. What the worker knows is sound.

@@ -10,7 +10,7 @@ ghost use Rattle.amo_words.specs.Plays.{HasTurned, HasLeft};
 ghost use Rattle.amo_words.specs.Faces.{machine};
 ghost use Rattle.amo_words.specs.Answers.{quiet_step, Stepped, filed, LeftIf};
 
-use super::{Floor, Worker};
+use crate::floor::{Floor, Worker};
 use crate::plays::{Claim, Load, Store, TakeBack};
 use crate::rule::{TableSeat, Words};
 use crate::slots::exchange;
