@@ -8,6 +8,7 @@ use Rattle.std.proofs.lemmas.Bool.{and_parts, cases_eq}
 use Rattle.std.proofs.lemmas.Bool.Decides.{nat_tests}
 use Rattle.std.proofs.lemmas.List.{take_at, drop_at, take-append-drop, append-nil}
 use Rattle.std.proofs.lemmas.Slice.Eq.{bytes_eq-Decides}
+use Rattle.amo_ledger.specs.declared.limits.TheConstants.{MAX_JOBS, MAX_WORKERS, MAX_BETA}
 use Rattle.amo_ledger.specs.declared.record.Record.{Record}
 use Rattle.amo_ledger.specs.declared.round.Givens.{Givens}
 use Rattle.amo_ledger.specs.Numbers.{number_in, two_in, three_in, read_all}
@@ -88,28 +89,28 @@ at_most a b t = grind (arith, nat_tests)
 
 -- what a sound record keeps of its numbers
 pub record KeepsLimits (r : RecordView) : Type 0 where
-  pub jobs : r.givens.jobs ≤ 4096
+  pub jobs : r.givens.jobs ≤ MAX_JOBS
   pub sharing : r.givens.workers ≤ r.workers
-  pub workers : r.workers ≤ 16
-  pub beta : r.givens.beta ≤ 65535
+  pub workers : r.workers ≤ MAX_WORKERS
+  pub beta : r.givens.beta ≤ MAX_BETA
   pub first : r.first ≤ r.workers
 
 pub limits : (r : RecordView) → is_sound r ≡ true → KeepsLimits r
 limits r h =
-    let (about_jobs, others) = and_parts ((r.givens.jobs == length r.lines) && (nat_le r.givens.jobs 4096 && ascends_from 0 r.lines)) _ h in
+    let (about_jobs, others) = and_parts ((r.givens.jobs == length r.lines) && (nat_le r.givens.jobs MAX_JOBS && ascends_from 0 r.lines)) _ h in
     let (one, jobs) = and_parts (r.givens.jobs == length r.lines) _ about_jobs in
-    let (few, ascend) = and_parts (nat_le r.givens.jobs 4096) _ jobs in
-    let (sharing, rest) = and_parts (nat_le 1 r.givens.workers && (nat_le r.givens.workers r.workers && nat_le r.workers 16)) _ others in
+    let (few, ascend) = and_parts (nat_le r.givens.jobs MAX_JOBS) _ jobs in
+    let (sharing, rest) = and_parts (nat_le 1 r.givens.workers && (nat_le r.givens.workers r.workers && nat_le r.workers MAX_WORKERS)) _ others in
     let (some, within) = and_parts (nat_le 1 r.givens.workers) _ sharing in
     let (share, workers) = and_parts (nat_le r.givens.workers r.workers) _ within in
-    let (betas, firsts) = and_parts (nat_le r.givens.workers r.givens.beta && nat_le r.givens.beta 65535) _ rest in
+    let (betas, firsts) = and_parts (nat_le r.givens.workers r.givens.beta && nat_le r.givens.beta MAX_BETA) _ rest in
     let (low, high) = and_parts (nat_le r.givens.workers r.givens.beta) _ betas in
     let (from, there) = and_parts (nat_le 1 r.first) _ firsts in
     record {
-      jobs = at_most r.givens.jobs 4096 few;
+      jobs = at_most r.givens.jobs MAX_JOBS few;
       sharing = at_most r.givens.workers r.workers share;
-      workers = at_most r.workers 16 workers;
-      beta = at_most r.givens.beta 65535 high;
+      workers = at_most r.workers MAX_WORKERS workers;
+      beta = at_most r.givens.beta MAX_BETA high;
       first = at_most r.first r.workers there;
     }
 

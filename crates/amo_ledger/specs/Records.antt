@@ -4,6 +4,7 @@ use Rattle.std.specs.Fmt.{decimal}
 use Rattle.std.specs.List.{AllByRecursion}
 use Rattle.std.specs.Str.{bytes_eq}
 use Rattle.amo_ledger.specs.Numbers.{number_in, two_in, three_in, read_all}
+use Rattle.amo_ledger.specs.declared.limits.TheConstants.{MAX_JOBS, MAX_WORKERS, MAX_BETA}
 use Rattle.amo_ledger.specs.declared.record.Record.{Record}
 use Rattle.amo_ledger.specs.declared.round.Givens.{Givens}
 
@@ -41,13 +42,13 @@ abbrev pub ascends_from : ℕ → List ℕ → Bool
 ascends_from low [] = true
 ascends_from low (line ∷ lines) = nat_lt low line && ascends_from line lines
 
--- there are as many jobs as lines, at most 4096, each of another line than those before; they are shared by at least one of at most 16
--- workers, who stop at a threshold of at least their number and at most 65535; and one of them was the first
+-- there are as many jobs as lines, at most `MAX_JOBS`, each of another line than those before; they are shared by at least one of at most
+-- `MAX_WORKERS` workers, who stop at a threshold of at least their number and at most `MAX_BETA`; and one of them was the first
 abbrev pub is_sound : RecordView → Bool
 is_sound r =
-    ((r.givens.jobs == length r.lines) && (nat_le r.givens.jobs 4096 && ascends_from 0 r.lines))
-    && ((nat_le 1 r.givens.workers && (nat_le r.givens.workers r.workers && nat_le r.workers 16))
-    && ((nat_le r.givens.workers r.givens.beta && nat_le r.givens.beta 65535) && (nat_le 1 r.first && nat_le r.first r.workers)))
+    ((r.givens.jobs == length r.lines) && (nat_le r.givens.jobs MAX_JOBS && ascends_from 0 r.lines))
+    && ((nat_le 1 r.givens.workers && (nat_le r.givens.workers r.workers && nat_le r.workers MAX_WORKERS))
+    && ((nat_le r.givens.workers r.givens.beta && nat_le r.givens.beta MAX_BETA) && (nat_le 1 r.first && nat_le r.first r.workers)))
 
 -- it is sound, its numbers have 64 bits, and the boot id is one line
 pub record IsRecord (r : RecordView) : Type 0 where

@@ -5,6 +5,7 @@ ghost use Rattle.std.specs.Str.{bytes_eq};
 ghost use Rattle.amo_ledger.specs.Numbers.{number_in, read_all};
 ghost use Rattle.amo_ledger.specs.Records.{RecordView, said_by, ended, texts_of, text_of_record, ascends_from, is_sound, IsRecord, texts_from, labelled, head_in, record_behind, record_of, record_in};
 
+use crate::limits::{MAX_BETA, MAX_JOBS, MAX_WORKERS};
 use crate::numbers::{number_of_bytes, three_of_bytes, two_of_bytes};
 use crate::round::Givens;
 use std::alloc::{AllocError, Global};
@@ -242,9 +243,9 @@ fn is_sound(candidate: &Record) -> bool
         workers,
         beta,
     } = candidate.givens;
-    (jobs == candidate.lines.len() as u64 && (jobs <= 4096 && ascends(&candidate.lines)))
-        && ((1 <= workers && (workers <= candidate.workers && candidate.workers <= 16))
-            && ((workers <= beta && beta <= 65535)
+    (jobs == candidate.lines.len() as u64 && (jobs <= MAX_JOBS && ascends(&candidate.lines)))
+        && ((1 <= workers && (workers <= candidate.workers && candidate.workers <= MAX_WORKERS))
+            && ((workers <= beta && beta <= MAX_BETA)
                 && (1 <= candidate.first && candidate.first <= candidate.workers)))
 }
 
