@@ -18,7 +18,7 @@ use std::marker::Model;
 /// attempt. Jobs that aren't known are free, and free jobs that were not seen announced are open. How many are
 /// open is kept, so that the threshold is tested without a walk.
 #[derive(Drop)]
-pub struct Knowledge {
+pub(crate) struct Knowledge {
     free: JobSet,
     tried: JobSet,
     open_count: u32,
@@ -71,7 +71,7 @@ fn open_without(free: &JobSet, tried: &JobSet, open_count: u32, j: u32) -> u32
 
 impl Knowledge {
     /// Nothing is known of so many jobs, and none was seen announced. The only error is out of memory.
-    pub fn new(alloc: Global, jobs: u32) -> Result<Knowledge, AllocError>
+    pub(crate) fn new(alloc: Global, jobs: u32) -> Result<Knowledge, AllocError>
         ensures { IfOk result (λ k. k ≡ record { range = jobs; known = []; tried = [] }) }
     {
         let free = JobSet::full(alloc, jobs)?;
@@ -84,7 +84,7 @@ impl Knowledge {
     }
 
     /// Whether j is known to be performed.
-    pub fn knows(&self, j: u32) -> bool
+    pub(crate) fn knows(&self, j: u32) -> bool
         requires low { 1 ≤ j }
         requires high { j ≤ self.now.range }
         ensures { result ≡ has self.now.known j }
@@ -93,7 +93,7 @@ impl Knowledge {
     }
 
     /// Whether j was seen announced in this attempt.
-    pub fn tried(&self, j: u32) -> bool
+    pub(crate) fn tried(&self, j: u32) -> bool
         requires low { 1 ≤ j }
         requires high { j ≤ self.now.range }
         ensures { result ≡ has self.now.tried j }
@@ -102,7 +102,7 @@ impl Knowledge {
     }
 
     /// Notes what was announced, 0 being nothing.
-    pub fn note(&mut self, announced: u32)
+    pub(crate) fn note(&mut self, announced: u32)
         requires { announced ≤ self.old.range }
         ensures { self.new ≡ record self.old { tried = with_announced announced self.old.tried } }
     {
@@ -114,7 +114,7 @@ impl Knowledge {
     }
 
     /// Learns that j is performed.
-    pub fn learn(&mut self, j: u32)
+    pub(crate) fn learn(&mut self, j: u32)
         requires low { 1 ≤ j }
         requires high { j ≤ self.old.range }
         ensures { self.new ≡ record self.old { known = with_number j self.old.known } }
@@ -125,7 +125,7 @@ impl Knowledge {
 
     /// The choice of worker p: over where fewer than beta jobs are open, else an announcement of an open job, and
     /// nothing counts as seen announced any more.
-    pub fn choose(&mut self, givens: Givens, p: u32) -> Phase
+    pub(crate) fn choose(&mut self, givens: Givens, p: u32) -> Phase
         requires worker { IsWorker givens p }
         requires range { self.old.range ≡ givens.jobs }
         ensures choice { LeadsTo self.old (record_after_choice givens p) result self.new.tried }
@@ -157,7 +157,7 @@ impl Knowledge {
     }
 
     /// In an attempt on j, on to the row of q, or to the check where there is no worker q.
-    pub fn to_row(&mut self, givens: Givens, p: u32, j: u32, q: u32) -> Phase
+    pub(crate) fn to_row(&mut self, givens: Givens, p: u32, j: u32, q: u32) -> Phase
         requires worker { IsWorker givens p }
         requires job { IsJob givens j }
         requires range { self.old.range ≡ givens.jobs }
@@ -171,7 +171,7 @@ impl Knowledge {
     }
 
     /// In an attempt on j, on to the announcement of q, or to the first row where there is no worker q.
-    pub fn to_announcement(&mut self, givens: Givens, p: u32, j: u32, q: u32) -> Phase
+    pub(crate) fn to_announcement(&mut self, givens: Givens, p: u32, j: u32, q: u32) -> Phase
         requires worker { IsWorker givens p }
         requires job { IsJob givens j }
         requires range { self.old.range ≡ givens.jobs }

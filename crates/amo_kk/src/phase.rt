@@ -74,7 +74,7 @@ pub enum Want {
 }
 
 /// The worker after q, leaving out p; the first other of p is the one after 0.
-pub fn next_other(p: u32, q: u32) -> u32
+pub(crate) fn next_other(p: u32, q: u32) -> u32
     requires { q < 2 ^ 31 }
     ensures { result ≡ next_other p q }
 {
