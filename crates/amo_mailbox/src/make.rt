@@ -1,6 +1,7 @@
 //! How a queue, its inlet and its outlets are made.
 ghost use Rattle.std.specs.Prelude.{◌≡◌, ◌+◌, ◌<◌, ◌≤◌, [], All, IfOk, map};
 ghost use Rattle.std.specs.List.{range_with_len};
+ghost use Rattle.amo_mailbox.specs.declared.queue.TheConstants.{PLACES};
 ghost use Rattle.amo_mailbox.specs.Endpoints.{IsNewInletOf, IsNewOutletOf, places};
 
 use crate::inlet::Inlet;
@@ -15,7 +16,7 @@ fn outlets_for<Out: Drop>(
     jobs: u32,
     workers: u32,
 ) -> Result<(Queue<Out>, Inlet<Out>, Vec<Outlet<Out>>), AllocError>
-    ensures places { IfOk result (λ r. places r.0 ≡ 64) }
+    ensures places { IfOk result (λ r. places r.0 ≡ PLACES) }
     ensures inlet { IfOk result (λ r. IsNewInletOf r.0 jobs r.1) }
     ensures outlets { IfOk result (λ r. All (λ o. IsNewOutletOf r.0 jobs o) r.2.items) }
     ensures workers { IfOk result (λ r. map (λ o. o.worker) r.2.items ≡ map (λ k. k + 1) (range_with_len 0 workers)) }
@@ -43,7 +44,7 @@ pub fn outlets<Out: Drop>(
     alloc: Global,
     givens: Givens,
 ) -> Result<(Queue<Out>, Inlet<Out>, Vec<Outlet<Out>>), AllocError>
-    ensures places { IfOk result (λ r. places r.0 ≡ 64) }
+    ensures places { IfOk result (λ r. places r.0 ≡ PLACES) }
     ensures inlet { IfOk result (λ r. IsNewInletOf r.0 givens.jobs r.1) }
     ensures outlets { IfOk result (λ r. All (λ o. IsNewOutletOf r.0 givens.jobs o) r.2.items) }
     ensures workers { IfOk result (λ r. map (λ o. o.worker) r.2.items ≡ map (λ k. k + 1) (range_with_len 0 givens.workers)) }

@@ -5,7 +5,7 @@ use crossbeam_queue::protocol::{Join, Lesson, Outcome, Protocol, Split};
 use crossbeam_queue::{Pass, RuledArrayQueue};
 
 /// What the inlet took, and then what stands in the queue, is for each worker what its outlet sent, in order.
-pub struct InOrder;
+pub(crate) struct InOrder;
 
 impl<Out> Protocol<Output<Out>, PassState<Out>> for InOrder {
     ghost use Rattle.std.specs.Prelude.{[]};
@@ -18,7 +18,7 @@ impl<Out> Protocol<Output<Out>, PassState<Out>> for InOrder {
 }
 
 /// How passes are made and come back: the inlet's makes an outlet's, an outlet's moves whole, the inlet's takes it in.
-pub struct Passes;
+pub(crate) struct Passes;
 
 impl<Out> Split<PassState<Out>> for Passes {
     ghost use Rattle.amo_mailbox.specs.Mailbox.{stays, goes};
@@ -38,7 +38,7 @@ impl<Out> Join<PassState<Out>> for Passes {
 }
 
 /// What an outlet's put does to its pass. From a full queue it learns nothing.
-pub struct Puts;
+pub(crate) struct Puts;
 
 impl<Out> Outcome<Output<Out>, PassState<Out>> for Puts {
     ghost use Rattle.amo_mailbox.specs.Mailbox.{Adds};
@@ -51,7 +51,7 @@ impl<Out> Lesson<Output<Out>, PassState<Out>> for Puts {
 }
 
 /// What the inlet's take does to its pass, and what it learns from an empty queue.
-pub struct Takes;
+pub(crate) struct Takes;
 
 impl<Out> Outcome<Output<Out>, PassState<Out>> for Takes {
     ghost use Rattle.amo_mailbox.specs.Mailbox.{Takes};
@@ -66,13 +66,13 @@ impl<Out> Lesson<Output<Out>, PassState<Out>> for Takes {
 }
 
 /// The queue of the library, under the rule.
-pub type Ring<Out> = RuledArrayQueue<Output<Out>, PassState<Out>, InOrder>;
+pub(crate) type Ring<Out> = RuledArrayQueue<Output<Out>, PassState<Out>, InOrder>;
 
 /// An end's leave to use it.
-pub type Port<Out> = Pass<Output<Out>, PassState<Out>>;
+pub(crate) type Port<Out> = Pass<Output<Out>, PassState<Out>>;
 
 /// The places of a queue.
-pub const PLACES: usize = 64;
+pub(crate) const PLACES: usize = 64;
 
 /// A queue of outputs, with 64 places. It has an inlet and outlets of its own, made with it.
 #[derive(Drop)]
