@@ -4,11 +4,12 @@ use Rattle.std.specs.Prelude.{All, flat_map}
 use Rattle.std.proofs.lemmas.List.{length-map}
 use Rattle.std.proofs.lemmas.List.Elements.{All-head, All-tail}
 use Rattle.amo_kk.specs.Words.{words_of}
+use Rattle.amo_kk.specs.declared.limits.TheConstants.{MAX_JOBS, MAX_WORKERS}
 use Rattle.amo_kk.specs.declared.model.Process.{Process}
 
-pub few_words : (workers jobs : ℕ) → workers ≤ 16 → jobs ≤ 4096 → workers * (jobs + 3) ≤ 65584
+pub few_words : (workers jobs : ℕ) → workers ≤ MAX_WORKERS → jobs ≤ MAX_JOBS → workers * (jobs + 3) ≤ MAX_WORKERS * (MAX_JOBS + 3)
 few_words workers jobs few_workers few_jobs =
-    let few : jobs + 3 ≤ 4099 = omega arith in
+    let few : jobs + 3 ≤ MAX_JOBS + 3 = omega arith in
     omega (arith, mul-le-mul_left workers few)
 
 -- the rows of all workers, of so many words each

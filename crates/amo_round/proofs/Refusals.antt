@@ -17,6 +17,7 @@ use Rattle.amo_round.specs.declared.fault.JobsFault.{JobsFault}
 use Rattle.amo_round.specs.declared.fault.JobsFault.TheVariants.{Memory, Refused}
 use Rattle.amo_round.specs.declared.fault.Why.{Why}
 use Rattle.amo_round.specs.declared.fault.Why.TheVariants.{Empty, Nul, CarriageReturn, NotText, TooLong, Repeated, NoEnd}
+use Rattle.amo_round.specs.declared.known.TheConstants.{MAX_LINE}
 use Rattle.amo_round.specs.Lines.{lines_in, remainder_in}
 use Rattle.amo_round.specs.Jobs.{IsLine, AreJobs}
 use Rattle.amo_round.specs.Refusals.{has_byte, wrong_with, why_not, why_remainder, why_at, IsTaken, IsRefused, MayStand, IsFirstRefused}
@@ -55,13 +56,13 @@ line_is line h =
     let (no_nul, after_nul) = skip (has_byte 0 line) Nul _ after_some in
     let (no_return, after_return) = skip (has_byte 13 line) CarriageReturn _ after_nul in
     let (text, after_text) = skip (not (is_utf8 line)) NotText _ after_return in
-    let (short, after_short) = skip (nat_lt 100000 (length line)) TooLong _ after_text in
+    let (short, after_short) = skip (nat_lt MAX_LINE (length line)) TooLong _ after_text in
     record {
       some = not_nothing (length line) some;
       no_nul = lacks_byte 0 line no_nul;
       no_return = lacks_byte 13 line no_return;
       text = IsUtf8-from_is_utf8 line (not-false (is_utf8 line) text);
-      short = ltb-false 100000 (length line) short;
+      short = ltb-false MAX_LINE (length line) short;
     }
 
 line_may : (line : List ℕ) → IsLine line → wrong_with line ≡ None
@@ -70,7 +71,7 @@ line_may line is =
     (skipped (has_byte 0 line) Nul _ (has_not 0 line is.no_nul)
     (skipped (has_byte 13 line) CarriageReturn _ (has_not 13 line is.no_return)
     (skipped (not (is_utf8 line)) NotText _ (ap not (is_utf8-from_IsUtf8 line is.text))
-    (skipped (nat_lt 100000 (length line)) TooLong None (le-ltb 100000 (length line) is.short) refl))))
+    (skipped (nat_lt MAX_LINE (length line)) TooLong None (le-ltb MAX_LINE (length line) is.short) refl))))
 
 -- a line behind others
 

@@ -8,7 +8,7 @@ use amo_ledger::{Givens, Record};
 use std::alloc::{AllocError, Global};
 
 /// How many bytes stand before the first word.
-pub const HEAD_LEN: usize = 512;
+pub(crate) const HEAD_LEN: usize = 512;
 
 /// The `HEAD_LEN` bytes at the front of the words of the round that has this record: which round it is of, and behind it blanks and a
 /// line feed. `None` where the boot id is so long that it doesn't fit.

@@ -12,7 +12,7 @@ use std::collections::BTreeSet;
 use std::str;
 
 /// A line with more bytes is refused.
-pub const MAX_LINE: usize = 100_000;
+pub(crate) const MAX_LINE: usize = 100_000;
 
 /// Refuses the first line that may not stand behind those before it. Then what stands behind the last line feed is refused, unless
 /// it is cut off.

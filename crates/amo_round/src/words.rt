@@ -1,5 +1,6 @@
 //! The places of a round's words in their file.
 ghost use Rattle.std.specs.Prelude.{◌≡◌, ◌+◌, ◌*◌, ◌^◌, ◌<◌, ◌≤◌};
+ghost use Rattle.amo_kk.specs.declared.limits.TheConstants.{MAX_JOBS, MAX_WORKERS};
 ghost use Rattle.amo_round.specs.Words.{offset_of, word_count, words_len};
 ghost use Rattle.amo_round.specs.declared.head.TheConstants.{HEAD_LEN};
 
@@ -9,8 +10,8 @@ use amo_ledger::Givens;
 /// How many bytes the file of the words has: the head, and 8 for each word.
 #[tactic(auto, using(crate::proofs::Counts::few_words))]
 pub fn words_len(givens: &Givens) -> u64
-    requires few_jobs { givens.now.jobs ≤ 4096 }
-    requires few_workers { givens.now.workers ≤ 16 }
+    requires few_jobs { givens.now.jobs ≤ MAX_JOBS }
+    requires few_workers { givens.now.workers ≤ MAX_WORKERS }
     ensures { result ≡ words_len givens.now }
 {
     offset_of(givens.workers * (givens.jobs + 3) + 1)
