@@ -2,6 +2,7 @@
 use Rattle.std.specs.Prelude.{ℕ, List, [], ◌∷◌, Option, Some, None, true, option_and_then, codes, drop, if◌then◌else◌}
 use Rattle.std.specs.Str.{bytes_eq}
 use Rattle.clap.specs.Words.{App, Row, Rule, Text, new_app, new_rule, with_rule, with_subcommand, subcommand_of, fault_of, first_of}
+use Rattle.amo_kk.specs.declared.limits.TheConstants.{MAX_WORKERS}
 use Rattle.amo_plan.specs.Digits.{number_in, within}
 use Rattle.amo_report.specs.declared.explorer.TheConstants.{MOST_FIRST, MOST_COUNT, MOST_TURNS}
 use Rattle.amo_report.specs.declared.wanted.Wanted.TheVariants.{Report, Check, Explored, Stops}
@@ -56,7 +57,7 @@ explore_of_rows rows = explore_with (number_at 0 MOST_FIRST (codes "FROM") rows)
 
 -- what the text of `stops` asks for
 abbrev pub stops_of_rows : List Row → Option Request
-stops_of_rows rows = option_and_then (λ worker. Some (TextOf (Stops worker))) (number_at 1 16 (codes "WORKER") rows)
+stops_of_rows rows = option_and_then (λ worker. Some (TextOf (Stops worker))) (number_at 1 MAX_WORKERS (codes "WORKER") rows)
 
 -- what a subcommand of this name with these texts asks for
 unfoldable pub request_of_row : Text → List Row → Option Request

@@ -7,6 +7,7 @@ ghost use Rattle.amo_program.specs.Statuses.{IsAsked};
 ghost use Rattle.amo_work.specs.Commands.{IsWithinRanges, amo_app, explore_app, stops_app, required, number_at, explore_of_rows, stops_of_rows, request_of_row, request_of_line, asked};
 
 use crate::request::Request;
+use amo_kk::MAX_WORKERS;
 use amo_plan::number_within;
 use amo_program::Fault;
 use amo_report::{MOST_COUNT, MOST_FIRST, MOST_TURNS, Wanted};
@@ -99,7 +100,7 @@ fn stops_of_matches(matches: &ArgMatches<'_>) -> Option<Request>
     ensures request { result ≡ stops_of_rows (rows_of (found_of matches.now)) }
     ensures ranges { IfSome result IsWithinRanges }
 {
-    let worker = number_at(1, 16, "WORKER", matches)? as u32;
+    let worker = number_at(1, MAX_WORKERS as u64, "WORKER", matches)? as u32;
     Some(Request::Text(Wanted::Stops { worker }))
 }
 
@@ -150,7 +151,7 @@ fn whole_line<'a>(alloc: Global, words: &[&'a str]) -> Result<Vec<&'a str>, Allo
 
 /// What the words after the program's name ask for. `NoCommand` comes only where they are no command, and
 /// `NoMemory` only where memory was refused.
-pub fn asked(alloc: Global, words: &[&str]) -> Result<Request, Fault>
+pub(crate) fn asked(alloc: Global, words: &[&str]) -> Result<Request, Fault>
     ensures request { IsAsked (asked (map (λ w. w.now) words.now)) result }
     ensures ranges { IfOk result IsWithinRanges }
 {
