@@ -40,7 +40,7 @@ within_bounds low high (Some m) n e =
 
 block_known : (o : Option Data) (b : ℕ) → block_in o ≡ Some b → is_between 1 MOST_IN_BLOCK b ≡ true
 block_known None b e = let same : 1 ≡ b = cc in rw (← same) refl
-block_known (Some d) b e = within_bounds 1 4096 (natural d) b e
+block_known (Some d) b e = within_bounds 1 MOST_IN_BLOCK (natural d) b e
 
 -- a version with its block
 form_fits : (v b : ℕ) (o : Option ℕ) → is_between 1 NEWEST_VERSION v ≡ true → cond (v == 2) o (Some 1) ≡ Some b → (o ≡ Some b → is_between 1 MOST_IN_BLOCK b ≡ true) → is_form v b ≡ true

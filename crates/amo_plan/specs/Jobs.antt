@@ -5,6 +5,7 @@ use Rattle.toml.specs.Data.{Data, Members, as_str, get_member}
 use Rattle.amo_plan.specs.declared.fault.PlanFault.{PlanFault}
 use Rattle.amo_plan.specs.declared.fault.PlanFault.TheVariants.{UnknownKey, MissingKey, WrongKind, BadName, TwoNames, SumTooLarge}
 use Rattle.amo_plan.specs.declared.job.Job.{Job}
+use Rattle.amo_plan.specs.declared.limits.TheConstants.{MOST_IN_NAME}
 use Rattle.amo_plan.specs.declared.task.Task.{Task}
 use Rattle.amo_plan.specs.declared.task.Task.TheVariants.{Say, Add}
 use Rattle.amo_plan.specs.Passing.{◌>>=◌, or_fault, unless, capped, each, is_between}
@@ -38,9 +39,9 @@ read_jobs tables = each job_at 1 tables
 abbrev pub is_name_byte : ℕ → Bool
 is_name_byte b = is_between 65 90 b || is_between 97 122 b || is_between 48 57 b || b == 95 || b == 45 || b == 46
 
--- one to 64 of them
+-- one to `MOST_IN_NAME` of them
 abbrev pub is_name : List ℕ → Bool
-is_name name = is_between 1 64 (length name) && list_all is_name_byte name
+is_name name = is_between 1 MOST_IN_NAME (length name) && list_all is_name_byte name
 
 -- the j-th job has a proper name that is not taken, and a task that fits
 unfoldable pub fine_job : Bool → ℕ → Job → Result (Unit {0}) PlanFault

@@ -24,6 +24,9 @@ pub const MOST_ROUNDS: u64 = 10_000;
 /// The most jobs of a block.
 pub const MOST_IN_BLOCK: u64 = 4096;
 
+/// The most bytes of a job's name.
+pub(crate) const MOST_IN_NAME: usize = 64;
+
 /// How many steps each worker has where no budgets are named.
 pub const USUAL_BUDGET: u64 = 1_000_000;
 

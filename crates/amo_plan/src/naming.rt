@@ -6,6 +6,7 @@ ghost use Rattle.amo_plan.specs.Jobs.{is_name_byte, is_name, fine_job, fine_jobs
 
 use crate::fault::PlanFault;
 use crate::job::Job;
+use crate::limits::MOST_IN_NAME;
 use crate::ordinal::ordinal_of;
 use crate::task::Task;
 use crate::text::Text;
@@ -35,7 +36,7 @@ fn has_name_bytes(name: &[u8]) -> bool
 fn is_name(name: &str) -> bool
     ensures { result ≡ is_name name.now }
 {
-    1 <= name.len() && name.len() <= 64 && has_name_bytes(name.as_bytes())
+    1 <= name.len() && name.len() <= MOST_IN_NAME && has_name_bytes(name.as_bytes())
 }
 
 /// The job in this place, whose name may be taken by an earlier one, has a proper name of its own and a task
