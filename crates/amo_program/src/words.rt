@@ -6,7 +6,7 @@ use std::alloc::{AllocError, Global};
 use std::env::Args;
 
 /// The words, as a list, the program's own name first. The only error is out of memory.
-pub fn listed(alloc: Global, words: Args) -> Result<Vec<String>, AllocError>
+pub(crate) fn listed(alloc: Global, words: Args) -> Result<Vec<String>, AllocError>
     ensures { IfOk result (λ list. list.items ≡ into_iter_items words) }
 {
     let mut list = Vec::with_capacity(alloc, words.len())?;
