@@ -10,6 +10,7 @@ use Rattle.amo_ledger.specs.Numbers.{three_in}
 use Rattle.amo_ledger.specs.Records.{RecordView, IsRecord, is_sound, ended}
 use Rattle.amo_ledger.proofs.RecordTexts.{limits}
 use Rattle.amo_ledger.proofs.Words.{Lacks, lacks_append, lacks_by_test, decimal_lacks, three_reads}
+use Rattle.amo_round.specs.declared.head.TheConstants.{HEAD_LEN}
 use Rattle.amo_round.specs.Heads.{head_lines, head_text, head_of}
 use Rattle.amo_round.specs.Lines.{lines_in}
 use Rattle.amo_round.proofs.Cuts.{only}
@@ -68,11 +69,11 @@ push_lacks (l ∷ lines) line all lacks = (all.0, push_lacks lines line all.1 la
 
 lines_of : (r : RecordView) (head : List ℕ) → IsRecord r → head_of r ≡ Some head → (blanks : List ℕ) × (lines_in head ≡ head_lines r ++ blanks ∷ [])
 lines_of r head is h =
-    let blanks = replicate (511 - length (head_text r)) 32 in
+    let blanks = replicate (HEAD_LEN - 1 - length (head_text r)) 32 in
     let lines = head_lines r ++ blanks ∷ [] in
-    let (short, made) = cond_some (nat_lt (length (head_text r)) 512) (head_text r ++ (blanks ++ 10 ∷ [])) head h in
+    let (short, made) = cond_some (nat_lt (length (head_text r)) HEAD_LEN) (head_text r ++ (blanks ++ 10 ∷ [])) head h in
     let are : ended lines ++ [] ≡ head = append-nil (ended lines) ∙ ended-append (head_lines r) (blanks ∷ []) ∙ made in
-    (blanks, ap lines_in (sym are) ∙ (only lines [] (push_lacks (head_lines r) blanks (lines_lack r is) (blanks_lack (511 - length (head_text r)))) tt).0)
+    (blanks, ap lines_in (sym are) ∙ (only lines [] (push_lacks (head_lines r) blanks (lines_lack r is) (blanks_lack (HEAD_LEN - 1 - length (head_text r)))) tt).0)
 
 pub one_round : (one other : RecordView) (head : List ℕ) → IsRecord one → IsRecord other → head_of one ≡ Some head → head_of other ≡ Some head
     → (one.round ≡ other.round) × (one.boot ≡ other.boot) × (one.givens ≡ other.givens)

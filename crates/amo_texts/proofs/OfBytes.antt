@@ -4,7 +4,9 @@ use Rattle.std.specs.Prelude.{IfSome}
 use Rattle.std.specs.Io.KnownBytes.{Appends, Consumes, IsAtEnd, Keeps}
 use Rattle.std.proofs.lemmas.List.{append-nil}
 use Rattle.amo_streams.specs.Streams.{AppendsFront}
+use Rattle.amo_streams.specs.declared.copying.TheConstants.{MOST_READ}
 use Rattle.amo_plan.specs.declared.fault.PlanFault.{PlanFault}
+use Rattle.amo_plan.specs.declared.limits.TheConstants.{MOST_BYTES}
 use Rattle.amo_texts.specs.declared.writing.ReplayFault.{ReplayFault}
 use Rattle.amo_texts.specs.declared.writing.ReplayFault.TheVariants.{Plan, Read, Write, NoMemory}
 use Rattle.amo_texts.specs.OfBytes.{WritesOf, WritesFrontOf, RefusesOf}
@@ -17,7 +19,7 @@ all_read (Some xs) None bytes taken end = absurd taken
 all_read (Some xs) (Some rest) bytes taken end = taken ∙ ap (λ (ys : List ℕ). bytes ++ ys) end ∙ append-nil bytes
 
 -- as many as are read at most are too many
-pub too_many : (known left : Option (List ℕ)) (bytes : List ℕ) → Consumes known left bytes → length bytes ≡ 1048577 → IfSome known (λ xs. 1048576 < length xs)
+pub too_many : (known left : Option (List ℕ)) (bytes : List ℕ) → Consumes known left bytes → length bytes ≡ MOST_READ → IfSome known (λ xs. MOST_BYTES < length xs)
 too_many None left bytes taken many = tt
 too_many (Some xs) None bytes taken many = absurd taken
 too_many (Some xs) (Some rest) bytes taken many = omega (arith, ap length taken, length-append bytes rest)
