@@ -5,7 +5,7 @@ ghost use Rattle.std.specs.Prelude.{◌≡◌, IfSome, map};
 ghost use Rattle.amo_sets.specs.Sets.{AreDistinct};
 
 use amo_crew::{ExecFault, StopPlan, Work, execute, laws};
-use amo_kk::Givens;
+use amo_kk::{Givens, MAX_STEPS};
 use std::sync::Wait;
 use std::thread::Threads;
 
@@ -29,7 +29,7 @@ fn send<R: Threads + Wait + Sync + AllocGlobal>(rt: &R, all: Vec<Letter>) -> Opt
     ensures once { IfSome result (λ sent. AreDistinct (map (λ t. t.0) sent.items)) }
 {
     let givens = Givens::try_new(all.len() as u64, 3, 3).ok()?;
-    let plan = StopPlan::try_new(rt.alloc(), givens, &[10_000_000; 3]).ok()?;
+    let plan = StopPlan::try_new(rt.alloc(), givens, &[MAX_STEPS; 3]).ok()?;
     laws::settled_later(&Post);
     laws::each_job_is_answered_once(&Post);
     laws::each_job_has_a_place(&Post);
