@@ -23,36 +23,40 @@ use Rattle.amo_words.specs.declared.rule.Spot.TheVariants.{Home, Out as Away, Ba
 use Rattle.amo_words.specs.Logs.{machine_after, is_claimed}
 use Rattle.amo_words.specs.Rule.{AllStand, Stands}
 use Rattle.amo_words.specs.declared.floor.settling.Settlement.{Settlement}
-use Rattle.amo_words.specs.Settling.{free_of, IsWhole}
+use Rattle.amo_words.specs.Settling.{HasClosed, free_of, IsWhole}
 use Rattle.amo_claims.specs.Calls.{worker_in}
 use Rattle.amo_mailbox.specs.declared.output.Output.{Output}
+use Rattle.amo_crew.specs.declared.fault.ExecFault.{ExecFault}
+use Rattle.amo_crew.specs.declared.fault.ExecFault.TheVariants.{WrongCount, NoMemory, ThreadRefused, Unsettled}
 use Rattle.amo_crew.specs.declared.outcome.End.{End}
 use Rattle.amo_crew.specs.declared.outcome.End.TheVariants.{NotStarted}
-use Rattle.amo_words.specs.Faces.{Seated, machine, spots}
+use Rattle.amo_words.specs.Faces.{Seated, ClosedView, machine, spots}
 use Rattle.amo_words.specs.Hiring.{HasCollected}
 use Rattle.amo_words.proofs.Worlds.{lawful, unclaimed_by}
 use Rattle.amo_mailbox.specs.declared.queue.Queue.{Queue}
+use Rattle.amo_crew.specs.declared.kit.Kit.{Kit}
 use Rattle.amo_crew.specs.declared.member.Member.{Member}
 use Rattle.amo_crew.specs.Running.{IsMember}
 use Rattle.amo_crew.specs.Crew.{IsCrew}
 use Rattle.amo_crew.specs.Outcomes.{spot_of, IsBare, EndsAs, hands_upto, HaveRun}
+use Rattle.amo_crew.specs.Refusing.{HasNotBegun, IsCalledOff, Refuses}
 use Rattle.amo_crew.specs.Hired.{AreHired, IsUntouched, AreCalledOff, AtTable}
 use Rattle.amo_crew.proofs.Hires.{first_claims}
 use Rattle.amo_crew.proofs.Crews.{all_at}
 
-module _ {P Out : Type 0} (queue : Queue Out) (table : TableId) (g : Givens) (payloads : List P) (budgets : List ℕ) where
-  pub off_from : (b : Seated P) (crew : List (Member P Out)) → AreHired queue table g payloads budgets b crew → AreCalledOff queue table g payloads budgets b crew
-  off_from b crew h = record {
+module _ {P Out : Type 0} (table : TableId) (g : Givens) (payloads : List P) (budgets : List ℕ) where
+  pub off_from : (b : Seated P) (kit : Kit P Out) → AreHired table g payloads budgets b kit → AreCalledOff kit.queue table g payloads budgets b kit.crew.items
+  off_from b kit h = record {
     tied = h.tied;
     givens = h.givens;
     payloads_are = h.payloads_are;
     size = h.size;
-    fits = h.fits;
+    fits = let n = h.kit_is.count in omega arith;
     members = h.members;
     untouched = λ p. ⊎_elim
         (λ low. ⊎_elim (λ (high : p < suc g.workers). inr (low, omega arith)) (λ high. inl (subst IsUntouched (sym (beyond p high)) tt)) (cases_lt p (suc g.workers)))
         (λ high. inl (subst IsUntouched (sym (h.home p (omega arith))) tt))
-        (cases_lt g.workers (p + length crew));
+        (cases_lt g.workers (p + length kit.crew.items));
   }
     where
       past : (l : List Spot) (k : ℕ) → length l ≤ k → get_or l k Home ≡ Home
@@ -64,6 +68,7 @@ module _ {P Out : Type 0} (queue : Queue Out) (table : TableId) (g : Givens) (pa
       beyond zero high = absurd (omega arith)
       beyond (suc k) high = past (spots b) k (let z = h.size in omega arith)
 
+module _ {P Out : Type 0} (queue : Queue Out) (table : TableId) (g : Givens) (payloads : List P) (budgets : List ℕ) where
   module _ (b : Seated P) (rest : List (Member P Out)) (m : Member P Out) (c : Seated P) (h : AreCalledOff queue table g payloads budgets b (rest ++ m ∷ [])) (did : HasCollected b (worker_in m.after) c) where
     p : ℕ
     p = g.workers - length rest
@@ -170,8 +175,30 @@ none_ran {P} {Out} related g payloads budgets ss ends outputs hands h e o t =
     same (suc n) zero x at = sym (some-injective NotStarted x at)
     same (suc n) (suc k) x at = same n k x at
 
+-- so what is called off is refused, whatever the work and the budgets
+pub off_refused : {P Out : Type 0} (related : ℕ → ℕ → P → Out → Type 0) (g : Givens) (payloads : List P) (budgets : List ℕ) (f : ExecFault P Out) → IsCalledOff g payloads f → Refuses related g payloads budgets f
+off_refused related g payloads budgets (WrongCount v) h = absurd h
+off_refused related g payloads budgets (NoMemory v) h = h
+off_refused related g payloads budgets (ThreadRefused o) h = absurd h
+off_refused related g payloads budgets (Unsettled u) h = record { seen = h.seen; closed = h.closed; run = none_ran related g payloads budgets u.floor.spots u.ends u.outputs u.in_hand h.untouched h.ends h.outputs h.in_hand }
+
 pub all_off : {P Out : Type 0} (queue : Queue Out) (table : TableId) (g : Givens) (payloads : List P) (budgets : List ℕ) (b : Seated P) → AreCalledOff queue table g payloads budgets b [] → (p : ℕ) → IsUntouched (spot_of (spots b) p)
 all_off queue table g payloads budgets b h p = ⊎_elim (λ t. t) (λ t. let low = t.0 in let high = t.1 in absurd (omega arith)) (h.untouched p)
 
 pub all_at_table : {P Out : Type 0} (queue : Queue Out) (table : TableId) (g : Givens) (payloads : List P) (budgets : List ℕ) (crew : List (Member P Out)) → IsCrew queue table g payloads budgets crew → All (AtTable table) crew
 all_at_table queue table g payloads budgets crew is = all_at (AtTable table) crew (λ k m at. (is k m at).table_is)
+
+-- what is held where nothing was started
+pub has_not_begun : {P Out : Type 0} (g : Givens) (payloads : List P) (b : Seated P) (c : ClosedView P) (ends : List End) (outputs : List (Output Out)) (in_hand : List (ℕ × ℕ × P))
+    → HasClosed b.view.givens b.view.payloads b.view.seen (spots b) c → b.view.givens ≡ g → b.view.payloads ≡ payloads → ((p : ℕ) → IsUntouched (spot_of (spots b) p))
+    → ends ≡ replicate g.workers NotStarted → outputs ≡ [] → in_hand ≡ [] → HasNotBegun g payloads record { floor = c; ends = ends; outputs = outputs; in_hand = in_hand }
+has_not_begun {P} {Out} g payloads b c ends outputs in_hand closed givens own untouched e o h = record {
+  seen = b.view.seen;
+  closed = subst (λ (x : List Spot). HasClosed g payloads b.view.seen x c) (sym closed.spots_are)
+      (subst (λ (x : List P). HasClosed g x b.view.seen (spots b) c) own
+      (subst (λ (x : Givens). HasClosed x b.view.payloads b.view.seen (spots b) c) givens closed));
+  untouched = subst (λ (x : List Spot). (p : ℕ) → IsUntouched (spot_of x p)) (sym closed.spots_are) untouched;
+  ends = e;
+  outputs = o;
+  in_hand = h;
+}

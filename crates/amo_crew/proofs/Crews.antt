@@ -1,5 +1,5 @@
 -- Before the threads, after them, and before the first worker is collected.
-use Rattle.std.proofs.Common.{◌≡◌, ◌≢◌, inr, ℕ, zero, suc, ◌-◌, ◌≤◌, Bool, true, false, List, [], ◌∷◌, length, All, refl, sym, ap, ◌∙◌, subst, arith}
+use Rattle.std.proofs.Common.{◌≡◌, ◌≢◌, inr, ℕ, zero, suc, ◌-◌, Bool, true, false, List, [], ◌∷◌, length, All, refl, sym, ap, ◌∙◌, subst, arith}
 use Rattle.std.specs.Prelude.{◌||◌}
 use Rattle.std.specs.List.{AllZip}
 use Rattle.std.proofs.lemmas.Bool.{true≢false}
@@ -20,14 +20,13 @@ use Rattle.amo_crew.specs.declared.member.Member.{Member}
 use Rattle.amo_crew.specs.declared.member.Finish.{Finish}
 use Rattle.amo_crew.specs.declared.member.Finish.TheVariants.{Ran as HasRan, NotStarted as WasNotStarted}
 use Rattle.amo_crew.specs.Running.{HasRun, IsMember}
-use Rattle.amo_crew.specs.Plans.{AreSmall}
-use Rattle.amo_crew.specs.declared.crew.Gear.{Gear}
-use Rattle.amo_crew.specs.Gears.{IsGeared}
+use Rattle.amo_crew.specs.declared.kit.Kit.{Kit}
+use Rattle.amo_crew.specs.Hired.{AreHired}
 use Rattle.amo_crew.specs.Crew.{MayRun, IsFinishOf, IsCrew, HasFinished, AreFinished}
 use Rattle.amo_crew.specs.Outcomes.{spot_of, IsBare, AllStarted, SomeRefused}
 use Rattle.amo_crew.specs.Refusing.{is_refused, any_refused}
 use Rattle.amo_crew.specs.Collecting.{RanAt, AreCollected}
-use Rattle.amo_kk.specs.declared.limits.TheConstants.{MAX_STEPS}
+use Rattle.amo_crew.proofs.Starts.{hired_bare}
 
 pub all_at : {A : Type 0} (Q : A → Type 0) (xs : List A) → ((k : ℕ) (x : A) → get_elem? xs k ≡ some x → Q x) → All Q xs
 all_at Q [] h = All-nil Q
@@ -47,26 +46,24 @@ zip_length R (a ∷ xs) [] h = absurd h
 zip_length R (a ∷ xs) (b ∷ ys) h = ap suc (zip_length R xs ys h.1)
 
 module _ {P Out : Type 0} (related : ℕ → ℕ → P → Out → Type 0) (queue : Queue Out) (table : TableId) (g : Givens) (payloads : List P) (budgets : List ℕ) where
-  may_run : (p budget : ℕ) (m : Member P Out) → budget ≤ MAX_STEPS → IsMember queue table g payloads p budget m → MayRun queue table m
-  may_run p budget m small is = (
-    record {
-      begun = is.begun;
-      table_is = is.table_is;
-      givens = refl;
-      payloads_are = refl;
-      number = refl;
-      fresh = is.fresh;
-      belongs = is.belongs;
-      worker = is.worker ∙ sym is.number;
-      room = is.room ∙ ap (λ (x : Givens). x.jobs) (sym is.givens);
-      empty = is.empty;
-      budget_is = refl;
-    },
-    (let e = is.budget_is in omega arith),
-  )
+  may_run : (p budget : ℕ) (m : Member P Out) → IsMember queue table g payloads p budget m → MayRun queue table m
+  may_run p budget m is = record {
+    begun = is.begun;
+    table_is = is.table_is;
+    givens = refl;
+    payloads_are = refl;
+    number = refl;
+    fresh = is.fresh;
+    belongs = is.belongs;
+    worker = is.worker ∙ sym is.number;
+    room = is.room ∙ ap (λ (x : Givens). x.jobs) (sym is.givens);
+    empty = is.empty;
+    budget_is = refl;
+    small = is.small;
+  }
 
-  pub all_may_run : (crew : List (Member P Out)) → AreSmall budgets → IsCrew queue table g payloads budgets crew → All (MayRun queue table) crew
-  all_may_run crew small is = all_at (MayRun queue table) crew (λ k m at. may_run (g.workers - k) (numbered 0 budgets (g.workers - k)) m (small (g.workers - k)) (is k m at))
+  pub all_may_run : (crew : List (Member P Out)) → IsCrew queue table g payloads budgets crew → All (MayRun queue table) crew
+  all_may_run crew is = all_at (MayRun queue table) crew (λ k m at. may_run (g.workers - k) (numbered 0 budgets (g.workers - k)) m (is k m at))
 
   run_is : (p budget : ℕ) (m : Member P Out) (f : Finish P Out) → IsMember queue table g payloads p budget m → IsFinishOf related queue table m f → HasFinished related queue table g payloads p budget f
   run_is p budget m (HasRan r) is ran =
@@ -132,12 +129,17 @@ all_started es h = all_at (λ e. e ≢ NotStarted) es (go es h)
     go (Halted n ∷ xs) h (suc k) e at = go xs h k e at
     go (NotStarted ∷ xs) h (suc k) e at = absurd (true≢false h)
 
--- of a geared crew that has ended each worker is finished, and nobody is collected yet
-pub ended_crew : {P Out : Type 0} (related : ℕ → ℕ → P → Out → Type 0) (table : TableId) (g : Givens) (book : Seated P) (budgets : List ℕ) (gear : Gear P Out) (fs : List (Finish P Out)) → IsGeared table g book budgets gear
-    → AllZip (IsFinishOf related gear.queue table) gear.crew.items fs
-    → (length fs ≡ g.workers) × AreFinished related gear.queue table g book.view.payloads budgets fs × AreCollected related gear.queue table g book.view.payloads budgets 0 book gear.into.outlets.items gear.into.ends.items gear.into.in_hand.items
-ended_crew related table g book budgets gear fs is zip = (
-  zip_length (IsFinishOf related gear.queue table) gear.crew.items fs zip ∙ is.count,
-  all_finished related gear.queue table g book.view.payloads budgets gear.crew.items fs is.members zip,
-  starts related gear.queue table g book.view.payloads budgets book _ _ _ is.tied is.givens refl is.size is.stand is.bare is.no_outlets is.no_ends is.no_hands,
+none_of : {A : Type 0} (xs : List A) → length xs ≡ 0 → xs ≡ []
+none_of [] h = refl
+none_of (x ∷ xs) h = absurd (omega arith)
+
+-- of a whole crew that has ended each worker is finished, and nobody is collected yet
+pub ended_crew : {P Out : Type 0} (related : ℕ → ℕ → P → Out → Type 0) (table : TableId) (g : Givens) (payloads : List P) (budgets : List ℕ) (book : Seated P) (kit : Kit P Out) (fs : List (Finish P Out)) → AreHired table g payloads budgets book kit
+    → length kit.crew.items ≡ g.workers → AllZip (IsFinishOf related kit.queue table) kit.crew.items fs
+    → (length fs ≡ g.workers) × AreFinished related kit.queue table g payloads budgets fs × AreCollected related kit.queue table g payloads budgets 0 book kit.outlets.items kit.ends.items kit.in_hand.items
+ended_crew related table g payloads budgets book kit fs is all zip = (
+  zip_length (IsFinishOf related kit.queue table) kit.crew.items fs zip ∙ all,
+  all_finished related kit.queue table g payloads budgets kit.crew.items fs is.members zip,
+  starts related kit.queue table g payloads budgets book _ _ _ is.tied is.givens is.payloads_are is.size is.stand (hired_bare table g payloads budgets book kit is all)
+      (none_of kit.outlets.items (let n = is.kit_is.count in omega arith)) is.kit_is.no_ends is.kit_is.no_hands,
 )

@@ -1,5 +1,5 @@
 -- Each job is answered, in a hand, free, or with a worker that was not started.
-use Rattle.std.proofs.Common.{◌≡◌, ◌≢◌, ◌⊎◌, inl, inr, ⊎_elim, ℕ, zero, suc, ◌+◌, ◌<◌, ◌≤◌, Bool, true, false, cond, eqb, ◌||◌, List, [], ◌∷◌, map, length, refl, sym, ap, ◌∙◌, subst, arith, get_or, Vec, Global}
+use Rattle.std.proofs.Common.{◌≡◌, ◌≢◌, ◌⊎◌, inl, inr, ⊎_elim, ℕ, zero, suc, ◌+◌, ◌<◌, ◌≤◌, Bool, true, false, cond, eqb, ◌||◌, List, [], ◌∷◌, map, length, refl, sym, ap, ◌∙◌, subst, arith, get_or}
 use Rattle.std.proofs.lemmas.Bool.{cases_lt, or_right, true≢false, eq-eqb}
 use Rattle.std.proofs.lemmas.List.{map-append, get_or-map, get_or_past}
 use mathlib.Core.Logic.{dite}
@@ -27,7 +27,7 @@ use Rattle.amo_crew.specs.declared.outcome.End.{End}
 use Rattle.amo_crew.specs.declared.outcome.End.TheVariants.{Ended, Halted, NotStarted}
 use Rattle.amo_crew.specs.declared.outcome.Outcome.{Outcome}
 use Rattle.amo_mailbox.specs.Mailbox.{of}
-use Rattle.amo_crew.specs.Outcomes.{spot_of, dones_in, hand_in, hands_upto, jobs_of, EndsAs, IsOutcome, AllStarted, HasAPlace, HasStarted, IsOfNoThread, answered, in_hand, free_jobs}
+use Rattle.amo_crew.specs.Outcomes.{spot_of, dones_in, hand_in, hands_upto, jobs_of, EndsAs, IsOutcome, AllStarted, HasAPlace, HasStarted, IsOfNoThread, answered, in_hand}
 use Rattle.std.proofs.lemmas.List.Elements.{All-get_or}
 use Rattle.amo_words.proofs.Settles.{get_or_at}
 use Rattle.amo_crew.proofs.Fitted.{is_back}

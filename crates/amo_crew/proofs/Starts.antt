@@ -14,11 +14,11 @@ use Rattle.amo_words.specs.Rule.{AllStand}
 use Rattle.amo_words.specs.Faces.{Seated, ClosedView, spots}
 use Rattle.amo_mailbox.specs.declared.queue.Queue.{Queue}
 use Rattle.amo_mailbox.specs.declared.outlet.Outlet.{Outlet}
-use Rattle.amo_crew.specs.declared.member.Member.{Member}
+use Rattle.amo_crew.specs.declared.kit.Kit.{Kit}
 use Rattle.amo_mailbox.specs.Endpoints.{IsNewOutletOf}
 use Rattle.amo_crew.specs.Outcomes.{spot_of, IsBare, HaveRun, IsOutcome}
-use Rattle.amo_crew.specs.Plans.{IsPlan, AreSmall}
-use Rattle.amo_crew.specs.Hired.{AreOutlets, AreHired}
+use Rattle.amo_crew.specs.Kits.{AreOutlets, IsKit}
+use Rattle.amo_crew.specs.Hired.{AreHired}
 use Rattle.std.specs.Prelude.{Result, Ok, Err, IfOk, IfErr}
 use Rattle.amo_words.specs.Settling.{HasClosed}
 use Rattle.amo_mailbox.specs.declared.output.Output.{Output}
@@ -29,16 +29,6 @@ use Rattle.amo_crew.specs.declared.fault.ExecFault.TheVariants.{WrongCount, NoMe
 use Rattle.amo_crew.specs.Unsettling.{UnsettledView, IsUnsettled, IsSettledOf}
 use Rattle.amo_crew.specs.Refusing.{Concludes, Refuses}
 use Rattle.amo_crew.proofs.Outputs.{at_all}
-use Rattle.amo_kk.specs.declared.limits.TheConstants.{MAX_STEPS}
-
-pub all_small : (g : Givens) (budgets : List ℕ) → IsPlan g budgets → AreSmall budgets
-all_small g budgets is zero = omega arith
-all_small g budgets is (suc k) = go budgets k is.1
-  where
-    go : (l : List ℕ) (k : ℕ) → All (λ b. b ≤ MAX_STEPS) l → get_or l k 0 ≤ MAX_STEPS
-    go [] k h = omega arith
-    go (x ∷ xs) zero h = h 0 x (omega arith)
-    go (x ∷ xs) (suc k) h = go xs k (λ i d l. h (suc i) d (omega arith))
 
 range_at : (a n k y : ℕ) → get_elem? (map (λ i. i + 1) (range_with_len a n)) k ≡ some y → y ≡ a + k + 1
 range_at a zero k y e = absurd (some-ne-none y (sym e))
@@ -66,19 +56,19 @@ all_home n zero = refl
 all_home n (suc k) = home_at n k
 
 -- nobody is hired yet
-pub hired_none : {P Out : Type 0} (queue : Queue Out) (table : TableId) (g : Givens) (payloads : List P) (budgets : List ℕ) (b : Seated P) (crew : List (Member P Out)) → b.table_id ≡ table → b.view.givens ≡ g → b.view.payloads ≡ payloads → AllStand g b.view.seen (spots b) → spots b ≡ replicate g.workers Home → crew ≡ []
-    → AreHired queue table g payloads budgets b crew
-hired_none {P} {Out} queue table g payloads budgets b crew tied givens own stand home none = subst (λ (l : List (Member P Out)). AreHired queue table g payloads budgets b l) (sym none) (record {
+pub hired_none : {P Out : Type 0} (table : TableId) (g : Givens) (payloads : List P) (budgets : List ℕ) (b : Seated P) (kit : Kit P Out) → b.table_id ≡ table → b.view.givens ≡ g → b.view.payloads ≡ payloads → AllStand g b.view.seen (spots b) → spots b ≡ replicate g.workers Home → IsKit g kit → kit.crew.items ≡ []
+    → AreHired table g payloads budgets b kit
+hired_none {P} {Out} table g payloads budgets b kit tied givens own stand home is none = record {
   tied = tied;
   givens = givens;
   payloads_are = own;
   size = ap length home ∙ length-replicate g.workers Home;
   stand = stand;
-  fits = omega arith;
+  kit_is = is;
   home = λ p l. ap (λ s. spot_of s p) home ∙ all_home g.workers p;
-  out = λ p l high. absurd (omega arith);
-  members = λ k m at. absurd (some-ne-none m (sym at));
-})
+  out = λ p l high. let z = ap length none in absurd (omega arith);
+  members = λ k m at. absurd (some-ne-none m (sym (subst (λ l. get_elem? l k ≡ some m) none at)));
+}
 
 past : (l : List Spot) (k : ℕ) → length l ≤ k → get_or l k Home ≡ Home
 past [] k h = refl
@@ -86,9 +76,9 @@ past (x ∷ xs) zero h = absurd (omega arith)
 past (x ∷ xs) (suc k) h = past xs k (omega arith)
 
 -- nothing is known of those that are hired
-pub hired_bare : {P Out : Type 0} (queue : Queue Out) (table : TableId) (g : Givens) (payloads : List P) (budgets : List ℕ) (b : Seated P) (crew : List (Member P Out)) → AreHired queue table g payloads budgets b crew → length crew ≡ g.workers → (p : ℕ) → IsBare (spot_of (spots b) p)
-hired_bare queue table g payloads budgets b crew h all zero = (refl, refl)
-hired_bare queue table g payloads budgets b crew h all (suc k) = ⊎_elim
+pub hired_bare : {P Out : Type 0} (table : TableId) (g : Givens) (payloads : List P) (budgets : List ℕ) (b : Seated P) (kit : Kit P Out) → AreHired table g payloads budgets b kit → length kit.crew.items ≡ g.workers → (p : ℕ) → IsBare (spot_of (spots b) p)
+hired_bare table g payloads budgets b kit h all zero = (refl, refl)
+hired_bare table g payloads budgets b kit h all (suc k) = ⊎_elim
     (λ (low : k < g.workers). subst IsBare (sym (h.out (suc k) (omega arith) (omega arith))) (refl, refl))
     (λ high. subst IsBare (sym (past (spots b) k (let z = h.size in omega arith))) (refl, refl))
     (cases_lt k g.workers)

@@ -14,7 +14,7 @@ use Rattle.amo_mailbox.specs.declared.queue.Queue.{Queue}
 use Rattle.amo_mailbox.specs.declared.outlet.Outlet.{Outlet}
 use Rattle.amo_crew.specs.declared.outcome.End.{End}
 use Rattle.amo_crew.specs.declared.outcome.End.TheVariants.{NotStarted}
-use Rattle.amo_crew.specs.declared.collecting.Yield.{Yield}
+use Rattle.amo_crew.specs.declared.collecting.Collected.{Collected}
 use Rattle.amo_crew.specs.declared.member.Member.{Member}
 use Rattle.amo_crew.specs.declared.member.Finish.{Finish}
 use Rattle.amo_crew.specs.declared.member.Finish.TheVariants.{Ran as HasRan, NotStarted as WasNotStarted}
@@ -72,17 +72,8 @@ abbrev pub RanAt : {P Out : Type 0} → TableId → Finish P Out → Type 0
 RanAt table (HasRan r) = r.gone.table_id ≡ table
 RanAt table (WasNotStarted u) = ⊤
 
--- the rooms are the same, and at most one more stands in each
-pub record HasRoomOf {P Out : Type 0} (a b : Yield P Out) : Type 0 where
-  pub outlets_room : vec_capacity b.outlets ≡ vec_capacity a.outlets
-  pub outlets_len : vec_len b.outlets ≤ vec_len a.outlets + 1
-  pub ends_room : vec_capacity b.ends ≡ vec_capacity a.ends
-  pub ends_len : vec_len b.ends ≤ vec_len a.ends + 1
-  pub hand_room : vec_capacity b.in_hand ≡ vec_capacity a.in_hand
-  pub hand_len : vec_len b.in_hand ≤ vec_len a.in_hand + 1
-
 -- there is room for n more
-pub record HasRoomFor {P Out : Type 0} (n : ℕ) (a : Yield P Out) : Type 0 where
+pub record HasRoomFor {P Out : Type 0} (n : ℕ) (a : Collected P Out) : Type 0 where
   pub outlets_room : vec_len a.outlets + n ≤ vec_capacity a.outlets
   pub ends_room : vec_len a.ends + n ≤ vec_capacity a.ends
   pub hand_room : vec_len a.in_hand + n ≤ vec_capacity a.in_hand

@@ -1,5 +1,5 @@
 -- Within this crate, but for EachAt: the members of a crew, before and after their threads.
-use Rattle.std.specs.Prelude.{◌≡◌, ℕ, ◌-◌, ◌<◌, ◌≤◌, ◌^◌, List, length, All, ⊤, Result, Ok, Err}
+use Rattle.std.specs.Prelude.{◌≡◌, ℕ, ◌-◌, ◌≤◌, List, length, All, ⊤, Result, Ok, Err}
 use Rattle.std.specs.List.{AllZip}
 use mathlib.Core.Option.{some}
 use lib.ListN.{get_elem?}
@@ -23,7 +23,7 @@ EachAt {A} R xs = (k : ℕ) (x : A) → get_elem? xs k ≡ some x → R k x
 
 -- a member that may start: it fits its own worker
 abbrev pub MayRun : {P Out : Type 0} → Queue Out → TableId → Member P Out → Type 0
-MayRun queue table m = IsMember queue table (worker_in m.after).view.givens (worker_in m.after).view.payloads (machine (worker_in m.after)).number m.budget m × (m.budget < 2 ^ 32)
+MayRun queue table m = IsMember queue table (worker_in m.after).view.givens (worker_in m.after).view.payloads (machine (worker_in m.after)).number m.budget m
 
 -- what comes back of a member's run
 abbrev pub IsRunOf : {P Out : Type 0} → (ℕ → ℕ → P → Out → Type 0) → Queue Out → TableId → Member P Out → Ran P Out → Type 0

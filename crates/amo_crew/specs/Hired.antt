@@ -9,27 +9,23 @@ use Rattle.amo_words.specs.Rule.{AllStand}
 use Rattle.amo_words.specs.Faces.{Seated, spots}
 use Rattle.amo_claims.specs.Calls.{worker_in}
 use Rattle.amo_mailbox.specs.declared.queue.Queue.{Queue}
-use Rattle.amo_mailbox.specs.declared.outlet.Outlet.{Outlet}
+use Rattle.amo_crew.specs.declared.kit.Kit.{Kit}
 use Rattle.amo_crew.specs.declared.member.Member.{Member}
-use Rattle.amo_mailbox.specs.Endpoints.{IsNewOutletOf}
-use Rattle.amo_crew.specs.Crew.{EachAt, IsCrew}
+use Rattle.amo_crew.specs.Kits.{IsKit}
+use Rattle.amo_crew.specs.Crew.{IsCrew}
 use Rattle.amo_crew.specs.Outcomes.{spot_of}
 
--- the outlets of the workers from 1 on, given nothing yet
-abbrev pub AreOutlets : {Out : Type 0} → Queue Out → ℕ → List (Outlet Out) → Type 0
-AreOutlets queue n outlets = EachAt (λ k o. IsNewOutletOf queue n o × (o.worker ≡ k + 1)) outlets
-
--- The last workers are hired, and are the crew; the others are at home.
-pub record AreHired {P Out : Type 0} (queue : Queue Out) (table : TableId) (g : Givens) (payloads : List P) (budgets : List ℕ) (book : Seated P) (crew : List (Member P Out)) : Type 0 where
+-- The last workers are hired, and are the crew of the kit; the others are at home.
+pub record AreHired {P Out : Type 0} (table : TableId) (g : Givens) (payloads : List P) (budgets : List ℕ) (book : Seated P) (kit : Kit P Out) : Type 0 where
   pub tied : book.table_id ≡ table
   pub givens : book.view.givens ≡ g
   pub payloads_are : book.view.payloads ≡ payloads
   pub size : length (spots book) ≡ g.workers
   pub stand : AllStand g book.view.seen (spots book)
-  pub fits : length crew ≤ g.workers
-  pub home : (p : ℕ) → p + length crew ≤ g.workers → spot_of (spots book) p ≡ Home
-  pub out : (p : ℕ) → g.workers < p + length crew → p ≤ g.workers → spot_of (spots book) p ≡ Away
-  pub members : IsCrew queue table g payloads budgets crew
+  pub kit_is : IsKit g kit
+  pub home : (p : ℕ) → p + length kit.crew.items ≤ g.workers → spot_of (spots book) p ≡ Home
+  pub out : (p : ℕ) → g.workers < p + length kit.crew.items → p ≤ g.workers → spot_of (spots book) p ≡ Away
+  pub members : IsCrew kit.queue table g payloads budgets kit.crew.items
 
 -- nothing is claimed: the worker is at home, or has come back with its first record
 abbrev pub IsUntouched : Spot → Type 0

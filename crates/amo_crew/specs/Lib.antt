@@ -6,7 +6,6 @@ pub mod Plans
 pub mod Faults
 pub mod Unsettling
 pub mod Refusing
-pub mod Gears
 pub mod Hired
 pub mod Kits
 pub mod Fitting

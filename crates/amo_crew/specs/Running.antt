@@ -4,6 +4,7 @@ use Rattle.amo_kk.specs.Record.{is_over, wants_nothing, jobs_in_hand}
 use Rattle.amo_kk.specs.declared.model.Record.{Record}
 use Rattle.amo_kk.specs.declared.phase.Phase.{Phase}
 use Rattle.amo_kk.specs.declared.givens.Givens.{Givens}
+use Rattle.amo_kk.specs.declared.limits.TheConstants.{MAX_STEPS}
 use Rattle.atomic_table.specs.Seated.{TableId}
 use Rattle.amo_words.specs.Faces.{Seated, machine}
 use Rattle.amo_claims.specs.Calls.{state_of, worker_in}
@@ -73,3 +74,4 @@ pub record IsMember {P Out : Type 0} (queue : Queue Out) (table : TableId) (g : 
   pub room : m.outlet.room ≡ g.jobs
   pub empty : given m.outlet ≡ []
   pub budget_is : m.budget ≡ budget
+  pub small : m.budget ≤ MAX_STEPS

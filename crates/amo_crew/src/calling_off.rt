@@ -3,20 +3,17 @@ ghost use Rattle.std.specs.Prelude.{◌≡◌, ◌≤◌, [], ℕ, List, All, le
 ghost use Rattle.amo_kk.specs.declared.givens.Givens.{Givens};
 ghost use Rattle.amo_words.specs.Hiring.{HasCollected};
 ghost use Rattle.amo_claims.specs.Calls.{worker_in};
+ghost use Rattle.amo_mailbox.specs.declared.queue.Queue.{Queue};
 ghost use Rattle.amo_crew.specs.Hired.{AreHired, AreCalledOff, AtTable};
-ghost use Rattle.amo_crew.specs.Refusing.{NoneStarted, Refuses};
+ghost use Rattle.amo_crew.specs.Refusing.{IsCalledOff};
 ghost use Rattle.amo_crew.specs.declared.outcome.End.TheVariants.{NotStarted};
 
-use crate::collecting::Yield;
-use crate::crew::Gear;
 use crate::fault::ExecFault;
+use crate::kit::Kit;
 use crate::member::Member;
 use crate::outcome::End;
-use crate::plan::StopPlan;
 use crate::unsettled::Unsettled;
-use amo_claims::{After, Work};
-use amo_kk::Givens;
-use amo_mailbox::Queue;
+use amo_claims::After;
 use amo_words::{Book, Floor, Settlement};
 use std::alloc::Global;
 
@@ -36,14 +33,13 @@ fn send_back<P: Drop>(floor: &Floor<P>, book: &mut Book<P>, after: After<P>)
 pub(crate) fn call_back<P: Drop, Out: Drop>(
     floor: &Floor<P>,
     book: &mut Book<P>,
-    _queue: &Queue<Out>,
     mut crew: Vec<Member<P, Out>>,
 )
     requires table { book.old.table_id ≡ floor.now.table_id }
     requires workers { All (AtTable floor.now.table_id) crew.items }
     ensures table { book.new.table_id ≡ book.old.table_id }
-    ensures back { (g : Givens) (payloads : List P) (budgets : List ℕ) → AreCalledOff _queue.now floor.now.table_id g payloads budgets book.old crew.items
-        → AreCalledOff _queue.now floor.now.table_id g payloads budgets book.new [] }
+    ensures back { (queue : Queue Out) (g : Givens) (payloads : List P) (budgets : List ℕ) → AreCalledOff queue floor.now.table_id g payloads budgets book.old crew.items
+        → AreCalledOff queue floor.now.table_id g payloads budgets book.new [] }
 {
     while let Some(member) = crew.pop() {
         let Member {
@@ -81,39 +77,27 @@ pub(crate) fn none_started(workers: u32, mut ends: Vec<End>) -> Vec<End>
 
 /// What is refused where a worker could not be hired: nothing was started, and the payloads come back where the floor
 /// can be settled.
-pub(crate) fn call_off<P: Drop, W: Work<P>>(
+pub(crate) fn call_off<P: Drop, Out: Drop>(
     alloc: Global,
-    givens: Givens,
-    _work: &W,
-    _plan: &StopPlan,
     floor: Floor<P>,
     mut book: Book<P>,
-    gear: Gear<P, W::Out>,
-    spare: Vec<P>,
-) -> ExecFault<P, W::Out>
-where
-    W::Out: Drop,
-    requires givens { givens ≡ floor.givens }
-    requires hired { AreHired gear.queue floor.table_id givens book.view.payloads _plan.now.budgets book gear.crew.items }
-    requires count { length book.view.payloads ≡ givens.jobs }
-    requires empty { (spare.items ≡ []) × (gear.into.ends.items ≡ []) × (gear.into.in_hand.items ≡ []) }
-    requires room { (givens.jobs ≤ vec_capacity spare) × (givens.workers ≤ vec_capacity gear.into.ends) }
-    ensures refused { Refuses (W.related _work.now) givens book.view.payloads _plan.now.budgets result }
-    ensures none_started { NoneStarted givens result }
+    kit: Kit<P, Out>,
+) -> ExecFault<P, Out>
+    requires hired { (budgets : List ℕ) × AreHired floor.table_id floor.givens book.view.payloads budgets book kit }
+    requires count { length book.view.payloads ≡ floor.givens.jobs }
+    ensures { IsCalledOff floor.givens book.view.payloads result }
 {
-    let Gear {
-        queue,
+    let Kit {
+        queue: _,
         inlet: _,
+        outlets: _,
         crew,
         finishes: _,
-        into,
-    } = gear;
-    call_back(&floor, &mut book, &queue, crew);
-    let Yield {
-        outlets: _,
         ends,
         in_hand,
-    } = into;
+        spare,
+    } = kit;
+    call_back(&floor, &mut book, crew);
     match floor.close(book).settle(alloc) {
         Ok(settlement) => {
             let Settlement {
@@ -125,7 +109,7 @@ where
             ExecFault::NoMemory(payloads_of(free, spare))
         }
         Err(closed) => {
-            let ends = none_started(givens.workers(), ends);
+            let ends = none_started(closed.givens().workers(), ends);
             let outputs = Vec::new(alloc);
             ExecFault::Unsettled(Unsettled::new(closed, ends, outputs, in_hand))
         }

@@ -1,19 +1,21 @@
 //! How workers come back to the book.
-ghost use Rattle.std.specs.Prelude.{ℕ, List, ◌≡◌, ◌+◌, ◌-◌, ◌<◌, ◌≤◌, ◌++◌, [], length, vec_len, vec_capacity, All};
+ghost use Rattle.std.specs.Prelude.{ℕ, List, ◌≡◌, ◌+◌, ◌≤◌, ◌++◌, vec_len, All};
 ghost use Rattle.amo_kk.specs.declared.givens.Givens.{Givens};
+ghost use Rattle.amo_kk.specs.declared.limits.TheConstants.{MAX_WORKERS};
+ghost use Rattle.amo_mailbox.specs.declared.queue.Queue.{Queue};
 ghost use Rattle.amo_words.specs.Faces.{Seated, spots};
 ghost use Rattle.amo_crew.specs.Crew.{AreFinished};
-ghost use Rattle.amo_crew.specs.Collecting.{AreBack, AreCollected, Collects, RanAt, HasRoomOf, HasRoomFor, ends_in};
+ghost use Rattle.amo_crew.specs.Collecting.{AreBack, AreCollected, Collects, RanAt, HasRoomFor, ends_in};
 
 use crate::member::{Finish, Ran};
 use crate::outcome::End;
 use amo_claims::Work;
-use amo_mailbox::{Outlet, Queue};
+use amo_mailbox::Outlet;
 use amo_words::{Book, Floor};
 
 /// What is collected beside the book.
 #[derive(Drop)]
-pub(crate) struct Yield<P, Out> {
+pub(crate) struct Collected<P, Out> {
     pub outlets: Vec<Outlet<Out>>,
     pub ends: Vec<End>,
     pub in_hand: Vec<(u32, u32, P)>,
@@ -25,16 +27,14 @@ fn collect_one<P: Drop, Out: Drop>(
     book: &mut Book<P>,
     p: u32,
     finish: Finish<P, Out>,
-    into: &mut Yield<P, Out>,
+    into: &mut Collected<P, Out>,
 )
     requires table { book.old.table_id ≡ floor.now.table_id }
     requires worker { RanAt floor.now.table_id finish }
-    requires outlets { vec_len into.old.outlets < vec_capacity into.old.outlets }
-    requires ends { vec_len into.old.ends < vec_capacity into.old.ends }
-    requires in_hand { vec_len into.old.in_hand < vec_capacity into.old.in_hand }
+    requires room { HasRoomFor 1 into.old }
     ensures collects { Collects p finish book.old into.old.outlets.items into.old.ends.items into.old.in_hand.items book.new into.new.outlets.items into.new.ends.items into.new.in_hand.items }
     ensures table { book.new.table_id ≡ book.old.table_id }
-    ensures room { HasRoomOf into.old into.new }
+    ensures room { (n : ℕ) → HasRoomFor (n + 1) into.old → HasRoomFor n into.new }
 {
     match finish {
         Finish::Ran(ran) => {
@@ -60,23 +60,22 @@ fn collect_one<P: Drop, Out: Drop>(
 pub(crate) fn collect_all<P: Drop, W: Work<P>>(
     floor: &Floor<P>,
     book: &mut Book<P>,
-    _queue: &Queue<W::Out>,
     _work: &W,
     mut finishes: Vec<Finish<P, W::Out>>,
-    into: &mut Yield<P, W::Out>,
+    into: &mut Collected<P, W::Out>,
 )
 where
     W::Out: Drop,
     requires table { book.old.table_id ≡ floor.now.table_id }
-    requires few { vec_len finishes ≤ 16 }
+    requires few { vec_len finishes ≤ MAX_WORKERS }
     requires workers { All (RanAt floor.now.table_id) finishes.items }
     requires room { HasRoomFor (vec_len finishes) into.old }
-    ensures collected { (g : Givens) (payloads : List P) (budgets : List ℕ) → AreFinished (W.related _work.now) _queue.now floor.now.table_id g payloads budgets finishes.items → vec_len finishes ≡ g.workers
-        → AreCollected (W.related _work.now) _queue.now floor.now.table_id g payloads budgets 0 book.old into.old.outlets.items into.old.ends.items into.old.in_hand.items
-        → AreCollected (W.related _work.now) _queue.now floor.now.table_id g payloads budgets g.workers book.new into.new.outlets.items into.new.ends.items into.new.in_hand.items }
+    ensures collected { (queue : Queue W.Out) (g : Givens) (payloads : List P) (budgets : List ℕ) → AreFinished (W.related _work.now) queue floor.now.table_id g payloads budgets finishes.items → vec_len finishes ≡ g.workers
+        → AreCollected (W.related _work.now) queue floor.now.table_id g payloads budgets 0 book.old into.old.outlets.items into.old.ends.items into.old.in_hand.items
+        → AreCollected (W.related _work.now) queue floor.now.table_id g payloads budgets g.workers book.new into.new.outlets.items into.new.ends.items into.new.in_hand.items }
     ensures ends { into.new.ends.items ≡ into.old.ends.items ++ ends_in finishes.items }
-    ensures back { (g : Givens) (payloads : List P) (budgets : List ℕ) → AreFinished (W.related _work.now) _queue.now floor.now.table_id g payloads budgets finishes.items → vec_len finishes ≡ g.workers
-        → AreCollected (W.related _work.now) _queue.now floor.now.table_id g payloads budgets 0 book.old into.old.outlets.items into.old.ends.items into.old.in_hand.items
+    ensures back { (queue : Queue W.Out) (g : Givens) (payloads : List P) (budgets : List ℕ) → AreFinished (W.related _work.now) queue floor.now.table_id g payloads budgets finishes.items → vec_len finishes ≡ g.workers
+        → AreCollected (W.related _work.now) queue floor.now.table_id g payloads budgets 0 book.old into.old.outlets.items into.old.ends.items into.old.in_hand.items
         → AreBack g (spots book.new) finishes.items }
     ensures table { book.new.table_id ≡ book.old.table_id }
 {

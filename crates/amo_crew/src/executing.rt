@@ -1,66 +1,71 @@
 //! How jobs are executed in threads.
-ghost use Rattle.std.specs.Prelude.{◌≡◌, ◌≤◌, [], length, replicate, vec_len, vec_capacity, IfOk, IfErr};
+ghost use Rattle.std.specs.Prelude.{◌≡◌, ℕ, List, [], length, replicate, IfOk, IfErr};
 ghost use Rattle.amo_words.specs.declared.rule.Spot.TheVariants.{Home};
 ghost use Rattle.amo_words.specs.Rule.{AllStand};
 ghost use Rattle.amo_words.specs.Faces.{spots};
 ghost use Rattle.amo_crew.specs.Outcomes.{IsOutcome, AllStarted};
 ghost use Rattle.amo_crew.specs.Refusing.{Refuses};
+ghost use Rattle.amo_crew.specs.Unsettling.{IsUnsettled};
+ghost use Rattle.amo_crew.specs.Collecting.{TellsCrew};
+ghost use Rattle.amo_crew.specs.Hired.{AreHired};
 ghost use Rattle.amo_crew.specs.Kits.{IsKit};
 
 use crate::calling_off::call_off;
-use crate::collecting::Yield;
-use crate::crew::{Gear, run_crew};
+use crate::collecting::{Collected, collect_all};
 use crate::fault::ExecFault;
 use crate::hiring::hire_all;
+use crate::kit::{Kit, prepare};
 use crate::outcome::Outcome;
 use crate::plan::StopPlan;
-use crate::unsettled::conclude;
+use crate::threads::run_all;
+use crate::unsettled::{Unsettled, conclude};
 use amo_claims::Work;
 use amo_kk::Givens;
-use amo_mailbox::{Outlet, outlets};
 use amo_words::{Book, Floor, OpenFault};
-use std::alloc::{AllocError, Global};
+use std::alloc::Global;
 use std::sync::Wait;
 use std::thread::Threads;
 
-/// All that is made before floor and threads.
-#[derive(Drop)]
-pub(crate) struct Kit<P, Out> {
-    pub outlets: Vec<Outlet<Out>>,
-    pub gear: Gear<P, Out>,
-    pub spare: Vec<P>,
-}
-
-/// Makes room for all that comes.
-fn prepare<P: Drop, Out: Drop>(alloc: Global, givens: Givens) -> Result<Kit<P, Out>, AllocError>
-    ensures { IfOk result (IsKit givens) }
+/// Runs each worker in a thread of its own, collects those that ran, and gathers their outputs.
+fn run_crew<P: Send + Drop, W: Work<P> + Sync, R: Threads + Wait + Sync>(
+    rt: &R,
+    work: &W,
+    floor: Floor<P>,
+    mut book: Book<P>,
+    kit: Kit<P, W::Out>,
+) -> Unsettled<P, W::Out>
+where
+    W::Out: Send + Drop,
+    requires hired { (budgets : List ℕ) × AreHired floor.table_id floor.givens book.view.payloads budgets book kit }
+    requires all { length kit.crew.items ≡ floor.givens.workers }
+    ensures unsettled { (budgets : List ℕ) → AreHired floor.table_id floor.givens book.view.payloads budgets book kit
+        → IsUnsettled (W.related work.now) floor.givens book.view.payloads budgets result }
+    ensures crew { TellsCrew (W.related work.now) kit.queue floor.table_id floor.givens kit.crew.items result }
 {
-    let jobs = givens.jobs() as usize;
-    let workers = givens.workers() as usize;
-    let (queue, inlet, outlets) = outlets(alloc, givens)?;
-    let crew = Vec::with_capacity(alloc, workers)?;
-    let finishes = Vec::with_capacity(alloc, workers)?;
-    let back = Vec::with_capacity(alloc, workers)?;
-    let ends = Vec::with_capacity(alloc, workers)?;
-    let in_hand = Vec::with_capacity(alloc, workers)?;
-    let spare = Vec::with_capacity(alloc, jobs)?;
-    let into = Yield {
-        outlets: back,
+    let Kit {
+        queue,
+        inlet,
+        outlets,
+        crew,
+        finishes,
+        ends,
+        in_hand,
+        spare: _,
+    } = kit;
+    let (inlet, finishes) = run_all(rt, &floor, &queue, work, inlet, crew, finishes);
+    let mut into = Collected {
+        outlets,
         ends,
         in_hand,
     };
-    let gear = Gear {
-        queue,
-        inlet,
-        crew,
-        finishes,
-        into,
-    };
-    Ok(Kit {
+    collect_all(&floor, &mut book, work, finishes, &mut into);
+    let Collected {
         outlets,
-        gear,
-        spare,
-    })
+        ends,
+        in_hand,
+    } = into;
+    let outputs = inlet.gather(rt, queue, outlets);
+    Unsettled::new(floor.close(book), ends, outputs, in_hand)
 }
 
 /// Hires the workers of an open floor and runs them.
@@ -71,7 +76,7 @@ fn run_on<P: Send + Drop, W: Work<P> + Sync, R: Threads + Wait + Sync>(
     plan: &StopPlan,
     floor: Floor<P>,
     mut book: Book<P>,
-    kit: Kit<P, W::Out>,
+    mut kit: Kit<P, W::Out>,
 ) -> Result<Outcome<P, W::Out>, ExecFault<P, W::Out>>
 where
     W::Out: Send + Drop,
@@ -80,26 +85,13 @@ where
     requires home { spots book ≡ replicate plan.now.givens.workers Home }
     requires stand { AllStand plan.now.givens book.view.seen (spots book) }
     requires kit { IsKit plan.now.givens kit }
+    requires none { kit.crew.items ≡ [] }
     ensures done { IfOk result (λ o. IsOutcome (W.related work.now) plan.now.givens book.view.payloads plan.now.budgets o × AllStarted o.ends.items) }
     ensures refused { IfErr result (Refuses (W.related work.now) plan.now.givens book.view.payloads plan.now.budgets) }
 {
-    let givens = plan.givens();
-    let Kit {
-        outlets,
-        mut gear,
-        spare,
-    } = kit;
-    match hire_all(
-        alloc,
-        &floor,
-        &mut book,
-        plan,
-        &gear.queue,
-        outlets,
-        &mut gear.crew,
-    ) {
-        Ok(()) => conclude(alloc, run_crew(rt, work, plan, floor, book, gear)),
-        Err(_) => Err(call_off(alloc, givens, work, plan, floor, book, gear, spare)),
+    match hire_all(alloc, &floor, &mut book, plan, &mut kit) {
+        Ok(()) => conclude(alloc, run_crew(rt, work, floor, book, kit)),
+        Err(_) => Err(call_off(alloc, floor, book, kit)),
     }
 }
 

@@ -1,39 +1,35 @@
 //! How a crew is hired.
-ghost use Rattle.std.specs.Prelude.{◌≡◌, ◌+◌, ◌<◌, ◌≤◌, [], length, vec_len, vec_capacity, IfOk};
-ghost use Rattle.amo_mailbox.specs.Endpoints.{IsNewOutletOf};
-ghost use Rattle.amo_crew.specs.Hired.{AreOutlets, AreHired};
+ghost use Rattle.std.specs.Prelude.{◌≡◌, ◌+◌, ◌≤◌, length, vec_len, IfOk};
+ghost use Rattle.amo_crew.specs.Hired.{AreHired};
 
+use crate::kit::Kit;
 use crate::member::Member;
 use crate::plan::StopPlan;
 use amo_claims::begin;
-use amo_mailbox::{Outlet, Queue};
 use amo_words::{Book, Floor, HireFault};
 use std::alloc::Global;
 
-/// Hires the worker of this outlet.
+/// Hires the worker of the last outlet.
 fn hire_one<P: Drop, Out: Drop>(
     alloc: Global,
     floor: &Floor<P>,
     book: &mut Book<P>,
     plan: &StopPlan,
-    _queue: &Queue<Out>,
-    outlet: Outlet<Out>,
-    p: u32,
-    crew: &mut Vec<Member<P, Out>>,
+    kit: &mut Kit<P, Out>,
 ) -> Result<(), HireFault>
-    requires hired { AreHired _queue.now floor.now.table_id plan.now.givens book.old.view.payloads plan.now.budgets book.old crew.old.items }
-    requires worker { p + length crew.old.items ≡ plan.now.givens.workers }
-    requires more { 1 ≤ p }
-    requires outlet { IsNewOutletOf _queue.now plan.now.givens.jobs outlet × (outlet.worker ≡ p) }
-    requires room { vec_len crew.old < vec_capacity crew.old }
+    requires hired { AreHired floor.now.table_id plan.now.givens book.old.view.payloads plan.now.budgets book.old kit.old }
+    requires more { 1 ≤ vec_len kit.old.outlets }
     ensures payloads { book.new.view.payloads ≡ book.old.view.payloads }
-    ensures hired { AreHired _queue.now floor.now.table_id plan.now.givens book.new.view.payloads plan.now.budgets book.new crew.new.items }
-    ensures more { IfOk result (λ _. vec_len crew.new ≡ vec_len crew.old + 1) }
-    ensures capacity { vec_capacity crew.new ≡ vec_capacity crew.old }
+    ensures hired { AreHired floor.now.table_id plan.now.givens book.new.view.payloads plan.now.budgets book.new kit.new }
+    ensures fewer { IfOk result (λ _. vec_len kit.new.outlets + 1 ≡ vec_len kit.old.outlets) }
 {
+    let p = kit.outlets.len() as u32;
     let worker = book.hire(alloc, floor, p)?;
     let budget = plan.budget(p);
-    crew.push_reserved(Member {
+    let Some(outlet) = kit.outlets.pop() else {
+        unreachable!()
+    };
+    kit.crew.push_reserved(Member {
         after: begin(worker),
         outlet,
         budget,
@@ -41,41 +37,21 @@ fn hire_one<P: Drop, Out: Drop>(
     Ok(())
 }
 
-/// Hires each worker, the last first.
+/// Hires each worker that is still to be hired, the last first.
 pub(crate) fn hire_all<P: Drop, Out: Drop>(
     alloc: Global,
     floor: &Floor<P>,
     book: &mut Book<P>,
     plan: &StopPlan,
-    queue: &Queue<Out>,
-    mut outlets: Vec<Outlet<Out>>,
-    crew: &mut Vec<Member<P, Out>>,
+    kit: &mut Kit<P, Out>,
 ) -> Result<(), HireFault>
-    requires hired { AreHired queue.now floor.now.table_id plan.now.givens book.old.view.payloads plan.now.budgets book.old crew.old.items }
-    requires none { crew.old.items ≡ [] }
-    requires count { vec_len outlets ≡ plan.now.givens.workers }
-    requires few { vec_len outlets ≤ 16 }
-    requires outlets { AreOutlets queue.now plan.now.givens.jobs outlets.items }
-    requires room { vec_len outlets ≤ vec_capacity crew.old }
+    requires hired { AreHired floor.now.table_id plan.now.givens book.old.view.payloads plan.now.budgets book.old kit.old }
     ensures payloads { book.new.view.payloads ≡ book.old.view.payloads }
-    ensures hired { AreHired queue.now floor.now.table_id plan.now.givens book.new.view.payloads plan.now.budgets book.new crew.new.items }
-    ensures all { IfOk result (λ _. length crew.new.items ≡ plan.now.givens.workers) }
+    ensures hired { AreHired floor.now.table_id plan.now.givens book.new.view.payloads plan.now.budgets book.new kit.new }
+    ensures all { IfOk result (λ _. length kit.new.crew.items ≡ plan.now.givens.workers) }
 {
-    let count = outlets.len();
-    for before in 0..count {
-        let Some(outlet) = outlets.pop() else {
-            unreachable!()
-        };
-        hire_one(
-            alloc,
-            floor,
-            book,
-            plan,
-            queue,
-            outlet,
-            (count - before) as u32,
-            crew,
-        )?;
+    while !kit.outlets.is_empty() {
+        hire_one(alloc, floor, book, plan, kit)?;
     }
     Ok(())
 }

@@ -7,10 +7,10 @@
 
 mod calling_off;
 mod collecting;
-mod crew;
 mod executing;
 mod fault;
 mod hiring;
+mod kit;
 pub mod laws;
 mod member;
 mod outcome;

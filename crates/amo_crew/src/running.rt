@@ -1,12 +1,9 @@
 //! A worker's run.
-ghost use Rattle.std.specs.Prelude.{ℕ, ◌≡◌, ◌+◌, ◌-◌, ◌<◌, ◌≤◌, ◌^◌, true, false, [], Some, None, slice_get};
-ghost use Rattle.amo_kk.specs.Record.{is_over, jobs_in_hand};
+ghost use Rattle.std.specs.Prelude.{◌≡◌, Some, None};
 ghost use Rattle.amo_words.specs.Faces.{machine};
 ghost use Rattle.amo_claims.specs.States.{IsReady, Holds};
-ghost use Rattle.amo_claims.specs.Calls.{worker_in};
 ghost use Rattle.amo_crew.specs.declared.outcome.End.{End};
-ghost use Rattle.amo_crew.specs.Running.{IsFresh, HasFiled, IsMember};
-ghost use Rattle.amo_crew.specs.Crew.{IsRunOf};
+ghost use Rattle.amo_crew.specs.Crew.{MayRun, IsRunOf};
 
 use crate::member::{Member, Ran};
 use crate::outcome::End;
@@ -25,8 +22,7 @@ pub(crate) fn run_member<P: Drop, W: Work<P>, R: Wait>(
 ) -> Ran<P, W::Out>
 where
     W::Out: Drop,
-    requires member { IsMember queue.now floor.now.table_id (worker_in member.after).view.givens (worker_in member.after).view.payloads (machine (worker_in member.after)).number member.budget member }
-    requires small { member.budget < 2 ^ 32 }
+    requires member { MayRun queue.now floor.now.table_id member }
     ensures { IsRunOf (W.related work.now) queue.now floor.now.table_id member result }
 {
     let Member {

@@ -1,10 +1,7 @@
 //! Each worker in a thread of its own.
-ghost use Rattle.std.specs.Prelude.{List, ◌≡◌, ◌+◌, ◌<◌, ◌≤◌, ◌^◌, [], ◌++◌, length, vec_len, vec_capacity, All, IfOk};
+ghost use Rattle.std.specs.Prelude.{List, ◌≡◌, ◌+◌, ◌≤◌, [], ◌++◌, vec_len, vec_capacity, All};
 ghost use Rattle.std.specs.List.{AllZip};
-ghost use Rattle.amo_words.specs.Faces.{machine};
-ghost use Rattle.amo_claims.specs.Calls.{worker_in};
 ghost use Rattle.amo_mailbox.specs.Endpoints.{IsInletOf};
-ghost use Rattle.amo_crew.specs.Running.{HasRun, IsMember};
 ghost use Rattle.amo_crew.specs.Crew.{MayRun, IsFinishOf, IsRunOf, MayStart, HasEnded};
 
 use crate::member::{Finish, Member, Ran, finish_of};

@@ -10,10 +10,10 @@ loop-member-preserved g c = let inv = c.loop-member.invariant in let rest = c.po
     record {
       table = did.kept.table ∙ inv.table;
       workers = (All-pop (AtTable c.args.floor.now.table_id) c.loop-member.crew.items rest (Some member) c.in-Some.ensures.items inv.workers).0;
-      back = λ gg payloads budgets before.
-          let had = subst (λ (l : List (Member g.row.P.Denot g.row.Out.Denot)). AreCalledOff c.args._queue.now c.args.floor.now.table_id gg payloads budgets c.loop-member.book l) c.in-Some.ensures.items (inv.back gg payloads budgets before) in
-          goes_back c.args._queue.now c.args.floor.now.table_id gg payloads budgets c.loop-member.book rest member c.send_back.new.book had did;
+      back = λ queue gg payloads budgets before.
+          let had = subst (λ (l : List (Member g.row.P.Denot g.row.Out.Denot)). AreCalledOff queue c.args.floor.now.table_id gg payloads budgets c.loop-member.book l) c.in-Some.ensures.items (inv.back queue gg payloads budgets before) in
+          goes_back queue c.args.floor.now.table_id gg payloads budgets c.loop-member.book rest member c.send_back.new.book had did;
     }
 
 pub returns-clause-back : goal.returns-clause-back
-returns-clause-back g c = λ gg payloads budgets before. subst (λ (l : List (Member g.row.P.Denot g.row.Out.Denot)). AreCalledOff c.args._queue.now c.args.floor.now.table_id gg payloads budgets c.loop-member.book l) (search rules) (c.loop-member.invariant.back gg payloads budgets before)
+returns-clause-back g c = λ queue gg payloads budgets before. subst (λ (l : List (Member g.row.P.Denot g.row.Out.Denot)). AreCalledOff queue c.args.floor.now.table_id gg payloads budgets c.loop-member.book l) (search rules) (c.loop-member.invariant.back queue gg payloads budgets before)

@@ -1,0 +1,53 @@
+//! What is made before floor and threads.
+ghost use Rattle.std.specs.Prelude.{◌≡◌, [], IfOk};
+ghost use Rattle.amo_crew.specs.Kits.{IsKit};
+
+use crate::member::{Finish, Member};
+use crate::outcome::End;
+use amo_kk::Givens;
+use amo_mailbox::{Inlet, Outlet, Queue, outlets};
+use std::alloc::{AllocError, Global};
+
+/// What a run needs beside floor and book: the mailbox, and lists with room for all that comes, so that once a thread was started
+/// nothing wants memory before the settling.
+#[derive(Drop)]
+pub(crate) struct Kit<P, Out> {
+    pub queue: Queue<Out>,
+    pub inlet: Inlet<Out>,
+    /// Those of the workers that are still to be hired, from worker 1 on. Those that ran come back into this list.
+    pub outlets: Vec<Outlet<Out>>,
+    pub crew: Vec<Member<P, Out>>,
+    pub finishes: Vec<Finish<P, Out>>,
+    pub ends: Vec<End>,
+    pub in_hand: Vec<(u32, u32, P)>,
+    /// Into this list the payloads go where nothing was started.
+    pub spare: Vec<P>,
+}
+
+/// Makes room for all that comes.
+pub(crate) fn prepare<P: Drop, Out: Drop>(
+    alloc: Global,
+    givens: Givens,
+) -> Result<Kit<P, Out>, AllocError>
+    ensures kit { IfOk result (IsKit givens) }
+    ensures none { IfOk result (λ kit. kit.crew.items ≡ []) }
+{
+    let jobs = givens.jobs() as usize;
+    let workers = givens.workers() as usize;
+    let (queue, inlet, outlets) = outlets(alloc, givens)?;
+    let crew = Vec::with_capacity(alloc, workers)?;
+    let finishes = Vec::with_capacity(alloc, workers)?;
+    let ends = Vec::with_capacity(alloc, workers)?;
+    let in_hand = Vec::with_capacity(alloc, workers)?;
+    let spare = Vec::with_capacity(alloc, jobs)?;
+    Ok(Kit {
+        queue,
+        inlet,
+        outlets,
+        crew,
+        finishes,
+        ends,
+        in_hand,
+        spare,
+    })
+}
