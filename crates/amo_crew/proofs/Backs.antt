@@ -35,7 +35,7 @@ use Rattle.amo_words.specs.Hiring.{HasCollected}
 use Rattle.amo_words.proofs.Worlds.{lawful, unclaimed_by}
 use Rattle.amo_mailbox.specs.declared.queue.Queue.{Queue}
 use Rattle.amo_crew.specs.declared.kit.Kit.{Kit}
-use Rattle.amo_crew.specs.declared.member.Member.{Member}
+use Rattle.amo_crew.specs.declared.run.member.Member.{Member}
 use Rattle.amo_crew.specs.Running.{IsMember}
 use Rattle.amo_crew.specs.Crew.{IsCrew}
 use Rattle.amo_crew.specs.Outcomes.{spot_of, IsBare, EndsAs, hands_upto, HaveRun}

@@ -28,13 +28,14 @@ use Rattle.amo_mailbox.specs.declared.queue.Queue.{Queue}
 use Rattle.amo_mailbox.specs.declared.outlet.Outlet.{Outlet}
 use Rattle.amo_crew.specs.declared.outcome.End.{End}
 use Rattle.amo_crew.specs.declared.outcome.End.TheVariants.{Ended, Halted, NotStarted}
-use Rattle.amo_crew.specs.declared.member.Ran.{Ran}
-use Rattle.amo_crew.specs.declared.member.Finish.{Finish}
-use Rattle.amo_crew.specs.declared.member.Finish.TheVariants.{Ran as HasRan, NotStarted as WasNotStarted}
+use Rattle.amo_crew.specs.declared.run.member.Ran.{Ran}
+use Rattle.amo_crew.specs.declared.settle.collecting.Collected.{Collected}
+use Rattle.amo_crew.specs.declared.run.member.Finish.{Finish}
+use Rattle.amo_crew.specs.declared.run.member.Finish.TheVariants.{Ran as HasRan, NotStarted as WasNotStarted}
 use Rattle.amo_mailbox.specs.Endpoints.{IsOutletOf, given}
 use Rattle.amo_crew.specs.Running.{EndsSo, IsInHand, HasRun}
 use Rattle.amo_crew.specs.Crew.{HasFinished}
-use Rattle.amo_crew.specs.Outcomes.{spot_of, dones_in, hand_in, IsBare, EndsAs, hands_upto}
+use Rattle.amo_crew.specs.Outcomes.{spot_of, dones_in, hand_in, IsBare, EndsAs, AreEnds, AreInHand, hands_upto}
 use Rattle.amo_crew.specs.Collecting.{OutletFits, dones_upto, AreCollected, hand_of, Collects, IsBackAs}
 
 -- lists
@@ -79,30 +80,38 @@ ends_as budget s l (Ended n) is h = (l, is, h)
 ends_as budget s l (Halted n) is h = (l, is, h)
 ends_as budget s l NotStarted is h = absurd h
 
-module _ {P Out : Type 0} (related : ℕ → ℕ → P → Out → Type 0) (queue : Queue Out) (table : TableId) (g : Givens) (payloads : List P) (budgets : List ℕ) (i : ℕ) (b : Seated P) (os : List (Outlet Out)) (es : List End) (hs : List (ℕ × ℕ × P))
-    (h : AreCollected related queue table g payloads budgets i b os es hs) (more : i < g.workers) where
+module _ {P Out : Type 0} (related : ℕ → ℕ → P → Out → Type 0) (queue : Queue Out) (table : TableId) (g : Givens) (payloads : List P) (budgets : List ℕ) (i : ℕ) (b : Seated P) (a : Collected P Out) (h : AreCollected related queue table g payloads budgets i b a) (more : i < g.workers) where
+  abbrev os : List (Outlet Out)
+  os = a.outlets.items
+
+  abbrev es : List End
+  es = a.ends.items
+
+  abbrev hs : List (ℕ × ℕ × P)
+  hs = a.in_hand.items
+
   -- a worker whose thread was not started
-  pub skips : AreCollected related queue table g payloads budgets (suc i) b os (es ++ NotStarted ∷ []) hs
-  skips = let bare = h.rest (suc i) (omega arith) in record {
+  pub skips : (z : Collected P Out) → z.outlets.items ≡ os → z.ends.items ≡ es ++ NotStarted ∷ [] → z.in_hand.items ≡ hs → AreCollected related queue table g payloads budgets (suc i) b z
+  skips z outlets ends hands = let bare = h.rest (suc i) (omega arith) in record {
     table_is = h.table_is;
     givens = h.givens;
     payloads_are = h.payloads_are;
     size = h.size;
     stand = h.stand;
-    belong = h.belong;
-    fits = h.fits;
+    belong = subst (All (IsOutletOf queue)) (sym outlets) h.belong;
+    fits = λ p. subst (λ l. OutletFits related payloads l p (dones_in (spot_of (spots b) p))) (sym outlets) (h.fits p);
     rest = λ p l. h.rest p (omega arith);
-    count = h.count ∙ (let z = ap length bare.0 in let y : dones_upto (spots b) i ≡ dones_upto (spots b) i + length (dones_in (spot_of (spots b) (suc i))) = omega arith in y);
-    ends_are = record {
+    count = ap (sum_by (λ (o : Outlet Out). o.put_count)) outlets ∙ h.count ∙ (let z = ap length bare.0 in let y : dones_upto (spots b) i ≡ dones_upto (spots b) i + length (dones_in (spot_of (spots b) (suc i))) = omega arith in y);
+    ends_are = subst (AreEnds budgets (spots b) (suc i)) (sym ends) (record {
       size = length_push es NotStarted ∙ (let z = h.ends_are.size in let e : length es + 1 ≡ suc i = omega arith in e);
       each = λ k e at. ⊎_elim (λ t. h.ends_are.each k e t.1)
           (λ t. subst (λ (x : End). EndsAs (numbered 0 budgets (k + 1)) (spot_of (spots b) (k + 1)) x) t.1
           (subst (λ n. IsBare (spot_of (spots b) n)) (let z = h.ends_are.size in let w = t.0 in let y : suc i ≡ k + 1 = omega arith in y) bare)) (at_push es NotStarted e k at);
-    };
-    hands_are = record {
+    });
+    hands_are = subst (AreInHand payloads (spots b) (suc i)) (sym hands) (record {
       jobs = h.hands_are.jobs ∙ sym (append-nil (hands_upto (spots b) i)) ∙ ap (λ l. hands_upto (spots b) i ++ map (λ j. (suc i, j)) l) (sym bare.1);
       own = h.hands_are.own;
-    };
+    });
   }
 
   -- a worker whose thread ran
@@ -141,7 +150,7 @@ module _ {P Out : Type 0} (related : ℕ → ℕ → P → Out → Type 0) (queu
     filed_count = sym ran.filed.belongs.counted ∙ sym (length-map (given r.outlet) (λ (x : Output Out). x.job)) ∙ ap length ran.filed.jobs
 
     count_now : sum_by (λ (o : Outlet Out). o.put_count) (os ++ r.outlet ∷ []) ≡ dones_upto (spots c) (suc i)
-    count_now = let a = sum_more (λ (o : Outlet Out). o.put_count) os r.outlet in let b' = h.count in let c' = dones_same (spots b) (spots c) i below in let d = ap (λ s. length (dones_in s)) here in let e = filed_count in omega arith
+    count_now = let sum = sum_more (λ (o : Outlet Out). o.put_count) os r.outlet in let b' = h.count in let c' = dones_same (spots b) (spots c) i below in let d = ap (λ s. length (dones_in s)) here in let e = filed_count in omega arith
 
     abbrev mine : ℕ → ℕ × ℕ
     mine j = (suc i, j)
@@ -154,18 +163,18 @@ module _ {P Out : Type 0} (related : ℕ → ℕ → P → Out → Type 0) (queu
     hand_own None e = All-nil (IsOwn payloads)
     hand_own (Some t) e = All-push (IsOwn payloads) [] (suc i, t.0, t.1) (All-nil (IsOwn payloads)) e.1
 
-    pub takes : AreCollected related queue table g payloads budgets (suc i) c (os ++ r.outlet ∷ []) (es ++ r.end ∷ []) (hs ++ hand_of (suc i) r.in_hand)
-    takes = record {
+    pub takes : (z : Collected P Out) → z.outlets.items ≡ os ++ r.outlet ∷ [] → z.ends.items ≡ es ++ r.end ∷ [] → z.in_hand.items ≡ hs ++ hand_of (suc i) r.in_hand → AreCollected related queue table g payloads budgets (suc i) c z
+    takes z outlets ends hands = record {
       table_is = did.kept.table ∙ h.table_is;
       givens = did.kept.givens ∙ h.givens;
       payloads_are = did.kept.payloads ∙ h.payloads_are;
       size = ap length spots_now ∙ length-put (Back l) (spots b) (suc i) ∙ h.size;
       stand = subst (λ gg. AllStand gg c.view.seen (spots c)) (did.kept.givens ∙ h.givens) did.stand;
       rest = λ p less. subst IsBare (sym (other p (λ e. omega arith))) (h.rest p (omega arith));
-      belong = All-push (IsOutletOf queue) os r.outlet h.belong ran.filed.belongs;
-      fits = fits_now;
-      count = count_now;
-      ends_are = record {
+      belong = subst (All (IsOutletOf queue)) (sym outlets) (All-push (IsOutletOf queue) os r.outlet h.belong ran.filed.belongs);
+      fits = λ p. subst (λ l. OutletFits related payloads l p (dones_in (spot_of (spots c) p))) (sym outlets) (fits_now p);
+      count = ap (sum_by (λ (o : Outlet Out). o.put_count)) outlets ∙ count_now;
+      ends_are = subst (AreEnds budgets (spots c) (suc i)) (sym ends) (record {
         size = length_push es r.end ∙ (let z = h.ends_are.size in let e : length es + 1 ≡ suc i = omega arith in e);
         each = λ k e at. ⊎_elim
             (λ t. subst (λ s. EndsAs (numbered 0 budgets (k + 1)) s e) (sym (below (k + 1) (let z = h.ends_are.size in let w = t.0 in omega arith))) (h.ends_are.each k e t.1))
@@ -173,34 +182,25 @@ module _ {P Out : Type 0} (related : ℕ → ℕ → P → Out → Type 0) (queu
             (subst (λ n. EndsAs (numbered 0 budgets n) (spot_of (spots c) n) r.end) (let z = h.ends_are.size in let w = t.0 in let y : suc i ≡ k + 1 = omega arith in y)
             (ends_as (numbered 0 budgets (suc i)) (spot_of (spots c) (suc i)) l r.end here ran.ends)))
             (at_push es r.end e k at);
-      };
-      hands_are = record {
+      });
+      hands_are = subst (AreInHand payloads (spots c) (suc i)) (sym hands) (record {
         jobs = map_both pair_of hs (hand_of (suc i) r.in_hand)
             ∙ (λ k. (h.hands_are.jobs ∙ sym (hands_same (spots b) (spots c) i below)) k ++ (hand_now r.in_hand ran.hand ∙ ap (λ s. map mine (hand_in s)) (sym here)) k);
         own = All-append (IsOwn payloads) hs (hand_of (suc i) r.in_hand) h.hands_are.own (hand_own r.in_hand ran.hand);
-      };
+      });
     }
 
-  pub collects_one : (f : Finish P Out) (c : Seated P) (os' : List (Outlet Out)) (es' : List End) (hs' : List (ℕ × ℕ × P)) → HasFinished related queue table g payloads (suc i) (numbered 0 budgets (suc i)) f
-      → Collects (suc i) f b os es hs c os' es' hs' → AreCollected related queue table g payloads budgets (suc i) c os' es' hs'
-  collects_one (HasRan r) c os' es' hs' ran did = let t = takes r ran c did.0 in
-      subst (λ (x : List (Outlet Out)). AreCollected related queue table g payloads budgets (suc i) c x es' hs') (sym did.1)
-      (subst (λ (x : List End). AreCollected related queue table g payloads budgets (suc i) c (os ++ r.outlet ∷ []) x hs') (sym did.2)
-      (subst (λ (x : List (ℕ × ℕ × P)). AreCollected related queue table g payloads budgets (suc i) c (os ++ r.outlet ∷ []) (es ++ r.end ∷ []) x) (sym did.3) t))
-  collects_one (WasNotStarted u) c os' es' hs' ran did =
-      subst (λ (x : Seated P). AreCollected related queue table g payloads budgets (suc i) x os' es' hs') (sym did.0)
-      (subst (λ (x : List (Outlet Out)). AreCollected related queue table g payloads budgets (suc i) b x es' hs') (sym did.1)
-      (subst (λ (x : List End). AreCollected related queue table g payloads budgets (suc i) b os x hs') (sym did.2)
-      (subst (λ (x : List (ℕ × ℕ × P)). AreCollected related queue table g payloads budgets (suc i) b os (es ++ NotStarted ∷ []) x) (sym did.3) skips)))
+  pub collects_one : (f : Finish P Out) (c : Seated P) (z : Collected P Out) → HasFinished related queue table g payloads (suc i) (numbered 0 budgets (suc i)) f → Collects (suc i) f b a c z → AreCollected related queue table g payloads budgets (suc i) c z
+  collects_one (HasRan r) c z ran did = takes r ran c did.0 z did.1 did.2 did.3
+  collects_one (WasNotStarted u) c z ran did = subst (λ (x : Seated P). AreCollected related queue table g payloads budgets (suc i) x z) (sym did.0) (skips z did.1 did.2 did.3)
 
   -- who ran is in the book again, as those who were stay
-  pub now_back : (f : Finish P Out) (c : Seated P) (os' : List (Outlet Out)) (es' : List End) (hs' : List (ℕ × ℕ × P)) → HasFinished related queue table g payloads (suc i) (numbered 0 budgets (suc i)) f
-      → Collects (suc i) f b os es hs c os' es' hs' → IsBackAs (spots c) (suc i) f
-  now_back (HasRan r) c os' es' hs' ran did = here r ran c did.0
-  now_back (WasNotStarted u) c os' es' hs' ran did = tt
+  pub now_back : (f : Finish P Out) (c : Seated P) (z : Collected P Out) → HasFinished related queue table g payloads (suc i) (numbered 0 budgets (suc i)) f → Collects (suc i) f b a c z → IsBackAs (spots c) (suc i) f
+  now_back (HasRan r) c z ran did = here r ran c did.0
+  now_back (WasNotStarted u) c z ran did = tt
 
-  pub stays_back : (f : Finish P Out) (c : Seated P) (os' : List (Outlet Out)) (es' : List End) (hs' : List (ℕ × ℕ × P)) → HasFinished related queue table g payloads (suc i) (numbered 0 budgets (suc i)) f
-      → Collects (suc i) f b os es hs c os' es' hs' → (p : ℕ) → p ≢ suc i → (e : Finish P Out) → IsBackAs (spots b) p e → IsBackAs (spots c) p e
-  stays_back f c os' es' hs' ran did p n (WasNotStarted u) back = tt
-  stays_back (HasRan r) c os' es' hs' ran did p n (HasRan x) back = other r ran c did.0 p n ∙ back
-  stays_back (WasNotStarted u) c os' es' hs' ran did p n (HasRan x) back = ap (λ (y : Seated P). spot_of (spots y) p) did.0 ∙ back
+  pub stays_back : (f : Finish P Out) (c : Seated P) (z : Collected P Out) → HasFinished related queue table g payloads (suc i) (numbered 0 budgets (suc i)) f → Collects (suc i) f b a c z
+      → (p : ℕ) → p ≢ suc i → (e : Finish P Out) → IsBackAs (spots b) p e → IsBackAs (spots c) p e
+  stays_back f c z ran did p n (WasNotStarted u) back = tt
+  stays_back (HasRan r) c z ran did p n (HasRan x) back = other r ran c did.0 p n ∙ back
+  stays_back (WasNotStarted u) c z ran did p n (HasRan x) back = ap (λ (y : Seated P). spot_of (spots y) p) did.0 ∙ back

@@ -1,5 +1,5 @@
 -- Before the threads, after them, and before the first worker is collected.
-use Rattle.std.proofs.Common.{◌≡◌, ◌≢◌, inr, ℕ, zero, suc, ◌-◌, Bool, true, false, List, [], ◌∷◌, length, All, refl, sym, ap, ◌∙◌, subst, arith}
+use Rattle.std.proofs.Common.{◌≡◌, ◌≢◌, inr, ℕ, zero, suc, ◌-◌, Bool, true, false, List, [], ◌∷◌, length, sum_by, All, refl, sym, ap, ◌∙◌, subst, arith}
 use Rattle.std.specs.Prelude.{◌||◌}
 use Rattle.std.specs.List.{AllZip}
 use Rattle.std.proofs.lemmas.Bool.{true≢false}
@@ -16,14 +16,16 @@ use Rattle.amo_mailbox.specs.declared.queue.Queue.{Queue}
 use Rattle.amo_mailbox.specs.declared.outlet.Outlet.{Outlet}
 use Rattle.amo_crew.specs.declared.outcome.End.{End}
 use Rattle.amo_crew.specs.declared.outcome.End.TheVariants.{Ended, Halted, NotStarted}
-use Rattle.amo_crew.specs.declared.member.Member.{Member}
-use Rattle.amo_crew.specs.declared.member.Finish.{Finish}
-use Rattle.amo_crew.specs.declared.member.Finish.TheVariants.{Ran as HasRan, NotStarted as WasNotStarted}
+use Rattle.amo_crew.specs.declared.run.member.Member.{Member}
+use Rattle.amo_crew.specs.declared.run.member.Finish.{Finish}
+use Rattle.amo_crew.specs.declared.run.member.Finish.TheVariants.{Ran as HasRan, NotStarted as WasNotStarted}
 use Rattle.amo_crew.specs.Running.{HasRun, IsMember}
 use Rattle.amo_crew.specs.declared.kit.Kit.{Kit}
+use Rattle.amo_crew.specs.declared.settle.collecting.Collected.{Collected}
+use Rattle.amo_mailbox.specs.Endpoints.{IsOutletOf, has_worker}
 use Rattle.amo_crew.specs.Hired.{AreHired}
 use Rattle.amo_crew.specs.Crew.{MayRun, IsFinishOf, IsCrew, HasFinished, AreFinished}
-use Rattle.amo_crew.specs.Outcomes.{spot_of, IsBare, AllStarted, SomeRefused}
+use Rattle.amo_crew.specs.Outcomes.{spot_of, IsBare, AreEnds, AreInHand, AllStarted, SomeRefused}
 use Rattle.amo_crew.specs.Refusing.{is_refused, any_refused}
 use Rattle.amo_crew.specs.Collecting.{RanAt, AreCollected}
 use Rattle.amo_crew.proofs.Starts.{hired_bare}
@@ -84,24 +86,21 @@ module _ {P Out : Type 0} (related : ℕ → ℕ → P → Out → Type 0) (queu
   all_ran_at fs h = all_at (RanAt table) fs (λ k f at. ran_at (g.workers - k) (numbered 0 budgets (g.workers - k)) f (h k f at))
 
   -- nothing is collected yet
-  pub starts : (b : Seated P) (os : List (Outlet Out)) (es : List End) (hs : List (ℕ × ℕ × P)) → b.table_id ≡ table → b.view.givens ≡ g → b.view.payloads ≡ payloads → length (spots b) ≡ g.workers → AllStand g b.view.seen (spots b) → ((p : ℕ) → IsBare (spot_of (spots b) p))
-      → os ≡ [] → es ≡ [] → hs ≡ [] → AreCollected related queue table g payloads budgets 0 b os es hs
-  starts b os es hs tied givens own size stand bare no_os no_es no_hs =
-      subst (λ x. AreCollected related queue table g payloads budgets 0 b x es hs) (sym no_os)
-      (subst (λ (x : List End). AreCollected related queue table g payloads budgets 0 b [] x hs) (sym no_es)
-      (subst (λ (x : List (ℕ × ℕ × P)). AreCollected related queue table g payloads budgets 0 b [] [] x) (sym no_hs) (record {
-        table_is = tied;
-        givens = givens;
-        payloads_are = own;
-        size = size;
-        stand = stand;
-        rest = λ p l. bare p;
-        belong = All-nil _;
-        fits = λ p. inr (refl, (bare p).0);
-        count = refl;
-        ends_are = record { size = refl; each = λ k e at. absurd (some-ne-none e (sym at)) };
-        hands_are = record { jobs = refl; own = All-nil _ };
-      })))
+  pub starts : (b : Seated P) (all : Collected P Out) → b.table_id ≡ table → b.view.givens ≡ g → b.view.payloads ≡ payloads → length (spots b) ≡ g.workers → AllStand g b.view.seen (spots b) → ((p : ℕ) → IsBare (spot_of (spots b) p))
+      → all.outlets.items ≡ [] → all.ends.items ≡ [] → all.in_hand.items ≡ [] → AreCollected related queue table g payloads budgets 0 b all
+  starts b all tied givens own size stand bare no_outlets no_ends no_hands = record {
+    table_is = tied;
+    givens = givens;
+    payloads_are = own;
+    size = size;
+    stand = stand;
+    rest = λ p l. bare p;
+    belong = subst (All (IsOutletOf queue)) (sym no_outlets) (All-nil _);
+    fits = λ p. inr (ap (λ l. has_worker l p) no_outlets, (bare p).0);
+    count = ap (sum_by (λ (o : Outlet Out). o.put_count)) no_outlets;
+    ends_are = subst (AreEnds budgets (spots b) 0) (sym no_ends) (record { size = refl; each = λ k e at. absurd (some-ne-none e (sym at)) });
+    hands_are = subst (AreInHand payloads (spots b) 0) (sym no_hands) (record { jobs = refl; own = All-nil _ });
+  }
 
 -- whether a thread was refused
 
@@ -136,10 +135,10 @@ none_of (x ∷ xs) h = absurd (omega arith)
 -- of a whole crew that has ended each worker is finished, and nobody is collected yet
 pub ended_crew : {P Out : Type 0} (related : ℕ → ℕ → P → Out → Type 0) (table : TableId) (g : Givens) (payloads : List P) (budgets : List ℕ) (book : Seated P) (kit : Kit P Out) (fs : List (Finish P Out)) → AreHired table g payloads budgets book kit
     → length kit.crew.items ≡ g.workers → AllZip (IsFinishOf related kit.queue table) kit.crew.items fs
-    → (length fs ≡ g.workers) × AreFinished related kit.queue table g payloads budgets fs × AreCollected related kit.queue table g payloads budgets 0 book kit.outlets.items kit.ends.items kit.in_hand.items
+    → (length fs ≡ g.workers) × AreFinished related kit.queue table g payloads budgets fs × AreCollected related kit.queue table g payloads budgets 0 book record { outlets = kit.outlets; ends = kit.ends; in_hand = kit.in_hand }
 ended_crew related table g payloads budgets book kit fs is all zip = (
   zip_length (IsFinishOf related kit.queue table) kit.crew.items fs zip ∙ all,
   all_finished related kit.queue table g payloads budgets kit.crew.items fs is.members zip,
-  starts related kit.queue table g payloads budgets book _ _ _ is.tied is.givens is.payloads_are is.size is.stand (hired_bare table g payloads budgets book kit is all)
+  starts related kit.queue table g payloads budgets book _ is.tied is.givens is.payloads_are is.size is.stand (hired_bare table g payloads budgets book kit is all)
       (none_of kit.outlets.items (let n = is.kit_is.count in omega arith)) is.kit_is.no_ends is.kit_is.no_hands,
 )

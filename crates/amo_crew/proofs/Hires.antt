@@ -26,7 +26,7 @@ use Rattle.amo_words.specs.Rule.{AllStand}
 use Rattle.amo_claims.specs.Calls.{state_of, worker_in}
 use Rattle.amo_mailbox.specs.declared.outlet.Outlet.{Outlet}
 use Rattle.amo_crew.specs.declared.kit.Kit.{Kit}
-use Rattle.amo_crew.specs.declared.member.Member.{Member}
+use Rattle.amo_crew.specs.declared.run.member.Member.{Member}
 use Rattle.amo_mailbox.specs.Endpoints.{IsNewOutletOf}
 use Rattle.amo_crew.specs.Running.{IsFresh, IsMember}
 use Rattle.amo_crew.specs.Outcomes.{spot_of}

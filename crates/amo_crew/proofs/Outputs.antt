@@ -9,7 +9,7 @@ use Rattle.amo_kk.specs.declared.givens.Givens.{Givens}
 use Rattle.amo_words.specs.declared.rule.Spot.{Spot}
 use Rattle.amo_words.specs.Faces.{Seated, spots}
 use Rattle.amo_mailbox.specs.declared.queue.Queue.{Queue}
-use Rattle.amo_crew.specs.declared.outcome.End.{End}
+use Rattle.amo_crew.specs.declared.settle.collecting.Collected.{Collected}
 use Rattle.amo_crew.proofs.Few.{dones_within}
 use Rattle.amo_mailbox.specs.declared.output.Output.{Output}
 use Rattle.amo_mailbox.specs.declared.outlet.Outlet.{Outlet}
@@ -66,9 +66,9 @@ module _ {P Out : Type 0} (related : ℕ → ℕ → P → Out → Type 0) (payl
   }
 
 -- the outlets of the collected were given at most as many outputs as there are jobs
-pub few_given : {P Out : Type 0} (related : ℕ → ℕ → P → Out → Type 0) (queue : Queue Out) (table : TableId) (g : Givens) (payloads : List P) (budgets : List ℕ) (b : Seated P) (os : List (Outlet Out)) (es : List End) (hs : List (ℕ × ℕ × P))
-    → AreCollected related queue table g payloads budgets g.workers b os es hs → sum_by (λ o. o.put_count) os ≤ g.jobs
-few_given {P} {Out} related queue table g payloads budgets b os es hs h =
+pub few_given : {P Out : Type 0} (related : ℕ → ℕ → P → Out → Type 0) (queue : Queue Out) (table : TableId) (g : Givens) (payloads : List P) (budgets : List ℕ) (b : Seated P) (all : Collected P Out)
+    → AreCollected related queue table g payloads budgets g.workers b all → sum_by (λ o. o.put_count) all.outlets.items ≤ g.jobs
+few_given {P} {Out} related queue table g payloads budgets b all h =
     let n = h.count in
     let m = subst (λ i. dones_upto (spots b) i ≤ g.jobs) h.size (dones_within g b.view.seen (spots b) h.stand) in
     omega (arith, n, m)

@@ -16,11 +16,11 @@ use Rattle.amo_claims.specs.States.{IsReady, Holds}
 use Rattle.amo_claims.specs.Calls.{worker_in, IsOneStepOn}
 use Rattle.amo_crew.specs.declared.outcome.End.{End}
 use Rattle.amo_crew.specs.declared.outcome.End.TheVariants.{Ended, Halted}
-use Rattle.amo_crew.specs.declared.member.Ran.{Ran}
+use Rattle.amo_crew.specs.declared.run.member.Ran.{Ran}
 use Rattle.amo_mailbox.specs.declared.output.Output.{Output}
 use Rattle.amo_mailbox.specs.declared.queue.Queue.{Queue}
 use Rattle.amo_mailbox.specs.declared.outlet.Outlet.{Outlet}
-use Rattle.amo_crew.specs.declared.member.Member.{Member}
+use Rattle.amo_crew.specs.declared.run.member.Member.{Member}
 use Rattle.amo_mailbox.specs.Endpoints.{IsOutletOf, given}
 use Rattle.amo_crew.specs.Running.{IsRelated, HasFiled, EndsSo, IsInHand, HasRun, IsMember}
 

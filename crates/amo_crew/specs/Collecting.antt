@@ -14,10 +14,10 @@ use Rattle.amo_mailbox.specs.declared.queue.Queue.{Queue}
 use Rattle.amo_mailbox.specs.declared.outlet.Outlet.{Outlet}
 use Rattle.amo_crew.specs.declared.outcome.End.{End}
 use Rattle.amo_crew.specs.declared.outcome.End.TheVariants.{NotStarted}
-use Rattle.amo_crew.specs.declared.collecting.Collected.{Collected}
-use Rattle.amo_crew.specs.declared.member.Member.{Member}
-use Rattle.amo_crew.specs.declared.member.Finish.{Finish}
-use Rattle.amo_crew.specs.declared.member.Finish.TheVariants.{Ran as HasRan, NotStarted as WasNotStarted}
+use Rattle.amo_crew.specs.declared.settle.collecting.Collected.{Collected}
+use Rattle.amo_crew.specs.declared.run.member.Member.{Member}
+use Rattle.amo_crew.specs.declared.run.member.Finish.{Finish}
+use Rattle.amo_crew.specs.declared.run.member.Finish.TheVariants.{Ran as HasRan, NotStarted as WasNotStarted}
 use Rattle.amo_crew.specs.Crew.{EachAt, IsFinishOf}
 use Rattle.amo_crew.specs.Unsettling.{UnsettledView}
 use Rattle.amo_mailbox.specs.Endpoints.{IsOutletOf, given, has_worker}
@@ -44,18 +44,18 @@ dones_upto spots zero = 0
 dones_upto spots (suc p) = dones_upto spots p + length (dones_in (spot_of spots (suc p)))
 
 -- The workers 1..i are collected.
-pub record AreCollected {P Out : Type 0} (related : ℕ → ℕ → P → Out → Type 0) (queue : Queue Out) (table : TableId) (g : Givens) (payloads : List P) (budgets : List ℕ) (i : ℕ) (book : Seated P) (outlets : List (Outlet Out)) (ends : List End) (in_hand : List (ℕ × ℕ × P)) : Type 0 where
+pub record AreCollected {P Out : Type 0} (related : ℕ → ℕ → P → Out → Type 0) (queue : Queue Out) (table : TableId) (g : Givens) (payloads : List P) (budgets : List ℕ) (i : ℕ) (book : Seated P) (all : Collected P Out) : Type 0 where
   pub table_is : book.table_id ≡ table
   pub givens : book.view.givens ≡ g
   pub payloads_are : book.view.payloads ≡ payloads
   pub size : length (spots book) ≡ g.workers
   pub stand : AllStand g book.view.seen (spots book)
   pub rest : (p : ℕ) → i < p → IsBare (spot_of (spots book) p)
-  pub belong : All (IsOutletOf queue) outlets
-  pub fits : (p : ℕ) → OutletFits related payloads outlets p (dones_in (spot_of (spots book) p))
-  pub count : sum_by (λ o. o.put_count) outlets ≡ dones_upto (spots book) i
-  pub ends_are : AreEnds budgets (spots book) i ends
-  pub hands_are : AreInHand payloads (spots book) i in_hand
+  pub belong : All (IsOutletOf queue) all.outlets.items
+  pub fits : (p : ℕ) → OutletFits related payloads all.outlets.items p (dones_in (spot_of (spots book) p))
+  pub count : sum_by (λ o. o.put_count) all.outlets.items ≡ dones_upto (spots book) i
+  pub ends_are : AreEnds budgets (spots book) i all.ends.items
+  pub hands_are : AreInHand payloads (spots book) i all.in_hand.items
 
 -- the job in hand of worker p, as a list
 abbrev pub hand_of : {P : Type 0} → ℕ → Option (ℕ × P) → List (ℕ × ℕ × P)
@@ -63,9 +63,10 @@ hand_of p None = []
 hand_of p (Some h) = (p, h.0, h.1) ∷ []
 
 -- what collecting worker p does
-abbrev pub Collects : {P Out : Type 0} → ℕ → Finish P Out → Seated P → List (Outlet Out) → List End → List (ℕ × ℕ × P) → Seated P → List (Outlet Out) → List End → List (ℕ × ℕ × P) → Type 0
-Collects p (HasRan r) b os es hs c os' es' hs' = HasCollected b r.gone c × (os' ≡ os ++ r.outlet ∷ []) × (es' ≡ es ++ r.end ∷ []) × (hs' ≡ hs ++ hand_of p r.in_hand)
-Collects p (WasNotStarted u) b os es hs c os' es' hs' = (c ≡ b) × (os' ≡ os) × (es' ≡ es ++ NotStarted ∷ []) × (hs' ≡ hs)
+abbrev pub Collects : {P Out : Type 0} → ℕ → Finish P Out → Seated P → Collected P Out → Seated P → Collected P Out → Type 0
+Collects p (HasRan r) b a c z =
+    HasCollected b r.gone c × (z.outlets.items ≡ a.outlets.items ++ r.outlet ∷ []) × (z.ends.items ≡ a.ends.items ++ r.end ∷ []) × (z.in_hand.items ≡ a.in_hand.items ++ hand_of p r.in_hand)
+Collects p (WasNotStarted u) b a c z = (c ≡ b) × (z.outlets.items ≡ a.outlets.items) × (z.ends.items ≡ a.ends.items ++ NotStarted ∷ []) × (z.in_hand.items ≡ a.in_hand.items)
 
 -- a worker that ran is of this table
 abbrev pub RanAt : {P Out : Type 0} → TableId → Finish P Out → Type 0

@@ -10,10 +10,10 @@ use Rattle.amo_words.specs.Faces.{machine}
 use Rattle.amo_claims.specs.Calls.{worker_in}
 use Rattle.amo_mailbox.specs.declared.queue.Queue.{Queue}
 use Rattle.amo_mailbox.specs.declared.inlet.Inlet.{Inlet}
-use Rattle.amo_crew.specs.declared.member.Member.{Member}
-use Rattle.amo_crew.specs.declared.member.Ran.{Ran}
-use Rattle.amo_crew.specs.declared.member.Finish.{Finish}
-use Rattle.amo_crew.specs.declared.member.Finish.TheVariants.{Ran as HasRan, NotStarted}
+use Rattle.amo_crew.specs.declared.run.member.Member.{Member}
+use Rattle.amo_crew.specs.declared.run.member.Ran.{Ran}
+use Rattle.amo_crew.specs.declared.run.member.Finish.{Finish}
+use Rattle.amo_crew.specs.declared.run.member.Finish.TheVariants.{Ran as HasRan, NotStarted}
 use Rattle.amo_mailbox.specs.Endpoints.{IsInletOf}
 use Rattle.amo_crew.specs.Running.{HasRun, IsMember}
 

@@ -10,7 +10,7 @@ use Rattle.amo_words.specs.Faces.{Seated, spots}
 use Rattle.amo_claims.specs.Calls.{worker_in}
 use Rattle.amo_mailbox.specs.declared.queue.Queue.{Queue}
 use Rattle.amo_crew.specs.declared.kit.Kit.{Kit}
-use Rattle.amo_crew.specs.declared.member.Member.{Member}
+use Rattle.amo_crew.specs.declared.run.member.Member.{Member}
 use Rattle.amo_crew.specs.Kits.{IsKit}
 use Rattle.amo_crew.specs.Crew.{IsCrew}
 use Rattle.amo_crew.specs.Outcomes.{spot_of}

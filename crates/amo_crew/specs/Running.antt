@@ -13,8 +13,8 @@ use Rattle.amo_mailbox.specs.declared.queue.Queue.{Queue}
 use Rattle.amo_mailbox.specs.declared.outlet.Outlet.{Outlet}
 use Rattle.amo_crew.specs.declared.outcome.End.{End}
 use Rattle.amo_crew.specs.declared.outcome.End.TheVariants.{Ended, Halted, NotStarted}
-use Rattle.amo_crew.specs.declared.member.Member.{Member}
-use Rattle.amo_crew.specs.declared.member.Ran.{Ran}
+use Rattle.amo_crew.specs.declared.run.member.Member.{Member}
+use Rattle.amo_crew.specs.declared.run.member.Ran.{Ran}
 use Rattle.amo_mailbox.specs.Endpoints.{IsOutletOf, given}
 
 -- a worker that took no step yet

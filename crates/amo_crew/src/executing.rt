@@ -10,15 +10,12 @@ ghost use Rattle.amo_crew.specs.Collecting.{TellsCrew};
 ghost use Rattle.amo_crew.specs.Hired.{AreHired};
 ghost use Rattle.amo_crew.specs.Kits.{IsKit};
 
-use crate::calling_off::call_off;
-use crate::collecting::{Collected, collect_all};
 use crate::fault::ExecFault;
-use crate::hiring::hire_all;
 use crate::kit::{Kit, prepare};
 use crate::outcome::Outcome;
 use crate::plan::StopPlan;
-use crate::threads::run_all;
-use crate::unsettled::{Unsettled, conclude};
+use crate::run::{hire_all, run_all};
+use crate::settle::{Collected, Unsettled, call_off, collect_all, conclude};
 use amo_claims::Work;
 use amo_kk::Givens;
 use amo_words::{Book, Floor, OpenFault};

@@ -1,6 +1,6 @@
 //! Why a run gives no outcome, or one with a refused thread.
 use crate::outcome::Outcome;
-use crate::unsettled::Unsettled;
+use crate::settle::Unsettled;
 use std::fmt;
 use std::fmt::{Debug, Formatter};
 use thiserror::Error;

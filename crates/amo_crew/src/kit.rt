@@ -2,8 +2,8 @@
 ghost use Rattle.std.specs.Prelude.{◌≡◌, [], IfOk};
 ghost use Rattle.amo_crew.specs.Kits.{IsKit};
 
-use crate::member::{Finish, Member};
 use crate::outcome::End;
+use crate::run::{Finish, Member};
 use amo_kk::Givens;
 use amo_mailbox::{Inlet, Outlet, Queue, outlets};
 use std::alloc::{AllocError, Global};

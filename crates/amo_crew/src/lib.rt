@@ -5,19 +5,14 @@
 //! come through a mailbox (`amo_mailbox`). Only `execute` may wait.
 #![tactic(auto)]
 
-mod calling_off;
-mod collecting;
 mod executing;
 mod fault;
-mod hiring;
 mod kit;
 pub mod laws;
-mod member;
 mod outcome;
 mod plan;
-mod running;
-mod threads;
-mod unsettled;
+mod run;
+mod settle;
 
 pub use amo_claims::Work;
 pub use amo_mailbox::{Inlet, Outlet, Output, Queue, outlets};
@@ -26,4 +21,4 @@ pub use executing::execute;
 pub use fault::ExecFault;
 pub use outcome::{End, Outcome};
 pub use plan::{StopFault, StopPlan};
-pub use unsettled::Unsettled;
+pub use settle::Unsettled;

@@ -31,18 +31,18 @@ collect_all-requires-clause-room g c = let is = c.requires.hired.1.kit_is in let
 pub gather-outputs-requires-clause-outlets : goal.gather-outputs-requires-clause-outlets
 gather-outputs-requires-clause-outlets g c =
     let at = ended_crew (g.W.Work.related c.args.work.now) _ _ _ _ c.args.book c.args.kit _ c.requires.hired.1 c.requires.all c.run_all-inlet.ensures.each in
-    (c.collect_all.ensures.collected _ _ _ _ at.1 (c.run_all-inlet.result.1.ok.0 ∙ at.0) at.2).belong
+    (c.collect_all.ensures.collected _ _ _ _ at.1 (c.run_all-inlet.result.1.ok.0 ∙ at.0) at.2).0.belong
 
 pub gather-outputs-requires-clause-room : goal.gather-outputs-requires-clause-room
 gather-outputs-requires-clause-room g c =
     let at = ended_crew (g.W.Work.related c.args.work.now) _ _ _ _ c.args.book c.args.kit _ c.requires.hired.1 c.requires.all c.run_all-inlet.ensures.each in
-    let all = c.collect_all.ensures.collected _ _ _ _ at.1 (c.run_all-inlet.result.1.ok.0 ∙ at.0) at.2 in
-    let given = few_given (g.W.Work.related c.args.work.now) _ _ _ _ _ _ _ _ _ all in let room = c.run_all-inlet.ensures.same_room in let n = c.requires.hired.1.kit_is.inlet_room in omega arith
+    let all = (c.collect_all.ensures.collected _ _ _ _ at.1 (c.run_all-inlet.result.1.ok.0 ∙ at.0) at.2).0 in
+    let given = few_given (g.W.Work.related c.args.work.now) _ _ _ _ _ _ _ all in let room = c.run_all-inlet.ensures.same_room in let n = c.requires.hired.1.kit_is.inlet_room in omega arith
 
 pub returns-clause-unsettled : goal.returns-clause-unsettled
 returns-clause-unsettled g c = λ budgets hired.
     let at = ended_crew (g.W.Work.related c.args.work.now) _ _ _ budgets c.args.book c.args.kit _ hired c.requires.all c.run_all-inlet.ensures.each in
-    let all = c.collect_all.ensures.collected _ _ _ _ at.1 (c.run_all-inlet.result.1.ok.0 ∙ at.0) at.2 in
+    let all = (c.collect_all.ensures.collected _ _ _ _ at.1 (c.run_all-inlet.result.1.ok.0 ∙ at.0) at.2).0 in
     subst (IsUnsettled (g.W.Work.related c.args.work.now) c.args.floor.givens c.args.book.view.payloads budgets) (sym c.new.ensures)
     (unsettled _ _ _ _ c.collect_all.new.book c.close.result _ _ _ c.close.ensures.closed all.givens all.payloads_are (record {
       ends_are = all.ends_are;
@@ -53,7 +53,7 @@ returns-clause-unsettled g c = λ budgets hired.
 pub returns-clause-crew : goal.returns-clause-crew
 returns-clause-crew g c =
     let at = ended_crew (g.W.Work.related c.args.work.now) _ _ _ _ c.args.book c.args.kit _ c.requires.hired.1 c.requires.all c.run_all-inlet.ensures.each in
-    let back = c.collect_all.ensures.back _ _ _ _ at.1 (c.run_all-inlet.result.1.ok.0 ∙ at.0) at.2 in
+    let back = (c.collect_all.ensures.collected _ _ _ _ at.1 (c.run_all-inlet.result.1.ok.0 ∙ at.0) at.2).1 in
     subst (TellsCrew (g.W.Work.related c.args.work.now) c.args.kit.queue c.args.floor.table_id c.args.floor.givens c.args.kit.crew.items) (sym c.new.ensures) (
       c.run_all-inlet.result.1.items,
       c.run_all-inlet.ensures.each,

@@ -1,0 +1,9 @@
+//! What workers leave: it is collected after their threads, or called off before these, and then settled.
+mod calling_off;
+mod collecting;
+mod unsettled;
+
+pub(crate) use calling_off::call_off;
+pub(crate) use collecting::{Collected, collect_all};
+pub use unsettled::Unsettled;
+pub(crate) use unsettled::conclude;
