@@ -39,8 +39,8 @@ use Rattle.amo_crew.specs.declared.run.member.Member.{Member}
 use Rattle.amo_crew.specs.Running.{IsMember}
 use Rattle.amo_crew.specs.Crew.{IsCrew}
 use Rattle.amo_crew.specs.Outcomes.{spot_of, IsBare, EndsAs, hands_upto, HaveRun}
-use Rattle.amo_crew.specs.Refusing.{HasNotBegun, IsCalledOff, Refuses}
-use Rattle.amo_crew.specs.Hired.{AreHired, IsUntouched, AreCalledOff, AtTable}
+use Rattle.amo_crew.specs.Refusing.{Refuses}
+use Rattle.amo_crew.specs.Hired.{AreHired, IsUntouched, AreCalledOff, AtTable, HasNotBegun, IsCalledOff}
 use Rattle.amo_crew.proofs.Hires.{first_claims}
 use Rattle.amo_crew.proofs.Crews.{all_at}
 

@@ -4,8 +4,7 @@ ghost use Rattle.amo_kk.specs.declared.givens.Givens.{Givens};
 ghost use Rattle.amo_words.specs.Hiring.{HasCollected};
 ghost use Rattle.amo_claims.specs.Calls.{worker_in};
 ghost use Rattle.amo_mailbox.specs.declared.queue.Queue.{Queue};
-ghost use Rattle.amo_crew.specs.Hired.{AreHired, AreCalledOff, AtTable};
-ghost use Rattle.amo_crew.specs.Refusing.{IsCalledOff};
+ghost use Rattle.amo_crew.specs.Hired.{AreHired, AreCalledOff, AtTable, IsCalledOff};
 ghost use Rattle.amo_crew.specs.declared.outcome.End.TheVariants.{NotStarted};
 
 use crate::fault::ExecFault;

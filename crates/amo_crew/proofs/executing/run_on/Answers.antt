@@ -1,8 +1,7 @@
 use Rattle.std.proofs.Common.{List, refl, sym, subst}
 use Rattle.amo_kk.specs.declared.givens.Givens.{Givens}
 use Rattle.amo_crew.specs.Unsettling.{IsUnsettled}
-use Rattle.amo_crew.specs.Refusing.{IsCalledOff}
-use Rattle.amo_crew.specs.Hired.{AreHired}
+use Rattle.amo_crew.specs.Hired.{AreHired, IsCalledOff}
 use Rattle.amo_crew.proofs.Starts.{hired_none, settled_outcome, if_ok, if_err, concluded}
 use Rattle.amo_crew.proofs.Backs.{off_refused}
 use Rattle.amo_crew.proofs.executing.run_on.Goals as goal

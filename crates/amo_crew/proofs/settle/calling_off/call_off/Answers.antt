@@ -4,7 +4,7 @@ use Rattle.amo_kk.specs.declared.givens.Givens.{Givens}
 use Rattle.amo_words.specs.Faces.{ClosedView, spots}
 use Rattle.amo_words.specs.Settling.{HasClosed}
 use Rattle.amo_crew.specs.declared.outcome.End.TheVariants.{NotStarted}
-use Rattle.amo_crew.specs.Refusing.{HasNotBegun}
+use Rattle.amo_crew.specs.Hired.{HasNotBegun}
 use Rattle.amo_crew.proofs.Backs.{off_from, all_off, all_back, all_at_table, has_not_begun}
 use Rattle.amo_crew.proofs.settle.calling_off.call_off.Goals as goal
 
