@@ -18,15 +18,15 @@ use std::time::{SystemTime, UNIX_EPOCH};
 /// A journal whose guard this process has, and a partner. After a call has failed the fault says why.
 #[derive(Drop)]
 pub(crate) struct Talk {
-    pub rt: HostRuntime,
-    pub worker: u64,
+    pub(crate) rt: HostRuntime,
+    pub(crate) worker: u64,
     /// There is none once an entry could not be put.
-    pub journal: Option<Settled<FileDevice>>,
-    pub jobs: Jobs,
-    pub partner: Partner,
+    pub(crate) journal: Option<Settled<FileDevice>>,
+    pub(crate) jobs: Jobs,
+    pub(crate) partner: Partner,
     /// Whether the partner's last answer told this process to leave.
-    pub is_dismissed: bool,
-    pub fault: Option<Fault>,
+    pub(crate) is_dismissed: bool,
+    pub(crate) fault: Option<Fault>,
 }
 
 /// The time in seconds since 1970, or 0 where the clock can't be read: it is noted for persons and decides nothing.

@@ -1,15 +1,16 @@
 //! To begin a round, under its exclusive lock: nobody is at work.
 ghost use Rattle.std.specs.Prelude.{◌≡◌, map, take, IfOk};
+ghost use Rattle.amo_kk.specs.declared.limits.TheConstants.{MAX_JOBS};
 ghost use Rattle.amo_ledger.specs.Open.{open_lines};
 ghost use Rattle.amo_desk.specs.Rounds.{IsNextRound, round_after};
-ghost use Rattle.amo_desk.specs.declared.beginning.TheConstants.{MOST_JOBS};
 
-use crate::books::{Books, MOST_WORKERS, known, read_pages};
+use crate::books::{Books, known, read_pages};
 use crate::fault::{Fault, had};
 use crate::folder::replaced;
 use crate::item::Item;
 use crate::round::record_of;
 use crate::setting::{Jobs as Asked, Setting};
+use amo_kk::{MAX_JOBS, MAX_WORKERS};
 use amo_ledger::{Record, givens_of, open_lines};
 use amo_round::{Jobs, JobsFault, Why, first_difference, head_of, words_len};
 use amo_standing::{Counts, counts, standings};
@@ -17,9 +18,6 @@ use std::alloc::{AllocError, Global};
 use std::fs;
 use std::io::Read;
 use std::rt::HostRuntime;
-
-/// The greatest number of jobs of a round.
-pub const MOST_JOBS: usize = 4096;
 
 /// What there is as a round is begun.
 #[derive(Drop)]
@@ -160,12 +158,13 @@ fn round_after(last: &Option<Record>) -> u64
 
 /// The first of the open lines, as many as a round may have jobs.
 fn first_lines(alloc: Global, lines: &[u64]) -> Result<Vec<u64>, AllocError>
-    ensures { IfOk result (λ first. first.items ≡ take MOST_JOBS lines.now) }
+    ensures { IfOk result (λ first. first.items ≡ take MAX_JOBS lines.now) }
 {
-    if lines.len() <= MOST_JOBS {
+    let most = MAX_JOBS as usize;
+    if lines.len() <= most {
         lines.to_vec(alloc)
     } else {
-        lines[..MOST_JOBS].to_vec(alloc)
+        lines[..most].to_vec(alloc)
     }
 }
 
@@ -174,7 +173,7 @@ fn make(rt: HostRuntime, setting: &Setting<'_>, record: &Record) -> Result<(), F
     let Some(mut words) = head_of(rt.alloc(), record)? else {
         return Err(Fault::Refused(Item::Boot));
     };
-    if record.givens.jobs > MOST_JOBS as u64 || record.givens.workers > MOST_WORKERS {
+    if record.givens.jobs > MAX_JOBS as u64 || record.givens.workers > MAX_WORKERS as u64 {
         return Err(Fault::NoWay);
     }
     let text = record.print(rt.alloc())?;

@@ -4,6 +4,7 @@ use crate::folder::bytes_of;
 use crate::item::Item;
 use crate::setting::Setting;
 use amo_journal::texts_in;
+use amo_kk::MAX_WORKERS;
 use amo_ledger::{
     Attempt, Fault as Misread, Finding, first_misplaced, journal_of, read_entries, read_findings,
 };
@@ -11,24 +12,21 @@ use amo_round::{Jobs, JobsFault};
 use std::alloc::Global;
 use std::rt::HostRuntime;
 
-/// The greatest number that a worker may have.
-pub(crate) const MOST_WORKERS: u64 = 16;
-
 /// What the files say, each text of them read.
 #[derive(Drop)]
 pub(crate) struct Books {
-    pub jobs: Jobs,
+    pub(crate) jobs: Jobs,
     /// Those of the workers 1, 2 and so on.
-    pub journals: Vec<Vec<Attempt>>,
-    pub findings: Vec<Finding>,
+    pub(crate) journals: Vec<Vec<Attempt>>,
+    pub(crate) findings: Vec<Finding>,
 }
 
 /// The texts of the journals and of what persons found out.
 #[derive(Drop)]
 pub(crate) struct Pages {
-    pub answers: Vec<Vec<u8>>,
+    pub(crate) answers: Vec<Vec<u8>>,
     /// Those of the workers 1, 2 and so on.
-    pub journals: Vec<Vec<Vec<u8>>>,
+    pub(crate) journals: Vec<Vec<Vec<u8>>>,
 }
 
 /// The texts as they can be read now: first what persons found out, then the journals, so that nothing is read of an intent that
@@ -36,7 +34,7 @@ pub(crate) struct Pages {
 pub(crate) fn read_pages(rt: HostRuntime, setting: &Setting<'_>) -> Result<Pages, Fault> {
     let answers = texts_of(rt, setting, Item::Answers)?;
     let mut journals = Vec::new(rt.alloc());
-    for worker in 1..=MOST_WORKERS {
+    for worker in 1..=MAX_WORKERS as u64 {
         journals.push(texts_of(rt, setting, Item::Journal(worker))?)?;
     }
     Ok(Pages { answers, journals })

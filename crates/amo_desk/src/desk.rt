@@ -10,9 +10,9 @@ use amo_ledger::{Entry, Record};
 /// The words of a round, its record, and who is talked to.
 #[derive(Drop)]
 pub(crate) struct Desk {
-    pub talk: Talk,
-    pub words: Words,
-    pub record: Record,
+    pub(crate) talk: Talk,
+    pub(crate) words: Words,
+    pub(crate) record: Record,
 }
 
 impl Desk {

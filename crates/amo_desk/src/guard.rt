@@ -20,10 +20,10 @@ const PAUSE: u64 = 20;
 /// A journal whose lock this process has. The lock is kept as long as the value is.
 #[derive(Drop)]
 pub(crate) struct Guarded {
-    pub journal: Settled<FileDevice>,
-    pub texts: Vec<Vec<u8>>,
+    pub(crate) journal: Settled<FileDevice>,
+    pub(crate) texts: Vec<Vec<u8>>,
     /// The handle that has the lock.
-    pub lock: File,
+    pub(crate) lock: File,
 }
 
 /// Takes the exclusive lock on a file of the run, which is made where there is none. Nothing where somebody else has one.

@@ -12,13 +12,13 @@ use std::rt::HostRuntime;
 #[derive(Clone, Copy)]
 pub(crate) struct ByLines {
     /// How many jobs the round has, up to 4096.
-    pub jobs: u64,
+    pub(crate) jobs: u64,
     /// How many workers, 1 to 16.
-    pub workers: u64,
+    pub(crate) workers: u64,
     /// The threshold.
-    pub beta: u64,
+    pub(crate) beta: u64,
     /// The worker's number.
-    pub worker: u64,
+    pub(crate) worker: u64,
 }
 
 /// The partner, and why a call has failed.

@@ -1,11 +1,12 @@
 //! To look at a run, as a person does: with what nobody is at any more held, so that it stays so while it is looked at.
-use crate::books::{Books, MOST_WORKERS, Pages, attempts_of, known, texts_of};
+use crate::books::{Books, Pages, attempts_of, known, texts_of};
 use crate::fault::{Fault, had, written};
 use crate::folder::{bytes_of, path_of};
 use crate::guard::{lock_of, lock_within, settled};
 use crate::item::Item;
 use crate::setting::Setting;
 use amo_file::{is_at, open_private, try_exclusive};
+use amo_kk::MAX_WORKERS;
 use amo_ledger::pending;
 use amo_standing::{Intent, Standing, standings};
 use std::alloc::{AllocError, Global};
@@ -16,11 +17,11 @@ use std::rt::HostRuntime;
 /// What a run says, and what is held of it.
 #[derive(Drop)]
 pub(crate) struct Seen {
-    pub books: Books,
+    pub(crate) books: Books,
     /// The workers whose journals others hold.
-    pub alive: Vec<u64>,
+    pub(crate) alive: Vec<u64>,
     /// Pending intents that nobody can answer any more: their journal, their runner's lock and their command's are held here.
-    pub finals: Vec<Intent>,
+    pub(crate) finals: Vec<Intent>,
     /// The locks that are kept as long as this is.
     held: Vec<File>,
 }
@@ -77,7 +78,7 @@ pub(crate) fn look_behind(
     let mut alive = Vec::new(rt.alloc());
     let mut idle = Vec::new(rt.alloc());
     let mut journals = Vec::new(rt.alloc());
-    for worker in 1..=MOST_WORKERS {
+    for worker in 1..=MAX_WORKERS as u64 {
         let corner = corner_of(rt, setting, worker, &mut held)?;
         if corner.alive {
             alive.push(worker)?;

@@ -14,7 +14,7 @@ pub(crate) struct Partner {
     rt: HostRuntime,
     input: <HostRuntime as Input>::Reader,
     /// The last line that came, without its end.
-    pub said: Vec<u8>,
+    pub(crate) said: Vec<u8>,
 }
 
 impl Partner {

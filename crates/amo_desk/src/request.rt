@@ -3,6 +3,7 @@ ghost use Rattle.std.specs.Prelude.{◌≤◌, IfOk};
 
 use crate::lines::ByLines;
 use crate::setting::{Jobs, Setting};
+use amo_kk::{MAX_BETA, MAX_JOBS, MAX_WORKERS};
 use amo_ledger::number;
 use amo_standing::State;
 use clap::error::ErrorKind;
@@ -207,8 +208,8 @@ fn number_at(matches: &ArgMatches<'_>, id: &'static str, low: u64, high: u64) ->
 
 /// What the words after `door` and `work` say of the jobs.
 fn jobs_of<'a>(matches: &ArgMatches<'a>) -> Result<Jobs<'a>, Misuse> {
-    let workers = number_at(matches, "workers", 1, 16)?;
-    let beta = number_at(matches, "beta", 1, 65535)?;
+    let workers = number_at(matches, "workers", 1, MAX_WORKERS as u64)?;
+    let beta = number_at(matches, "beta", 1, MAX_BETA as u64)?;
     Ok(Jobs {
         list: matches.get_str("JOBS").unwrap_or(""),
         workers,
@@ -255,10 +256,10 @@ fn answer_of<'a>(matches: &ArgMatches<'a>) -> Result<Request<'a>, Misuse> {
 
 /// The worker that the words after `lines` name.
 fn by_lines_of(matches: &ArgMatches<'_>) -> Result<ByLines, Misuse> {
-    let workers = number_at(matches, "WORKERS", 1, 16)?;
+    let workers = number_at(matches, "WORKERS", 1, MAX_WORKERS as u64)?;
     let worker = number_at(matches, "P", 1, workers)?;
-    let beta = number_at(matches, "BETA", workers, 65535)?;
-    let jobs = number_at(matches, "N", 0, 4096)?;
+    let beta = number_at(matches, "BETA", workers, MAX_BETA as u64)?;
+    let jobs = number_at(matches, "N", 0, MAX_JOBS as u64)?;
     Ok(ByLines {
         jobs,
         workers,

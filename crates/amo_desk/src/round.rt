@@ -1,12 +1,11 @@
 //! To join a round that was begun.
-use crate::beginning::MOST_JOBS;
-use crate::books::MOST_WORKERS;
 use crate::fault::{Fault, Later};
 use crate::folder::{bytes_of, sync};
 use crate::guard::shared_lock_of;
 use crate::item::Item;
 use crate::setting::Setting;
 use crate::words::Words;
+use amo_kk::{MAX_JOBS, MAX_WORKERS};
 use amo_ledger::{Record, seat_of};
 use amo_round::{head_of, words_len};
 use std::fs::File;
@@ -22,12 +21,12 @@ const PAUSE: u64 = 20;
 /// A round in which this process has a seat. While it has this value nobody begins another.
 #[derive(Drop)]
 pub(crate) struct Joined {
-    pub record: Record,
-    pub words: Words,
+    pub(crate) record: Record,
+    pub(crate) words: Words,
     /// As which of the round's workers it acts.
-    pub seat: u64,
+    pub(crate) seat: u64,
     /// The handle that has the shared lock.
-    pub lock: File,
+    pub(crate) lock: File,
 }
 
 /// Joins the round that is there. The lock is taken before record and words are read.
@@ -86,7 +85,7 @@ pub(crate) fn record_of(rt: HostRuntime, setting: &Setting<'_>) -> Result<Option
 
 /// The words of this round.
 fn words_of(rt: HostRuntime, setting: &Setting<'_>, record: &Record) -> Result<Words, Fault> {
-    if record.givens.jobs > MOST_JOBS as u64 || record.givens.workers > MOST_WORKERS {
+    if record.givens.jobs > MAX_JOBS as u64 || record.givens.workers > MAX_WORKERS as u64 {
         return Err(Fault::Refused(Item::Record));
     }
     let Some(head) = head_of(rt.alloc(), record)? else {
@@ -110,7 +109,7 @@ fn words_of(rt: HostRuntime, setting: &Setting<'_>, record: &Record) -> Result<W
 /// As which number this worker acts in the round, if it has a seat.
 fn seat_in(record: &Record, worker: u64) -> Option<u64> {
     let (first, workers) = (record.first, record.workers);
-    if first < 1 || first > workers || workers > MOST_WORKERS {
+    if first < 1 || first > workers || workers > MAX_WORKERS as u64 {
         return None;
     }
     seat_of(worker, first, workers, record.givens.workers)

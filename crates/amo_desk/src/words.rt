@@ -4,6 +4,7 @@ use crate::folder::path_of;
 use crate::item::Item;
 use crate::setting::Setting;
 use amo_file::open_private;
+use amo_kk::{MAX_JOBS, MAX_WORKERS};
 use amo_round::offset_of;
 use std::fs::File;
 use std::io;
@@ -11,8 +12,9 @@ use std::io::ErrorKind;
 use std::os::unix::fs::FileExt;
 use std::rt::HostRuntime;
 
-/// No round has a word beyond this one.
-const MOST_WORDS: u64 = 65_585;
+/// No round has a word beyond this one: it has word 0, and of each worker an announcement, a claim, and a row with an entry more than
+/// it has jobs.
+const MOST_WORDS: u64 = MAX_WORKERS as u64 * (MAX_JOBS as u64 + 3) + 1;
 
 /// The words, by the file that has them.
 #[derive(Drop)]
