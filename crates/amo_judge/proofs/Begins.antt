@@ -13,7 +13,8 @@ use Rattle.amo_world.specs.Answer.{verdict}
 use Rattle.amo_world.specs.declared.answer.Verdict.{Verdict}
 use Rattle.amo_world.specs.declared.answer.Verdict.TheVariants.{Lawful, FirstBad}
 use Rattle.amo_judge.specs.History.{HistoryView, history_in}
-use Rattle.amo_judge.specs.Judgement.{most_bytes, refused_line, refused_text, too_long_text, unlawful_lines, bad_text, verdict_text, wrong_text, answer, judgement}
+use Rattle.amo_judge.specs.declared.judging.TheConstants.{MOST_BYTES}
+use Rattle.amo_judge.specs.Judgement.{refused_line, refused_text, too_long_text, unlawful_lines, bad_text, verdict_text, wrong_text, answer, judgement}
 use Rattle.amo_judge.specs.Lines.{lines_of}
 use Rattle.amo_judge.specs.Telling.{event_text, worked_text, lawful_text}
 use Rattle.amo_judge.specs.Verdicts.{BeginsWith, Tells, IsLawfulText, IsUnlawfulText}
@@ -80,7 +81,7 @@ fits : (n m : ℕ) → n ≤ m → nat_lt m n ≡ false
 fits n m le = grind (arith, nat_tests)
 
 of_history : (text : List ℕ) (h : HistoryView) → Tells text h → judgement text ≡ verdict_text h (verdict h.givens h.events)
-of_history text h t = ap (λ (b : Bool). if b then too_long_text else answer (history_in (lines_of text))) (fits (length text) most_bytes t.short) ∙ ap answer t.told
+of_history text h t = ap (λ (b : Bool). if b then too_long_text else answer (history_in (lines_of text))) (fits (length text) MOST_BYTES t.short) ∙ ap answer t.told
 
 of_lawful : (text : List ℕ) (t : IsLawfulText text) → judgement text ≡ lawful_text t.history.events
 of_lawful text t = of_history text t.history t.told ∙ ap (verdict_text t.history) (of_run t.history.givens t.history.events t.run)
@@ -146,14 +147,14 @@ at_most n m e = grind (arith, nat_tests)
 
 -- a text tells a history, or is refused
 told_or_refused : (text : List ℕ) → ((h : HistoryView) × Tells text h) ⊎ BeginsWith (codes "refused\n") (judgement text)
-told_or_refused text = go (nat_lt most_bytes (length text)) refl (history_in (lines_of text)) refl
+told_or_refused text = go (nat_lt MOST_BYTES (length text)) refl (history_in (lines_of text)) refl
   where
-    longer : (b : Bool) → nat_lt most_bytes (length text) ≡ b → b ≡ true → BeginsWith (codes "refused\n") (judgement text)
+    longer : (b : Bool) → nat_lt MOST_BYTES (length text) ≡ b → b ≡ true → BeginsWith (codes "refused\n") (judgement text)
     longer b is e = begins_as (codes "refused\n") (judgement text) too_long_text (ap (λ (c : Bool). if c then too_long_text else answer (history_in (lines_of text))) (is ∙ e)) (drop 8 too_long_text, refl)
 
-    go : (b : Bool) → nat_lt most_bytes (length text) ≡ b → (r : Result HistoryView Refusal) → history_in (lines_of text) ≡ r → ((h : HistoryView) × Tells text h) ⊎ BeginsWith (codes "refused\n") (judgement text)
+    go : (b : Bool) → nat_lt MOST_BYTES (length text) ≡ b → (r : Result HistoryView Refusal) → history_in (lines_of text) ≡ r → ((h : HistoryView) × Tells text h) ⊎ BeginsWith (codes "refused\n") (judgement text)
     go true is r told = inr (longer true is refl)
-    go false is (Ok h) told = inl (h, record { short = at_most (length text) most_bytes is; told = told })
+    go false is (Ok h) told = inl (h, record { short = at_most (length text) MOST_BYTES is; told = told })
     go false is (Err refusal) told =
         inr (begins_as (codes "refused\n") (judgement text) (refused_text refusal)
         (ap (λ (c : Bool). if c then too_long_text else answer (history_in (lines_of text))) is ∙ ap answer told)

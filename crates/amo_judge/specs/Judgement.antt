@@ -11,13 +11,10 @@ use Rattle.amo_judge.specs.History.{HistoryView, history_in}
 use Rattle.amo_judge.specs.Lines.{lines_of}
 use Rattle.amo_judge.specs.Telling.{event_text, lawful_text}
 use Rattle.amo_judge.specs.Why.{why}
+use Rattle.amo_judge.specs.declared.judging.TheConstants.{MOST_BYTES}
 use Rattle.amo_judge.specs.declared.refusal.Refusal.{Refusal}
 use Rattle.amo_judge.specs.declared.refusal.Wrong.{Wrong}
 use Rattle.amo_judge.specs.declared.refusal.Wrong.TheVariants.{NoFirstLine, NoGivens, OtherBound, NoEvent, NotDue, WorkerBeyond, JobBeyond}
-
--- the longest text that is read has so many bytes
-abbrev pub most_bytes : ℕ
-most_bytes = 1048576
 
 -- what is wrong with a line
 unfoldable pub wrong_text : Wrong → List ℕ
@@ -44,7 +41,7 @@ refused_text refusal = refused_line refusal.line (wrong_text refusal.wrong)
 
 -- `refused`, since the text is too long
 abbrev pub too_long_text : List ℕ
-too_long_text = codes "refused\nthe text is longer than " ++ (decimal most_bytes ++ codes " bytes\n")
+too_long_text = codes "refused\nthe text is longer than " ++ (decimal MOST_BYTES ++ codes " bytes\n")
 
 -- `unlawful` and the number of an event, its line, and why it is no step
 unfoldable pub unlawful_lines : ℕ → List ℕ → List ℕ → List ℕ
@@ -72,4 +69,4 @@ answer (Err refusal) = refused_text refusal
 
 -- what is answered on a text
 abbrev pub judgement : List ℕ → List ℕ
-judgement text = if nat_lt most_bytes (length text) then too_long_text else answer (history_in (lines_of text))
+judgement text = if nat_lt MOST_BYTES (length text) then too_long_text else answer (history_in (lines_of text))

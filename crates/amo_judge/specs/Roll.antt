@@ -7,6 +7,7 @@ use Rattle.std.specs.Str.{bytes_eq, is_utf8}
 use Rattle.amo_ledger.specs.Numbers.{number_in}
 use Rattle.amo_judge.specs.Results.{next, found_or}
 use Rattle.amo_judge.specs.declared.refusal.Wrong.{Wrong}
+use Rattle.amo_judge.specs.declared.roll.TheConstants.{LONGEST_NAME}
 use Rattle.amo_judge.specs.declared.refusal.Wrong.TheVariants.{NoEvent}
 
 -- whether they have names, and those that came so far, in the order in which they first did
@@ -26,9 +27,9 @@ small_number_in word = option_and_then (λ n. if nat_lt n (2 ^ 32) then Some n e
 abbrev pub text_in : List ℕ → Option (List ℕ)
 text_in bytes = if is_utf8 bytes then Some bytes else None
 
--- a name is text of 1 to 64 bytes
+-- a name is text of 1 to `LONGEST_NAME` bytes
 abbrev pub name_in : List ℕ → Option (List ℕ)
-name_in word = if (length word == 0) || nat_lt 64 (length word) then None else text_in word
+name_in word = if (length word == 0) || nat_lt LONGEST_NAME (length word) then None else text_in word
 
 -- the place of the name among these, or behind them
 abbrev pub place_in : List ℕ → List (List ℕ) → ℕ

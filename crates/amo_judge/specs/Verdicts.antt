@@ -3,7 +3,7 @@ use Rattle.std.specs.Prelude.{◌≡◌, ℕ, ◌≤◌, List, ◌++◌, length,
 use Rattle.amo_kk.specs.Object.{first_object}
 use Rattle.amo_kk.specs.Run.{IsRun, IsFirstBad}
 use Rattle.amo_judge.specs.History.{HistoryView, history_in}
-use Rattle.amo_judge.specs.Judgement.{most_bytes}
+use Rattle.amo_judge.specs.declared.judging.TheConstants.{MOST_BYTES}
 use Rattle.amo_judge.specs.Lines.{lines_of}
 
 -- the text begins with this front
@@ -12,7 +12,7 @@ BeginsWith front text = (rest : List ℕ) × (text ≡ front ++ rest)
 
 -- the text isn't too long, and its lines tell this history
 pub record Tells (text : List ℕ) (h : HistoryView) : Type 0 where
-  pub short : length text ≤ most_bytes
+  pub short : length text ≤ MOST_BYTES
   pub told : history_in (lines_of text) ≡ Ok h
 
 -- the text tells a history whose events are a run

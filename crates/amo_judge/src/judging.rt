@@ -15,7 +15,7 @@ use amo_kk::{Event, GivensFault, MAX_BETA, MAX_JOBS, MAX_WORKERS};
 use amo_world::{Verdict, judge};
 use std::alloc::{AllocError, Global};
 
-/// A longer text is refused.
+/// A text with more bytes is refused.
 const MOST_BYTES: usize = 1_048_576;
 
 /// What is wrong with a line.
