@@ -8,6 +8,7 @@ use Rattle.amo_sets.specs.Sets.{has}
 use Rattle.amo_kk.specs.Givens.{IsWorker}
 use Rattle.amo_kk.specs.Limits.{within_limits}
 use Rattle.amo_kk.specs.declared.givens.Givens.{Givens}
+use Rattle.amo_kk.specs.declared.limits.TheConstants.{MAX_WORKERS}
 use Rattle.amo_course.specs.declared.answer.Answer.TheVariants.{Done, Doubt}
 use Rattle.amo_course.specs.declared.answer.Reply.TheVariants.{Answered}
 use Rattle.amo_course.specs.declared.answer.Way.TheVariants.{Go, Leave}
@@ -39,8 +40,8 @@ up_to (suc n) P all p low high = ⊎_elim
     (λ (m : p ≡ suc n → ⊥). up_to n P all.0 p low (omega arith))
     (cases_eq p (suc n))
 
-each : (P : ℕ → Type 0) → AllUpTo 16 P → (p : ℕ) → IsNumber p → P p
-each P all p is = up_to 16 P all p is.low is.high
+each : (P : ℕ → Type 0) → AllUpTo MAX_WORKERS P → (p : ℕ) → IsNumber p → P p
+each P all p is = up_to MAX_WORKERS P all p is.low is.high
 
 abbrev one_job : Givens
 one_job = record { jobs = 1; workers = 1; beta = 1; limits = within_limits 1 1 1 refl }
@@ -122,8 +123,8 @@ module _ (w : Site) (findings : List Finding) (entries : ℕ → List Entry) (at
   abbrev IsReadAt : ℕ → Type 0
   IsReadAt p = (is_inside (w.whereabouts p) ≡ false) × (read_of (w.journals p) ≡ entries p ++ []) × (journal_of 1 (entries p) ≡ Some (attempts p))
 
-  may_begin : (p round : ℕ) → read_of w.findings ≡ findings ++ [] → AllUpTo 16 IsReadAt
-      → ((line : ℕ) → has (1 ∷ []) line ≡ true → has (open_lines findings (table 16 attempts) 1) line ≡ true) → is_sound (record_by round p) ≡ true
+  may_begin : (p round : ℕ) → read_of w.findings ≡ findings ++ [] → AllUpTo MAX_WORKERS IsReadAt
+      → ((line : ℕ) → has (1 ∷ []) line ≡ true → has (open_lines findings (table MAX_WORKERS attempts) 1) line ≡ true) → is_sound (record_by round p) ≡ true
       → MayBegin w one_job (record_by round p) 1
   may_begin p round read all lines sound = record {
     nobody = λ q is. (each IsReadAt all q is).0;

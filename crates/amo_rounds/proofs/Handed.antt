@@ -6,6 +6,7 @@ use Rattle.std.proofs.lemmas.Option.{none-some, same_Some}
 use Rattle.amo_sets.specs.Lists.{numbered, table}
 use Rattle.amo_sets.specs.Sets.{has}
 use Rattle.amo_sets.proofs.Numbers.{has-append}
+use Rattle.amo_kk.specs.declared.limits.TheConstants.{MAX_WORKERS}
 use Rattle.amo_kk.specs.Givens.{IsJob, IsWorker}
 use Rattle.amo_kk.specs.declared.givens.Givens.{Givens}
 use Rattle.amo_process.specs.Stepped.{ProcessView}
@@ -106,7 +107,7 @@ pub opened_then : (w : Site) (said : List (ℕ × ℕ)) (p n line : ℕ) (g : Gi
 opened_then w said p n line g r lines sane number has_entry may j is same = ⊎_elim
     (λ (yes : is_among said p n ≡ true). yes)
     (λ (no : is_among said p n ≡ false). absurd (
-    let at = among_table may.attempts 16 p number.low number.high in
+    let at = among_table may.attempts MAX_WORKERS p number.low number.high in
     let (missed, split, answers) = may.entries_seen p number in
     let (more, findings_split) = may.findings_seen in
     let (front, time, back, stands) = has_entry in
@@ -118,7 +119,7 @@ opened_then w said p n line g r lines sane number has_entry may j is same = ⊎_
     let undone = subst (λ k. is_undone may.findings k n ≡ false) (sym at.place) fewer in
     let closed = stays_closed lines may.findings at.before at.after (may.attempts p) (may.entries p) n line entry none undone (may.journals p number) in
     let there = subst (λ l. has r.lines l ≡ true) same (line_there r may.sound j is.low (subst (λ k. j ≤ k) may.jobs is.high)) in
-    let opened = open_there may.findings (table 16 may.attempts) lines line (may.are_open line there) in
+    let opened = open_there may.findings (table MAX_WORKERS may.attempts) lines line (may.are_open line there) in
     true≢false (sym opened ∙ ap (λ l. is_open may.findings l line) at.is ∙ closed)))
     (cases_Bool (is_among said p n))
 

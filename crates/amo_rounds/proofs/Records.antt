@@ -3,6 +3,7 @@ use Rattle.std.proofs.Common.{◌≡◌, ℕ, zero, suc, ◌<◌, ◌≤◌, tru
 use Rattle.std.specs.Prelude.{nat_lt, nat_le}
 use Rattle.std.proofs.lemmas.Bool.{and_parts, eqb-true, ltb-true, leb-true}
 use Rattle.std.proofs.lemmas.Option.{cond_some}
+use Rattle.amo_kk.specs.declared.limits.TheConstants.{MAX_WORKERS}
 use Rattle.amo_sets.specs.Lists.{numbered}
 use Rattle.amo_sets.specs.Sets.{has}
 use Rattle.amo_sets.proofs.Numbers.{has-get_or}
@@ -14,7 +15,7 @@ pub record HasParts (r : RecordView) : Type 0 where
   pub jobs : r.givens.jobs ≡ length r.lines
   pub rises : ascends_from 0 r.lines ≡ true
   pub first : r.first ≤ r.workers
-  pub few : r.workers ≤ 16
+  pub few : r.workers ≤ MAX_WORKERS
 
 pub sound_parts : (r : RecordView) → is_sound r ≡ true → HasParts r
 sound_parts r h =

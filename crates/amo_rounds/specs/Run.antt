@@ -4,6 +4,7 @@ use Rattle.std.specs.List.{AllByRecursion}
 use Rattle.amo_sets.specs.Lists.{numbered, table}
 use Rattle.amo_sets.specs.Sets.{has}
 use Rattle.amo_kk.specs.declared.givens.Givens.{Givens}
+use Rattle.amo_kk.specs.declared.limits.TheConstants.{MAX_WORKERS}
 use Rattle.amo_course.specs.declared.answer.Answer.{Answer}
 use Rattle.amo_course.specs.declared.answer.Answer.TheVariants.{Done, Doubt, Unbegun, Untouched}
 use Rattle.amo_course.specs.declared.model.Deed.{Deed}
@@ -125,7 +126,7 @@ abbrev pub MissesSome : (seen all : List Finding) → Type 0
 MissesSome seen all = (missed : List Finding) × (all ≡ seen ++ missed)
 
 -- Nobody is in a round: who begins one holds its lock alone. It has read the findings and then each journal, and answers and findings
--- may have come since; no intents, since those come of who is in a round. Each journal can be read, and by what all 16 say, and what
+-- may have come since; no intents, since those come of who is in a round. Each journal can be read, and by what all say, and what
 -- persons said, each line of the record is open. Which of the open lines it has, who begins it, and its threshold are free.
 pub record MayBegin (w : Site) (g : Givens) (r : RecordView) (lines : ℕ) : Type 0 where
   pub nobody : (p : ℕ) → IsNumber p → is_inside (w.whereabouts p) ≡ false
@@ -135,7 +136,7 @@ pub record MayBegin (w : Site) (g : Givens) (r : RecordView) (lines : ℕ) : Typ
   pub entries_seen : (p : ℕ) → IsNumber p → MissesAnswers (entries p) (read_of (w.journals p))
   pub attempts : ℕ → List Attempt
   pub journals : (p : ℕ) → IsNumber p → journal_of lines (entries p) ≡ Some (attempts p)
-  pub are_open : (line : ℕ) → has r.lines line ≡ true → has (open_lines findings (table 16 attempts) lines) line ≡ true
+  pub are_open : (line : ℕ) → has r.lines line ≡ true → has (open_lines findings (table MAX_WORKERS attempts) lines) line ≡ true
   pub sound : is_sound r ≡ true
   pub jobs : g.jobs ≡ r.givens.jobs
   pub workers : g.workers ≡ r.givens.workers

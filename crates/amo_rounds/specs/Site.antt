@@ -1,6 +1,7 @@
 -- What there is of a run at a moment, and what may happen to it.
 use Rattle.std.specs.Prelude.{ℕ, ◌≤◌, Bool, true, false, List, [], Option, Some, None, ◌==◌, if◌then◌else◌}
 use Rattle.amo_kk.specs.declared.givens.Givens.{Givens}
+use Rattle.amo_kk.specs.declared.limits.TheConstants.{MAX_WORKERS}
 use Rattle.amo_course.specs.Stage.{Stage}
 use Rattle.amo_course.specs.declared.model.Deed.{Deed}
 use Rattle.amo_course.specs.declared.model.Try.{Try}
@@ -69,7 +70,7 @@ pub data Event : Type 0 where
 -- a worker's number
 pub record IsNumber (p : ℕ) : Type 0 where
   pub low : 1 ≤ p
-  pub high : p ≤ 16
+  pub high : p ≤ MAX_WORKERS
 
 -- it has joined a round
 abbrev pub is_inside : Whereabouts → Bool

@@ -6,6 +6,7 @@ use Rattle.std.proofs.lemmas.Bool.Decides.{nat_tests}
 use Rattle.std.proofs.lemmas.List.{length-replicate}
 use Rattle.amo_kk.specs.Givens.{bound}
 use Rattle.amo_kk.specs.declared.givens.Givens.{Givens}
+use Rattle.amo_kk.specs.declared.limits.TheConstants.{MAX_JOBS, MAX_WORKERS}
 use Rattle.amo_kk.specs.declared.event.Move.TheVariants.{Turn, Halt}
 use Rattle.amo_bounds.specs.Fewest.{fewest}
 use Rattle.amo_bounds.specs.Worst.{stuck_moves, lone_turns, worst_moves}
@@ -22,14 +23,14 @@ fewest_few g = go (nat_lt g.jobs g.beta) refl
     go true e = omega arith
     go false e = rest (bound g == 0) (ltb-false _ _ e)
 
--- 4096 jobs and 16 workers are the most
-pub few_turns : (g : Givens) → (fewest g ≤ 4096) × (lone_turns g ≤ 135168)
+-- `MAX_JOBS` jobs and `MAX_WORKERS` workers are the most
+pub few_turns : (g : Givens) → (fewest g ≤ MAX_JOBS) × (lone_turns g ≤ MAX_JOBS * (2 * MAX_WORKERS + 1))
 few_turns g =
     let few = fewest_few g in
-    let jobs : fewest g ≤ 4096 = let most = g.limits.few_jobs in omega arith in
+    let jobs : fewest g ≤ MAX_JOBS = let most = g.limits.few_jobs in omega arith in
     (jobs, product (fewest g) (2 * g.workers + 1) jobs (let most = g.limits.few_workers in omega arith))
   where
-    product : (a b : ℕ) → a ≤ 4096 → b ≤ 33 → a * b ≤ 135168
+    product : (a b : ℕ) → a ≤ MAX_JOBS → b ≤ 2 * MAX_WORKERS + 1 → a * b ≤ MAX_JOBS * (2 * MAX_WORKERS + 1)
     product a b h l = grind arith
 
 stuck_length : (k : ℕ) → length (stuck_moves k) ≡ 2 * k

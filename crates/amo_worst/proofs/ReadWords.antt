@@ -10,6 +10,7 @@ use Rattle.std.proofs.lemmas.List.Elements.{All-append}
 use Rattle.std.proofs.lemmas.List.Splits.{slice_split_none, slice_split_at}
 use Rattle.std.proofs.lemmas.List.Sums.{position_or_len_is}
 use Rattle.amo_kk.specs.declared.givens.Givens.{Givens}
+use Rattle.amo_kk.specs.declared.limits.TheConstants.{MAX_WORKERS}
 use Rattle.amo_kk.specs.declared.event.Move.{Move}
 use Rattle.amo_kk.specs.declared.event.Move.TheVariants.{Turn, Halt}
 use Rattle.amo_plan.specs.declared.fault.PlanFault.{PlanFault}
@@ -137,13 +138,13 @@ module _ (version m n : ℕ) (low : 1 ≤ n) (high : n ≤ HIGHEST_IN_WORD) wher
       let turns : number_of (decimal n) ≡ Some n = number n low high in
       rw (other, within, turns, le-leb 1 m some) refl
 
-two_read : (version m k : ℕ) (rest : List (List ℕ)) (moves : List Move) → k + 2 ≤ m → m ≤ 16 → AreRead version m rest moves
+two_read : (version m k : ℕ) (rest : List (List ℕ)) (moves : List Move) → k + 2 ≤ m → m ≤ MAX_WORKERS → AreRead version m rest moves
     → AreRead version m (decimal (k + 2) ∷ (120 ∷ decimal (k + 2)) ∷ rest) (Turn (k + 2) ∷ Halt (k + 2) ∷ moves)
 two_read version m k rest moves here few later =
     cons_read version m (decimal (k + 2)) ((120 ∷ decimal (k + 2)) ∷ rest) (Turn (k + 2) ∷ []) (Halt (k + 2) ∷ moves) (turn_read version m (k + 2) (omega arith) (omega arith) here)
     (cons_read version m (120 ∷ decimal (k + 2)) rest (Halt (k + 2) ∷ []) moves (stop_read version m (k + 2) (omega arith) (omega arith) here) later)
 
-stuck_read : (version m k : ℕ) (rest : List (List ℕ)) (moves : List Move) → k + 1 ≤ m → m ≤ 16 → AreRead version m rest moves
+stuck_read : (version m k : ℕ) (rest : List (List ℕ)) (moves : List Move) → k + 1 ≤ m → m ≤ MAX_WORKERS → AreRead version m rest moves
     → AreRead version m (stuck_list k ++ rest) (stuck_moves k ++ moves)
 stuck_read version m zero rest moves here few later i = later i
 stuck_read version m (suc k) rest moves here few later i =
@@ -159,7 +160,7 @@ kept f (Ok x) moves e few = let same : f x ≡ moves = cc in rw (same, few) refl
 kept f (Err fault) moves e few = absurd cc
 
 -- the words of all others and of worker 1, which takes so many turns
-module _ (version m turns : ℕ) (some : 1 ≤ m) (few : m ≤ 16) (low : 1 ≤ turns) (high : turns ≤ HIGHEST_IN_WORD) where
+module _ (version m turns : ℕ) (some : 1 ≤ m) (few : m ≤ MAX_WORKERS) (low : 1 ≤ turns) (high : turns ≤ HIGHEST_IN_WORD) where
   abbrev last : List ℕ
   last = 49 ∷ 42 ∷ decimal turns
 
