@@ -1,5 +1,6 @@
 //! What is said of a plan.
 ghost use Rattle.std.specs.Prelude.{◌≡◌, ◌++◌, ◌≤◌, OnOk, IfOk, string_bytes};
+ghost use Rattle.amo_kk.specs.declared.limits.TheConstants.{MAX_WORKERS};
 ghost use Rattle.amo_texts.specs.Numbers.{spaced};
 ghost use Rattle.amo_all.specs.Answer.{IsAllOf, found_text, most_jobs, too_many, turn_words, unit_word};
 
@@ -15,7 +16,7 @@ pub const MOST_ALONE: u32 = 16;
 /// The most jobs with so many workers whose worlds are looked through.
 fn most_jobs(workers: u32) -> u32
     requires some { 1 ≤ workers }
-    requires few { workers ≤ 16 }
+    requires few { workers ≤ MAX_WORKERS }
     ensures { result ≡ most_jobs workers }
 {
     MOST_ALONE >> (workers - 1)

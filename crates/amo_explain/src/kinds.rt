@@ -2,11 +2,9 @@
 use crate::document::{Document, natural};
 use crate::walk::Form;
 use crate::wording::{kind_of, push_count, push_line};
+use amo_plan::MOST_IN_BLOCK;
 use std::alloc::AllocError;
 use toml::Value;
-
-/// The most jobs of a block.
-const MOST_IN_BLOCK: i64 = 4096;
 
 /// Appends what a value is that has to be a whole number, and not negative.
 fn push_no_natural(out: &mut String, value: &Value) -> Result<(), AllocError> {
@@ -63,7 +61,7 @@ fn push_block(out: &mut String, document: &Document<'_>) -> Result<bool, AllocEr
     let Some(Value::Integer(block)) = document.value("block") else {
         return Ok(false);
     };
-    if 1 <= *block && *block <= MOST_IN_BLOCK {
+    if 1 <= *block && *block <= MOST_IN_BLOCK as i64 {
         return Ok(false);
     }
     push_line(out, document.line_of(0, "block"))?;
