@@ -15,9 +15,9 @@ use std::alloc::Global;
 #[derive(Clone, Copy, Drop)]
 pub(crate) struct Worker {
     /// The givens.
-    pub givens: Givens,
+    pub(crate) givens: Givens,
     /// Its number, from 1.
-    pub number: u32,
+    pub(crate) number: u32,
 }
 
 /// The givens of these three numbers, or the first limit that they break.

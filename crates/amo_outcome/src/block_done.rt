@@ -15,9 +15,9 @@ use std::alloc::{AllocError, Global};
 
 /// An output that says of its block that it is done: its worker, and its place among all outputs.
 #[derive(Clone, Copy)]
-pub struct BlockDone {
-    pub worker: u32,
-    pub place: usize,
+pub(crate) struct BlockDone {
+    pub(crate) worker: u32,
+    pub(crate) place: usize,
 }
 
 /// Adds a number to a set, where it is one of those that the set may have.
@@ -115,7 +115,7 @@ fn note_outputs(filed: &mut [Option<BlockDone>], sets: &[JobSet], outputs: &[Out
 }
 
 /// Notes of each of so many blocks the first output of the least worker that has it in its list.
-pub fn filed_of(
+pub(crate) fn filed_of(
     alloc: Global,
     jobs: u32,
     dones: &[Vec<u32>],
@@ -132,7 +132,7 @@ pub fn filed_of(
 }
 
 /// Of how many blocks an output is noted.
-pub fn count_filed(filed: &[Option<BlockDone>]) -> usize
+pub(crate) fn count_filed(filed: &[Option<BlockDone>]) -> usize
     ensures { result ≡ length (filed_blocks filed.now (length filed.now)) }
 {
     let mut count = 0;
@@ -145,7 +145,7 @@ pub fn count_filed(filed: &[Option<BlockDone>]) -> usize
 }
 
 /// How many jobs these blocks have.
-pub fn count_filed_jobs(filed: &[Option<BlockDone>], block: u32, jobs: usize) -> u64
+pub(crate) fn count_filed_jobs(filed: &[Option<BlockDone>], block: u32, jobs: usize) -> u64
     requires { length filed.now < 2 ^ 32 }
     ensures { result ≡ sum_by (jobs_in_block block jobs) (filed_blocks filed.now (length filed.now)) }
 {

@@ -5,7 +5,7 @@ use amo_crew::Work;
 use amo_plan::{Answer, Block, answer_block};
 
 /// Answers blocks of tasks: a task that doesn't fit, which no plan has, by the largest number.
-pub struct BlockWork;
+pub(crate) struct BlockWork;
 
 impl Work<Block> for BlockWork {
     type Out = Vec<Answer>;

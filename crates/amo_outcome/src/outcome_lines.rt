@@ -51,7 +51,7 @@ fn push_end(
 }
 
 /// Appends a line for each worker, given the lists of each.
-pub fn push_ends(
+pub(crate) fn push_ends(
     out: &mut String,
     ends: &[End],
     claims: &[Vec<u32>],
@@ -147,10 +147,10 @@ fn noted<T: Copy>(items: &[Option<T>], place: usize) -> Option<T>
 /// What is noted of the blocks of an outcome: of each the output that says that it is done, and the worker that has
 /// claimed it.
 #[derive(Drop)]
-pub struct Notes<'a> {
-    pub outputs: &'a [Output<Vec<Answer>>],
-    pub filed: Vec<Option<BlockDone>>,
-    pub claimers: Vec<Option<u32>>,
+pub(crate) struct Notes<'a> {
+    pub(crate) outputs: &'a [Output<Vec<Answer>>],
+    pub(crate) filed: Vec<Option<BlockDone>>,
+    pub(crate) claimers: Vec<Option<u32>>,
 }
 
 /// Appends the line of a job, given its number from 0.
@@ -179,7 +179,7 @@ fn push_job(
 }
 
 /// Appends a line for each job.
-pub fn push_jobs(
+pub(crate) fn push_jobs(
     alloc: Global,
     out: &mut String,
     notes: &Notes<'_>,

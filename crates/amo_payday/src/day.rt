@@ -22,11 +22,11 @@ pub(crate) use payment::Payment;
 #[derive(Drop)]
 pub(crate) struct Day {
     /// Who pays in each round.
-    pub crew: Crew,
+    pub(crate) crew: Crew,
     /// After so many payments the workers of the second floor are asked to stop.
-    pub limit: u64,
+    pub(crate) limit: u64,
     /// Numbered from 1 in their order, so that the journal can name them.
-    pub payments: Vec<Payment>,
+    pub(crate) payments: Vec<Payment>,
 }
 
 impl Day {

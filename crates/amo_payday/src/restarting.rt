@@ -17,11 +17,11 @@ use std::collections::BTreeSet;
 #[derive(Drop)]
 pub(crate) struct Restart {
     /// Those with a receipt. They were made.
-    pub made: Vec<Payment>,
+    pub(crate) made: Vec<Payment>,
     /// Those with an intent and no receipt. Nobody knows whether they were made, so a person has to ask the bank.
-    pub in_doubt: Vec<Payment>,
+    pub(crate) in_doubt: Vec<Payment>,
     /// Those of which the journal says nothing. They were not made, since an intent is written first.
-    pub untried: Vec<Payment>,
+    pub(crate) untried: Vec<Payment>,
 }
 
 /// Whether it is known that a payment was not begun.
@@ -45,7 +45,7 @@ fn is_made(answer: Option<Answer>) -> bool
 #[derive(Drop)]
 pub(crate) struct Earlier {
     /// Those with an intent that stands.
-    pub intents: BTreeSet<u64>,
+    pub(crate) intents: BTreeSet<u64>,
     /// Those with a receipt.
     receipts: BTreeSet<u64>,
 }

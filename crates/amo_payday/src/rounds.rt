@@ -29,9 +29,9 @@ use std::time::Clock;
 #[derive(Clone, Copy, Debug, PartialEq, Eq)]
 pub(crate) struct Crew {
     /// From 1 to 16.
-    pub workers: u64,
+    pub(crate) workers: u64,
     /// At most 10,000,000.
-    pub steps: u64,
+    pub(crate) steps: u64,
 }
 
 impl Crew {

@@ -16,9 +16,9 @@ use std::sync::atomic::AtomicBool;
 #[derive(Drop)]
 pub(crate) struct Leftover<P, Out> {
     /// The answers of what it has performed, in its order.
-    pub outputs: Vec<Output<Out>>,
+    pub(crate) outputs: Vec<Output<Out>>,
     /// What it has not begun.
-    pub free: Vec<(u32, P)>,
+    pub(crate) free: Vec<(u32, P)>,
 }
 
 /// Why a worker in the caller's own loop has left nothing.

@@ -21,13 +21,13 @@ use std::collections::BTreeSet;
 #[derive(Drop)]
 pub(crate) struct Sorted {
     /// What came of those that were performed. Where it is a receipt the payment was made, and there is nothing left to do.
-    pub answers: Vec<Output<Answer>>,
+    pub(crate) answers: Vec<Output<Answer>>,
     /// Those that nobody began, each with its payment. They may be handed to a new floor.
-    pub free: Vec<(u32, Payment)>,
+    pub(crate) free: Vec<(u32, Payment)>,
     /// All others, each with its payment's number, to be shown to a person. They must not be made again.
-    pub in_doubt: Vec<(u32, u64)>,
+    pub(crate) in_doubt: Vec<(u32, u64)>,
     /// The payments that came back of those in doubt, with worker and job.
-    pub in_hand: Vec<(u32, u32, Payment)>,
+    pub(crate) in_hand: Vec<(u32, u32, Payment)>,
 }
 
 /// Whether the answer is a receipt.

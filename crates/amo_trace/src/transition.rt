@@ -54,7 +54,7 @@ pub enum Fact {
 }
 
 /// The job of an attempt, or in a worker's hand; 0 where it has none.
-pub fn job_of(phase: Phase) -> u32
+pub(crate) fn job_of(phase: Phase) -> u32
     ensures { result ≡ job_of phase }
 {
     match phase {
