@@ -2,6 +2,7 @@
 use Rattle.std.proofs.Common.{◌≡◌, ℕ, zero, suc, ◌+◌, ◌<◌, arith, Bool, true, false, List, [], ◌∷◌, ◌++◌, length, drop, get_or, Option, Some, None, Ok, rules, refl, ap, ◌∙◌, subst, sym}
 use Rattle.std.specs.Prelude.{if◌then◌else◌}
 use Rattle.std.proofs.lemmas.Bool.{true≢false}
+use Rattle.std.proofs.lemmas.List.{length_push}
 use Rattle.std.proofs.Math.Seq.{drop-cons}
 use Rattle.amo_process.specs.Heard.{told_by, doubted_by}
 use Rattle.amo_process.specs.Stepped.{ProcessView, is_refused, may_leave, one_or_none}
@@ -18,7 +19,8 @@ use Rattle.amo_course.specs.declared.past.Asked.{Asked}
 use Rattle.amo_course.specs.declared.past.Intent.{Intent}
 use Rattle.amo_course.specs.Stage.{Stage, Going, Finding, Intending, Leaving, Settling, Refused, Broken}
 use Rattle.amo_course.specs.Course.{with_deed, try_of, due, stage_by_jobs, stage_heard, stage_told, stage_asking, stage_asked, stage_after, stage_after_all, AreDue, Stands, MayTry}
-use Rattle.amo_course.specs.Life.{asked_after, heard_of, AsksOn}
+use Rattle.amo_course.specs.Stops.{HasDone}
+use Rattle.amo_course.specs.Life.{KeepsDeeds, asked_after, heard_of, AsksOn}
 
 -- where it stands after all these deeds and one more
 pub stage_after_more : (s : Stage) (ds : List Deed) (d : Deed) → stage_after_all s (ds ++ d ∷ []) ≡ stage_after (stage_after_all s ds) d
@@ -54,6 +56,16 @@ module _ (first : Stage) where
   pub stands_as : (x : Option (List Deed)) (s t : Stage) → Stands first x s → s ≡ t → Stands first x t
   stands_as None s t stands e = tt
   stands_as (Some ds) s t stands e = (stands.0, stands.1 ∙ e)
+
+-- at least no deed was done, whatever was
+pub none_done : (x : Option (List Deed)) → HasDone 0 x
+none_done None = tt
+none_done (Some ds) = omega arith
+
+-- with one more, all that were done are
+pub keeps : (x y : Option (List Deed)) (d : Deed) → y ≡ with_deed x d → KeepsDeeds x y
+keeps None y d is n done = subst (HasDone n) (sym is) tt
+keeps (Some ds) y d is n done = subst (HasDone n) (sym is) (omega (arith, length_push ds d))
 
 -- a number that was heard, and that the process doesn't refuse
 pub goes_on : (w v s : ℕ) (way : Way) (a b : ProcessView) → b ≡ a → is_refused b.standing ≡ false → stage_told w v s way a ≡ stage_heard s way b

@@ -1,5 +1,5 @@
 -- Within this crate: a process between two turns, the asking between two questions, and what is heard of an intent.
-use Rattle.std.specs.Prelude.{◌≡◌, ℕ, false, List, Option, Some, None, Result, Ok, Err, ◌==◌, if◌then◌else◌}
+use Rattle.std.specs.Prelude.{◌≡◌, ℕ, ◌+◌, false, List, Option, Some, None, Result, Ok, Err, ◌==◌, if◌then◌else◌}
 use Rattle.amo_process.specs.Stepped.{is_refused}
 use Rattle.amo_course.specs.declared.answer.Heard.{Heard}
 use Rattle.amo_course.specs.declared.answer.Heard.TheVariants.{Ended, Runs, Silence}
@@ -17,7 +17,7 @@ use Rattle.amo_course.specs.declared.past.Asked.TheVariants.{Dismissed}
 use Rattle.amo_course.specs.declared.past.Intent.{Intent}
 use Rattle.amo_course.specs.Stage.{Stage, Going, Asking}
 use Rattle.amo_course.specs.Course.{stage_heard, first_stage, Stands}
-use Rattle.amo_course.specs.Stops.{EndsAt, AsksTo}
+use Rattle.amo_course.specs.Stops.{EndsAt, HasDone, AsksTo}
 
 -- where it stood when it had done nothing
 abbrev pub beginning : Life → Stage
@@ -35,6 +35,14 @@ HasHeard first ds l = Stands first ds (stage_heard l.next l.way l.process) × (i
 abbrev pub TurnsTo : (first : Stage) → Option (List Deed) → Life → Option LifeEnd → Type 0
 TurnsTo first ds l None = IsGoing first ds l
 TurnsTo first ds l (Some end) = EndsAt first ds end
+
+-- as many deeds are done as were, from one time to a later one
+abbrev pub KeepsDeeds : (before after : Option (List Deed)) → Type 0
+KeepsDeeds x y = (n : ℕ) → HasDone n x → HasDone n y
+
+-- and one more at least
+abbrev pub AddsDeed : (before after : Option (List Deed)) → Type 0
+AddsDeed x y = (n : ℕ) → HasDone n x → HasDone (n + 1) y
 
 -- whether the asking ends with an answer that says this
 abbrev pub asked_after : Way → Option Asked

@@ -1,5 +1,5 @@
 -- Where a process stands that has ended or stopped.
-use Rattle.std.specs.Prelude.{◌≡◌, ℕ, ◌-◌, ◌^◌, false, List, [], Option, Some, None}
+use Rattle.std.specs.Prelude.{◌≡◌, ⊤, ℕ, ◌-◌, ◌^◌, ◌≤◌, false, List, [], length, Option, Some, None}
 use Rattle.amo_process.specs.Stepped.{ProcessView, access_of, is_refused}
 use Rattle.amo_process.specs.declared.access.Access.TheVariants.{Nothing}
 use Rattle.amo_course.specs.declared.answer.Reply.{Reply}
@@ -31,8 +31,13 @@ EndsAt first ds Over = (s : ℕ) × (a : ProcessView) × (way : Way) × Stands f
 EndsAt first ds Left = Stands first ds Gone
 EndsAt first ds (Cut s) = Stands first ds (Unanswered s Closed)
 
+-- so many deeds were done at least, where what was done is known
+abbrev pub HasDone : ℕ → Option (List Deed) → Type 0
+HasDone n None = ⊤
+HasDone n (Some ds) = n ≤ length ds
+
 -- why it has stopped says where it stands: nothing is due any more, but where nothing was done, where no serial number is
--- left, and where there were too many turns
+-- left, and where there were too many turns, with a deed in each
 abbrev pub StopsAt : (first : Stage) → Option (List Deed) → Stop → Type 0
 StopsAt first ds Failed = Stands first ds Broken
 StopsAt first ds NoMemory = Stands first ds first
@@ -40,7 +45,7 @@ StopsAt first ds (NoSuchNumber w v) = Stands first ds (Refused w v)
 StopsAt first ds (NoAnswer s) = Stands first ds (Unanswered s Garbled)
 StopsAt first ds (OtherAnswer s n) = (reply : Reply) × Stands first ds (Unanswered s reply) × (serial_of reply ≡ Some n)
 StopsAt first ds NoSerial = (a : ProcessView) × (j : ℕ) × Stands first ds (Intending (2 ^ 64 - 1) a j)
-StopsAt first ds TooLong = (s : ℕ) × (a : ProcessView) × (way : Way) × Stands first ds (Going s a way)
+StopsAt first ds TooLong = (s : ℕ) × (a : ProcessView) × (way : Way) × Stands first ds (Going s a way) × HasDone (2 ^ 64 - 1) ds
 
 -- how the asking has ended that has begun at `first` says where it stands: all were asked for, it is to leave, or nothing more
 -- can come in answer

@@ -1,5 +1,5 @@
 //! A process with what it knows of its journal, turn by turn.
-ghost use Rattle.std.specs.Prelude.{◌≡◌, ◌<◌, ◌-◌, ◌^◌, false, IfOk, IfErr, OnOk};
+ghost use Rattle.std.specs.Prelude.{◌≡◌, ◌<◌, ◌-◌, ◌^◌, false, Ok, None, IfOk, IfErr, OnOk};
 ghost use Rattle.amo_kk.specs.Givens.{IsWorker};
 ghost use Rattle.amo_process.specs.Stepped.{access_of, is_refused};
 ghost use Rattle.amo_process.specs.declared.access.Access.TheVariants.{Load, Store};
@@ -8,7 +8,7 @@ ghost use Rattle.amo_course.specs.declared.model.Try.{Try};
 ghost use Rattle.amo_course.specs.Stage.{Going, Intending, Noting};
 ghost use Rattle.amo_course.specs.Course.{stage_replied, first_stage, Stands, MayTry};
 ghost use Rattle.amo_course.specs.Stops.{EndsAt, StopsAt};
-ghost use Rattle.amo_course.specs.Life.{beginning, IsGoing, HasHeard, TurnsTo};
+ghost use Rattle.amo_course.specs.Life.{beginning, IsGoing, HasHeard, TurnsTo, KeepsDeeds, AddsDeed};
 
 use crate::answer::{Answer, Heard, Reply, Way};
 use crate::outside::Outside;
@@ -69,6 +69,7 @@ impl Life {
         requires served { (o : _) (t : Try) → MayTry (beginning self.old) (O.deeds o) t → O.may o t }
         ensures same { beginning self.new ≡ beginning self.old }
         ensures turns { IfOk result (λ end. TurnsTo (beginning self.old) (O.deeds outside.new) self.new end) }
+        ensures grows { result ≡ Ok None → AddsDeed (O.deeds outside.old) (O.deeds outside.new) }
         ensures stops { IfErr result (λ e. StopsAt (beginning self.old) (O.deeds outside.new) e) }
     {
         match self.process.want() {
@@ -85,6 +86,7 @@ impl Life {
         requires served { (o : _) (t : Try) → MayTry (beginning self.old) (O.deeds o) t → O.may o t }
         ensures same { beginning self.new ≡ beginning self.old }
         ensures turns { IfOk result (λ end. TurnsTo (beginning self.old) (O.deeds outside.new) self.new end) }
+        ensures grows { result ≡ Ok None → KeepsDeeds (O.deeds outside.old) (O.deeds outside.new) }
         ensures stops { IfErr result (λ e. StopsAt (beginning self.old) (O.deeds outside.new) e) }
     {
         match self.way {
@@ -100,6 +102,7 @@ impl Life {
         requires wanted { access_of self.old.process.givens self.old.process.number self.old.process.standing ≡ Load word }
         ensures same { beginning self.new ≡ beginning self.old }
         ensures done { OnOk result (HasHeard (beginning self.old) (O.deeds outside.new) self.new) }
+        ensures grows { OnOk result (AddsDeed (O.deeds outside.old) (O.deeds outside.new)) }
         ensures stops { IfErr result (λ e. StopsAt (beginning self.old) (O.deeds outside.new) e) }
     {
         let Ok(value) = outside.load(word) else {
@@ -118,6 +121,7 @@ impl Life {
         requires wanted { access_of self.old.process.givens self.old.process.number self.old.process.standing ≡ Store word value }
         ensures same { beginning self.new ≡ beginning self.old }
         ensures done { OnOk result (HasHeard (beginning self.old) (O.deeds outside.new) self.new) }
+        ensures grows { OnOk result (AddsDeed (O.deeds outside.old) (O.deeds outside.new)) }
         ensures stops { IfErr result (λ e. StopsAt (beginning self.old) (O.deeds outside.new) e) }
     {
         let Ok(()) = outside.store(word, value) else {
@@ -133,6 +137,7 @@ impl Life {
         requires served { (o : _) (t : Try) → MayTry (beginning self.now) (O.deeds o) t → O.may o t }
         requires way { self.now.way ≡ Leave }
         ensures turns { IfOk result (λ end. TurnsTo (beginning self.now) (O.deeds outside.new) self.now end) }
+        ensures grows { result ≡ Ok None → KeepsDeeds (O.deeds outside.old) (O.deeds outside.new) }
         ensures stops { IfErr result (λ e. StopsAt (beginning self.now) (O.deeds outside.new) e) }
     {
         if !self.process.may_leave() {
@@ -152,6 +157,7 @@ impl Life {
         requires way { self.old.way ≡ Go }
         ensures same { beginning self.new ≡ beginning self.old }
         ensures turns { IfOk result (λ end. TurnsTo (beginning self.old) (O.deeds outside.new) self.new end) }
+        ensures grows { result ≡ Ok None → KeepsDeeds (O.deeds outside.old) (O.deeds outside.new) }
         ensures stops { IfErr result (λ e. StopsAt (beginning self.old) (O.deeds outside.new) e) }
     {
         if let Some(job) = self.process.to_perform() {
@@ -172,6 +178,7 @@ impl Life {
         requires served { (o : _) (t : Try) → MayTry (beginning self.old) (O.deeds o) t → O.may o t }
         ensures same { beginning self.new ≡ beginning self.old }
         ensures turns { IfOk result (λ end. TurnsTo (beginning self.old) (O.deeds outside.new) self.new end) }
+        ensures grows { result ≡ Ok None → KeepsDeeds (O.deeds outside.old) (O.deeds outside.new) }
         ensures stops { IfErr result (λ e. StopsAt (beginning self.old) (O.deeds outside.new) e) }
     {
         if self.next == u64::MAX {
@@ -194,6 +201,7 @@ impl Life {
         requires room { self.old.next < 2 ^ 64 - 1 }
         ensures same { beginning self.new ≡ beginning self.old }
         ensures turns { IfOk result (λ end. TurnsTo (beginning self.old) (O.deeds outside.new) self.new end) }
+        ensures grows { result ≡ Ok None → KeepsDeeds (O.deeds outside.old) (O.deeds outside.new) }
         ensures stops { IfErr result (λ e. StopsAt (beginning self.old) (O.deeds outside.new) e) }
     {
         let heard = reply.heard_of(self.next)?;
@@ -221,6 +229,7 @@ impl Life {
         requires room { self.old.next < 2 ^ 64 - 1 }
         ensures same { beginning self.new ≡ beginning self.old }
         ensures turns { IfOk result (λ end. TurnsTo (beginning self.old) (O.deeds outside.new) self.new end) }
+        ensures grows { result ≡ Ok None → KeepsDeeds (O.deeds outside.old) (O.deeds outside.new) }
         ensures stops { IfErr result (λ e. StopsAt (beginning self.old) (O.deeds outside.new) e) }
     {
         let Ok(()) = outside.note(self.next, answer) else {

@@ -4,7 +4,7 @@ use Rattle.amo_course.specs.declared.model.Try.TheVariants.{Intend, Perform}
 use Rattle.amo_course.specs.Stage.{Intending, Performing}
 use Rattle.amo_course.specs.Course.{Stands}
 use Rattle.amo_course.specs.Life.{beginning}
-use Rattle.amo_course.proofs.Deeds.{stands_by, falls, may_try}
+use Rattle.amo_course.proofs.Deeds.{stands_by, falls, keeps, may_try}
 use Rattle.amo_course.proofs.life.Life.hand_over.Goals as goal
 
 pub returns-then-self-clause-stops : goal.returns-then-self-clause-stops
@@ -37,3 +37,8 @@ hear-requires-clause-performed g c =
     stands_by (beginning l) _ _ (Performing l.next l.process c.args.job) _ (Performed l.next c.args.job c.in-Ok-perform.reply)
     (stands_by (beginning l) _ _ _ _ (Intended l.next c.args.job) c.requires.claimed c.in-Ok.ensures.done refl refl)
     c.in-Ok-perform.ensures.done refl refl
+
+pub returns-clause-grows : goal.returns-clause-grows
+returns-clause-grows g c = λ goes n done.
+    c.hear.ensures.grows goes n (keeps _ _ (Performed c.args.self.now.next c.args.job c.in-Ok-perform.reply) c.in-Ok-perform.ensures.done n
+    (keeps _ _ (Intended c.args.self.now.next c.args.job) c.in-Ok.ensures.done n done))

@@ -1,4 +1,4 @@
-use Rattle.std.proofs.Common.{sym, ap, subst, ◌∙◌}
+use Rattle.std.proofs.Common.{◌+◌, sym, ap, subst, ◌∙◌}
 use Rattle.std.specs.Prelude.{IfErr}
 use Rattle.amo_course.specs.Stops.{StopsAt}
 use Rattle.amo_course.specs.Life.{beginning}
@@ -18,3 +18,10 @@ returns-clause-stops g c =
       | in-Store+in_ok-store-in-Store w ↦ ap beginning w.self-is ∙ w.store.ensures.same
     ])
     c.settle.ensures.stops
+
+pub returns-clause-grows : goal.returns-clause-grows
+returns-clause-grows g c = λ goes n done. c.settle.ensures.grows goes (n + 1)
+    (elim c.match-want.branch [
+      | in-Load+in_ok-load-in-Load w ↦ rw w.outside-is (w.in_ok-load-in-Load.ensures.grows n done)
+      | in-Store+in_ok-store-in-Store w ↦ rw w.outside-is (w.in_ok-store-in-Store.ensures.grows n done)
+    ])
