@@ -35,19 +35,14 @@ pub(crate) fn prepare<P: Drop, Out: Drop>(
     let jobs = givens.jobs() as usize;
     let workers = givens.workers() as usize;
     let (queue, inlet, outlets) = outlets(alloc, givens)?;
-    let crew = Vec::with_capacity(alloc, workers)?;
-    let finishes = Vec::with_capacity(alloc, workers)?;
-    let ends = Vec::with_capacity(alloc, workers)?;
-    let in_hand = Vec::with_capacity(alloc, workers)?;
-    let spare = Vec::with_capacity(alloc, jobs)?;
     Ok(Kit {
         queue,
         inlet,
         outlets,
-        crew,
-        finishes,
-        ends,
-        in_hand,
-        spare,
+        crew: Vec::with_capacity(alloc, workers)?,
+        finishes: Vec::with_capacity(alloc, workers)?,
+        ends: Vec::with_capacity(alloc, workers)?,
+        in_hand: Vec::with_capacity(alloc, workers)?,
+        spare: Vec::with_capacity(alloc, jobs)?,
     })
 }
