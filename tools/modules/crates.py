@@ -94,14 +94,6 @@ class Crate:
     def size(self):
         return sum(lines_of(self.folder, it) for it in (".rt", ".antt"))
 
-    def code(self):
-        return lines_of(self.folder, ".rt")
-
-    def work(self):
-        """How long a check takes, in the time that one processor takes for a line of code with its proof, as measured: what is loaded
-        before the first costs as much as a hundred."""
-        return 100 + self.code()
-
     def need(self):
         """The most memory that a check is likely to take, in bytes, by lines of code and of proof, as measured."""
         own = 1_000_000 * lines_of(self.folder, ".rt") + 200_000 * lines_of(self.folder, ".antt")
