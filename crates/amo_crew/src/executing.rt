@@ -113,7 +113,7 @@ where
     ensures done { IfOk result (λ o. IsOutcome (W.related work.now) givens payloads.items plan.now.budgets o × AllStarted o.ends.items) }
     ensures refused { IfErr result (Refuses (W.related work.now) givens payloads.items plan.now.budgets) }
 {
-    if payloads.len() != givens.jobs() as usize {
+    if payloads.len() != givens.jobs as usize {
         return Err(ExecFault::WrongCount(payloads));
     }
     let Ok(kit) = prepare(alloc, givens) else {

@@ -32,8 +32,8 @@ pub(crate) fn prepare<P: Drop, Out: Drop>(
     ensures kit { IfOk result (IsKit givens) }
     ensures none { IfOk result (λ kit. kit.crew.items ≡ []) }
 {
-    let jobs = givens.jobs() as usize;
-    let workers = givens.workers() as usize;
+    let jobs = givens.jobs as usize;
+    let workers = givens.workers as usize;
     let (queue, inlet, outlets) = outlets(alloc, givens)?;
     Ok(Kit {
         queue,

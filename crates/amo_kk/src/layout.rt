@@ -10,7 +10,7 @@ use crate::givens::Givens;
 pub fn word_count(givens: Givens) -> usize
     ensures { result ≡ word_count givens }
 {
-    (givens.workers() * (givens.jobs() + 3) + 1) as usize
+    (givens.workers * (givens.jobs + 3) + 1) as usize
 }
 
 /// The place of the announcement of p.
@@ -25,7 +25,7 @@ pub fn claim_word(givens: Givens, p: u32) -> usize
     requires { IsWorker givens p }
     ensures { result ≡ claim_word givens p }
 {
-    (givens.workers() + p) as usize
+    (givens.workers + p) as usize
 }
 
 /// The place of the k-th entry of p's row, k from 1 to one more than the jobs.
@@ -34,5 +34,5 @@ pub fn done_word(givens: Givens, p: u32, k: u32) -> usize
     requires place { k ≤ givens.jobs + 1 }
     ensures { result ≡ done_word givens p k }
 {
-    (2 * givens.workers() + (p - 1) * (givens.jobs() + 1) + k) as usize
+    (2 * givens.workers + (p - 1) * (givens.jobs + 1) + k) as usize
 }

@@ -49,5 +49,5 @@ pub fn outlets<Out: Drop>(
     ensures outlets { IfOk result (λ r. All (λ o. IsNewOutletOf r.0 givens.jobs o) r.2.items) }
     ensures workers { IfOk result (λ r. map (λ o. o.worker) r.2.items ≡ map (λ k. k + 1) (range_with_len 0 givens.workers)) }
 {
-    outlets_for(alloc, givens.jobs(), givens.workers())
+    outlets_for(alloc, givens.jobs, givens.workers)
 }

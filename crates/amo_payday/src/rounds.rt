@@ -73,7 +73,7 @@ fn plan_of(alloc: Global, jobs: usize, crew: Crew) -> Option<StopPlan>
     ensures budgets { IfSome result (λ plan. plan.budgets ≡ replicate crew.workers crew.steps) }
 {
     let givens = Givens::try_new(jobs as u64, crew.workers, crew.workers).ok()?;
-    let budgets = Vec::from_elem(alloc, crew.steps, givens.workers() as usize).ok()?;
+    let budgets = Vec::from_elem(alloc, crew.steps, givens.workers as usize).ok()?;
     StopPlan::try_new(alloc, givens, &budgets).ok()
 }
 

@@ -108,7 +108,7 @@ pub(crate) fn call_off<P: Drop, Out: Drop>(
             ExecFault::NoMemory(payloads_of(free, spare))
         }
         Err(closed) => {
-            let ends = none_started(closed.givens().workers(), ends);
+            let ends = none_started(closed.givens().workers, ends);
             let outputs = Vec::new(alloc);
             ExecFault::Unsettled(Unsettled::new(closed, ends, outputs, in_hand))
         }

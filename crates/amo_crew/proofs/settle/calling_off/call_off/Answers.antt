@@ -23,7 +23,7 @@ returns-in-Ok g c = let off = c.call_back.ensures.back _ _ _ _ (off_from _ _ _ _
 pub returns : goal.returns
 returns g c = let off = c.call_back.ensures.back _ _ _ _ (off_from _ _ _ _ _ _ c.requires.hired.1) in
     let same = c.in-Err.ensures.refused in
-    let workers = c.workers.ensures ∙ ap (λ (x : Givens). x.workers) (c.givens.ensures ∙ ap (λ (x : ClosedView g.row.P.Denot). x.givens) same ∙ c.close.ensures.floor) in
+    let workers = ap (λ (x : Givens). x.workers) (c.givens.ensures ∙ ap (λ (x : ClosedView g.row.P.Denot). x.givens) same ∙ c.close.ensures.floor) in
     let ends = c.none_started-ends.ensures ∙ ap (λ (n : ℕ). replicate n NotStarted) workers in
     subst (HasNotBegun c.args.floor.givens c.args.book.view.payloads) (sym c.new.ensures)
     (has_not_begun _ _ c.call_back.new.book c.in-Err.closed _ _ _
