@@ -6,7 +6,7 @@
 
 use amo_program::serve_words;
 use amo_streams::Streamed;
-use amo_work::Request;
+use amo_work::AmoCommand;
 use std::process::ExitCode;
 
 fn main(rt: HostRuntime) -> ExitCode {
@@ -14,5 +14,5 @@ fn main(rt: HostRuntime) -> ExitCode {
     let mut reader = Streamed::new(rt.stdin());
     let mut out = Streamed::new(rt.stdout());
     let mut err = Streamed::new(rt.stderr());
-    serve_words::<_, Request, _, _, _>(&rt, rt.alloc(), words, &mut reader, &mut out, &mut err)
+    serve_words::<_, AmoCommand, _, _, _>(&rt, rt.alloc(), words, &mut reader, &mut out, &mut err)
 }

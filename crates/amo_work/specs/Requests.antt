@@ -1,5 +1,5 @@
 -- What a request writes, and what it leaves.
-use Rattle.std.specs.Prelude.{ℕ, List, Option, Bool}
+use Rattle.std.specs.Prelude.{ℕ, List, Option, option_map, Bool}
 use Rattle.std.specs.Io.KnownBytes.{Keeps}
 use Rattle.amo_plan.specs.declared.fault.PlanFault.{PlanFault}
 use Rattle.amo_report.specs.Wanted.{text_of}
@@ -11,8 +11,14 @@ use Rattle.amo_outcome.specs.Runs.{WritesRun, RefusesRun}
 use Rattle.amo_program.specs.Endings.{Change}
 use Rattle.amo_program.specs.Statuses as statuses
 use Rattle.amo_program.specs.Statuses.{Left}
-use Rattle.amo_work.specs.declared.request.Request.{Request}
-use Rattle.amo_work.specs.declared.request.Request.TheVariants.{Text, Run}
+use Rattle.amo_request.specs.Commands.{asked_after_name}
+use Rattle.amo_request.specs.declared.request.Request.{Request}
+use Rattle.amo_request.specs.declared.request.Request.TheVariants.{Text, Run}
+use Rattle.amo_work.specs.declared.working.AmoCommand.{AmoCommand}
+
+-- what all words that the program is given ask for, its own name first, as a command
+abbrev pub asked_command : List (List ℕ) → Option AmoCommand
+asked_command words = option_map (λ r. record { request = r }) (asked_after_name words)
 
 -- What is written of the plan of a source with these bytes, and nothing else: the text that is wanted; or that of a run whose
 -- threads were all started, of which there is not one alone.

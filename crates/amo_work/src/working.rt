@@ -1,13 +1,12 @@
 //! What the program does, over any source and any two sinks.
 ghost use Rattle.std.specs.Prelude.{◌≡◌, ◌≤◌, None, false, map, string_bytes, IfOk};
 ghost use Rattle.amo_program.specs.Endings.{change};
-ghost use Rattle.amo_work.specs.Commands.{asked};
+ghost use Rattle.amo_request.specs.Commands.{asked};
 ghost use Rattle.amo_work.specs.Requests.{Ends};
 
-use crate::commands::asked;
-use crate::request::Request;
 use amo_outcome::{Started, run_plan};
 use amo_program::{Command, Fault, refuse};
+use amo_request::{Request, asked};
 use amo_streams::{Sink, Source};
 use amo_texts::write_of;
 use std::alloc::{AllocError, Global};
@@ -25,24 +24,31 @@ fn texts_of<'a>(alloc: Global, words: &'a [String]) -> Result<Vec<&'a str>, Allo
     Ok(texts)
 }
 
-impl<R: Threads + Wait + Sync> Command<R> for Request {
-    ghost use Rattle.amo_work.specs.Commands.{asked_after_name, IsWithinRanges};
-    ghost use Rattle.amo_work.specs.Requests.{writes, refuses, others, plan_keeps};
+/// A request, as a command that can be carried out.
+#[derive(Clone, Copy, Debug, PartialEq, Eq)]
+pub struct AmoCommand {
+    pub request: Request,
+}
 
-    ghost asked = { asked_after_name };
+impl<R: Threads + Wait + Sync> Command<R> for AmoCommand {
+    ghost use Rattle.amo_request.specs.Commands.{IsWithinRanges};
+    ghost use Rattle.amo_work.specs.Requests.{asked_command, writes, refuses, others, plan_keeps};
 
-    ghost fits = { IsWithinRanges };
+    ghost asked = { asked_command };
 
-    ghost writes = { writes };
+    ghost fits = { λ c. IsWithinRanges c.request };
 
-    ghost refuses = { refuses };
+    ghost writes = { λ c. writes c.request };
 
-    ghost others = { others };
+    ghost refuses = { λ c. refuses c.request };
 
-    fn of_words(alloc: Global, words: &[String]) -> Result<Request, Fault> {
+    ghost others = { λ c. others c.request };
+
+    fn of_words(alloc: Global, words: &[String]) -> Result<AmoCommand, Fault> {
         let texts = texts_of(alloc, words)?;
         let rest = texts.get(1..).unwrap_or(&[]);
-        asked(alloc, rest)
+        let request = asked(alloc, rest)?;
+        Ok(AmoCommand { request })
     }
 
     /// The texts of all requests but `Run` are written by calls that are proved to return.
@@ -54,7 +60,7 @@ impl<R: Threads + Wait + Sync> Command<R> for Request {
         reader: &mut S,
         out: &mut W,
     ) -> Result<(), Fault> {
-        match *self {
+        match self.request {
             Request::Text(wanted) => Ok(write_of(alloc, &wanted, reader, out)?),
             Request::Run => match run_plan(rt, alloc, reader, out)? {
                 Started::All => Ok(()),
@@ -63,7 +69,7 @@ impl<R: Threads + Wait + Sync> Command<R> for Request {
         }
     }
 
-    ghost plan_keeps = { plan_keeps };
+    ghost plan_keeps = { λ c. plan_keeps c.request };
 }
 
 /// Does what the words ask for, those after the program's name, and answers the exit status of the program: 0 where it was
@@ -92,7 +98,7 @@ pub fn work<R: Threads + Wait + Sync, S: Source, W: Sink, E: Sink>(
     ensures untouched { asked (map (λ w. w.now) words.now) ≡ None → (reader.new ≡ reader.old) × (out.new ≡ out.old) }
 {
     match asked(alloc, words) {
-        Ok(request) => match request.carry_out(rt, alloc, reader, out) {
+        Ok(request) => match (AmoCommand { request }).carry_out(rt, alloc, reader, out) {
             Ok(()) => 0,
             Err(fault) => refuse(alloc, err, fault),
         },

@@ -1,7 +1,7 @@
 use Rattle.std.proofs.Common.{◌≡◌, ◌∙◌, Some, sym, ap}
 use Rattle.clap.specs.Words.{rows_of, found_of, first_of}
-use Rattle.amo_work.proofs.Numbers.{at_is_decimal}
-use Rattle.amo_work.proofs.commands.number_at.Goals as goal
+use Rattle.amo_request.proofs.Numbers.{at_is_decimal}
+use Rattle.amo_request.proofs.commands.number_at.Goals as goal
 
 pub returns-clause-decimal : goal.returns-clause-decimal
 returns-clause-decimal c k =

@@ -1,8 +1,8 @@
 use Rattle.std.proofs.Common.{rules, refl, ap, ap₂, codes, ◌≡◌, ◌∙◌}
 use Rattle.std.proofs.lemmas.Result.{IfOk-weaker}
 use Rattle.clap.specs.Words.{App, app_of, rule_of, with_rule, with_subcommand}
-use Rattle.amo_work.specs.Commands.{required, explore_app}
-use Rattle.amo_work.proofs.commands.with_explore.Goals as goal
+use Rattle.amo_request.specs.Commands.{required, explore_app}
+use Rattle.amo_request.proofs.commands.with_explore.Goals as goal
 
 pub returns : goal.returns
 returns c =

@@ -4,7 +4,7 @@ ghost use Rattle.std.specs.Fmt.{decimal};
 ghost use Rattle.clap.specs.Words.{app_of, new_app, with_subcommand, rule_of, rows_of, found_of, first_of};
 ghost use Rattle.amo_plan.specs.declared.limits.TheConstants.{HIGHEST_NUMBER};
 ghost use Rattle.amo_program.specs.Statuses.{IsAsked};
-ghost use Rattle.amo_work.specs.Commands.{IsWithinRanges, amo_app, explore_app, stops_app, required, number_at, explore_of_rows, stops_of_rows, request_of_row, request_of_line, asked};
+ghost use Rattle.amo_request.specs.Commands.{IsWithinRanges, amo_app, explore_app, stops_app, required, number_at, explore_of_rows, stops_of_rows, request_of_row, request_of_line, asked};
 
 use crate::request::Request;
 use amo_kk::MAX_WORKERS;
@@ -151,7 +151,7 @@ fn whole_line<'a>(alloc: Global, words: &[&'a str]) -> Result<Vec<&'a str>, Allo
 
 /// What the words after the program's name ask for. `NoCommand` comes only where they are no command, and
 /// `NoMemory` only where memory was refused.
-pub(crate) fn asked(alloc: Global, words: &[&str]) -> Result<Request, Fault>
+pub fn asked(alloc: Global, words: &[&str]) -> Result<Request, Fault>
     ensures request { IsAsked (asked (map (λ w. w.now) words.now)) result }
     ensures ranges { IfOk result IsWithinRanges }
 {

@@ -7,8 +7,8 @@ use Rattle.amo_plan.specs.Digits.{number_in, within}
 use Rattle.amo_report.specs.declared.explorer.TheConstants.{MOST_FIRST, MOST_COUNT, MOST_TURNS}
 use Rattle.amo_report.specs.declared.wanted.Wanted.TheVariants.{Report, Check, Explored, Stops}
 use Rattle.amo_report.specs.Wanted as wanted
-use Rattle.amo_work.specs.declared.request.Request.{Request}
-use Rattle.amo_work.specs.declared.request.Request.TheVariants.{Text as TextOf, Run}
+use Rattle.amo_request.specs.declared.request.Request.{Request}
+use Rattle.amo_request.specs.declared.request.Request.TheVariants.{Text as TextOf, Run}
 
 -- the subcommand `replay`, which takes nothing
 abbrev pub replay_app : App

@@ -2,8 +2,8 @@ use Rattle.std.proofs.Common.{◌≡◌, ◌∙◌, ap, map, List, refl, sym, in
 use Rattle.std.proofs.lemmas.Bool.{false≢true}
 use Rattle.clap.specs.declared.error.ErrorKind.TheVariants.{OutOfMemory}
 use Rattle.clap.specs.Words.{Text, rows_of, found_of, kind_of, is_simple_and_free}
-use Rattle.amo_work.proofs.Lines.{amo_is_free, asks_row, no_faults, found_is_ours, subcommand_found, asks_nothing}
-use Rattle.amo_work.proofs.commands.request_of_line.Goals as goal
+use Rattle.amo_request.proofs.Lines.{amo_is_free, asks_row, no_faults, found_is_ours, subcommand_found, asks_nothing}
+use Rattle.amo_request.proofs.commands.request_of_line.Goals as goal
 
 pub returns-in-Some-request_of_row-clause-request : goal.returns-in-Some-request_of_row-clause-request
 returns-in-Some-request_of_row-clause-request c =

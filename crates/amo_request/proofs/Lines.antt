@@ -4,7 +4,7 @@ use Rattle.clap.specs.Words.{App, Row, Text, is_simple, is_simple_and_free, subc
 use Rattle.clap.specs.declared.ArgMatches.{ArgMatches}
 use Rattle.clap.specs.declared.error.ErrorKind.{ErrorKind}
 use Rattle.clap.proofs.OnLiterals.{clap_on_literals}
-use Rattle.amo_work.specs.Commands.{amo_app, unless_any, request_of_row, request_of_line}
+use Rattle.amo_request.specs.Commands.{amo_app, unless_any, request_of_row, request_of_line}
 
 -- ---- the app is of the kind of which `clap` says everything
 
