@@ -34,15 +34,20 @@ pub(crate) fn prepare<P: Drop, Out: Drop>(
 {
     let jobs = givens.jobs as usize;
     let workers = givens.workers as usize;
+    let crew = Vec::with_capacity(alloc, workers)?;
+    let finishes = Vec::with_capacity(alloc, workers)?;
+    let ends = Vec::with_capacity(alloc, workers)?;
+    let in_hand = Vec::with_capacity(alloc, workers)?;
+    let spare = Vec::with_capacity(alloc, jobs)?;
     let (queue, inlet, outlets) = outlets(alloc, givens)?;
     Ok(Kit {
         queue,
         inlet,
         outlets,
-        crew: Vec::with_capacity(alloc, workers)?,
-        finishes: Vec::with_capacity(alloc, workers)?,
-        ends: Vec::with_capacity(alloc, workers)?,
-        in_hand: Vec::with_capacity(alloc, workers)?,
-        spare: Vec::with_capacity(alloc, jobs)?,
+        crew,
+        finishes,
+        ends,
+        in_hand,
+        spare,
     })
 }
