@@ -1,14 +1,14 @@
--- What is left where memory was refused, and what a request's command says of the request.
+-- What is left where memory was refused, and that a request comes to a fault where its command does.
 use Rattle.std.proofs.Common.{◌≡◌, ◌∙◌, ap, ℕ, List, Option, Some, None, option_map}
 use Rattle.std.specs.Io.KnownBytes.{Keeps}
 use Rattle.amo_texts.specs.declared.writing.ReplayFault.TheVariants as replay
 use Rattle.amo_request.specs.declared.request.Request.{Request}
 use Rattle.amo_request.specs.declared.request.Request.TheVariants.{Text, Run}
 use Rattle.amo_program.specs.Endings.{Change}
-use Rattle.amo_program.specs.Statuses.{IsDone, IsFault, Leaves}
+use Rattle.amo_program.specs.Statuses.{IsFault, Leaves}
 use Rattle.amo_program.specs.declared.fault.Fault.{Fault}
 use Rattle.amo_program.specs.declared.fault.Fault.TheVariants.{Plan, NoCommand, NoMemory, Thread, Read, Write}
-use Rattle.amo_work.specs.Requests.{writes, refuses, others}
+use Rattle.amo_work.specs.Requests.{refuses, others}
 use Rattle.amo_work.specs.declared.working.AmoCommand.{AmoCommand}
 
 -- where memory was refused nothing was written, whatever was wanted
@@ -20,10 +20,6 @@ module _ (wanted : Option Request) (a : AmoCommand) (reader out : Change) (is : 
   -- the request of this command is that of each other that is asked for in its place
   asked_too : (c : AmoCommand) → Some a ≡ Some c → wanted ≡ Some c.request
   asked_too c same = is ∙ ap (option_map (λ (x : AmoCommand). x.request)) same
-
-  -- a request is done where its command is
-  pub done_too : IsDone (λ (c : AmoCommand). writes c.request) (Some a) reader out → IsDone writes wanted reader out
-  done_too d = record { command = d.command.request; asked = asked_too d.command d.asked; read = d.read; written = d.written; source = d.source; sink = d.sink }
 
   leaves_too : (fault : Fault) → Leaves (λ (c : AmoCommand). refuses c.request) (λ (c : AmoCommand). others c.request) fault (Some a) reader out
       → Leaves refuses others fault wanted reader out

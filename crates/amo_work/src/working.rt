@@ -27,6 +27,7 @@ fn texts_of<'a>(alloc: Global, words: &'a [String]) -> Result<Vec<&'a str>, Allo
 /// A request, as a command that can be carried out.
 #[derive(Clone, Copy, Debug, PartialEq, Eq)]
 pub struct AmoCommand {
+    /// What was asked for.
     pub request: Request,
 }
 
