@@ -1,11 +1,11 @@
 //! What is said of a plan.
 ghost use Rattle.std.specs.Prelude.{◌≡◌, ◌++◌, ◌≤◌, OnOk, IfOk, string_bytes};
-ghost use Rattle.amo_kk.specs.declared.limits.TheConstants.{MAX_WORKERS};
+ghost use Rattle.amo_givens.specs.declared.limits.TheConstants.{MAX_WORKERS};
 ghost use Rattle.amo_texts.specs.Numbers.{spaced};
 ghost use Rattle.amo_all.specs.Answer.{IsAllOf, found_text, most_jobs, too_many, turn_words, unit_word};
 
 use crate::longest::{Found, find};
-use amo_kk::Givens;
+use amo_givens::Givens;
 use amo_texts::{BytesText, ReplayFault, plan_of_bytes};
 use amo_worst::{fewest, worst_schedule};
 use std::alloc::{AllocError, Global};

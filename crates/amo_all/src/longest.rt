@@ -1,11 +1,11 @@
 //! The longest run, along what the search came to know.
 ghost use Rattle.std.specs.Prelude.{◌≡◌, ◌<◌, map, IfOk};
-ghost use Rattle.amo_kk.specs.declared.event.Move.TheVariants.{Turn};
+ghost use Rattle.amo_givens.specs.declared.moves.Move.TheVariants.{Turn};
 ghost use Rattle.amo_all.specs.Runs.{IsWholeRun};
 ghost use Rattle.amo_all.specs.Search.{IsNext};
 
 use crate::search::Search;
-use amo_kk::Givens;
+use amo_givens::Givens;
 use amo_world::World;
 use std::alloc::{AllocError, Global};
 

@@ -1,6 +1,6 @@
 -- How many turns are taken at most, where many jobs are free or the threshold is high.
 use Rattle.std.specs.Prelude.{ℕ, ◌+◌, ◌-◌, ◌*◌}
-use Rattle.amo_kk.specs.declared.givens.Givens.{Givens}
+use Rattle.amo_givens.specs.declared.givens.Givens.{Givens}
 
 -- where so many jobs are free, no two workers that know what is done choose near each other: m m + m - 1, for m workers
 abbrev pub width : Givens → ℕ

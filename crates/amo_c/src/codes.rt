@@ -2,7 +2,8 @@
 ghost use Rattle.std.specs.Prelude.{◌≡◌};
 ghost use Rattle.amo_c.specs.Codes.{access_code, phase_code, fault_code, kind_of, phase_of, fault_of};
 
-use amo_kk::{GivensFault, Phase};
+use amo_givens::GivensFault;
+use amo_kk::Phase;
 use amo_process::Access;
 
 /// What is to be done with a shared word.

@@ -1,13 +1,14 @@
 //! The worker that a call is about.
 ghost use Rattle.std.specs.Prelude.{◌≡◌, ◌≢◌, ◌+◌, ◌<◌, ◌≤◌, Ok, Err, IfOk, IfErr};
-ghost use Rattle.amo_kk.specs.Givens.{IsWorker};
+ghost use Rattle.amo_givens.specs.Givens.{IsWorker};
 ghost use Rattle.amo_process.specs.Heard.{IsOf};
 ghost use Rattle.amo_c.specs.Reply.{givens_in, worker_in, standing_in};
 ghost use Rattle.amo_c.specs.declared.codes.FaultCode.TheVariants.{NoMemory};
 
 use crate::codes::FaultCode;
 use crate::told::AmoGivens;
-use amo_kk::{Givens, Local};
+use amo_givens::Givens;
+use amo_kk::Local;
 use amo_process::{NoSuchNumber, Standing, standing_of};
 use std::alloc::Global;
 

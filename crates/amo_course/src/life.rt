@@ -1,6 +1,6 @@
 //! A process with what it knows of its journal, turn by turn.
 ghost use Rattle.std.specs.Prelude.{◌≡◌, ◌<◌, ◌-◌, ◌^◌, false, Ok, None, IfOk, IfErr, OnOk};
-ghost use Rattle.amo_kk.specs.Givens.{IsWorker};
+ghost use Rattle.amo_givens.specs.Givens.{IsWorker};
 ghost use Rattle.amo_process.specs.Stepped.{access_of, is_refused};
 ghost use Rattle.amo_process.specs.declared.access.Access.TheVariants.{Load, Store};
 ghost use Rattle.amo_course.specs.declared.answer.Way.TheVariants.{Go, Leave};
@@ -13,7 +13,7 @@ ghost use Rattle.amo_course.specs.Life.{beginning, IsGoing, HasHeard, TurnsTo, K
 use crate::answer::{Answer, Heard, Reply, Way};
 use crate::outside::Outside;
 use crate::stop::{LifeEnd, Stop};
-use amo_kk::Givens;
+use amo_givens::Givens;
 use amo_process::{Access, NoSuchNumber, Process};
 use std::alloc::{AllocError, Global};
 

@@ -1,6 +1,6 @@
 //! The work of a process, from its beginning on.
 ghost use Rattle.std.specs.Prelude.{IfOk, IfErr};
-ghost use Rattle.amo_kk.specs.Givens.{IsWorker};
+ghost use Rattle.amo_givens.specs.Givens.{IsWorker};
 ghost use Rattle.amo_course.specs.declared.model.Try.{Try};
 ghost use Rattle.amo_course.specs.Course.{first_stage, Stands, MayTry};
 ghost use Rattle.amo_course.specs.Stops.{EndsAt, StopsAt};
@@ -8,7 +8,7 @@ ghost use Rattle.amo_course.specs.Stops.{EndsAt, StopsAt};
 use crate::life::Life;
 use crate::outside::Outside;
 use crate::stop::{LifeEnd, Stop};
-use amo_kk::Givens;
+use amo_givens::Givens;
 use std::alloc::Global;
 
 /// The whole work of a process that begins as worker p, in whose journal the next intent has this serial number: its own words,

@@ -4,8 +4,8 @@ ghost use Rattle.std.specs.Prelude.{None, ⊤};
 
 use amo_course::{Answer as Became, Failed, Intent, Outside, Past, Reply, Way, ask_pending, work};
 use amo_disk::{Call, Disk};
+use amo_givens::Givens;
 use amo_journal::{Journal, texts_in};
-use amo_kk::Givens;
 use amo_ledger::{
     Answer, Attempt, Entry, givens_of, journal_of, open_lines, pending, put_entry, read_entries,
 };

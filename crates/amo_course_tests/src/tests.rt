@@ -6,7 +6,7 @@ use amo_course::{
     Answer, Asked, Deed, Failed, Intent, LifeEnd, Outside, Past, Reply, Stop, Try, Way,
     ask_pending, work,
 };
-use amo_kk::Givens;
+use amo_givens::Givens;
 use std::alloc::Global;
 use std::process::Abort;
 use std::test::Fail;

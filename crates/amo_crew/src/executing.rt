@@ -17,7 +17,7 @@ use crate::plan::StopPlan;
 use crate::run::{hire_all, run_all};
 use crate::settle::{Collected, Unsettled, call_off, collect_all, conclude};
 use amo_claims::Work;
-use amo_kk::Givens;
+use amo_givens::Givens;
 use amo_words::{Book, Floor, OpenFault};
 use std::alloc::Global;
 use std::sync::Wait;

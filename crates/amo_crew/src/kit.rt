@@ -4,7 +4,7 @@ ghost use Rattle.amo_crew.specs.Kits.{IsKit};
 
 use crate::outcome::End;
 use crate::run::{Finish, Member};
-use amo_kk::Givens;
+use amo_givens::Givens;
 use amo_mailbox::{Inlet, Outlet, Queue, outlets};
 use std::alloc::{AllocError, Global};
 

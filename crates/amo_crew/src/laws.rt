@@ -1,8 +1,8 @@
 //! What callers may lean on. Nothing here runs: each function's contract is a law.
 ghost use Rattle.std.specs.Prelude.{◌≡◌, ◌⊎◌, ℕ, true, false, List, All};
 ghost use Rattle.amo_sets.specs.Sets.{has, AreDistinct};
-ghost use Rattle.amo_kk.specs.Givens.{IsJob, IsWorker};
-ghost use Rattle.amo_kk.specs.declared.givens.Givens.{Givens};
+ghost use Rattle.amo_givens.specs.Givens.{IsJob, IsWorker};
+ghost use Rattle.amo_givens.specs.declared.givens.Givens.{Givens};
 ghost use Rattle.amo_words.specs.Settling.{settled_dones};
 ghost use Rattle.amo_crew.specs.declared.outcome.Outcome.{Outcome};
 ghost use Rattle.amo_mailbox.specs.declared.output.Output.{Output};

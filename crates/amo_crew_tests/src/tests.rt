@@ -5,7 +5,7 @@ use amo_crew::{
     End, ExecFault, Inlet, Outcome, Outlet, Output, Queue, StopFault, StopPlan, Unsettled, Work,
     execute, outlets,
 };
-use amo_kk::Givens;
+use amo_givens::Givens;
 use std::alloc::{AllocError, Global};
 use std::process::Abort;
 use std::sync::Wait;

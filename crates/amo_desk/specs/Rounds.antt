@@ -1,6 +1,6 @@
 -- Within this crate: with what a round is begun.
 use Rattle.std.specs.Prelude.{◌≡◌, ℕ, ◌+◌, List, length, take, ◌^◌, ◌-◌, ◌==◌, Option, Some, None, if◌then◌else◌}
-use Rattle.amo_kk.specs.declared.limits.TheConstants.{MAX_JOBS}
+use Rattle.amo_givens.specs.declared.limits.TheConstants.{MAX_JOBS}
 use Rattle.amo_ledger.specs.declared.record.Record.{Record}
 use Rattle.amo_ledger.specs.Rounds.{givens_of}
 use Rattle.amo_desk.specs.declared.setting.Jobs.{Jobs}

@@ -1,6 +1,6 @@
 //! To begin a round, under its exclusive lock: nobody is at work.
 ghost use Rattle.std.specs.Prelude.{◌≡◌, map, take, IfOk};
-ghost use Rattle.amo_kk.specs.declared.limits.TheConstants.{MAX_JOBS};
+ghost use Rattle.amo_givens.specs.declared.limits.TheConstants.{MAX_JOBS};
 ghost use Rattle.amo_ledger.specs.Open.{open_lines};
 ghost use Rattle.amo_desk.specs.Rounds.{IsNextRound, round_after};
 
@@ -10,7 +10,7 @@ use crate::folder::replaced;
 use crate::item::Item;
 use crate::round::record_of;
 use crate::setting::{Jobs as Asked, Setting};
-use amo_kk::{MAX_JOBS, MAX_WORKERS};
+use amo_givens::{MAX_JOBS, MAX_WORKERS};
 use amo_ledger::{Record, givens_of, open_lines};
 use amo_round::{Jobs, JobsFault, Why, first_difference, head_of, words_len};
 use amo_standing::{Counts, counts, standings};

@@ -3,8 +3,8 @@ use crate::fault::Fault;
 use crate::folder::bytes_of;
 use crate::item::Item;
 use crate::setting::Setting;
+use amo_givens::MAX_WORKERS;
 use amo_journal::texts_in;
-use amo_kk::MAX_WORKERS;
 use amo_ledger::{
     Attempt, Fault as Misread, Finding, first_misplaced, journal_of, read_entries, read_findings,
 };

@@ -4,7 +4,7 @@ ghost use Rattle.std.specs.Prelude.{◌≡◌, None};
 use crate::fault::Fault;
 use crate::partner::{Partner, shown};
 use amo_course::{Failed, LifeEnd, Stop, Try, work};
-use amo_kk::Givens;
+use amo_givens::Givens;
 use amo_lines::{Lines, Wire, text_of};
 use std::rt::HostRuntime;
 

@@ -13,7 +13,7 @@ use crate::partner::Partner;
 use crate::round::{Joined, join};
 use crate::setting::{Jobs, Setting};
 use amo_course::{Asked, Intent, LifeEnd, Stop, ask_pending};
-use amo_kk::Givens;
+use amo_givens::Givens;
 use amo_ledger::pending;
 use amo_standing::Counts;
 use std::alloc::Global;

@@ -6,7 +6,7 @@ use crate::guard::{lock_of, lock_within, settled};
 use crate::item::Item;
 use crate::setting::Setting;
 use amo_file::{is_at, open_private, try_exclusive};
-use amo_kk::MAX_WORKERS;
+use amo_givens::MAX_WORKERS;
 use amo_ledger::pending;
 use amo_standing::{Intent, Standing, standings};
 use std::alloc::{AllocError, Global};

@@ -3,7 +3,7 @@ ghost use Rattle.std.specs.Prelude.{◌≤◌, IfOk};
 
 use crate::lines::ByLines;
 use crate::setting::{Jobs, Setting};
-use amo_kk::{MAX_BETA, MAX_JOBS, MAX_WORKERS};
+use amo_givens::{MAX_BETA, MAX_JOBS, MAX_WORKERS};
 use amo_ledger::number;
 use amo_standing::State;
 use clap::error::ErrorKind;

@@ -5,7 +5,7 @@ use crate::guard::shared_lock_of;
 use crate::item::Item;
 use crate::setting::Setting;
 use crate::words::Words;
-use amo_kk::{MAX_JOBS, MAX_WORKERS};
+use amo_givens::{MAX_JOBS, MAX_WORKERS};
 use amo_ledger::{Record, seat_of};
 use amo_round::{head_of, words_len};
 use std::fs::File;

@@ -1,6 +1,6 @@
 //! What the words of a command say of a run.
 ghost use Rattle.std.specs.Prelude.{◌≤◌};
-ghost use Rattle.amo_kk.specs.declared.limits.TheConstants.{MAX_WORKERS, MAX_BETA};
+ghost use Rattle.amo_givens.specs.declared.limits.TheConstants.{MAX_WORKERS, MAX_BETA};
 
 /// A run's folder, and what is supposed of where it lies.
 #[derive(Clone, Copy)]

@@ -4,7 +4,7 @@ use crate::folder::path_of;
 use crate::item::Item;
 use crate::setting::Setting;
 use amo_file::open_private;
-use amo_kk::{MAX_JOBS, MAX_WORKERS};
+use amo_givens::{MAX_JOBS, MAX_WORKERS};
 use amo_round::offset_of;
 use std::fs::File;
 use std::io;

@@ -1,7 +1,7 @@
 //! Why numbers of jobs and workers and a threshold are no givens.
 use crate::document::Document;
 use crate::wording::push_line;
-use amo_kk::{GivensFault, MAX_BETA, MAX_JOBS, MAX_WORKERS};
+use amo_givens::{GivensFault, MAX_BETA, MAX_JOBS, MAX_WORKERS};
 use std::alloc::AllocError;
 
 /// Appends the key of a number, and what it is.

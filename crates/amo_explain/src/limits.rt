@@ -2,7 +2,7 @@
 use crate::document::{Document, natural};
 use crate::schedule::moves_in;
 use crate::wording::push_line;
-use amo_kk::MAX_STEPS;
+use amo_givens::MAX_STEPS;
 use amo_plan::{MOST_MOVES, MOST_ROUNDS};
 use std::alloc::AllocError;
 use toml::Value;

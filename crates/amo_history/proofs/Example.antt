@@ -1,9 +1,9 @@
 -- There are histories: two workers and two jobs; a process dies while its partner performs a job, and the next one of its
 -- worker in a store that comes about.
 use Rattle.std.proofs.Common.{◌≡◌, refl, arith, List, [], ◌∷◌}
-use Rattle.amo_kk.specs.Givens.{IsWorker}
-use Rattle.amo_kk.specs.Limits.{within_limits}
-use Rattle.amo_kk.specs.declared.givens.Givens.{Givens}
+use Rattle.amo_givens.specs.Givens.{IsWorker}
+use Rattle.amo_givens.specs.Limits.{within_limits}
+use Rattle.amo_givens.specs.declared.givens.Givens.{Givens}
 use Rattle.amo_course.specs.declared.answer.Answer.TheVariants.{Done}
 use Rattle.amo_course.specs.declared.answer.Reply.TheVariants.{Answered}
 use Rattle.amo_course.specs.declared.answer.Way.TheVariants.{Go}

@@ -1,8 +1,8 @@
 //! The theorems over the definitions. Nothing here runs: each function's contract is a law.
 ghost use Rattle.std.specs.Prelude.{◌≡◌, ℕ, true, false, List, [], ◌∷◌, ◌++◌, Some, None};
 ghost use Rattle.amo_sets.specs.Sets.{has, AreDistinct};
-ghost use Rattle.amo_kk.specs.Givens.{IsWorker};
-ghost use Rattle.amo_kk.specs.declared.givens.Givens.{Givens};
+ghost use Rattle.amo_givens.specs.Givens.{IsWorker};
+ghost use Rattle.amo_givens.specs.declared.givens.Givens.{Givens};
 ghost use Rattle.amo_course.specs.declared.answer.Answer.{Answer};
 ghost use Rattle.amo_course.specs.declared.answer.Reply.{Reply};
 ghost use Rattle.amo_course.specs.Course.{try_of, due, stage_after_all, AreDue, first_stage, MayTry};

@@ -1,9 +1,9 @@
 -- What the first line of a history says.
 use Rattle.std.specs.Prelude.{ℕ, Bool, true, false, ◌&&◌, nat_le, ◌==◌, if◌then◌else◌, List, codes, length, drop, Result, Ok, Err}
 use Rattle.std.specs.Option.{is_some, ok_or}
-use Rattle.amo_kk.specs.Givens.{givens_of, bound}
-use Rattle.amo_kk.specs.declared.givens.Givens.{Givens}
-use Rattle.amo_kk.specs.declared.givens.GivensFault.{GivensFault}
+use Rattle.amo_givens.specs.Givens.{givens_of, bound}
+use Rattle.amo_givens.specs.declared.givens.Givens.{Givens}
+use Rattle.amo_givens.specs.declared.givens.GivensFault.{GivensFault}
 use Rattle.amo_ledger.specs.Numbers.{number_in}
 use Rattle.amo_judge.specs.Lines.{word_at, says_at}
 use Rattle.amo_judge.specs.Results.{next}

@@ -6,7 +6,7 @@ ghost use Rattle.amo_judge.specs.FirstLine.{numbers_of, with_bound, ending_of, h
 
 use crate::lines::says_at;
 use crate::refusal::Wrong;
-use amo_kk::Givens;
+use amo_givens::Givens;
 use amo_ledger::number_of_bytes;
 
 /// What a first line says.

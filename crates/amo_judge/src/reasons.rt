@@ -1,12 +1,13 @@
 //! Says why an event is no step.
 ghost use Rattle.std.specs.Prelude.{◌≡◌, IfOk, string_bytes};
-ghost use Rattle.amo_kk.specs.Object.{is_within};
+ghost use Rattle.amo_givens.specs.Givens.{is_within};
 ghost use Rattle.amo_judge.specs.Why.{gone_words, gone_reason, hand_reason, claim_reason, reason_here, reason_of, not_in_hand_text, claimed_text, early_text, reason_text, why_of};
 
 use crate::before::{claim_of, end_of, hand_of, performed};
 use crate::history::History;
 use crate::telling::worker_of;
-use amo_kk::{Event, Givens};
+use amo_givens::Givens;
+use amo_kk::Event;
 use std::alloc::{AllocError, Global};
 
 /// Why an event is no step behind those before it.

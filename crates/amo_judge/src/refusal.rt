@@ -1,6 +1,6 @@
 //! Why a text is no history.
 
-use amo_kk::GivensFault;
+use amo_givens::GivensFault;
 
 /// What is wrong with a line.
 #[derive(Clone, Copy, Debug, PartialEq, Eq)]

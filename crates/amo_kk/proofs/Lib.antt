@@ -29,6 +29,5 @@ pub mod Attempts
 -- These serve this crate alone.
 mod AttemptReads
 mod LoneTurns
-mod Faults
 mod OpenJobs
 mod Worked

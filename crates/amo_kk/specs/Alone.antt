@@ -1,19 +1,15 @@
 -- A worker whose turns follow one another, with no other move between them.
-use Rattle.std.specs.Prelude.{◌≡◌, ℕ, zero, suc, ◌+◌, ◌-◌, ◌*◌, ◌<◌, ◌≤◌, Bool, true, false, not, ◌&&◌, ◌||◌, replicate, ◌==◌, if◌then◌else◌}
+use Rattle.std.specs.Prelude.{◌≡◌, ℕ, zero, suc, ◌+◌, ◌-◌, ◌<◌, ◌≤◌, Bool, true, false, not, ◌&&◌, ◌||◌, replicate, ◌==◌, if◌then◌else◌}
 use Rattle.amo_kk.specs.Record.{is_over}
 use Rattle.amo_kk.specs.Step.{want, is_load, record_after}
 use Rattle.amo_kk.specs.World.{process, loaded_value, world_after_moves}
-use Rattle.amo_kk.specs.declared.givens.Givens.{Givens}
+use Rattle.amo_givens.specs.declared.givens.Givens.{Givens}
 use Rattle.amo_kk.specs.declared.phase.Phase.{Phase}
 use Rattle.amo_kk.specs.declared.phase.Phase.TheVariants.{Trying, Reading, Claiming}
 use Rattle.amo_kk.specs.declared.phase.Want.{Want}
 use Rattle.amo_kk.specs.declared.phase.Want.TheVariants.{StoreNext, LoadNext, LoadDone}
-use Rattle.amo_kk.specs.declared.event.Move.TheVariants.{Turn}
+use Rattle.amo_givens.specs.declared.moves.Move.TheVariants.{Turn}
 use Rattle.amo_kk.specs.declared.model.World.{World}
-
--- a worker alone claims a job or ends within so many turns: six for each worker, and one for each job
-abbrev pub lone_bound : Givens → ℕ
-lone_bound g = 6 * g.workers + g.jobs
 
 -- the next event of a worker in this phase is a claim
 abbrev pub is_claiming : Phase → Bool

@@ -1,5 +1,3 @@
-pub mod Limits
-pub mod Givens
 pub mod Object
 pub mod Run
 pub mod Record

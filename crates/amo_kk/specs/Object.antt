@@ -2,7 +2,8 @@
 use Rattle.std.specs.Prelude.{ℕ, ◌+◌, Bool, true, false, not, ◌&&◌, [], ◌∷◌, ◌++◌, length, nat_le, ◌==◌}
 use Rattle.amo_sets.specs.Lists.{numbered, put, table}
 use Rattle.amo_sets.specs.Sets.{has, without_number}
-use Rattle.amo_kk.specs.declared.givens.Givens.{Givens}
+use Rattle.amo_givens.specs.Givens.{is_within}
+use Rattle.amo_givens.specs.declared.givens.Givens.{Givens}
 use Rattle.amo_kk.specs.declared.event.Event.{Event}
 use Rattle.amo_kk.specs.declared.event.Event.TheVariants.{Claimed, Done, Ended, Halted, Left}
 use Rattle.amo_kk.specs.declared.model.Object.{Object}
@@ -16,10 +17,6 @@ first_object g =
       performed = [];
       gone = table g.workers (λ _. false);
     }
-
--- k is in 1..n
-abbrev pub is_within : ℕ → ℕ → Bool
-is_within n k = nat_le 1 k && nat_le k n
 
 -- p is a worker that isn't gone
 abbrev pub is_here : Givens → Object → ℕ → Bool

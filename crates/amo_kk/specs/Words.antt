@@ -1,7 +1,7 @@
 -- The shared words in one list: the book word, the announcements, the counts of claims, and the rows.
 use Rattle.std.specs.Prelude.{ℕ, set, ◌+◌, ◌-◌, ◌*◌, List, ◌∷◌, ◌++◌, map}
 use Rattle.std.specs.List.{flat_map}
-use Rattle.amo_kk.specs.declared.givens.Givens.{Givens}
+use Rattle.amo_givens.specs.declared.givens.Givens.{Givens}
 use Rattle.amo_kk.specs.declared.model.Process.{Process}
 use Rattle.amo_kk.specs.declared.phase.Want.{Want}
 use Rattle.amo_kk.specs.declared.phase.Want.TheVariants.{StoreNext, LoadNext, LoadDone, StoreClaim, StoreDone}

@@ -1,12 +1,11 @@
 -- All workers with their words, and the history, one move at a time.
-use Rattle.std.specs.Prelude.{ℕ, zero, suc, ◌+◌, Bool, true, false, ◌&&◌, ◌||◌, List, [], ◌∷◌, ◌++◌, length, replicate, nat_lt, if◌then◌else◌}
+use Rattle.std.specs.Prelude.{ℕ, zero, suc, ◌+◌, true, List, [], ◌∷◌, ◌++◌, length, replicate, nat_lt, if◌then◌else◌}
 use Rattle.std.specs.List.{sum_by}
 use Rattle.amo_sets.specs.Lists.{numbered, put, table}
-use Rattle.amo_kk.specs.Object.{is_within}
 use Rattle.amo_kk.specs.Record.{wants_nothing, can_leave}
 use Rattle.amo_kk.specs.Choice.{first_record}
 use Rattle.amo_kk.specs.Step.{want, record_after, record_after_leave, shown, events_of}
-use Rattle.amo_kk.specs.declared.givens.Givens.{Givens}
+use Rattle.amo_givens.specs.declared.givens.Givens.{Givens}
 use Rattle.amo_kk.specs.declared.phase.Phase.TheVariants.{Over}
 use Rattle.amo_kk.specs.declared.model.Record.{Record}
 use Rattle.amo_kk.specs.declared.phase.Want.{Want}
@@ -14,8 +13,8 @@ use Rattle.amo_kk.specs.declared.phase.Want.TheVariants.{StoreNext, LoadNext, Lo
 use Rattle.amo_kk.specs.declared.model.Process.{Process}
 use Rattle.amo_kk.specs.declared.event.Event.{Event}
 use Rattle.amo_kk.specs.declared.event.Event.TheVariants.{Ended, Halted, Left}
-use Rattle.amo_kk.specs.declared.event.Move.{Move}
-use Rattle.amo_kk.specs.declared.event.Move.TheVariants.{Turn, Halt, Leave}
+use Rattle.amo_givens.specs.declared.moves.Move.{Move}
+use Rattle.amo_givens.specs.declared.moves.Move.TheVariants.{Turn, Halt, Leave}
 use Rattle.amo_kk.specs.declared.model.World.{World}
 
 -- what stands where no worker has the number: it is gone, and has nothing
@@ -82,27 +81,6 @@ abbrev pub world_after_move : Givens → World → Move → World
 world_after_move g w (Turn p) = world_after_turn g w p
 world_after_move g w (Halt p) = world_after_halt w p
 world_after_move g w (Leave p) = world_after_leave w p
-
--- the worker of a move
-abbrev pub worker_of : Move → ℕ
-worker_of (Turn p) = p
-worker_of (Halt p) = p
-worker_of (Leave p) = p
-
--- the move is a stop
-abbrev pub is_halt : Move → Bool
-is_halt (Halt p) = true
-is_halt m = false
-
--- one of these moves is a stop
-abbrev pub has_halt : List Move → Bool
-has_halt [] = false
-has_halt (m ∷ ms) = is_halt m || has_halt ms
-
--- all moves are of workers that exist
-abbrev pub are_in_range : Givens → List Move → Bool
-are_in_range g [] = true
-are_in_range g (m ∷ ms) = is_within g.workers (worker_of m) && are_in_range g ms
 
 -- the world after these moves, in their order
 abbrev pub world_after_moves : Givens → World → List Move → World

@@ -1,6 +1,6 @@
 //! Where a worker stands, and what it wants next.
 ghost use Rattle.std.specs.Prelude.{◌≡◌, ◌<◌, ◌^◌};
-ghost use Rattle.amo_kk.specs.Givens.{next_other};
+ghost use Rattle.amo_givens.specs.Givens.{next_other};
 
 use crate::event::Leaving;
 

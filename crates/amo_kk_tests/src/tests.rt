@@ -1,9 +1,7 @@
 //! Worked values of the givens and of the local machine.
+use amo_givens::{Givens, GivensFault, MAX_BETA, MAX_JOBS, MAX_WORKERS, Move};
 use amo_kk::layout::{claim_word, done_word, next_word, word_count};
-use amo_kk::{
-    Givens, GivensFault, Local, MAX_BETA, MAX_JOBS, MAX_WORKERS, Move, NoSuchWords, Phase, Shown,
-    Want,
-};
+use amo_kk::{Local, NoSuchWords, Phase, Shown, Want};
 use std::alloc::{AllocError, Global};
 use std::process::Abort;
 use std::test::Fail;

@@ -5,9 +5,9 @@ ghost use Rattle.std.specs.Str.{bytes_eq};
 ghost use Rattle.amo_ledger.specs.Numbers.{number_in, read_all};
 ghost use Rattle.amo_ledger.specs.Records.{RecordView, said_by, ended, texts_of, text_of_record, ascends_from, is_sound, IsRecord, texts_from, labelled, head_in, record_behind, record_of, record_in};
 
-use crate::limits::{MAX_BETA, MAX_JOBS, MAX_WORKERS};
 use crate::numbers::{number_of_bytes, three_of_bytes, two_of_bytes};
 use crate::round::Givens;
+use amo_givens::{MAX_BETA, MAX_JOBS, MAX_WORKERS};
 use std::alloc::{AllocError, Global};
 use std::mem;
 
@@ -243,9 +243,10 @@ fn is_sound(candidate: &Record) -> bool
         workers,
         beta,
     } = candidate.givens;
-    (jobs == candidate.lines.len() as u64 && (jobs <= MAX_JOBS && ascends(&candidate.lines)))
-        && ((1 <= workers && (workers <= candidate.workers && candidate.workers <= MAX_WORKERS))
-            && ((workers <= beta && beta <= MAX_BETA)
+    (jobs == candidate.lines.len() as u64 && (jobs <= MAX_JOBS as u64 && ascends(&candidate.lines)))
+        && ((1 <= workers
+            && (workers <= candidate.workers && candidate.workers <= MAX_WORKERS as u64))
+            && ((workers <= beta && beta <= MAX_BETA as u64)
                 && (1 <= candidate.first && candidate.first <= candidate.workers)))
 }
 

@@ -3,12 +3,12 @@ use Rattle.std.proofs.Common.{◌≡◌, ℕ, suc, Bool, true, List, [], ◌∷�
 use Rattle.std.specs.Prelude.{if◌then◌else◌, ◌==◌}
 use Rattle.std.specs.List.{list_all}
 use Rattle.std.proofs.lemmas.Bool.{and_parts, leb-true, eq-eqb}
-use Rattle.amo_kk.specs.declared.givens.Givens.{Givens}
+use Rattle.amo_givens.specs.declared.givens.Givens.{Givens}
 use Rattle.amo_plan.specs.Limits.{is_small}
 use Rattle.amo_crew.specs.declared.plan.making.StopFault.{StopFault}
 use Rattle.amo_crew.specs.declared.plan.making.StopFault.TheVariants.{WrongCount, TooLarge, NoMemory}
 use Rattle.amo_crew.specs.Faults.{first_large, stop_fault, IsRefusedPlan}
-use Rattle.amo_kk.specs.declared.limits.TheConstants.{MAX_STEPS}
+use Rattle.amo_givens.specs.declared.limits.TheConstants.{MAX_STEPS}
 
 none_large : (p : ℕ) (budgets : List ℕ) → list_all is_small budgets ≡ true → first_large p budgets ≡ None
 none_large p [] small = refl

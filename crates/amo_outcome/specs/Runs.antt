@@ -3,7 +3,7 @@ use Rattle.std.proofs.Common.{Vec, Global}
 use Rattle.std.specs.Prelude.{◌≡◌, ◌≢◌, ℕ, List, Option, IfSome, Err, map}
 use Rattle.std.specs.Result.{IsOkAnd}
 use Rattle.std.specs.Io.KnownBytes.{Keeps, Appends}
-use Rattle.amo_kk.specs.declared.givens.Givens.{Givens}
+use Rattle.amo_givens.specs.declared.givens.Givens.{Givens}
 use Rattle.amo_plan.specs.declared.answer.Answer.{Answer}
 use Rattle.amo_plan.specs.declared.fault.PlanFault.TheVariants as fault
 use Rattle.amo_plan.specs.declared.plan.Heads.{Heads}

@@ -8,7 +8,7 @@ use crate::block_done::{count_filed, count_filed_jobs, filed_of};
 use crate::claimers::claimers_of;
 use crate::outcome_lines::{Notes, push_ends, push_jobs};
 use amo_crew::Outcome;
-use amo_kk::Givens;
+use amo_givens::Givens;
 use amo_plan::{Answer, Block, Heads};
 use amo_texts::{push_first_line, push_tally};
 use std::alloc::{AllocError, Global};

@@ -31,8 +31,8 @@ pub use digits::number_within;
 pub use fault::PlanFault;
 pub use items::Items;
 pub use limits::{
-    HIGHEST_IN_WORD, HIGHEST_NUMBER, MOST_BYTES, MOST_IN_BLOCK, MOST_MOVES, MOST_ROUNDS,
-    NEWEST_VERSION, USUAL_BUDGET,
+    HIGHEST_IN_WORD, HIGHEST_NUMBER, MOST_BYTES, MOST_COUNT, MOST_FIRST, MOST_IN_BLOCK, MOST_MOVES,
+    MOST_ROUNDS, MOST_TURNS, NEWEST_VERSION, USUAL_BUDGET,
 };
 pub use plan::{Heads, Plan};
 pub use reading::read_plan;

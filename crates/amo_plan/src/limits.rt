@@ -1,4 +1,4 @@
-//! The limits of a plan, and those of rounds and budgets tested.
+//! The limits of a plan and of what is asked of one, and those of rounds and budgets tested.
 ghost use Rattle.std.specs.Prelude.{◌≡◌, ◌≤◌, IfOk, IfSome, length, option_map};
 ghost use Rattle.std.specs.List.{list_all};
 ghost use Rattle.amo_plan.specs.Passing.{Gives};
@@ -6,7 +6,7 @@ ghost use Rattle.amo_plan.specs.Limits.{is_small, budgets_within};
 ghost use Rattle.amo_plan.specs.declared.limits.TheConstants.{MOST_ROUNDS};
 
 use crate::fault::PlanFault;
-use amo_kk::MAX_STEPS;
+use amo_givens::MAX_STEPS;
 use std::alloc::Global;
 
 /// The newest version of the format.
@@ -35,6 +35,15 @@ pub const HIGHEST_IN_WORD: u64 = 999_999;
 
 /// The highest number that is read from digits.
 pub const HIGHEST_NUMBER: u64 = 1_000_000_000_000;
+
+/// The greatest number of a schedule with which an explorer begins.
+pub const MOST_FIRST: u64 = 1_000_000_000_000;
+
+/// The most schedules that an explorer tells of.
+pub const MOST_COUNT: u32 = 1000;
+
+/// The most turns of a schedule that an explorer numbers.
+pub const MOST_TURNS: u32 = 10_000;
 
 /// No budget is above `MAX_STEPS`.
 fn are_small(budgets: &[u64]) -> bool

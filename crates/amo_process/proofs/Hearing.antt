@@ -6,13 +6,13 @@ use Rattle.std.proofs.lemmas.Bool.Decides.{nat_tests}
 use Rattle.std.proofs.lemmas.List.{length_push}
 use Rattle.std.proofs.lemmas.Option.{same_Some, none-some}
 use Rattle.amo_sets.specs.Sets.{has}
-use Rattle.amo_kk.specs.Givens.{IsWorker}
+use Rattle.amo_givens.specs.Givens.{IsWorker, is_within}
 use Rattle.amo_kk.specs.Step.{want, record_after, MayLoad}
 use Rattle.amo_kk.specs.Again.{entries_of, are_new, are_own_words, record_again, set_of, record_of_dones}
 use Rattle.amo_kk.specs.Words.{done_word}
 use Rattle.amo_kk.specs.Lawful.{IsSoundRecord}
 use Rattle.amo_kk.specs.Machine.{LocalView}
-use Rattle.amo_kk.specs.declared.givens.Givens.{Givens}
+use Rattle.amo_givens.specs.declared.givens.Givens.{Givens}
 use Rattle.amo_kk.specs.declared.model.Record.{Record}
 use Rattle.amo_kk.specs.declared.phase.Phase.TheVariants.{Holding}
 use Rattle.amo_kk.proofs.Again.{new_few, within_job}
@@ -20,7 +20,6 @@ use Rattle.amo_process.specs.declared.standing.Standing.{Standing}
 use Rattle.amo_process.specs.declared.standing.Standing.TheVariants.{Beginning, Going}
 use Rattle.amo_process.specs.Heard.{can_hear, record_after_all, rest_of, is_nothing, going, standing_in, standing_of}
 use Rattle.amo_process.specs.Stepped.{standing_after}
-use Rattle.amo_kk.specs.Object.{is_within}
 use Rattle.amo_kk.specs.Choice.{record_after_choice}
 use Rattle.amo_kk.proofs.Fit.{after_fit, rested_fit, doubted_fit}
 use Rattle.amo_kk.specs.declared.phase.Want.{Want}

@@ -2,7 +2,7 @@
 -- time, and asks anew where nothing is left. The accesses of several may come in any order.
 use Rattle.std.specs.Prelude.{ℕ, List, [], ◌∷◌, Option, Some, None, slice_index}
 use Rattle.amo_sets.specs.Lists.{numbered, put, table}
-use Rattle.amo_kk.specs.declared.givens.Givens.{Givens}
+use Rattle.amo_givens.specs.declared.givens.Givens.{Givens}
 use Rattle.amo_process.specs.declared.model.Happening.{Happening}
 use Rattle.amo_process.specs.declared.model.Happening.TheVariants.{Steps, Begins, Leaves}
 use Rattle.amo_process.specs.declared.standing.Standing.{Standing}

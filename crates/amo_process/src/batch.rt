@@ -1,13 +1,14 @@
 //! What a worker is told in one batch.
 ghost use Rattle.std.specs.Prelude.{◌≡◌, ◌+◌, ◌*◌, ◌<◌, ◌≤◌, ◌++◌, ◌∷◌, [], IfOk, length};
 ghost use Rattle.std.specs.Vec.{vec_capacity};
-ghost use Rattle.amo_kk.specs.Givens.{IsWorker};
+ghost use Rattle.amo_givens.specs.Givens.{IsWorker};
 ghost use Rattle.amo_kk.specs.Step.{want};
 ghost use Rattle.amo_process.specs.Heard.{IsOf};
 ghost use Rattle.amo_process.specs.Batch.{items_of, items_from, items_wanted, items_beginning, loads_above, rows_above, last_word};
 
 use crate::standing::{Standing, done_word};
-use amo_kk::{Givens, Local, Want};
+use amo_givens::Givens;
+use amo_kk::{Local, Want};
 use std::alloc::{AllocError, Global};
 
 /// One thing that a process is told to do in a batch. It notes each number that it loads, and 0 for a store.

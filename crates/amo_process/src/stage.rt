@@ -8,7 +8,8 @@ ghost use Rattle.amo_process.specs.Stepped.{own_after, standing_after};
 ghost use Rattle.amo_process.specs.Stage.{standing_in_stage, IsLoading, StageFits};
 
 use crate::standing::hear;
-use amo_kk::{Givens, Local, NoSuchWords};
+use amo_givens::Givens;
+use amo_kk::{Local, NoSuchWords};
 
 /// How far a process is.
 #[derive(Drop)]

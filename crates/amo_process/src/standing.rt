@@ -1,13 +1,14 @@
 //! Where a worker stands whose process knows nothing but what it has heard.
 ghost use Rattle.std.specs.Prelude.{◌≡◌, ◌+◌, ◌<◌, ◌≤◌, Some, None, true, false, IfOk, IfErr, IfSome, IfNone, length, take, drop};
-ghost use Rattle.amo_kk.specs.Givens.{IsWorker};
+ghost use Rattle.amo_givens.specs.Givens.{IsWorker};
 ghost use Rattle.amo_kk.specs.Choice.{first_record};
 ghost use Rattle.amo_kk.specs.Step.{want, record_after};
 ghost use Rattle.amo_kk.specs.Again.{entries_of};
 ghost use Rattle.amo_kk.specs.Words.{done_word, word_count};
 ghost use Rattle.amo_process.specs.Heard.{can_hear, record_after_all, rest_of, standing_in, standing_of, IsOf};
 
-use amo_kk::{Givens, Local, NoSuchWords, Want};
+use amo_givens::Givens;
+use amo_kk::{Local, NoSuchWords, Want};
 use thiserror::Error;
 
 /// Where a worker stands.

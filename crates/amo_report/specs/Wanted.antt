@@ -6,7 +6,7 @@ use Rattle.amo_report.specs.Check.{check_of}
 use Rattle.amo_report.specs.Explorer.{explore_of}
 use Rattle.amo_report.specs.Stops.{stops_in}
 use Rattle.amo_report.specs.Texts.{report_of}
-use Rattle.amo_report.specs.declared.explorer.TheConstants.{MOST_FIRST, MOST_COUNT, MOST_TURNS}
+use Rattle.amo_plan.specs.declared.limits.TheConstants.{MOST_FIRST, MOST_COUNT, MOST_TURNS}
 use Rattle.amo_report.specs.declared.wanted.Wanted.{Wanted}
 use Rattle.amo_report.specs.declared.wanted.Wanted.TheVariants.{Report, Check, Explored, Stops}
 

@@ -3,7 +3,7 @@ ghost use Rattle.std.specs.Prelude.{◌≡◌, ◌≤◌, ◌++◌, ℕ, OnOk, I
 ghost use Rattle.amo_kk.specs.World.{world_after_moves};
 ghost use Rattle.amo_world.specs.declared.answer.Verdict.TheVariants.{Lawful};
 ghost use Rattle.amo_plan.specs.PlanSeen.{plan_seen};
-ghost use Rattle.amo_report.specs.declared.explorer.TheConstants.{MOST_FIRST, MOST_COUNT, MOST_TURNS};
+ghost use Rattle.amo_plan.specs.declared.limits.TheConstants.{MOST_FIRST, MOST_COUNT, MOST_TURNS};
 ghost use Rattle.amo_report.specs.Explorer.{schedule, explored_world, explored_verdict, explored_dones, schedule_line, explored_line, explore_of};
 
 use crate::laws::histories_are_lawful;
@@ -14,15 +14,6 @@ use amo_plan::Plan;
 use amo_texts::{count_ends, count_performances};
 use amo_world::{Verdict, World, judge};
 use std::alloc::{AllocError, Global};
-
-/// The greatest number of a schedule with which the explorer begins.
-pub const MOST_FIRST: u64 = 1_000_000_000_000;
-
-/// The most schedules in a text of the explorer.
-pub const MOST_COUNT: u32 = 1000;
-
-/// The most turns of a schedule.
-pub const MOST_TURNS: u32 = 10_000;
 
 /// The turns of a numbered schedule of this length.
 fn run_schedule(world: &mut World, number: u64, length: u32)

@@ -12,12 +12,13 @@ mod stops;
 mod summary;
 mod wanted;
 
+pub use amo_plan::{MOST_COUNT, MOST_FIRST, MOST_TURNS};
 pub use amo_streams::{
     Bytes, Failed, MOST_READ, ReadFault, Room, Sink, Source, Streamed, read_all, write_all,
 };
 pub use amo_texts::{ReplayFault, fault_text};
 pub use checking::check_text;
-pub use explorer::{MOST_COUNT, MOST_FIRST, MOST_TURNS, explore};
+pub use explorer::explore;
 pub use replaying::replay;
 pub use report::report_text;
 pub use running::all_turns;

@@ -1,8 +1,8 @@
 //! Stops: what becomes of a schedule that is cut off after each of its moves.
 ghost use Rattle.std.specs.Prelude.{◌≡◌, ◌≤◌, ◌+◌, ◌*◌, ◌++◌, ℕ, true, false, length, OnOk, IfOk, string_bytes};
-ghost use Rattle.amo_kk.specs.Givens.{IsWorker};
+ghost use Rattle.amo_givens.specs.Givens.{IsWorker, lone_bound};
 ghost use Rattle.amo_kk.specs.World.{process};
-ghost use Rattle.amo_kk.specs.Alone.{world_after_turns, lone_bound};
+ghost use Rattle.amo_kk.specs.Alone.{world_after_turns};
 ghost use Rattle.amo_world.specs.declared.answer.Verdict.TheVariants.{Lawful};
 ghost use Rattle.amo_plan.specs.PlanSeen.{plan_seen};
 ghost use Rattle.amo_report.specs.Reached.{IsReached, most_before_a_claim, most_before_an_end, most_before_all_ends};

@@ -7,10 +7,9 @@ ghost use Rattle.amo_program.specs.Statuses.{IsAsked};
 ghost use Rattle.amo_request.specs.Commands.{IsWithinRanges, amo_app, explore_app, stops_app, required, number_at, explore_of_rows, stops_of_rows, request_of_row, request_of_line, asked};
 
 use crate::request::Request;
-use amo_kk::MAX_WORKERS;
-use amo_plan::number_within;
+use amo_givens::MAX_WORKERS;
+use amo_plan::{MOST_COUNT, MOST_FIRST, MOST_TURNS, number_within};
 use amo_program::Fault;
-use amo_report::{MOST_COUNT, MOST_FIRST, MOST_TURNS, Wanted};
 use clap::error::ErrorKind;
 use clap::{Arg, ArgMatches, Command};
 use std::alloc::{AllocError, Global};
@@ -92,7 +91,7 @@ fn explore_of_matches(matches: &ArgMatches<'_>) -> Option<Request>
     let from = number_at(0, MOST_FIRST, "FROM", matches)?;
     let count = number_at(1, MOST_COUNT as u64, "COUNT", matches)? as u32;
     let turns = number_at(0, MOST_TURNS as u64, "LENGTH", matches)? as u32;
-    Some(Request::Text(Wanted::Explored { from, count, turns }))
+    Some(Request::Explore { from, count, turns })
 }
 
 /// What the text of `stops` asks for.
@@ -101,7 +100,7 @@ fn stops_of_matches(matches: &ArgMatches<'_>) -> Option<Request>
     ensures ranges { IfSome result IsWithinRanges }
 {
     let worker = number_at(1, MAX_WORKERS as u64, "WORKER", matches)? as u32;
-    Some(Request::Text(Wanted::Stops { worker }))
+    Some(Request::Stops { worker })
 }
 
 /// What the subcommand of this name asks for.
@@ -111,8 +110,8 @@ fn request_of_row(name: &str, matches: &ArgMatches<'_>) -> Option<Request>
     ensures ranges { IfSome result IsWithinRanges }
 {
     match name {
-        "replay" => Some(Request::Text(Wanted::Report)),
-        "check" => Some(Request::Text(Wanted::Check)),
+        "replay" => Some(Request::Replay),
+        "check" => Some(Request::Check),
         "run" => Some(Request::Run),
         "explore" => explore_of_matches(matches),
         "stops" => stops_of_matches(matches),

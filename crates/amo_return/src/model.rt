@@ -1,5 +1,6 @@
 //! The values of which the definitions speak. No code makes one.
-use amo_kk::{Event, Move, Process};
+use amo_givens::Move;
+use amo_kk::{Event, Process};
 use std::collections::LinkedList;
 
 /// One choice of a schedule with returns.

@@ -1,7 +1,7 @@
 -- What a process does, or what comes about behind its back, keeps the rounds good and each process where it may be.
 use Rattle.std.proofs.Common.{◌≡◌, ℕ, ◌+◌, ◌≤◌, List, [], ◌∷◌, ◌++◌, Option, Some, None, refl, sym, subst}
 use Rattle.std.proofs.lemmas.Bool.{true≢false}
-use Rattle.amo_kk.specs.Givens.{IsWorker}
+use Rattle.amo_givens.specs.Givens.{IsWorker}
 use Rattle.amo_course.specs.declared.model.Deed.{Deed}
 use Rattle.amo_course.specs.declared.model.Try.{Try}
 use Rattle.amo_course.specs.Stage.{Stage, Broken}

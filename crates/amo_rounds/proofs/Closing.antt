@@ -3,7 +3,7 @@ use Rattle.std.proofs.Common.{◌≡◌, ◌⊎◌, inl, inr, ⊎_elim, ℕ, ◌
 use Rattle.std.specs.Prelude.{⊤}
 use Rattle.std.proofs.lemmas.Bool.{true≢false}
 use Rattle.amo_sets.specs.Lists.{numbered}
-use Rattle.amo_kk.specs.Givens.{IsJob}
+use Rattle.amo_givens.specs.Givens.{IsJob}
 use Rattle.amo_course.specs.declared.model.Deed.{Deed}
 use Rattle.amo_course.specs.declared.model.Try.TheVariants.{Intend}
 use Rattle.amo_course.specs.Stage.{Asking}

@@ -1,6 +1,6 @@
 -- What a process in a round may do by its log may be in the run.
 use Rattle.std.proofs.Common.{◌≡◌, ℕ, ◌≤◌, List, [], ◌∷◌, ◌++◌, Some, sym, subst}
-use Rattle.amo_kk.specs.Givens.{IsWorker}
+use Rattle.amo_givens.specs.Givens.{IsWorker}
 use Rattle.amo_course.specs.Course.{AreDue, first_stage, MayTry}
 use Rattle.amo_course.specs.declared.model.Deed.{Deed}
 use Rattle.amo_course.specs.declared.model.Try.{Try}

@@ -1,7 +1,7 @@
 -- What there is of a run at a moment, and what may happen to it.
 use Rattle.std.specs.Prelude.{ℕ, ◌≤◌, Bool, true, false, List, [], Option, Some, None, ◌==◌, if◌then◌else◌}
-use Rattle.amo_kk.specs.declared.givens.Givens.{Givens}
-use Rattle.amo_kk.specs.declared.limits.TheConstants.{MAX_WORKERS}
+use Rattle.amo_givens.specs.declared.givens.Givens.{Givens}
+use Rattle.amo_givens.specs.declared.limits.TheConstants.{MAX_WORKERS}
 use Rattle.amo_course.specs.Stage.{Stage}
 use Rattle.amo_course.specs.declared.model.Deed.{Deed}
 use Rattle.amo_course.specs.declared.model.Try.{Try}

@@ -1,7 +1,8 @@
 //! Worked rows on one thread, floors at the limits, calls without memory, and two threads that share a floor.
 ghost use Rattle.std.specs.Prelude.{◌≡◌, IfOk};
 
-use amo_kk::{Givens, Leaving};
+use amo_givens::Givens;
+use amo_kk::Leaving;
 use amo_words::{
     Book, ClosedFloor, Filed, Floor, HireFault, OpenFault, Place, Settlement, Step, Worker,
     WorkerEnd,

@@ -2,10 +2,14 @@
 ghost use Rattle.std.specs.Prelude.{◌≡◌, ◌≤◌, None, false, map, string_bytes, IfOk};
 ghost use Rattle.amo_program.specs.Endings.{change};
 ghost use Rattle.amo_request.specs.Commands.{asked};
+ghost use Rattle.amo_request.specs.Commands as requests;
+ghost use Rattle.amo_work.specs.Requests.{command_of};
+ghost use Rattle.amo_work.specs.Requests as commands;
 ghost use Rattle.amo_work.specs.Requests.{Ends};
 
 use amo_outcome::{Started, run_plan};
 use amo_program::{Command, Fault, refuse};
+use amo_report::Wanted;
 use amo_request::{Request, asked};
 use amo_streams::{Sink, Source};
 use amo_texts::write_of;
@@ -24,35 +28,54 @@ fn texts_of<'a>(alloc: Global, words: &'a [String]) -> Result<Vec<&'a str>, Allo
     Ok(texts)
 }
 
-/// A request, as a command that can be carried out.
+/// What is done for a request.
 #[derive(Clone, Copy, Debug, PartialEq, Eq)]
-pub struct AmoCommand {
-    /// What was asked for.
-    pub request: Request,
+pub enum AmoCommand {
+    /// This text of the plan that is read is written.
+    Text(Wanted),
+    /// The jobs of the plan that is read are executed in threads, and what came of it is written.
+    Run,
+}
+
+impl AmoCommand {
+    /// What is done for this request.
+    pub fn of(request: Request) -> AmoCommand
+        requires { requests.IsWithinRanges request }
+        ensures command { result ≡ command_of request }
+        ensures ranges { commands.IsWithinRanges result }
+    {
+        match request {
+            Request::Replay => AmoCommand::Text(Wanted::Report),
+            Request::Check => AmoCommand::Text(Wanted::Check),
+            Request::Run => AmoCommand::Run,
+            Request::Explore { from, count, turns } => {
+                AmoCommand::Text(Wanted::Explored { from, count, turns })
+            }
+            Request::Stops { worker } => AmoCommand::Text(Wanted::Stops { worker }),
+        }
+    }
 }
 
 impl<R: Threads + Wait + Sync> Command<R> for AmoCommand {
-    ghost use Rattle.amo_request.specs.Commands.{IsWithinRanges};
-    ghost use Rattle.amo_work.specs.Requests.{asked_command, writes, refuses, others, plan_keeps};
+    ghost use Rattle.amo_work.specs.Requests.{asked_command, IsWithinRanges, writes, refuses, others, plan_keeps};
 
     ghost asked = { asked_command };
 
-    ghost fits = { λ c. IsWithinRanges c.request };
+    ghost fits = { IsWithinRanges };
 
-    ghost writes = { λ c. writes c.request };
+    ghost writes = { writes };
 
-    ghost refuses = { λ c. refuses c.request };
+    ghost refuses = { refuses };
 
-    ghost others = { λ c. others c.request };
+    ghost others = { others };
 
     fn of_words(alloc: Global, words: &[String]) -> Result<AmoCommand, Fault> {
         let texts = texts_of(alloc, words)?;
         let rest = texts.get(1..).unwrap_or(&[]);
-        let request = asked(alloc, rest)?;
-        Ok(AmoCommand { request })
+        Ok(AmoCommand::of(asked(alloc, rest)?))
     }
 
-    /// The texts of all requests but `Run` are written by calls that are proved to return.
+    /// Texts are written by calls that are proved to return.
     #[tactic(auto, using(amo_program::proofs::Endings::of_text, crate::proofs::Endings::memory_keeps, amo_program::proofs::Endings::texts_pass))]
     fn carry_out<S: Source, W: Sink>(
         &self,
@@ -61,16 +84,16 @@ impl<R: Threads + Wait + Sync> Command<R> for AmoCommand {
         reader: &mut S,
         out: &mut W,
     ) -> Result<(), Fault> {
-        match self.request {
-            Request::Text(wanted) => Ok(write_of(alloc, &wanted, reader, out)?),
-            Request::Run => match run_plan(rt, alloc, reader, out)? {
+        match *self {
+            AmoCommand::Text(wanted) => Ok(write_of(alloc, &wanted, reader, out)?),
+            AmoCommand::Run => match run_plan(rt, alloc, reader, out)? {
                 Started::All => Ok(()),
                 Started::NotAll => Err(Fault::Thread),
             },
         }
     }
 
-    ghost plan_keeps = { λ c. plan_keeps c.request };
+    ghost plan_keeps = { plan_keeps };
 }
 
 /// Does what the words ask for, those after the program's name, and answers the exit status of the program: 0 where it was
@@ -99,7 +122,7 @@ pub fn work<R: Threads + Wait + Sync, S: Source, W: Sink, E: Sink>(
     ensures untouched { asked (map (λ w. w.now) words.now) ≡ None → (reader.new ≡ reader.old) × (out.new ≡ out.old) }
 {
     match asked(alloc, words) {
-        Ok(request) => match (AmoCommand { request }).carry_out(rt, alloc, reader, out) {
+        Ok(request) => match AmoCommand::of(request).carry_out(rt, alloc, reader, out) {
             Ok(()) => 0,
             Err(fault) => refuse(alloc, err, fault),
         },

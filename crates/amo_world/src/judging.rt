@@ -6,7 +6,8 @@ ghost use Rattle.amo_world.specs.Answer.{verdict};
 
 use crate::answer::Verdict;
 use crate::state::State;
-use amo_kk::{Event, Givens};
+use amo_givens::Givens;
+use amo_kk::Event;
 use std::alloc::{AllocError, Global};
 
 /// Whether the events are a run of the one sequential set of unclaimed jobs, from its first state: `Lawful`, or the

@@ -1,11 +1,12 @@
 //! A state of the sequential object, for the judge.
 ghost use Rattle.std.specs.Prelude.{◌≡◌, true, IfOk, OnOk};
 ghost use Rattle.amo_sets.specs.Sets.{has};
-ghost use Rattle.amo_kk.specs.Givens.{IsJob};
-ghost use Rattle.amo_kk.specs.Object.{first_object, is_step, object_after, is_within, is_here};
+ghost use Rattle.amo_givens.specs.Givens.{IsJob, is_within};
+ghost use Rattle.amo_kk.specs.Object.{first_object, is_step, object_after, is_here};
 ghost use Rattle.amo_world.specs.Views.{StateView};
 
-use amo_kk::{Event, Givens};
+use amo_givens::Givens;
+use amo_kk::Event;
 use std::alloc::{AllocError, Global};
 use std::marker::Model;
 

@@ -3,10 +3,11 @@ ghost use Rattle.std.specs.Prelude.{◌≡◌, ◌≤◌, ◌<◌, ◌+◌, ◌*
 ghost use Rattle.std.specs.Vec.{vec_capacity};
 ghost use Rattle.amo_sets.specs.Lists.{table};
 ghost use Rattle.amo_sets.specs.Sets.{has, AreDistinct};
-ghost use Rattle.amo_kk.specs.Givens.{bound, IsJob, IsWorker};
+ghost use Rattle.amo_givens.specs.Givens.{bound, IsJob, IsWorker};
 ghost use Rattle.amo_kk.specs.Object.{first_object};
 ghost use Rattle.amo_kk.specs.Run.{IsRun, claimed_jobs, done_jobs, has_claimed};
-ghost use Rattle.amo_kk.specs.World.{process, loaded_value, first_process, opening_world, world_after_turn, world_after_halt, world_after_leave, worker_of, world_after_move, world_after_moves, are_in_range};
+ghost use Rattle.amo_givens.specs.Moves.{worker_of, are_in_range};
+ghost use Rattle.amo_kk.specs.World.{process, loaded_value, first_process, opening_world, world_after_turn, world_after_halt, world_after_leave, world_after_move, world_after_moves};
 ghost use Rattle.amo_kk.specs.Fits.{WantFits};
 ghost use Rattle.amo_kk.specs.Step.{want, events_of};
 ghost use Rattle.amo_kk.specs.Answer.{leave_answer};
@@ -20,7 +21,8 @@ ghost use Rattle.amo_world.specs.Processes.{process_of, world_of_processes, AreI
 use crate::answer::{Alone, Turned};
 use crate::process::Process;
 use crate::tally::{count, has_claim};
-use amo_kk::{Event, Givens, Leaving, Local, Move, Shown, Want};
+use amo_givens::{Givens, Move};
+use amo_kk::{Event, Leaving, Local, Shown, Want};
 use std::alloc::{AllocError, Global};
 use std::marker::Model;
 

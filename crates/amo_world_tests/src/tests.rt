@@ -1,5 +1,6 @@
 //! Worked schedules, judged lists, the largest world, and out of memory.
-use amo_kk::{Givens, Leaving, Move};
+use amo_givens::{Givens, Move};
+use amo_kk::Leaving;
 use amo_world::{Event, Turned, World};
 use std::alloc::{AllocError, Global};
 use std::process::Abort;

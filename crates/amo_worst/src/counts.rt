@@ -3,7 +3,7 @@ ghost use Rattle.std.specs.Prelude.{◌≡◌, length};
 ghost use Rattle.amo_bounds.specs.Fewest.{fewest};
 ghost use Rattle.amo_bounds.specs.Worst.{lone_turns, worst_moves};
 
-use amo_kk::Givens;
+use amo_givens::Givens;
 
 /// How many jobs are done at least, wherever a worker has ended: none where there are fewer jobs than the threshold, else the bound,
 /// but at least one.

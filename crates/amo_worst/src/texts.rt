@@ -6,7 +6,7 @@ ghost use Rattle.amo_worst.specs.Text.{block_line, head_lines, plan_text};
 use crate::jobs::push_jobs;
 use crate::quoted::Quoted;
 use crate::schedule::worst_schedule;
-use amo_kk::Givens;
+use amo_givens::Givens;
 use amo_plan::Plan;
 use std::alloc::{AllocError, Global};
 

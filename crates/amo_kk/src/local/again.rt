@@ -2,18 +2,17 @@
 ghost use Rattle.std.specs.Prelude.{◌≡◌, ◌≤◌, ◌<◌, ◌+◌, ◌++◌, ◌∷◌, ◌&&◌, [], true, false, not, IfOk, IfErr, length};
 ghost use Rattle.std.specs.Vec.{vec_capacity};
 ghost use Rattle.amo_sets.specs.Sets.{has};
-ghost use Rattle.amo_kk.specs.Givens.{IsJob, IsWorker};
-ghost use Rattle.amo_kk.specs.Object.{is_within};
+ghost use Rattle.amo_givens.specs.Givens.{IsJob, IsWorker, is_within};
 ghost use Rattle.amo_kk.specs.Choice.{first_record, record_after_choice};
 ghost use Rattle.amo_kk.specs.Again.{set_of, are_new, are_own_words, record_of_dones, record_again};
 ghost use Rattle.amo_kk.specs.Machine.{record_of, IsHeld, IsTakenUp};
 ghost use Rattle.amo_kk.specs.declared.phase.Phase.{Phase};
 ghost use Rattle.amo_kk.specs.declared.phase.Phase.TheVariants.{Holding};
 
-use crate::givens::Givens;
 use crate::knowledge::Knowledge;
 use crate::local::Local;
 use crate::phase::Phase;
+use amo_givens::Givens;
 use thiserror::Error;
 
 /// No worker can have left these own words.

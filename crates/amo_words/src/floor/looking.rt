@@ -1,6 +1,6 @@
 //! What the book shows. None of these takes memory.
 ghost use Rattle.std.specs.Prelude.{◌≡◌, ◌-◌, ◌<◌, slice_get, Some};
-ghost use Rattle.amo_kk.specs.Givens.{IsWorker};
+ghost use Rattle.amo_givens.specs.Givens.{IsWorker};
 ghost use Rattle.amo_kk.specs.Record.{is_over};
 ghost use Rattle.amo_kk.specs.Machine.{LocalView};
 ghost use Rattle.amo_words.specs.declared.rule.Spot.{Spot};

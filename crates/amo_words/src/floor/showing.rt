@@ -1,7 +1,7 @@
 //! What a worker shows. None of these takes memory.
 ghost use Rattle.std.specs.Prelude.{◌≡◌, ◌↔◌, true};
 ghost use Rattle.std.specs.Option.{option_to_list};
-ghost use Rattle.amo_kk.specs.Givens.{IsWorker};
+ghost use Rattle.amo_givens.specs.Givens.{IsWorker};
 ghost use Rattle.amo_kk.specs.Record.{is_over, jobs_in_hand};
 ghost use Rattle.amo_kk.specs.Lawful.{IsSoundRecord};
 ghost use Rattle.amo_kk.specs.declared.phase.Phase.{Phase};

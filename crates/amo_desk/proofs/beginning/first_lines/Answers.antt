@@ -1,7 +1,7 @@
 use Rattle.std.proofs.Common.{◌≡◌, take, sym, subst, arith, rules}
 use Rattle.std.specs.Prelude.{IfOk}
 use Rattle.std.proofs.lemmas.List.{length-take-le, take_all}
-use Rattle.amo_kk.specs.declared.limits.TheConstants.{MAX_JOBS}
+use Rattle.amo_givens.specs.declared.limits.TheConstants.{MAX_JOBS}
 use Rattle.amo_desk.proofs.beginning.first_lines.Goals as goal
 
 pub returns-then-lines-most : goal.returns-then-lines-most

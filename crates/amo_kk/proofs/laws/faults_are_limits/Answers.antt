@@ -1,5 +1,5 @@
-use Rattle.amo_kk.specs.Limits.{within_limits}
-use Rattle.amo_kk.proofs.Faults.{limits_break_none}
+use Rattle.amo_givens.specs.Limits.{within_limits}
+use Rattle.amo_givens.proofs.Faults.{limits_break_none}
 use Rattle.amo_kk.proofs.laws.faults_are_limits.Goals as goal
 
 pub returns : goal.returns

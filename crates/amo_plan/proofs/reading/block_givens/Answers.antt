@@ -1,6 +1,6 @@
 use Rattle.std.proofs.Common.{◌≡◌, ℕ, ap, sym, ◌∙◌}
 use Rattle.std.specs.Int.{div_ceil}
-use Rattle.amo_kk.specs.Givens.{givens_of}
+use Rattle.amo_givens.specs.Givens.{givens_of}
 use Rattle.amo_plan.specs.Plan.{or_bad_givens}
 use Rattle.amo_plan.proofs.reading.block_givens.Goals as goal
 

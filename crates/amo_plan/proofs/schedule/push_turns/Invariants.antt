@@ -1,5 +1,5 @@
 use Rattle.std.proofs.Common.{◌≡◌, ◌++◌, replicate}
-use Rattle.amo_kk.specs.declared.event.Move.TheVariants.{Turn}
+use Rattle.amo_givens.specs.declared.moves.Move.TheVariants.{Turn}
 use Rattle.amo_plan.proofs.schedule.push_turns.Given as goal
 
 abbrev pub invariant-loop-i : goal.invariant-loop-i

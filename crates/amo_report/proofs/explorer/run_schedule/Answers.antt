@@ -1,6 +1,6 @@
 use Rattle.std.proofs.Common.{◌+◌, ◌%◌, [], ◌∷◌, ap}
-use Rattle.amo_kk.specs.declared.event.Move.TheVariants.{Turn}
-use Rattle.amo_kk.specs.declared.givens.Givens.{Givens}
+use Rattle.amo_givens.specs.declared.moves.Move.TheVariants.{Turn}
+use Rattle.amo_givens.specs.declared.givens.Givens.{Givens}
 use Rattle.amo_report.proofs.Explored.{schedule_more, digits_more}
 use Rattle.amo_report.proofs.Rounds.{moves_more}
 use Rattle.amo_report.proofs.explorer.run_schedule.Goals as goal

@@ -1,4 +1,4 @@
-use Rattle.amo_kk.specs.Alone.{lone_bound}
+use Rattle.amo_givens.specs.Givens.{lone_bound}
 use Rattle.amo_kk.proofs.Alone.{claims_or_ends_soon}
 use Rattle.amo_report.proofs.Stopped.{turns_are}
 use Rattle.amo_report.proofs.laws.lone_turns_are_counted.Goals as goal

@@ -1,5 +1,5 @@
 use Rattle.std.proofs.Common.{◌+◌, [], ◌∷◌}
-use Rattle.amo_kk.specs.declared.event.Move.TheVariants.{Turn}
+use Rattle.amo_givens.specs.declared.moves.Move.TheVariants.{Turn}
 use Rattle.amo_report.proofs.Rounds.{moves_more, table_more}
 use Rattle.amo_report.proofs.running.run_round.Goals as goal
 

@@ -1,7 +1,7 @@
 use Rattle.std.proofs.Common.{◌≡◌}
 use Rattle.amo_sets.specs.Lists.{table}
 use Rattle.amo_kk.specs.World.{world_after_moves}
-use Rattle.amo_kk.specs.declared.event.Move.TheVariants.{Turn}
+use Rattle.amo_givens.specs.declared.moves.Move.TheVariants.{Turn}
 use Rattle.amo_report.proofs.running.run_round.Given as goal
 
 -- the workers so far have had their turn

@@ -1,7 +1,7 @@
 use Rattle.std.proofs.Common.{◌≡◌, ◌-◌, ap, sym, subst, ◌∙◌, arith}
-use Rattle.amo_kk.specs.Givens.{IsWorker}
-use Rattle.amo_kk.specs.Alone.{world_after_turns, lone_bound}
-use Rattle.amo_kk.specs.declared.givens.Givens.{Givens}
+use Rattle.amo_givens.specs.Givens.{IsWorker, lone_bound}
+use Rattle.amo_kk.specs.Alone.{world_after_turns}
+use Rattle.amo_givens.specs.declared.givens.Givens.{Givens}
 use Rattle.amo_report.specs.Stops.{lone_turns}
 use Rattle.amo_report.proofs.ReachedWorlds.{reached_worker}
 use Rattle.amo_report.proofs.Stopped.{runs_lone, RunsLone}

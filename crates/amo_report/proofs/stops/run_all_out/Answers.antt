@@ -1,6 +1,6 @@
 use Rattle.std.proofs.Common.{◌+◌, ◌*◌, ◌≤◌, subst, sym, ap, arith}
-use Rattle.amo_kk.specs.declared.givens.Givens.{Givens}
-use Rattle.amo_kk.specs.Alone.{lone_bound}
+use Rattle.amo_givens.specs.declared.givens.Givens.{Givens}
+use Rattle.amo_givens.specs.Givens.{lone_bound}
 use Rattle.amo_world.specs.Views.{WorldView}
 use Rattle.amo_report.specs.Reached.{most_before_an_end, most_before_all_ends}
 use Rattle.amo_report.specs.Stops.{LoneRun, all_run_out}

@@ -1,5 +1,5 @@
 use Rattle.std.proofs.Common.{◌<◌, sym, subst, ◌∙◌}
-use Rattle.amo_kk.specs.declared.givens.Givens.{Givens}
+use Rattle.amo_givens.specs.declared.givens.Givens.{Givens}
 use Rattle.amo_trace.proofs.Gone.{one_is_here}
 use Rattle.amo_trace.proofs.transitions.all_gone.Goals as goal
 

@@ -1,5 +1,6 @@
 use Rattle.std.proofs.Common.{◌≡◌, ◌++◌, ◌+◌, true, drop}
-use Rattle.amo_kk.specs.World.{world_after_moves, are_in_range}
+use Rattle.amo_givens.specs.Moves.{are_in_range}
+use Rattle.amo_kk.specs.World.{world_after_moves}
 use Rattle.amo_trace.specs.Transitions.{transitions}
 use Rattle.amo_trace.proofs.transitions.make_moves.Given as goal
 

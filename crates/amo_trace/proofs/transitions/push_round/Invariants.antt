@@ -1,6 +1,6 @@
 use Rattle.std.proofs.Common.{◌≡◌, ◌++◌}
 use Rattle.amo_sets.specs.Lists.{table}
-use Rattle.amo_kk.specs.declared.event.Move.TheVariants.{Turn}
+use Rattle.amo_givens.specs.declared.moves.Move.TheVariants.{Turn}
 use Rattle.amo_trace.proofs.transitions.push_round.Given as goal
 
 -- the turns of the workers so far

@@ -5,4 +5,5 @@ use Rattle.amo_work.proofs.working.work.Goals as goal
 
 pub returns-in-Err-carry_out-clause-ends : goal.returns-in-Err-carry_out-clause-ends
 returns-in-Err-carry_out-clause-ends g c =
-    ends_by _ _ _ _ _ _ plan_keeps c.in-Err-carry_out.fault _ _ _ (fault_too _ _ _ _ c.in-Ok.ensures.request _ c.in-Err-carry_out.ensures.fault) c.in-Err-carry_out.ensures.passed_on c.refuse.ensures.told
+    let failed = fault_too _ _ _ _ _ _ c.in-Ok.ensures.request c.of.ensures.command c.in-Err-carry_out.ensures.fault in
+    ends_by _ _ _ _ _ _ plan_keeps c.in-Err-carry_out.fault _ _ _ failed c.in-Err-carry_out.ensures.passed_on c.refuse.ensures.told

@@ -1,6 +1,6 @@
 use Rattle.std.proofs.Common.{sym, subst}
-use Rattle.amo_kk.specs.Givens.{IsWorker}
-use Rattle.amo_kk.specs.World.{worker_of}
+use Rattle.amo_givens.specs.Givens.{IsWorker}
+use Rattle.amo_givens.specs.Moves.{worker_of}
 use Rattle.amo_all.specs.Search.{SearchView}
 use Rattle.amo_all.proofs.Paths.{search_more}
 use Rattle.amo_all.proofs.search.Search.make.Goals as goal

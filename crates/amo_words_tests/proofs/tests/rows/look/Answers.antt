@@ -1,6 +1,6 @@
 use Rattle.std.proofs.Common.{◌≡◌, ◌<◌, ◌≤◌, arith, ap, sym, ◌∙◌, subst, rules}
 use Rattle.std.proofs.lemmas.Grind.{common_steps}
-use Rattle.amo_kk.specs.Givens.{IsWorker}
+use Rattle.amo_givens.specs.Givens.{IsWorker}
 use Rattle.amo_words.specs.Faces.{spots}
 use Rattle.amo_words.proofs.Meetings.{back_from}
 use Rattle.amo_words_tests.proofs.tests.rows.look.Goals as goal

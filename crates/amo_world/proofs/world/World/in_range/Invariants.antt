@@ -1,5 +1,5 @@
 use Rattle.std.proofs.Common.{◌≡◌, drop}
-use Rattle.amo_kk.specs.World.{are_in_range}
+use Rattle.amo_givens.specs.Moves.{are_in_range}
 use Rattle.amo_world.proofs.world.World.in_range.Given as goal
 
 abbrev pub invariant-loop-one : goal.invariant-loop-one

@@ -1,5 +1,6 @@
 use Rattle.std.proofs.Common.{◌≡◌, true, drop}
-use Rattle.amo_kk.specs.World.{world_after_moves, are_in_range}
+use Rattle.amo_givens.specs.Moves.{are_in_range}
+use Rattle.amo_kk.specs.World.{world_after_moves}
 use Rattle.amo_world.proofs.world.World.run.Given as goal
 
 abbrev pub invariant-loop-one : goal.invariant-loop-one

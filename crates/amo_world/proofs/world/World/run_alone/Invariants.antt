@@ -1,5 +1,5 @@
 use Rattle.std.proofs.Common.{◌≡◌, ◌-◌, ◌≤◌}
-use Rattle.amo_kk.specs.Alone.{lone_bound}
+use Rattle.amo_givens.specs.Givens.{lone_bound}
 use Rattle.amo_world.proofs.Resting.{IsUnderWay}
 use Rattle.amo_world.proofs.world.World.run_alone.Given as goal
 

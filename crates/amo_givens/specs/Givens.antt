@@ -1,8 +1,8 @@
 -- The givens: how many jobs, how many workers, and the threshold.
-use Rattle.std.specs.Prelude.{◌≢◌, ℕ, ◌+◌, ◌-◌, ◌≤◌, nat_lt, ◌==◌, if◌then◌else◌, ◌≡◌, refl, Option, Some, None, Result, Ok, Err}
-use Rattle.amo_kk.specs.declared.givens.Givens.{Givens}
-use Rattle.amo_kk.specs.Limits.{AreWithinLimits, first_fault, within_limits}
-use Rattle.amo_kk.specs.declared.givens.GivensFault.{GivensFault}
+use Rattle.std.specs.Prelude.{◌≢◌, ℕ, ◌+◌, ◌-◌, ◌*◌, ◌≤◌, nat_le, nat_lt, ◌==◌, Bool, ◌&&◌, if◌then◌else◌, ◌≡◌, refl, Option, Some, None, Result, Ok, Err}
+use Rattle.amo_givens.specs.declared.givens.Givens.{Givens}
+use Rattle.amo_givens.specs.Limits.{AreWithinLimits, first_fault, within_limits}
+use Rattle.amo_givens.specs.declared.givens.GivensFault.{GivensFault}
 
 -- the numbers keep their limits, as those of all givens do
 abbrev pub AreGivens : Givens → Type 0
@@ -21,6 +21,14 @@ givens_of jobs workers beta = numbers_or_fault jobs workers beta (first_fault jo
 -- wherever a worker has ended, at least so many jobs are done
 abbrev pub bound : Givens → ℕ
 bound g = g.jobs - (g.beta + g.workers - 2)
+
+-- a worker alone claims a job or ends within so many turns: six for each worker, and one for each job
+abbrev pub lone_bound : Givens → ℕ
+lone_bound g = 6 * g.workers + g.jobs
+
+-- k is in 1..n
+abbrev pub is_within : ℕ → ℕ → Bool
+is_within n k = nat_le 1 k && nat_le k n
 
 -- j is a job
 pub record IsJob (g : Givens) (j : ℕ) : Type 0 where

@@ -1,6 +1,6 @@
 //! The givens of a run: how many jobs, how many workers, and the threshold.
 ghost use Rattle.std.specs.Prelude.{◌≡◌};
-ghost use Rattle.amo_kk.specs.Limits.{AreWithinLimits};
+ghost use Rattle.amo_givens.specs.Limits.{AreWithinLimits};
 
 use crate::limits::{MAX_BETA, MAX_JOBS, MAX_WORKERS};
 use thiserror::Error;
@@ -39,8 +39,7 @@ pub struct Givens {
 }
 
 impl Givens {
-    ghost use Rattle.amo_kk.specs.Givens.{bound, givens_of};
-    ghost use Rattle.amo_kk.specs.Alone.{lone_bound};
+    ghost use Rattle.amo_givens.specs.Givens.{bound, givens_of, lone_bound};
 
     /// The givens of these three numbers, or the first limit that they break.
     pub fn try_new(jobs: u64, workers: u64, beta: u64) -> Result<Givens, GivensFault>

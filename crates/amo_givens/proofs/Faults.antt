@@ -3,11 +3,11 @@ use Rattle.std.proofs.Common.{◌≡◌, ℕ, refl, ap, arith, ◌≤◌, Bool, 
 use Rattle.std.specs.Prelude.{Option, Some, None, Ok, nat_lt, ◌==◌, if◌then◌else◌}
 use Rattle.std.proofs.Math.Bridge.{le_prop}
 use Rattle.std.proofs.lemmas.Bool.Decides.{nat_tests}
-use Rattle.amo_kk.specs.Limits.{AreWithinLimits, first_fault, within_limits}
-use Rattle.amo_kk.specs.Givens.{givens_of, numbers_or_fault}
-use Rattle.amo_kk.specs.declared.limits.TheConstants.{MAX_JOBS, MAX_WORKERS, MAX_BETA}
-use Rattle.amo_kk.specs.declared.givens.GivensFault.{GivensFault}
-use Rattle.amo_kk.specs.declared.givens.GivensFault.TheVariants.{TooManyJobs, NoWorkers, TooManyWorkers, BetaLow, BetaHigh}
+use Rattle.amo_givens.specs.Limits.{AreWithinLimits, first_fault, within_limits}
+use Rattle.amo_givens.specs.Givens.{givens_of, numbers_or_fault}
+use Rattle.amo_givens.specs.declared.limits.TheConstants.{MAX_JOBS, MAX_WORKERS, MAX_BETA}
+use Rattle.amo_givens.specs.declared.givens.GivensFault.{GivensFault}
+use Rattle.amo_givens.specs.declared.givens.GivensFault.TheVariants.{TooManyJobs, NoWorkers, TooManyWorkers, BetaLow, BetaHigh}
 
 -- numbers within the limits break none
 pub limits_break_none : (jobs workers beta : ℕ) → AreWithinLimits jobs workers beta → first_fault jobs workers beta ≡ None
