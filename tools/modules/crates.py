@@ -94,17 +94,21 @@ class Crate:
     def size(self):
         return sum(lines_of(self.folder, it) for it in (".rt", ".antt"))
 
-    def code(self):
-        """The lines of code, by which the time of a check goes: those of proof count for little beside them."""
-        return lines_of(self.folder, ".rt")
+    def work(self):
+        """What a check takes beside those of other crates, in lines of code, as measured: those of proof count for little beside
+        them, and the first use of a large library of the toolchain's as much as hundreds."""
+        return lines_of(self.folder, ".rt") + self.loaded(self.of_kit) // 200_000
+
+    def loaded(self, names):
+        """The bytes of these libraries of the toolchain's."""
+        archives = [f"{self.kit}/rlibs/{it}.rlib/toolchain/checked.a" for it in names]
+        return sum(os.path.getsize(it) for it in archives if os.path.isfile(it))
 
     def need(self):
         """The most memory that a check is likely to take, in bytes, by lines of code and of proof, as measured."""
         own = 1_000_000 * lines_of(self.folder, ".rt") + 200_000 * lines_of(self.folder, ".antt")
         below = 80_000 * sum(lines_of(it.folder, ".rt") for it in self.below())
-        named = {name for it in [self, *self.below()] for name in it.of_kit}
-        archives = [f"{self.kit}/rlibs/{it}.rlib/toolchain/checked.a" for it in named]
-        loaded = sum(os.path.getsize(it) for it in archives if os.path.isfile(it))
+        loaded = self.loaded({name for it in [self, *self.below()] for name in it.of_kit})
         return 1_000_000_000 + own + below + min(5 * loaded, 2_500_000_000)
 
     def is_current(self):
