@@ -13,6 +13,8 @@ use Rattle.amo_trace.specs.Shown.{text_of}
 use Rattle.amo_worst.specs.Answer.{worst_of}
 use Rattle.amo_all.specs.Answer.{IsAllOfBytes, AreNoPlan}
 use Rattle.amo_program.specs.Statuses.{Left}
+use Rattle.amo_show_work.specs.declared.told.Told.{Told}
+use Rattle.amo_show_work.specs.declared.told.Told.TheVariants.{Explanation, Judgement}
 use Rattle.amo_show_work.specs.declared.show.Show.{Show}
 use Rattle.amo_show_work.specs.declared.show.Show.TheVariants.{Run, Explain, Judge, Worst, All}
 
@@ -24,6 +26,11 @@ Explains bytes text = BeginsWith (explanation_head (plan_of bytes)) text
 abbrev pub Judges : List ℕ → List ℕ → Type 0
 Judges bytes text = text ≡ judgement bytes
 
+-- the text is what is told of these bytes
+abbrev pub IsTold : Told → List ℕ → List ℕ → Type 0
+IsTold Explanation = Explains
+IsTold Judgement = Judges
+
 -- the text with the worst schedule; each plan has it, or the line that says why there is none
 abbrev pub worst_text_of : PlanSeen → Result (List ℕ) PlanFault
 worst_text_of plan = Ok (worst_of plan)
@@ -31,16 +38,16 @@ worst_text_of plan = Ok (worst_of plan)
 -- the text that is wanted of a source with these bytes was written, and nothing else
 abbrev pub writes : Show → Left
 writes (Run shown) = Writes (text_of shown)
-writes Explain = WritesOf Explains
-writes Judge = WritesOf Judges
+writes Explain = WritesOf (IsTold Explanation)
+writes Judge = WritesOf (IsTold Judgement)
 writes Worst = Writes worst_text_of
 writes All = WritesOf IsAllOfBytes
 
 -- what is left where it was not written whole; to explain and to judge no bytes are a fault, but where they are too many
 abbrev pub refuses : Show → ReplayFault → Left
 refuses (Run shown) fault = Refuses (text_of shown) fault
-refuses Explain fault = RefusesOf Explains (λ _ _. ⊥) fault
-refuses Judge fault = RefusesOf Judges (λ _ _. ⊥) fault
+refuses Explain fault = RefusesOf (IsTold Explanation) (λ _ _. ⊥) fault
+refuses Judge fault = RefusesOf (IsTold Judgement) (λ _ _. ⊥) fault
 refuses Worst fault = Refuses worst_text_of fault
 refuses All fault = RefusesOf IsAllOfBytes AreNoPlan fault
 

@@ -4,7 +4,7 @@ ghost use Rattle.std.specs.Option.{ok_or};
 ghost use Rattle.amo_program.specs.declared.fault.Fault.TheVariants.{NoCommand};
 ghost use Rattle.amo_show_work.specs.Words.{command_asked, asked_after_name};
 
-use crate::told::{Explained, Judged};
+use crate::told::Told;
 use amo_all::AllWorlds;
 use amo_program::{Command, Fault};
 use amo_streams::{Sink, Source};
@@ -84,8 +84,8 @@ impl<R: Sync> Command<R> for Show {
     ) -> Result<(), Fault> {
         match self {
             Show::Run(shown) => Ok(write_of(alloc, shown, reader, out)?),
-            Show::Explain => Ok(write_of_bytes(alloc, &Explained, reader, out)?),
-            Show::Judge => Ok(write_of_bytes(alloc, &Judged, reader, out)?),
+            Show::Explain => Ok(write_of_bytes(alloc, &Told::Explanation, reader, out)?),
+            Show::Judge => Ok(write_of_bytes(alloc, &Told::Judgement, reader, out)?),
             Show::Worst => Ok(write_of(alloc, &Worst, reader, out)?),
             Show::All => Ok(write_of_bytes(alloc, &AllWorlds, reader, out)?),
         }

@@ -4,32 +4,25 @@ use amo_judge::judgement;
 use amo_texts::{BytesText, ReplayFault};
 use std::alloc::Global;
 
-/// What a plan asks for, or what is wrong with it.
-pub(crate) struct Explained;
-
-impl BytesText for Explained {
-    ghost use Rattle.amo_show_work.specs.Shows.{Explains};
-
-    ghost is_of = { λ _. Explains };
-
-    ghost is_refused = { λ _ _ _. ⊥ };
-
-    fn make(&self, alloc: Global, bytes: &[u8]) -> Result<String, ReplayFault> {
-        Ok(explanation(alloc, bytes)?)
-    }
+/// What is told of bytes, whatever they are.
+pub(crate) enum Told {
+    /// What a plan asks for, or what is wrong with it.
+    Explanation,
+    /// What the judge says of a history.
+    Judgement,
 }
 
-/// What the judge says of a history.
-pub(crate) struct Judged;
+impl BytesText for Told {
+    ghost use Rattle.amo_show_work.specs.Shows.{IsTold};
 
-impl BytesText for Judged {
-    ghost use Rattle.amo_show_work.specs.Shows.{Judges};
-
-    ghost is_of = { λ _. Judges };
+    ghost is_of = { IsTold };
 
     ghost is_refused = { λ _ _ _. ⊥ };
 
     fn make(&self, alloc: Global, bytes: &[u8]) -> Result<String, ReplayFault> {
-        Ok(judgement(alloc, bytes)?)
+        match self {
+            Told::Explanation => Ok(explanation(alloc, bytes)?),
+            Told::Judgement => Ok(judgement(alloc, bytes)?),
+        }
     }
 }
