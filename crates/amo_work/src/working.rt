@@ -3,9 +3,8 @@ ghost use Rattle.std.specs.Prelude.{◌≡◌, ◌≤◌, None, false, map, stri
 ghost use Rattle.amo_program.specs.Endings.{change};
 ghost use Rattle.amo_request.specs.Commands.{asked};
 ghost use Rattle.amo_request.specs.Commands as requests;
-ghost use Rattle.amo_work.specs.Requests.{command_of};
+ghost use Rattle.amo_work.specs.Requests.{Ends, command_of};
 ghost use Rattle.amo_work.specs.Requests as commands;
-ghost use Rattle.amo_work.specs.Requests.{Ends};
 
 use amo_outcome::{Started, run_plan};
 use amo_program::{Command, Fault, refuse};
