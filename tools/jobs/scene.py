@@ -88,13 +88,13 @@ class Scene:
 
     def environment(self, plan=None, **more):
         named = {"PATH": os.environ["PATH"], "AMO_REAL": self.bench.worker, "AMO_ROOM": self.room, "AMO_PLAN": plan,
-                 "AMO_MISTAKE": self.bench.mistake, **more}
+                 "AMO_MISTAKE": self.bench.mistake, "AMO_TEST_BOOT_ID": self.boot, **more}
         return {name: value for name, value in named.items() if value}
 
     def words(self, command, *words, plan=None):
         worker = f"{HERE}/between.py" if plan else self.bench.worker
         return [sys.executable, "-I", self.bench.program, command, "--run", self.run, "--worker-program", worker,
-                "--boot-id", self.boot, *(["--file-system", self.file_system] if self.file_system else []), *words]
+                *(["--file-system", self.file_system] if self.file_system else []), *words]
 
     def start(self, *more, plan=None, workers=None, command=None, **how):
         """Starts a crew. What it says goes to a file."""

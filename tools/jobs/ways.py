@@ -131,6 +131,23 @@ def try_status(bench):
     want("workers alive: none" in scene.call("status"), "nobody is alive at the end")
 
 
+def try_boot_id(bench):
+    """only the tests' variable names a file with the boot id, and each command warns of it once"""
+    scene, name = bench.scene(["quick"]), "AMO_TEST_BOOT_ID"
+    warning = f"amo_jobs: {name} is set; the boot id comes from `{scene.boot}`. This is for tests only\n"
+    scene.ends(scene.start(), DONE)
+    want(scene.tale().startswith(warning) and scene.tale().count(name) == 1, scene.tale())
+    boot = folder.read(scene.boot).decode().strip()
+    want(folder.record_of(scene.run)["boot"] == boot, "the record has another boot id")
+    unset = {it: value for it, value in scene.environment().items() if it != name}
+    for environment, wanted in ((scene.environment(), warning), (unset, "")):
+        for command in (["status"], ["status", "--lines", "failed"], ["doubts"], ["again"]):
+            ran = subprocess.run(scene.words(*command), stdin=subprocess.DEVNULL, timeout=120,
+                                 capture_output=True, env=environment)
+            want((ran.returncode, ran.stderr.decode()) == (DONE, wanted), f"{command}: {ran}")
+    scene.call("status", "--boot-id", scene.boot, status=WORDS)
+
+
 def try_timeout(bench):
     """a timeout sends TERM and then KILL to the whole group, and the job is in doubt; one that ends in time isn't"""
     scene = bench.scene([], 3, ["--timeout", "0.4", "--grace", "0.3", "--linger", "0.1"])
@@ -346,7 +363,7 @@ def fill(scene, disk):
 
 
 PARTS = {"ways": [
-    try_ends, try_arguments, try_refusals, try_lists, try_answers, try_status, try_timeout, try_last_net, try_leftovers,
+    try_ends, try_arguments, try_refusals, try_lists, try_answers, try_status, try_boot_id, try_timeout, try_last_net, try_leftovers,
     try_first_signal, try_second_signal, try_halt, try_one_runner, try_work, try_outputs, try_streams, try_growing, try_killed_in_turn,
     try_disk_full,
 ]}
