@@ -8,6 +8,7 @@ did() { sleep "$1"; echo "did $name" >> "$file"; }
 case $what in
 quick) did 0; sleep 0.02 ;;
 late) did 2; sleep 0.5 ;;
+waits) until [ -e "$room/go" ]; do sleep 0.02; done; did 0 ;;
 slow) did 0.15; sleep 0.1 ;;
 fail) did 0.02; exit 3 ;;
 nothing) [ -e "$room/tried.$AMO_LINE" ] || { : > "$room/tried.$AMO_LINE"; exit 75; }; did 0 ;;

@@ -132,6 +132,10 @@ class Scene:
     def look(self):
         return folder.Folder(self.run)
 
+    def go(self):
+        """Lets each command that waits go on."""
+        open(f"{self.room}/go", "w").close()
+
     def tell(self, line, text):
         with open(f"{self.effects}/{line}", "a") as file:
             file.write(f"{text}\n")

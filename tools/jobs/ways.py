@@ -2,6 +2,8 @@
 
 import os
 import re
+import shlex
+import shutil
 import signal
 import subprocess
 import sys
@@ -115,20 +117,48 @@ def try_answers(bench):
 
 def try_status(bench):
     """the status tells who is alive, how all lines stand, how fast it goes, and which process holds what runs"""
-    scene = bench.scene(["quick", "late", "quick", "quick", "quick"])
+    scene = bench.scene(["quick", "waits", "quick", "quick", "quick"])
+    deep = scene.room + "/a folder with a long name" * 8
+    os.makedirs(deep)
+    scene.command = [shutil.copy(scene.command[0], deep), scene.room]
     crew = scene.start()
     until(lambda: [it for it in scene.tales(2) if it[0] == "begun"], "the command has begun")
     name, process = scene.tales(2)[0][1:]
-    os.kill(int(process), signal.SIGSTOP)
-    time.sleep(1)
-    told = scene.call("status", status=DOUBTFUL)
-    os.kill(int(process), signal.SIGCONT)
-    wanted = rf"^running {re.escape(name)}, line 2: 2 late -- process {process} \(.*act.sh"
-    want(re.search(wanted, told, re.M), told)
+    told, words = scene.call("status", status=DOUBTFUL), f"act.sh {scene.room} 2 waits"
+    scene.go()
+    wanted = f"process {process} ({words if len(words) <= 60 else words[:58] + '..'})"
+    line = re.search(rf"^running {re.escape(name)}, line 2: 2 waits -- (.*)$", told, re.M)
+    want(line and wanted in line[1], told)
     want(re.search(r"^5 lines: \d done, 0 failed, 0 in doubt, 1 running, 0 untouched, \d open\nworkers alive: 1", told), told)
     want(" 1 done" not in told or "a second, over at " in told, told)
     scene.ends(crew, DONE)
     want("workers alive: none" in scene.call("status"), "nobody is alive at the end")
+
+
+def try_look(bench):
+    """the commands that a crew and `doubts` print for a person run as they stand"""
+    scene, room = bench.scene([]), bench.scene([]).room
+    with open(f"{room}/worker", "w") as file:
+        file.write(f"#!/bin/sh\nexec {shlex.quote(bench.worker)} \"$@\"\n")
+    os.chmod(f"{room}/worker", 0o755)
+    os.symlink(bench.program, f"{room}/amo_jobs")
+    how = dict(cwd=room, stdin=subprocess.DEVNULL, capture_output=True, timeout=120, text=True,
+               env=scene.environment())
+    cases = [([], "this list", "'this list'"), (["--run", "a folder"], "other", "--run 'a folder'")]
+    for run, jobs, names in cases:
+        with open(f"{room}/{jobs}", "w") as file:
+            file.write("it's \"1\"\n-2 {}\n")
+        words = ["./amo_jobs", "crew", *run, "--worker-program", "./worker", "--workers", "1", jobs]
+        crew = subprocess.run([*words, "--", "sh", "-c", "kill -9 $$", "sh"], **how)
+        wanted = f"./amo_jobs doubts --worker-program ./worker {names}"
+        line = crew.stderr.rpartition("; look: ")[2].splitlines()[:1]
+        want(line == [wanted] and crew.returncode == DOUBTFUL, f"{line} in place of {wanted}")
+        told = subprocess.run(["sh", "-c", wanted], **how).stdout
+        answers = re.findall(r"^  (.* answer .*) done\|not-done$", told, re.M)
+        want(len(answers) == 2, f"two doubts have two answers: {told}")
+        for it in answers:
+            ran = subprocess.run(["sh", "-c", f"{it} done"], **how)
+            want((ran.stdout, ran.returncode) == ("taken\n", DONE), f"{it}: {ran.stderr}")
 
 
 def try_boot_id(bench):
@@ -363,7 +393,7 @@ def fill(scene, disk):
 
 
 PARTS = {"ways": [
-    try_ends, try_arguments, try_refusals, try_lists, try_answers, try_status, try_boot_id, try_timeout, try_last_net, try_leftovers,
+    try_ends, try_arguments, try_refusals, try_lists, try_answers, try_status, try_look, try_boot_id, try_timeout, try_last_net, try_leftovers,
     try_first_signal, try_second_signal, try_halt, try_one_runner, try_work, try_outputs, try_streams, try_growing, try_killed_in_turn,
     try_disk_full,
 ]}
