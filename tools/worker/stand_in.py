@@ -1,14 +1,18 @@
 #!/usr/bin/env python3
 """A worker in Python with the words, files, lines and statuses of amo_worker, to try the tests of that program on.
 
-  stand_in.py door RUN --workers M [--beta B] JOBS        stand_in.py work RUN P --workers M [--beta B] JOBS
+  stand_in.py door RUN --workers M [--beta B] [--into] JOBS
+  stand_in.py work RUN P --workers M [--beta B] JOBS
   stand_in.py status RUN [--json] [--lines KIND]          stand_in.py doubts RUN [--json]
   stand_in.py answer RUN P.S LINE TEXT done|not-done      stand_in.py answer RUN --from FILE      stand_in.py again RUN
 
-It is plain and slow, and nobody should work with it. AMO_MISTAKE names one of MISTAKES, which it then makes: the tests have to
-show each of them.
+Each takes --id ID, --file-system TYPE and --boot-id FILE too.
+
+It is plain and slow, and nobody should work with it. AMO_MISTAKE names one of MISTAKES, which it then makes: the tests must show
+each of them.
 """
 
+import errno
 import fcntl
 import os
 import sys
@@ -16,12 +20,19 @@ import time
 
 MISTAKES = ("intent_after_the_act pending_is_open guard_is_removed words_of_another_boot cut_line_is_kept last_journal_wins"
             " opens_without_settling folder_synced_by_the_maker_alone lists_without_settling own_words_forgotten"
-            " claim_after_the_act readers_without_a_lock").split()
+            " claim_after_the_act readers_without_a_lock missing_is_empty empty_is_empty id_is_replaced id_first"
+            " made_in_place old_run_is_settled old_run_is_worked running_is_refused id_is_not_compared"
+            " forgotten_is_taken users_files_are_refused leftovers_are_taken").split()
 MISTAKE = os.environ.get("AMO_MISTAKE")
-LOCAL = "ext2 ext3 ext4 xfs btrfs f2fs zfs overlay".split()
+LOCAL = "ext2 ext3 ext4 xfs btrfs f2fs zfs".split()
+REFUSED_OPTIONS = {b"nobarrier", b"barrier=0", b"data=writeback"}
 KINDS = "done failed doubt running untouched open".split()
 MOST_JOBS, MOST_WORKERS, MOST_BYTES, VERSION = 4096, 16, 100000, b"amo-run 1"
-LATER = 75
+LATER, PATIENCE = 75, 2.0
+# What the door makes besides `id`, and all other names of files that amo makes in a run's folder.
+PARTS = ["lock.round", "answers", *(f"journal.{p}" for p in range(1, MOST_WORKERS + 1))]
+FIXED = {*PARTS, *"id forgotten record jobs words command crew shared lock record.new jobs.new words.new command.new".split()}
+NUMBERED = {"journal": 1, "runner": 1, "pace": 1, "command": 2, "out": 2, "err": 2, "chunk": 1}
 
 
 class End(Exception):
@@ -121,15 +132,43 @@ def texts_in(data):
     return texts, gate, place
 
 
-class Journal:
-    """A file of texts behind gates, open to be written."""
+def opened_part(it, name, flags):
+    """A file that the door makes, which must be there; None if it is missing in a folder of 0.1.0."""
+    path = f"{it.run}/{name}"
+    try:
+        return opened(path, flags | (os.O_CREAT if MISTAKE == "missing_is_empty" else 0), None)
+    except FileNotFoundError as error:
+        if it.is_old:
+            return None
+        raise End(65, f"{path}: it is missing") from error
+    except OSError as error:
+        raise End(73, f"{path}: {error.strerror}") from error
 
-    def __init__(self, run, name):
-        self.path = f"{run}/{name}"
-        made = not os.path.exists(self.path)
-        self.file = opened(self.path, os.O_RDWR | os.O_CREAT, 73)
-        if made or MISTAKE != "folder_synced_by_the_maker_alone":
-            sync_folder(run)
+
+def part(it, name):
+    """All bytes of a file that the door makes, none if it is missing; in a folder of 0.1.0 alone it may be missing or empty."""
+    data = content(f"{it.run}/{name}")
+    if not it.is_old:
+        check_part(it, name, None if data is None else len(data))
+    return data or b""
+
+
+def check_part(it, name, size):
+    """Refuses a file that the door makes if it is missing, where its size is None, or empty."""
+    if size is None and MISTAKE != "missing_is_empty":
+        raise End(65, f"{it.run}/{name}: it is missing")
+    if size == 0 and name != "lock.round" and MISTAKE not in ("missing_is_empty", "empty_is_empty"):
+        raise End(65, f"{it.run}/{name}: it is empty")
+
+
+class Journal:
+    """A file of texts behind gates, open to be written; in a folder of 0.1.0, to be read and locked alone."""
+
+    def __init__(self, it, name):
+        self.path = f"{it.run}/{name}"
+        self.file = opened_part(it, name, os.O_RDONLY if it.is_old else os.O_RDWR)
+        if not it.is_old and MISTAKE != "folder_synced_by_the_maker_alone":
+            sync_folder(it.run)
 
     def lock(self):
         return has_lock(self.file, self.path, fcntl.LOCK_EX)
@@ -138,15 +177,17 @@ class Journal:
         os.close(self.file)
 
     def settle(self):
-        """Has the disk keep what is read, and a closed gate behind it."""
-        texts, gate, self.end = texts_in(whole(self.file, self.path))
+        """Has the disk keep what is read, and a closed gate behind it. The file is never empty meanwhile."""
+        data = whole(self.file, self.path)
+        texts, gate, self.end = texts_in(data)
         if MISTAKE == "opens_without_settling":
             return texts
         if texts and gate is not None:
             put_at(self.file, self.path, b"+", gate)
             sync(self.file, self.path)
-        called(73, self.path, os.ftruncate, self.file, self.end)
-        sync(self.file, self.path)
+        if len(data) > self.end + 1:
+            called(73, self.path, os.ftruncate, self.file, self.end + 1)
+            sync(self.file, self.path)
         put_at(self.file, self.path, b"-", self.end)
         sync(self.file, self.path)
         return texts
@@ -208,9 +249,9 @@ def journal_of(worker, name, texts, count):
 class Ledger:
     """What answers, journals and jobs say, read in this order."""
 
-    def __init__(self, run):
-        found = texts_in(content(f"{run}/answers") or b"")[0]
-        journals = [texts_in(content(f"{run}/journal.{p}") or b"")[0] for p in range(1, MOST_WORKERS + 1)]
+    def __init__(self, it):
+        run, found = it.run, texts_in(part(it, "answers"))[0]
+        journals = [texts_in(part(it, f"journal.{p}"))[0] for p in range(1, MOST_WORKERS + 1)]
         self.jobs = content(f"{run}/jobs")
         self.lines = (self.jobs or b"").split(b"\n")[:-1]
         self.journals = [journal_of(p, f"{run}/journal.{p}", it, len(self.lines)) for p, it in enumerate(journals, 1)]
@@ -218,10 +259,10 @@ class Ledger:
         for place, text in enumerate(found, 1):
             kind, *rest = text.split(b" ")
             said = numbers(rest, 3)
-            it = said and kind in (b"done", b"not-done") and self.intent(*said[:2])
-            if not it or it.found:
+            intent = said and kind in (b"done", b"not-done") and self.intent(*said[:2])
+            if not intent or intent.found:
                 raise End(65, f"{run}/answers: line {place}: no entry that may stand there")
-            it.found = kind
+            intent.found = kind
         for it in (it for journal in self.journals for it in journal):
             if it.closes():
                 self.closing.setdefault(it.line, []).append(it)
@@ -242,36 +283,39 @@ class Ledger:
         return [line for line in range(1, len(self.lines) + 1) if line not in self.closing]
 
 
-def final_ledger(run):
-    """The ledger with the locks of all pending intents that can be got, and those locks; such an intent is final."""
+def final_ledger(it):
+    """The ledger with the locks of all pending intents that can be got, and the files of those locks; such an intent is final. In
+    a folder of 0.1.0 nothing is written, and a file that is missing is held by nobody."""
     held, final = [], set()
-    for journal in Ledger(run).journals:
-        if any(it.answer is None for it in journal):
-            file = Journal(run, f"journal.{journal[0].worker}")
-            runner = opened(f"{run}/runner.{journal[0].worker}", os.O_RDWR | os.O_CREAT, 73)
-            held += [file, runner]
-            if file.lock() and has_lock(runner, f"{run}/runner.{journal[0].worker}", fcntl.LOCK_EX):
-                if MISTAKE != "lists_without_settling":
+    for journal in Ledger(it).journals:
+        if any(intent.answer is None for intent in journal):
+            worker = journal[0].worker
+            file, runner = Journal(it, f"journal.{worker}"), f"{it.run}/runner.{worker}"
+            held.append(file.file)
+            if file.lock() and is_got(runner, os.O_RDONLY if it.is_old else os.O_RDWR | os.O_CREAT, held):
+                if MISTAKE == "old_run_is_settled" and it.is_old:
+                    file.file = opened(file.path, os.O_RDWR, 73)
+                if MISTAKE != "lists_without_settling" and not it.is_old or MISTAKE == "old_run_is_settled":
                     file.settle()
-                final |= {(journal[0].worker, it.serial) for it in journal if it.answer is None and not is_held(run, it, held)}
-    ledger = Ledger(run)
+                final |= {(worker, intent.serial) for intent in journal if intent.answer is None
+                          and is_got(f"{it.run}/command.{intent.name()}", os.O_RDONLY, held)}
+    ledger = Ledger(it)
     for journal in ledger.journals:
-        for it in journal:
-            it.is_final = (it.worker, it.serial) in final
+        for intent in journal:
+            intent.is_final = (intent.worker, intent.serial) in final
     return ledger, held
 
 
-def is_held(run, intent, held):
-    """Whether something of this intent's command is left; else its lock is held from now on."""
-    path = f"{run}/command.{intent.name()}"
+def is_got(path, flags, held):
+    """Whether the lock of this file is got, and held from now on; a missing file counts as got."""
     try:
-        file = opened(path, os.O_RDWR, None)
+        file = opened(path, flags, None)
     except FileNotFoundError:
-        return False
+        return True
     except OSError as error:
         raise End(73, f"{path}: {error.strerror}") from error
     held.append(file)
-    return not has_lock(file, path, fcntl.LOCK_EX)
+    return has_lock(file, path, fcntl.LOCK_EX)
 
 
 def jobs_of(jobs, known, is_first):
@@ -340,7 +384,7 @@ def make_whole(run, name, data, is_synced=True):
 
 def begin_round(it):
     """Under the exclusive lock of rounds: record and words of the lines that are open. Ends where none is."""
-    ledger = Ledger(it.run)
+    ledger = Ledger(it)
     record = Record(f"{it.run}/record")
     data, is_begun = jobs_of(it.jobs, ledger.jobs, ledger.jobs is None)
     if data != ledger.jobs:
@@ -465,26 +509,28 @@ class Partner:
         return None if words[0] == b"running" else b" ".join(words[:-1]), words[-1] == b"leave"
 
 
-def guard(run, worker):
+def guard(it):
     """The journal of this worker, once nobody else has its number."""
     if MISTAKE == "guard_is_removed":
-        file = opened(f"{run}/guard.{worker}", os.O_RDWR | os.O_CREAT, 73)
-        if not has_lock(file, f"{run}/guard.{worker}", fcntl.LOCK_EX):
-            raise End(LATER, f"somebody else is worker {worker}")
-        return Journal(run, f"journal.{worker}")
-    journal = Journal(run, f"journal.{worker}")
+        path = f"{it.run}/guard.{it.worker}"
+        file = opened(path, os.O_RDWR | os.O_CREAT, 73)
+        if not has_lock(file, path, fcntl.LOCK_EX):
+            raise End(LATER, f"somebody else is worker {it.worker}")
+        return Journal(it, f"journal.{it.worker}")
+    journal = Journal(it, f"journal.{it.worker}")
     if not journal.lock():
-        held = readers_lock(run)  # so that it is no reader who has it
+        held = readers_lock(it)  # so that it is no reader who has it
         if not journal.lock():
-            raise End(LATER, f"somebody else is worker {worker}")
+            raise End(LATER, f"somebody else is worker {it.worker}")
         held.close()
     return journal
 
 
-def readers_lock(run):
-    """The lock of answers, once no reader has it: each keeps it as long as it holds locks of workers."""
-    file = Journal(run, "answers")
-    if MISTAKE != "readers_without_a_lock":
+def readers_lock(it):
+    """The lock of answers, once no reader has it: each keeps it as long as it holds locks of workers. A folder of 0.1.0 in which
+    nobody has answered has none."""
+    file = Journal(it, "answers")
+    if MISTAKE != "readers_without_a_lock" and file.file is not None:
         called(73, file.path, fcntl.flock, file.file, fcntl.LOCK_EX)
     return file
 
@@ -492,9 +538,8 @@ def readers_lock(run):
 def share_round(it):
     """Begins a round if nobody is at work; the record of the round, under the shared lock."""
     path = f"{it.run}/lock.round"
-    made = not os.path.exists(path)
-    file = opened(path, os.O_RDWR | os.O_CREAT, 73)
-    if made or MISTAKE != "folder_synced_by_the_maker_alone":
+    file = opened_part(it, "lock.round", os.O_RDWR)
+    if MISTAKE != "folder_synced_by_the_maker_alone":
         sync_folder(it.run)
     if has_lock(file, path, fcntl.LOCK_EX):
         begin_round(it)
@@ -516,9 +561,9 @@ def share_round(it):
 
 def work(it):
     enter(it)
-    journal = guard(it.run, it.worker)
-    texts = journal.settle()
-    ledger = Ledger(it.run)
+    journal = guard(it)
+    journal.settle()
+    ledger = Ledger(it)
     own, partner = ledger.journals[it.worker - 1], Partner()
     for intent in [it for it in own if it.answer is None]:
         answer, leaves = partner.ask(b"was", intent.serial, intent.line, ledger.lines[intent.line - 1])
@@ -551,38 +596,191 @@ def work(it):
     raise End(LATER, f"round {record.round} is over")
 
 
-def type_of(path):
-    """The type of the file system on which a file lies."""
-    found = (b"", b"")
+def mount_of(path):
+    """The type, the options and the device of the mount on which a folder lies."""
+    file = opened(path, os.O_RDONLY | os.O_DIRECTORY, 74)
+    words = (content(f"/proc/self/fdinfo/{file}") or b"").split()
+    os.close(file)
+    number = words[words.index(b"mnt_id:") + 1]
     for line in (content("/proc/self/mountinfo") or b"").splitlines():
-        words, kind = line.split(b" - ")
-        point = words.split(b" ")[4]
-        if (os.fsencode(path) + b"/").startswith(point.rstrip(b"/") + b"/") and len(point) >= len(found[0]):
-            found = point, kind.split(b" ")[0]
-    return found[1].decode()
+        words, more = (it.split(b" ") for it in line.split(b" - "))
+        if words[0] == number:
+            return more[0].decode(), {*words[5].split(b","), *more[2].split(b",")}, more[1]
+    raise End(77, f"{path}: it lies on no known file system")
+
+
+def check_mount(it, path):
+    """Refuses a folder on a file system that isn't taken, or that is mounted so that it may forget what was synced."""
+    kind, options, device = mount_of(path)
+    if kind not in [*LOCAL, it.kind]:
+        raise End(77, f"{path}: it lies on a file system of type {kind}")
+    if kind == "ext4":
+        name = os.path.basename(os.path.realpath(os.fsdecode(device)))
+        options |= set((content(f"/proc/fs/ext4/{name}/options") or b"").split())
+    if options & REFUSED_OPTIONS:
+        raise End(77, f"{path}: it is mounted with {b' '.join(options & REFUSED_OPTIONS).decode()}")
+
+
+def check_list(it):
+    """Refuses a list that can't be that of the run."""
+    known = content(f"{it.run}/jobs")
+    jobs_of(it.jobs, known, known is None)
+
+
+def is_made(name):
+    """Whether amo makes files of this name in a run's folder."""
+    kind, *said = name.removesuffix(".new").split(".") if name.startswith("chunk.") else name.split(".")
+    return name in FIXED or len(said) == NUMBERED.get(kind) and all(it.isdigit() and it.isascii() for it in said)
+
+
+def is_there(path):
+    try:
+        called(None, path, os.lstat, path)
+    except FileNotFoundError:
+        return False
+    except OSError as error:
+        raise End(74, f"{path}: {error.strerror}") from error
+    return True
+
+
+def drawn():
+    """32 hexadecimal digits that were never there before."""
+    return (content("/proc/sys/kernel/random/uuid") or b"").strip().replace(b"-", b"")
+
+
+def first_bytes(name):
+    return drawn() + b"\n" if name == "id" else b"" if name == "lock.round" else b"-"
+
+
+def write_new(path, data):
+    """A new file with these bytes, on the disk."""
+    file = opened(path, os.O_RDWR | os.O_CREAT | os.O_EXCL, 73)
+    put_at(file, path, data, 0)
+    sync(file, path)
+    os.close(file)
+
+
+def make_beside(it):
+    """Makes the folder whole beside, and gives it its name; if something has that name by then, that is gone on with."""
+    new = f"{it.run}.new-{drawn().decode()}"
+    called(73, new, os.mkdir, new, 0o700)
+    try:
+        for name in [*PARTS, "id"]:
+            write_new(f"{new}/{name}", first_bytes(name))
+        sync_folder(new)
+        called(None, it.run, os.rename, new, it.run)
+    except (End, OSError) as error:
+        for name in os.listdir(new):
+            os.unlink(f"{new}/{name}")
+        os.rmdir(new)
+        if isinstance(error, End):
+            raise
+        if error.errno not in (errno.EEXIST, errno.ENOTEMPTY, errno.EBUSY, errno.ENOTDIR):
+            raise End(73, f"{it.run}: {error.strerror}") from error
+
+
+def make_in_place(it):
+    """Makes what is missing in a folder without `id`, each file with its bytes before its name, and `id` last."""
+    found = set(called(74, it.run, os.listdir, it.run))
+    if "id" in found:
+        return
+    made = [name for name in found if is_made(name)]
+    is_cut_off = all(name in PARTS and os.path.getsize(f"{it.run}/{name}") < 2 for name in made if is_there(f"{it.run}/{name}"))
+    if not is_cut_off and MISTAKE == "leftovers_are_taken":
+        is_cut_off = "record" not in made
+    if not is_cut_off or MISTAKE == "users_files_are_refused" and found - set(made):
+        if is_there(f"{it.run}/id"):  # by another door, meanwhile
+            return
+        what = "it was made by amo 0.1.0" if "record" in made else f"it has no id, but {min(made, default='files')}"
+        raise End(65, f"{it.run}: {what}")
+    for name in ["id", *PARTS] if MISTAKE == "id_first" else [*PARTS, "id"]:
+        path, new = f"{it.run}/{name}", f"{it.run}/door.{drawn().decode()}.new"
+        if name in found:
+            fill_empty(path, first_bytes(name))
+            continue
+        write_new(new, first_bytes(name))
+        try:
+            called(None, path, os.link, new, path)
+        except FileExistsError:
+            pass
+        except OSError as error:
+            raise End(73, f"{path}: {error.strerror}") from error
+        called(73, new, os.unlink, new)
+    sync_folder(it.run)
+
+
+def fill_empty(path, data):
+    """Gives a file that is empty its first bytes, under its lock: so nobody has begun to write there."""
+    file = opened(path, os.O_RDWR, 73)
+    if data and os.fstat(file).st_size == 0 and has_lock(file, path, fcntl.LOCK_EX) and os.fstat(file).st_size == 0:
+        put_at(file, path, data, 0)
+        sync(file, path)
+    os.close(file)
+
+
+def make(it):
+    """Makes the run's folder, or what is missing in it."""
+    above = os.path.dirname(os.path.abspath(it.run))
+    if not is_there(it.run):
+        if it.id:
+            raise End(65, f"{it.run}: the run's folder is missing")
+        check_mount(it, above)
+        check_list(it)
+        if it.is_into or MISTAKE == "made_in_place":
+            called(73, it.run, os.mkdir, it.run, 0o700)
+        else:
+            make_beside(it)
+    enter_folder(it)
+    if not is_there(f"{it.run}/id"):
+        if it.id:
+            raise End(65, f"{it.run}: it has no id")
+        check_list(it)
+        make_in_place(it)
+    elif it.is_into:
+        raise End(65, f"{it.run}: it has an id already")
+    if MISTAKE == "id_is_replaced":
+        make_whole(it.run, "id", drawn() + b"\n")
+
+
+def enter_folder(it):
+    """Refuses what is no folder of one's own, or lies where none may lie, or is of another version."""
+    found = called(74, it.run, os.lstat, it.run)
+    if (found.st_mode & 0o170000) != 0o040000 or found.st_uid != os.geteuid():
+        raise End(77, f"{it.run}: it is no folder of one's own")
+    check_mount(it, it.run)
+    Record(f"{it.run}/record")
 
 
 def enter(it):
-    """Refuses at the door; makes the run's folder, where work or door may."""
-    try:
-        if it.jobs:
-            os.mkdir(it.run, 0o700)
-    except FileExistsError:
-        pass
-    except OSError as error:
-        raise End(73, f"{it.run}: {error.strerror}") from error
-    found = called(77, it.run, os.lstat, it.run)
-    if (found.st_mode & 0o170000) != 0o040000 or found.st_uid != os.geteuid():
-        raise End(77, f"{it.run}: it is no folder of one's own")
-    kind = type_of(os.path.realpath(it.run))
-    if kind not in [*LOCAL, it.kind]:
-        raise End(77, f"{it.run}: it lies on a file system of type {kind}")
-    record = Record(f"{it.run}/record")
+    """Refuses a folder that isn't this run's, or of which something is missing; only the door makes something."""
+    if it.command == "door":
+        make(it)
+    enter_folder(it)
+    found = content(f"{it.run}/id")
+    it.is_old = found is None
+    reads = it.command in ("status", "doubts")
+    if it.is_old and (it.id or not reads and MISTAKE != "old_run_is_worked"):
+        raise End(65, f"{it.run}: it has no id; only the door makes a folder, and only status and doubts read one of amo 0.1.0")
+    if not it.is_old:
+        check_whole(it, found, reads)
     if it.jobs:
-        known = content(f"{it.run}/jobs")
-        jobs_of(it.jobs, known, known is None)
+        check_list(it)
+        if it.command == "door" and MISTAKE != "folder_synced_by_the_maker_alone":
+            sync_folder(it.run)
         sync_folder(os.path.dirname(os.path.abspath(it.run)))
-    return record
+
+
+def check_whole(it, found, reads):
+    """Refuses a folder whose id is none or another one, that was forgotten, or of which a file is missing or empty."""
+    if len(found) != 33 or found[32:] != b"\n" or set(found[:32]) - set(b"0123456789abcdef"):
+        raise End(65, f"{it.run}/id: it is no id")
+    if it.id and it.id.encode() != found[:32] and MISTAKE != "id_is_not_compared":
+        raise End(65, f"{it.run}: it is another run, {found[:32].decode()}, and not {it.id}")
+    if not reads and it.command != "answer" and MISTAKE != "forgotten_is_taken" and is_there(f"{it.run}/forgotten"):
+        raise End(65, f"{it.run}: it is forgotten")
+    for name in PARTS:
+        is_one = is_there(f"{it.run}/{name}")
+        check_part(it, name, os.path.getsize(f"{it.run}/{name}") if is_one else None)
 
 
 def counts(ledger):
@@ -590,25 +788,22 @@ def counts(ledger):
     return f"lines {len(kinds)} " + " ".join(f"{kind} {kinds.count(kind)}" for kind in KINDS)
 
 
-def alive(run):
+def alive(it):
     """The workers whose journals are locked."""
     for p in range(1, MOST_WORKERS + 1):
-        try:
-            file = opened(f"{run}/journal.{p}", os.O_RDONLY, None)
-        except FileNotFoundError:
+        file = opened_part(it, f"journal.{p}", os.O_RDONLY)
+        if file is None:
             continue
-        except OSError as error:
-            raise End(74, f"{run}/journal.{p}: {error.strerror}") from error
-        if not has_lock(file, f"{run}/journal.{p}", fcntl.LOCK_SH):
+        if not has_lock(file, f"{it.run}/journal.{p}", fcntl.LOCK_SH):
             yield p
         os.close(file)
 
 
 def status(it):
     enter(it)
-    _readers = readers_lock(it.run)
-    living = list(alive(it.run))
-    ledger, _ = final_ledger(it.run)
+    _readers = readers_lock(it)
+    living = list(alive(it))
+    ledger, _ = final_ledger(it)
     told = [(kind, found, line) for line, kind, found in ledger.kinds()]
     if it.is_json:
         import json
@@ -635,8 +830,8 @@ def say(text, line=b""):
 
 def doubts(it):
     enter(it)
-    _readers = readers_lock(it.run)
-    ledger, _ = final_ledger(it.run)
+    _readers = readers_lock(it)
+    ledger, _ = final_ledger(it)
     told = [(line, found) for line, kind, found in ledger.kinds() if kind == "doubt"]
     if it.is_json:
         import json
@@ -645,6 +840,9 @@ def doubts(it):
     else:
         for line, found in told:
             say(f"doubt {found.name()} {line} ", ledger.lines[line - 1] + b" %d" % found.time)
+
+
+RUNNING, AGAIN = "it is running", "another answer stands above"
 
 
 def refusal(ledger, name, line, text, verdict):
@@ -665,31 +863,50 @@ def refusal(ledger, name, line, text, verdict):
 
 
 def answer(it):
+    """Takes the answers, all or none; one to what still runs waits a while for its end."""
     enter(it)
     if it.source:
         rows = [line.split(b"\t", 2) for line in (content(it.source) or b"").split(b"\n")[:-1]]
         rows = [[*row[:2], *row[2].rsplit(b"\t", 1)] if len(row) == 3 and b"\t" in row[2] else [b""] * 4 for row in rows]
     else:
         rows = [[os.fsencode(word) for word in it.words]]
-    file = readers_lock(it.run)
+    end = time.monotonic() + PATIENCE
+    while said := answer_once(it, rows):
+        if time.monotonic() > end:
+            raise End(LATER, said)
+        time.sleep(0.05)
+
+
+def answer_once(it, rows):
+    """Takes the answers; if one is to what still runs, none is taken, and that is said."""
+    file = readers_lock(it)
     file.settle()
-    ledger, _held = final_ledger(it.run)
-    verdicts = {}
-    for place, row in enumerate(rows, 1):
-        why = refusal(ledger, *row) or ("another answer stands above" if verdicts.setdefault(row[0], row[3]) != row[3] else None)
-        if why:
-            raise End(65, f"answer {place}, {row[0].decode(errors='replace')}: {why}")
-    for name, verdict in verdicts.items():
-        said = numbers(name.split(b"."), 2)
-        if not ledger.intent(*said).found:
-            file.put(b"%s %d %d %d" % (verdict, *said, time.time()))
+    ledger, held = final_ledger(it)
+    try:
+        verdicts, running = {}, None
+        for place, row in enumerate(rows, 1):
+            why = refusal(ledger, *row) or (AGAIN if verdicts.setdefault(row[0], row[3]) != row[3] else None)
+            said = f"answer {place}, {row[0].decode(errors='replace')}: {why}"
+            if why == RUNNING and MISTAKE != "running_is_refused":
+                running = running or said
+            elif why:
+                raise End(65, said)
+        for name, verdict in verdicts.items() if not running else ():
+            said = numbers(name.split(b"."), 2)
+            if not ledger.intent(*said).found:
+                file.put(b"%s %d %d %d" % (verdict, *said, time.time()))
+        return running
+    finally:
+        file.close()
+        for lock in held:
+            os.close(lock)
 
 
 def again(it):
     enter(it)
-    file = readers_lock(it.run)
+    file = readers_lock(it)
     file.settle()
-    for intent in (intent for journal in Ledger(it.run).journals for intent in journal):
+    for intent in (intent for journal in Ledger(it).journals for intent in journal):
         if intent.answer and intent.answer[0] == b"untouched" and not intent.found:
             file.put(b"not-done %d %d %d" % (intent.worker, intent.serial, time.time()))
 
@@ -699,7 +916,8 @@ class Given:
 
     def __init__(self, words):
         self.words, options = [], {}
-        wants = {"--workers": 1, "--beta": 1, "--json": 0, "--lines": 1, "--from": 1, "--file-system": 1, "--boot-id": 1}
+        wants = {"--workers": 1, "--beta": 1, "--json": 0, "--lines": 1, "--from": 1, "--file-system": 1, "--boot-id": 1,
+                 "--id": 1, "--into": 0}
         while words:
             word = words.pop(0)
             if word.startswith("--") and self.words[:1] != ["answer"] or word in wants:
@@ -710,14 +928,17 @@ class Given:
                 self.words.append(word)
         shapes = {"door": (3, 3), "work": (4, 4), "status": (2, 2), "doubts": (2, 2), "again": (2, 2),
                   "answer": (2, 2) if "--from" in options else (6, 6)}
-        taken = {"door": "--workers --beta", "work": "--workers --beta", "status": "--json --lines", "doubts": "--json",
+        taken = {"door": "--workers --beta --into", "work": "--workers --beta", "status": "--json --lines", "doubts": "--json",
                  "answer": "--from"}
         self.command = self.words[0] if self.words else None
         if self.command not in shapes or not shapes[self.command][0] <= len(self.words) <= shapes[self.command][1]:
             raise End(64, "usage: door, work, status, doubts, answer or again, and RUN")
-        if set(options) - {*taken.get(self.command, "").split(), "--file-system", "--boot-id"}:
+        if set(options) - {*taken.get(self.command, "").split(), "--file-system", "--boot-id", "--id"}:
             raise End(64, "an option of another command")
         self.run, self.kind = self.words[1].rstrip("/"), options.get("--file-system")
+        self.id, self.is_into, self.is_old = options.get("--id"), "--into" in options, False
+        if self.id is not None and (len(self.id) != 32 or set(self.id) - set("0123456789abcdef")):
+            raise End(64, f"no id: {self.id}")
         self.jobs = self.words[-1] if self.command in ("door", "work") else None
         self.is_json, self.lines, self.source = "--json" in options, options.get("--lines"), options.get("--from")
         if self.lines not in (None, *KINDS[1:]) or self.lines and self.is_json:
