@@ -100,7 +100,8 @@ class Reader:
     def __init__(self, scene, *words, faults=None):
         scene.bench.processes += 1
         self.words = words
-        self.process = subprocess.Popen([*scene.bench.command(), words[0], scene.run, *words[1:], "--boot-id", scene.boot],
+        given = [words[0], scene.run, *words[1:], *scene.common(words)]
+        self.process = subprocess.Popen([*scene.bench.command(), *given],
                                         stdin=subprocess.DEVNULL, stdout=subprocess.PIPE, stderr=subprocess.PIPE,
                                         env=scene.environment(faults))
 
@@ -203,7 +204,7 @@ def stay_with_workers(bench):
     partner = os.path.join(os.path.dirname(os.path.realpath(__file__)), "partner.sh")
     program = f"{scene.room}/program"
     with open(program, "w") as file:
-        file.write(f"""#!/bin/sh\nexec {" ".join(bench.command())} "$@" --boot-id {scene.boot}\n""")
+        file.write(f"""#!/bin/sh\nexec {" ".join(bench.command())} "$@" {" ".join(scene.common())}\n""")
     os.chmod(program, 0o700)
     subprocess.Popen(["sh", partner, program, scene.run, "3", "3", scene.jobs, "sleep", "0.5"], stdin=subprocess.DEVNULL,
                      stdout=subprocess.DEVNULL, stderr=subprocess.DEVNULL, env={**scene.environment(), "TMPDIR": scene.room})

@@ -9,7 +9,7 @@ have kept is there or not for good: no later sync keeps it, unless it is written
 import os
 import shutil
 
-from worker.folder import texts_of
+from worker.folder import PARTS, texts_of
 from worker.scene import want
 
 GARBAGE = b"+-\n\0 19x"
@@ -72,6 +72,7 @@ class Disk:
     def __init__(self, scene, draws, fails=None):
         self.scene, self.draws, self.fails = scene, draws, fails
         self.names, self.moves, self.handles, self.journals, self.performs, self.lies = {}, [], {}, {}, 0, False
+        self.beside = {}  # of each folder beside: what stands in it, and of that what is kept
         self.jobs, self.is_there, self.is_kept = File(content(scene.jobs)), os.path.isdir(scene.run), os.path.isdir(scene.run)
         for name in os.listdir(scene.run) if self.is_there else ():
             self.names[name] = File(content(f"{scene.run}/{name}"))
@@ -93,7 +94,7 @@ class Disk:
             self.handles[handle] = self.handles.get((handle[0], str(place)))
         elif name in ("write", "cut", "sync"):
             held = self.jobs if file == "JOBS" else self.handles.get(handle)
-            if name == "sync" and file in (".", ".."):
+            if name == "sync" and (file in (".", "..") or file in self.beside):
                 self.sync_folder(file, result)
             elif name == "sync":
                 held.sync() if result >= 0 else held.fail(self.draws, self.fails)
@@ -103,17 +104,35 @@ class Disk:
             elif name == "cut" and result >= 0:
                 held.cut(place)
         elif name == "rename" and result >= 0:
-            self.names[more] = self.names.pop(file)
-            self.moves.append((file, more, self.names[more]))
-        elif name == "remove" and result >= 0:
+            self.rename(file, more)
+        elif name == "link" and result >= 0:
+            self.names[more] = self.names[file]
+            self.moves.append((None, more, self.names[more]))
+        elif name == "remove" and result >= 0 and not file.startswith("new-"):
             self.moves.append((file, None, self.names.pop(file, None)))
+        elif name == "folder" and result >= 0 and file != ".":
+            self.beside[file] = {}, {}
         elif name == "folder" and result >= 0:
             self.is_there, self.is_kept = True, False
         elif name == "say" and result > 0 and self.scene.bench.watches:
             self.see_said(handle[0], bytes.fromhex(more))
 
+    def rename(self, old: str, new: str) -> None:
+        """A file gets another name, or a folder that was made beside gets the run's."""
+        if new != ".":
+            self.names[new] = self.names.pop(old)
+            self.moves.append((old, new, self.names[new]))
+            return
+        now, self.kept = self.beside.pop(old)
+        self.names, self.is_there, self.is_kept = dict(now), True, False
+        self.moves = [(None, name, now[name]) for name in now if name not in self.kept]
+
     def open(self, handle, file, more):
-        if file in (".", "..", "JOBS"):
+        if file in (".", "..", "JOBS") or file in self.beside:
+            return
+        folder, _, name = file.rpartition("/")
+        if folder:
+            self.handles[handle] = self.beside[folder][0].setdefault(name, File())
             return
         if file not in self.names:
             if "c" not in more:  # a file that this log doesn't know, as the runner's
@@ -130,6 +149,8 @@ class Disk:
     def sync_folder(self, file, result):
         if result >= 0 and file == "..":
             self.is_kept = self.is_there
+        elif result >= 0 and file in self.beside:
+            self.beside[file] = self.beside[file][0], dict(self.beside[file][0])
         elif result >= 0:
             self.kept, self.moves = dict(self.names), []
 
@@ -147,7 +168,8 @@ class Disk:
             is_kept = self.lies or self.jobs.kept.startswith(jobs.kept)
             want(is_kept, f"{what}, and the jobs' file isn't synced as far as jobs holds it")
             for _, new, _ in self.moves:
-                want(new not in (name, "jobs", "record"), f"{what}, and the folder isn't synced since there is {new}")
+                is_rested_on = new in (name, "jobs", "record", "id") or new in PARTS
+                want(not is_rested_on, f"{what}, and the folder isn't synced since there is {new}")
             want(self.is_kept, f"{what}, and the folder above isn't synced since the run's folder was made")
 
     def cut(self, how):

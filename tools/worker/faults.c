@@ -5,7 +5,8 @@
    AMO_JOBS    the jobs' file, an absolute path, named JOBS in the log
    AMO_LOG     a file to which each call is appended, a line each:
                PROCESS NUMBER CALL FILE DESCRIPTOR PLACE LENGTH RESULT MORE
-               FILE is the name within the run's folder, `.` the folder, `..` the one above; LENGTH of an open is 1 where it may
+               FILE is the name within the run's folder, `.` the folder, `..` the one above; a folder RUN.new-X beside the
+               run's is `new-X`, and its files are `new-X/NAME`; LENGTH of an open is 1 where it may
                make the file, PLACE of a lock how it is asked for; RESULT below 0 is an error number;
                MORE is what was written, in hexadecimal, how a file was opened, the other name, or `-`. The log is locked from
                before a call until it is written down: the order of lines is that of the calls, over all processes.
@@ -35,7 +36,7 @@
 #include <time.h>
 #include <unistd.h>
 
-enum { MOST_FILES = 1024, MOST_FAULTS = 16, MOST_NAME = 64 };
+enum { MOST_FILES = 1024, MOST_FAULTS = 16, MOST_NAME = 96 };
 enum { KILL_BEFORE = -1, KILL_AFTER = -2, STOP_BEFORE = -3, STOP_AFTER = -4, SHORT = -5, SLOW = -6, NONE = 0 };
 /* else an error number */
 
@@ -124,7 +125,7 @@ static int name_of(int folder, const char *path, char *name) {
     strcpy(name, ".");
   else if (length == above - run && strncmp(whole, run, length) == 0)
     strcpy(name, "..");
-  else if (strncmp(whole, run, front) == 0 && whole[front] == '/')
+  else if (strncmp(whole, run, front) == 0 && (whole[front] == '/' || strncmp(whole + front, ".new-", 5) == 0))
     snprintf(name, MOST_NAME, "%s", whole + front + 1);
   else
     return 0;
@@ -139,8 +140,8 @@ static void end_by(int signal) {
 
 /* Whether it needs room on the disk. */
 static int takes_room(const struct call *call) {
-  static const char *const those[] = {"write", "cut", "sync", "rename", "folder"};
-  for (int k = 0; k < 5; k++)
+  static const char *const those[] = {"write", "cut", "sync", "rename", "folder", "link"};
+  for (int k = 0; k < 6; k++)
     if (strcmp(call->name, those[k]) == 0)
       return 1;
   return strcmp(call->name, "open") == 0 && call->length == 1;
@@ -373,6 +374,17 @@ static int rename_named(int from, const char *old, int to, const char *new) {
 int rename(const char *old, const char *new) { return rename_named(AT_FDCWD, old, AT_FDCWD, new); }
 int renameat(int from, const char *old, int to, const char *new) { return rename_named(from, old, to, new); }
 
+static int linked(int from, const char *old, int to, const char *new, int flags) {
+  char name[MOST_NAME], other[MOST_NAME];
+  if (!name_of(from, old, name) || !name_of(to, new, other))
+    return syscall(SYS_linkat, from, old, to, new, flags);
+  struct call call = {.name = "link", .file = name};
+  return leave(&call, enter(&call) < 0 ? -1 : syscall(SYS_linkat, from, old, to, new, flags), other, NULL);
+}
+
+int link(const char *old, const char *new) { return linked(AT_FDCWD, old, AT_FDCWD, new, 0); }
+int linkat(int from, const char *old, int to, const char *new, int flags) { return linked(from, old, to, new, flags); }
+
 static int make_folder(int folder, const char *path, mode_t mode) {
   char name[MOST_NAME];
   if (!name_of(folder, path, name))
@@ -394,6 +406,7 @@ static int removed(int folder, const char *path, int flags) {
 
 int unlink(const char *path) { return removed(AT_FDCWD, path, 0); }
 int unlinkat(int folder, const char *path, int flags) { return removed(folder, path, flags); }
+int rmdir(const char *path) { return removed(AT_FDCWD, path, AT_REMOVEDIR); }
 
 int statx(int folder, const char *restrict path, int flags, unsigned mask, struct statx *restrict found) {
   char name[MOST_NAME];

@@ -7,12 +7,17 @@ behind it stands for nothing. A line is open where each intent of it, in all jou
 import fcntl
 import os
 import re
+import uuid
 
 NUMBER = rb"(0|[1-9][0-9]{0,19})"
 ENTRY = re.compile(rb"(intent) N N N|(done) N N N|(doubt) N|(unbegun) N|(untouched) N N".replace(b"N", NUMBER))
 FINDING = re.compile(rb"(done|not-done) N N N".replace(b"N", NUMBER))
 KINDS = "done failed doubt running untouched open".split()
 MOST_WORKERS = 16
+# What the door makes besides `id`, and what stands in it at first.
+PARTS = {"lock.round": b"", "answers": b"-", **{f"journal.{p}": b"-" for p in range(1, MOST_WORKERS + 1)}}
+ID = re.compile(rb"[0-9a-f]{32}\n")
+TAKEN = "ext2 ext3 ext4 xfs btrfs f2fs zfs".split()
 
 
 class Refused(Exception):
@@ -26,6 +31,46 @@ def read(path):
             return file.read()
     except FileNotFoundError:
         return b""
+
+
+def put(path: str, data: bytes) -> None:
+    """A file with these bytes, its owner's alone."""
+    with open(os.open(path, os.O_WRONLY | os.O_CREAT | os.O_TRUNC, 0o600), "wb") as file:
+        file.write(data)
+
+
+def make(run: str) -> None:
+    """Makes a run's folder as the door makes it."""
+    os.mkdir(run, 0o700)
+    for name, data in {**PARTS, "id": f"{uuid.uuid4().hex}\n".encode()}.items():
+        put(f"{run}/{name}", data)
+
+
+def make_old(run: str) -> None:
+    """Makes a run's folder one of amo 0.1.0, which made no file before there was something to put
+    into it, and left a journal empty for a moment."""
+    os.unlink(f"{run}/id")
+    for name, data in PARTS.items():
+        if read(f"{run}/{name}") == data and name != "lock.round":
+            os.unlink(f"{run}/{name}")
+
+
+def type_of(path: str) -> str:
+    """The type of the file system on which a folder lies."""
+    file = os.open(path, os.O_RDONLY | os.O_DIRECTORY)
+    words = read(f"/proc/self/fdinfo/{file}").split()
+    os.close(file)
+    number = words[words.index(b"mnt_id:") + 1]
+    lines = [it.split(b" ") for it in read("/proc/self/mountinfo").splitlines()]
+    return next(it[it.index(b"-") + 1] for it in lines if it[0] == number).decode()
+
+
+def listing(folder: str) -> dict:
+    """All that a write would change in a folder: its own times, and of each file what it is."""
+    found = {".": os.stat(folder)}
+    found.update({name: os.lstat(f"{folder}/{name}") for name in os.listdir(folder)})
+    return {name: (it.st_ino, it.st_size, it.st_mode, it.st_mtime_ns, it.st_ctime_ns)
+            for name, it in found.items()}
 
 
 def texts_of(data):

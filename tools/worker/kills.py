@@ -8,7 +8,7 @@ import signal
 from worker import folder
 from worker.scene import KILLED, LATER, LEFT, MEMORY, OVER, READ, WRITE, Runner, each, finish, live, see_out, serve, want
 
-CHANGES = ("write", "cut", "sync", "rename", "lock", "folder", "remove", "say", "hear")
+CHANGES = ("write", "cut", "sync", "rename", "lock", "folder", "link", "remove", "say", "hear")
 INTERRUPTED = ("open", "read", "write", "cut", "sync", "lock", "say", "hear")
 
 

@@ -60,6 +60,8 @@ class Bench:
         self.program, self.room, self.is_long, self.mistake = os.path.abspath(program), os.path.realpath(room), is_long, mistake
         self.draws, self.seed, self.scenes, self.skipped, self.processes = random.Random(seed), seed, 0, [], 0
         self.library, self.runners, self.watches, self.end, self.last = f"{self.room}/faults.so", [], True, None, None
+        kind = folder.type_of(self.room)
+        self.kind = [] if kind in folder.TAKEN else ["--file-system", kind]  # (as in a container)
 
     def command(self):
         return [sys.executable, "-I", "-S", self.program] if self.is_slow() else [self.program]
@@ -95,7 +97,7 @@ class Scene:
     """One run: its folder, its jobs, and the account of what happened."""
 
     def __init__(self, bench, room, lines, workers, beta=None, makes=True):
-        """Makes the run's folder itself, or leaves that to the door."""
+        """Makes the run's folder itself, as the door does, or leaves that to the door."""
         self.bench, self.room, self.workers, self.beta = bench, room, workers, beta
         self.run, self.jobs, self.boot, self.log = f"{room}/run", f"{room}/jobs", f"{room}/boot", f"{room}/log"
         self.account, self.acknowledged, self.answers, self.by = [], {}, {}, {}
@@ -103,7 +105,7 @@ class Scene:
         self.write_jobs([f"job {k}" for k in range(1, lines + 1)])
         self.start_machine()
         if makes:
-            os.mkdir(self.run, 0o700)
+            folder.make(self.run)
 
     def door(self):
         status, _, err = self.call("door", self.run, *self.givens(), self.jobs)
@@ -122,6 +124,14 @@ class Scene:
     def givens(self):
         return ["--workers", str(self.workers)] + (["--beta", str(self.beta)] if self.beta else [])
 
+    def common(self, words=()):
+        """The options of each command, but those that these words have."""
+        return ["--boot-id", self.boot] + ([] if "--file-system" in words else self.bench.kind)
+
+    def id(self) -> str:
+        """The run's id, as its folder says."""
+        return folder.read(f"{self.run}/id").decode().strip()
+
     def environment(self, faults=None):
         """What a process of this run is given: the library of faults, and where it writes the calls down."""
         named = {"PATH": os.environ["PATH"], "LD_PRELOAD": self.bench.library, "AMO_RUN": self.run, "AMO_JOBS": self.jobs,
@@ -133,8 +143,9 @@ class Scene:
     def call(self, command, *words, faults=None):
         """A command that ends by itself: its status and what it wrote on both streams."""
         self.bench.processes += 1
-        ran = subprocess.run([*self.bench.command(), command, *words, "--boot-id", self.boot], stdin=subprocess.DEVNULL,
-                             capture_output=True, timeout=120, env=self.environment(faults))
+        ran = subprocess.run([*self.bench.command(), command, *words, *self.common(words)],
+                             stdin=subprocess.DEVNULL, capture_output=True, timeout=120,
+                             env=self.environment(faults))
         return ran.returncode, ran.stdout.decode("utf-8", "replace"), ran.stderr.decode("utf-8", "replace")
 
     def logged(self):
@@ -293,7 +304,8 @@ class Runner:
         scene.bench.processes += 1
         words = [*scene.bench.command(), "work", scene.run, str(self.worker), *scene.givens(), scene.jobs]
         pipes = dict.fromkeys(("stdin", "stdout", "stderr"), subprocess.PIPE)
-        self.process = subprocess.Popen([*words, "--boot-id", scene.boot], **pipes, bufsize=0, env=scene.environment(faults))
+        self.process = subprocess.Popen([*words, *scene.common()], **pipes, bufsize=0,
+                                        env=scene.environment(faults))
         self.rest, self.waiting, self.lines = b"", None, []
         return self
 

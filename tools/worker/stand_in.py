@@ -21,7 +21,7 @@ import time
 MISTAKES = ("intent_after_the_act pending_is_open guard_is_removed words_of_another_boot cut_line_is_kept last_journal_wins"
             " opens_without_settling folder_synced_by_the_maker_alone lists_without_settling own_words_forgotten"
             " claim_after_the_act readers_without_a_lock missing_is_empty empty_is_empty id_is_replaced id_first"
-            " made_in_place old_run_is_settled old_run_is_worked running_is_refused id_is_not_compared"
+            " id_before_the_sync emptied_by_recovery old_run_is_settled old_run_is_worked running_is_refused id_is_not_compared"
             " forgotten_is_taken users_files_are_refused leftovers_are_taken").split()
 MISTAKE = os.environ.get("AMO_MISTAKE")
 LOCAL = "ext2 ext3 ext4 xfs btrfs f2fs zfs".split()
@@ -185,7 +185,9 @@ class Journal:
         if texts and gate is not None:
             put_at(self.file, self.path, b"+", gate)
             sync(self.file, self.path)
-        if len(data) > self.end + 1:
+        if MISTAKE == "emptied_by_recovery":
+            called(73, self.path, os.ftruncate, self.file, self.end)
+        elif len(data) > self.end + 1:
             called(73, self.path, os.ftruncate, self.file, self.end + 1)
             sync(self.file, self.path)
         put_at(self.file, self.path, b"-", self.end)
@@ -694,6 +696,8 @@ def make_in_place(it):
         what = "it was made by amo 0.1.0" if "record" in made else f"it has no id, but {min(made, default='files')}"
         raise End(65, f"{it.run}: {what}")
     for name in ["id", *PARTS] if MISTAKE == "id_first" else [*PARTS, "id"]:
+        if name == "id" and MISTAKE != "id_before_the_sync":
+            sync_folder(it.run)  # so that no cut of power keeps this name and loses another
         path, new = f"{it.run}/{name}", f"{it.run}/door.{drawn().decode()}.new"
         if name in found:
             fill_empty(path, first_bytes(name))
@@ -710,11 +714,17 @@ def make_in_place(it):
 
 
 def fill_empty(path, data):
-    """Gives a file that is empty its first bytes, under its lock: so nobody has begun to write there."""
-    file = opened(path, os.O_RDWR, 73)
-    if data and os.fstat(file).st_size == 0 and has_lock(file, path, fcntl.LOCK_EX) and os.fstat(file).st_size == 0:
-        put_at(file, path, data, 0)
-        sync(file, path)
+    """Gives a file that is empty its first bytes, under its lock: so nobody has begun to write there. (Renamed over it, another
+    file might take the place of one in which a worker has written meanwhile.)"""
+    file, end = opened(path, os.O_RDWR, 73), time.monotonic() + PATIENCE
+    while data and os.fstat(file).st_size == 0:
+        if has_lock(file, path, fcntl.LOCK_EX) and os.fstat(file).st_size == 0:
+            put_at(file, path, data, 0)
+            sync(file, path)
+        elif time.monotonic() > end:
+            raise End(LATER, f"{path}: another process has its lock")
+        else:
+            time.sleep(0.02)
     os.close(file)
 
 
@@ -726,7 +736,7 @@ def make(it):
             raise End(65, f"{it.run}: the run's folder is missing")
         check_mount(it, above)
         check_list(it)
-        if it.is_into or MISTAKE == "made_in_place":
+        if it.is_into:
             called(73, it.run, os.mkdir, it.run, 0o700)
         else:
             make_beside(it)
