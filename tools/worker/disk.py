@@ -75,7 +75,8 @@ class Disk:
         self.beside = {}  # of each folder beside: what stands in it, and of that what is kept
         self.jobs, self.is_there, self.is_kept = File(content(scene.jobs)), os.path.isdir(scene.run), os.path.isdir(scene.run)
         for name in os.listdir(scene.run) if self.is_there else ():
-            self.names[name] = File(content(f"{scene.run}/{name}"))
+            if os.path.isfile(f"{scene.run}/{name}"):
+                self.names[name] = File(content(f"{scene.run}/{name}"))
         self.kept = dict(self.names)
 
     def replay(self):
@@ -202,12 +203,9 @@ class Power:
             self.begin()
 
     def begin(self):
-        """Where there is no folder, the door makes it, or it is made here and kept."""
+        """Makes the folder by the door if there is none."""
         if not os.path.isdir(self.scene.run):
             self.scene.door()
-        if not os.path.isdir(self.scene.run):
-            os.mkdir(self.scene.run, 0o700)
-            self.disk.is_there = self.disk.is_kept = True
 
     def cut(self, runners=(), how="drawn"):
         """Ends all at one moment, and leaves the folder as the disk may have kept it; the machine starts anew."""
@@ -242,11 +240,12 @@ class Power:
 
     def runners_files(self, how):
         """Of the locks that runners made, which nobody syncs, those that are left."""
-        names = [it for it in os.listdir(self.scene.run) if it.startswith(("runner.", "command."))]
+        there = os.listdir(self.scene.run) if os.path.isdir(self.scene.run) else ()
+        names = [it for it in there if it.startswith(("runner.", "command."))]
         return [it for it in names if how == "all" or how == "drawn" and self.draws.random() < 0.5]
 
     def rebuild(self, left, jobs):
-        shutil.rmtree(self.scene.run)
+        shutil.rmtree(self.scene.run, ignore_errors=True)
         with open(self.scene.jobs, "wb") as file:
             file.write(jobs)
         if left is None:

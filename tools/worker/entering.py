@@ -1,5 +1,5 @@
-"""What lets a worker in, and what it waits for: its number, the boot id, the path of the folder, folders that two make at once, what
-earlier processes have left half made, locks that others hold for a while or for ever."""
+"""What lets a worker in, and what it waits for: its number, the boot id, the path of the folder, what earlier processes have left
+half made, locks that others hold for a while or for ever."""
 
 import fcntl
 import os
@@ -12,7 +12,7 @@ from worker import folder
 from worker.crowd import Reader
 from worker.kills import first_life, state_of
 from worker.persons import prepared
-from worker.scene import DOOR, LATER, LEFT, OVER, READ, REFUSED, WORDS, Runner, each, finish, live, serve, want
+from worker.scene import DOOR, LATER, OVER, READ, REFUSED, WORDS, Runner, each, finish, live, serve, want, LEFT
 
 
 def is_stand_in(bench):
@@ -64,7 +64,7 @@ def try_boot_ids(bench):
     want(folder.record_of(scene.run)["boot"] == "b" * 200, "the record has another boot id")
     os.unlink(scene.boot)
     get_in(scene, 1, READ, "the boot id")
-    words = [*bench.command(), "work", scene.run, "1", *scene.givens(), scene.jobs]
+    words = [*bench.command(), "work", scene.run, "1", *scene.givens(), *bench.kind, scene.jobs]
     scene.write_jobs(["job 1", "job 2", "job 3"])
     subprocess.run(words, stdin=subprocess.DEVNULL, capture_output=True, timeout=60, env=scene.environment())
     system = folder.read("/proc/sys/kernel/random/boot_id").decode().strip()
@@ -79,9 +79,11 @@ def go_by(bench, path):
     scene.logs = True
     status, _, err = scene.call("door", path, *scene.givens(), scene.jobs)
     want(status == OVER and os.path.isdir(scene.run), f"status {status}, {err}")
-    calls = [it[2:4] for it in scene.logged()]  # (those by another path than this one aren't told)
-    is_synced = ["sync", ".."] in calls[calls.index(["folder", "."]):] if path.startswith("run") else True
-    want(is_synced, "the folder above isn't synced")
+    calls = scene.logged()  # (those by another path than this one aren't told)
+    named = next((k for k, it in enumerate(calls) if it[2] == "rename" and it[8] == "."), 0)
+    is_synced = any(it[2:4] == ["sync", ".."] for it in calls[named:])
+    want(is_synced or not path.startswith("run"), "the folder above isn't synced")
+    want(sorted(os.listdir(scene.room)) == sorted(["boot", "jobs", "link", "log", "run"]), "something is left")
     status, _, err = scene.call("work", path, "1", *scene.givens(), scene.jobs)
     want(status == LEFT and folder.record_of(scene.run), f"status {status}, {err}")
     finish(scene)
@@ -96,10 +98,12 @@ def refused_before(bench, prepare, status):
     """What can't be that of a run is refused before the folder is made."""
     scene = bench.scene(1, 1, makes=False)
     run = prepare(scene) or scene.run
-    for command in (["door", run], ["work", run, "1"]):
+    for command, wanted in ((["door", run], status), (["work", run, "1"], READ)):
         ended, out, err = scene.call(*command, *scene.givens(), scene.jobs)
-        want(ended == status and not out and err.count("\n") == 1, f"{command}: status {ended}, {err}")
-        want(not os.path.exists(run), f"{command[0]} makes a folder though it refuses")
+        want(ended == wanted and not out and err.count("\n") == 1, f"{command}: status {ended}, {err}")
+        above = os.path.dirname(run)
+        made = [it for it in os.listdir(above) if it.startswith("run")] if os.path.isdir(above) else []
+        want(not made, f"{command[0]} makes {made} though it refuses")
 
 
 def in_memory(scene):
@@ -111,42 +115,11 @@ def in_memory(scene):
 
 def try_nothing_is_made(bench):
     """a list that is refused or isn't there, a folder above that isn't there or lies in memory: the run's folder isn't made"""
-    if is_stand_in(bench):
-        return
     rows = [(lambda scene: scene.write_jobs(["a", "", "b"]), REFUSED), (lambda scene: scene.write_jobs(["a"], ""), REFUSED),
             (lambda scene: os.unlink(scene.jobs), READ), (lambda scene: f"{scene.room}/none/run", READ)]
     if any(" /dev/shm " in it and " - tmpfs " in it for it in folder.read("/proc/self/mountinfo").decode().splitlines()):
         rows.append((in_memory, DOOR))
     each(((bench, *row) for row in rows), refused_before)
-
-
-def two_at_the_door(bench, between, status):
-    """A door is stopped before it makes the folder, which is made meanwhile, or something else of its name."""
-    scene = bench.scene(1, 1, makes=False)
-    scene.logs = True
-    scene.door()
-    number = next(int(it[1]) for it in scene.logged() if it[2] == "folder")
-    scene = bench.scene(1, 1, makes=False)
-    scene.logs = True
-    door = Reader(scene, "door", *scene.givens(), scene.jobs, faults=f"{number}:stop_before")
-    while state_of(door) not in "TZ":
-        time.sleep(0.002)
-    between(scene)
-    door.process.send_signal(signal.SIGCONT)
-    ended, _, err = door.ended()
-    want(ended == status, f"status {ended}, {err}")
-    calls = scene.logged()
-    failed = next(k for k, it in enumerate(calls) if it[2] == "folder" and int(it[7]) < 0)
-    is_synced = any(it[2:4] == ["sync", ".."] and it[0] == calls[failed][0] for it in calls[failed:])
-    want(is_synced == (status == OVER), f"the folder above is synced: {is_synced}")
-
-
-def try_two_at_the_door(bench):
-    """the folder is made by another door, or its name taken by a file, between the look and the making"""
-    if is_stand_in(bench):
-        return
-    rows = [(lambda scene: scene.door(), OVER), (lambda scene: open(scene.run, "w").close(), DOOR)]
-    each(((bench, *row) for row in rows), two_at_the_door)
 
 
 def try_half_made(bench):
@@ -275,6 +248,6 @@ def try_last_words(bench):
     want(int.from_bytes(entry, "little") == 4096, "the job in hand isn't filed in the last entry")
 
 
-PARTS = {"door": [try_each_number, try_boot_ids, try_paths, try_nothing_is_made, try_two_at_the_door],
+PARTS = {"door": [try_each_number, try_boot_ids, try_paths, try_nothing_is_made],
          "crews": [try_half_made, try_nothing_is_removed, try_what_a_worker_holds, try_locks_that_come_free, try_locks_for_ever,
                    try_last_words]}

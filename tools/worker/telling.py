@@ -160,8 +160,9 @@ def try_lines_of_lives(bench):
 def failing_output(scene, words):
     """A command whose standard output takes nothing."""
     with open("/dev/full", "wb") as out:
-        ran = subprocess.run([*scene.bench.command(), *words], stdin=subprocess.DEVNULL, stdout=out, stderr=subprocess.PIPE,
-                             timeout=60, env=scene.environment())
+        more = scene.bench.kind if "--help" not in words else []
+        ran = subprocess.run([*scene.bench.command(), *words, *more], stdin=subprocess.DEVNULL, stdout=out,
+                             stderr=subprocess.PIPE, timeout=60, env=scene.environment())
     said = ran.stderr.decode()
     want(ran.returncode == WRITE and said.startswith("amo_worker: standard output can't be written: ") and said.count("\n") == 1,
          f"{words}: status {ran.returncode}, {said}")
@@ -275,22 +276,6 @@ def try_order_of_reads(bench):
     want(not wrongs, f"in another order: {wrongs}")
 
 
-def try_answers_that_can_not_be_made(bench):
-    """where nobody has found out anything yet, and there is no room for the file of that, who looks is shown all the same"""
-    if bench.is_slow():
-        bench.skipped.append("the stand-in makes that file in each case")
-        return
-    scene = prepared(bench, ["done 0", "doubt", "untouched 75"], lines=4)
-    want(not os.path.exists(f"{scene.run}/answers"), "there is a file of answers")
-    scene.logs = True
-    whole = scene.call("status", scene.run)
-    scene.logs, calls = False, scene.logged()
-    os.unlink(f"{scene.run}/answers")
-    number = next(int(it[1]) for it in calls if it[2:4] == ["open", "answers"])
-    found = scene.call("status", scene.run, faults=f"{number}:{errno.ENOSPC}")
-    want(found == whole and not os.path.exists(f"{scene.run}/answers"), f"{found}, and not {whole}")
-
-
 def try_cut_while_asked(bench):
     """input that ends while a worker asks what became of an intent: it ends too, and puts nothing"""
     scene = answerable(bench)
@@ -300,5 +285,5 @@ def try_cut_while_asked(bench):
     want(len(folder.texts_of(folder.read(f"{scene.run}/journal.1"))) == 1, "something is noted")
 
 
-PARTS = {"persons": [try_lines_of_faults, try_outputs, try_times, try_order_of_reads, try_answers_that_can_not_be_made],
+PARTS = {"persons": [try_lines_of_faults, try_outputs, try_times, try_order_of_reads],
          "commands": [try_lines_of_lives, try_what_is_held, try_cut_while_asked]}

@@ -5,6 +5,7 @@ import os
 import re
 
 from worker import folder
+from worker.folder import put
 from worker.persons import Says, prepared
 from worker.scene import DOOR, LATER, LEFT, OVER, READ, REFUSED, SENSELESS, Runner, each, finish, live, want
 
@@ -16,16 +17,16 @@ def counts_in(out):
     return dict(zip(words[::2], map(int, words[1::2])))
 
 
-def put(path, data):
-    with open(path, "wb") as file:
-        file.write(data)
-
-
 def read_as(scene, name, data):
     """With these bytes in a file, status says what the auditor reads, or refuses the text that the auditor refuses; no text goes
     or comes. Whether it was read."""
     put(f"{scene.run}/{name}", data)
     before = folder.texts_of(data)
+    if not data:
+        status, out, err = scene.call("status", scene.run)
+        named = name in err.replace(scene.run, "RUN")
+        want(status == REFUSED and not out and named, f"{name} is empty: status {status}, {out or err}")
+        return False
     try:
         found = scene.look()
         wanted = found.counts(found.final())
@@ -48,13 +49,17 @@ def read_as(scene, name, data):
 
 def cut_one(scene, name, data, length, works):
     """Cut at this byte; and, where it is read, the next worker keeps its texts, and puts the next behind them. What is cut away was
-    acknowledged, and isn't looked for."""
+    acknowledged, and isn't looked for. At no moment is the file empty."""
     scene.acknowledged.clear()
     put(f"{scene.run}/{name}", data)
     if read_as(scene, name, data[:length]) and works:
-        runner = Says(scene, 1, ["unbegun"])
+        runner, scene.logs = Says(scene, 1, ["unbegun"]), True
         live(runner)
         runner.close()
+        scene.logs, calls = False, scene.logged()
+        os.unlink(scene.log)
+        emptied = [it for it in calls if it[2:4] == ["cut", name] and it[5] == "0"]
+        want(not emptied, f"{name} is empty for a moment, by {emptied}")
         texts = folder.texts_of(folder.read(f"{scene.run}/{name}"))
         kept = folder.texts_of(data[:length])
         want(runner.statuses[0] in (LEFT, OVER), f"status {runner.statuses}: {runner.said}")
@@ -96,6 +101,8 @@ def try_changed(bench):
 
 def try_behind_a_gate(bench):
     """what stands behind a closed gate counts for nothing, and is gone once somebody goes on"""
+    empty = bench.scene(3, 1)
+    cut_one(empty, "journal.1", b"-intent 1 1 1\n+", 15, True)
     for end in (b"-intent 8 8 1\n", b"+intent 8 8 1", b"-doubt 1\n+doubt 1\n", b"+doubt 4", b"\0\0\0\0", b"-" * 5000,
                 b"x+doubt 4\n", b""):
         scene = journals(bench)
