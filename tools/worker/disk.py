@@ -207,7 +207,7 @@ class Power:
         if not os.path.isdir(self.scene.run):
             self.scene.door()
 
-    def cut(self, runners=(), how="drawn"):
+    def cut(self, runners=(), how="drawn", begins=True):
         """Ends all at one moment, and leaves the folder as the disk may have kept it; the machine starts anew."""
         with self.scene.still():
             for it in runners:
@@ -222,7 +222,8 @@ class Power:
             self.keep(left, jobs)
         self.scene.start_machine()
         self.disk = Disk(self.scene, self.draws, self.fails)
-        self.begin()
+        if begins:
+            self.begin()
 
     def keep_all(self):
         """From now on all that there is is on the disk."""

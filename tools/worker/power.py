@@ -107,28 +107,6 @@ def try_cut_at_each_call(bench):
     return f"{count} cuts"
 
 
-def door_one(bench, number):
-    """The door is killed at this call, and another goes through it; a line is performed, and then power is cut."""
-    scene = bench.scene(3, 1, makes=False)
-    power = Power(scene, bench.draws, begins=False)
-    scene.call("door", scene.run, *scene.givens(), scene.jobs, faults=f"{number}:kill_after")
-    power.begin()
-    scene.door()
-    runner = Runner(scene, 1)
-    serve([runner.start()], until=lambda: scene.effects())
-    power.cut([runner], "none")
-    settle_doubts(scene)
-    power.close()
-
-
-def try_door_killed_and_cut(bench):
-    """the door, killed at each call: the folder that it made has its name for certain before a line is performed"""
-    scene = bench.scene(3, 1, makes=False)
-    scene.logs = True
-    scene.door()
-    return f"{each(((bench, int(it[1])) for it in scene.logged()), door_one)} kills"
-
-
 def list_one(bench, number, fault, how):
     """Worker and runner are killed; what is in doubt is listed; then power is cut. What was listed stays a doubt."""
     scene = bench.scene(3, 1, makes=False)
@@ -244,5 +222,5 @@ def try_order(bench):
 
 
 PARTS = {"order": [try_order],
-         "cuts": [try_cut_at_each_call, try_killed_and_cut, try_door_killed_and_cut, try_listed_and_cut, try_failed_sync_and_cut,
+         "cuts": [try_cut_at_each_call, try_killed_and_cut, try_listed_and_cut, try_failed_sync_and_cut,
                   try_failed_answers_and_cut, try_words_of_another_boot]}

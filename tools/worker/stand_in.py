@@ -662,6 +662,16 @@ def write_new(path, data):
     os.close(file)
 
 
+def make_folder(it):
+    """Makes the folder under its own name, if it isn't there by then."""
+    try:
+        called(None, it.run, os.mkdir, it.run, 0o700)
+    except FileExistsError:
+        pass
+    except OSError as error:
+        raise End(73, f"{it.run}: {error.strerror}") from error
+
+
 def make_beside(it):
     """Makes the folder whole beside, and gives it its name; if something has that name by then, that is gone on with."""
     new = f"{it.run}.new-{drawn().decode()}"
@@ -736,10 +746,7 @@ def make(it):
             raise End(65, f"{it.run}: the run's folder is missing")
         check_mount(it, above)
         check_list(it)
-        if it.is_into:
-            called(73, it.run, os.mkdir, it.run, 0o700)
-        else:
-            make_beside(it)
+        (make_folder if it.is_into else make_beside)(it)
     enter_folder(it)
     if not is_there(f"{it.run}/id"):
         if it.id:
