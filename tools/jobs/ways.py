@@ -73,10 +73,11 @@ def try_refusals(bench):
     scene.run = f"{scene.room}/other"
     scene.ends(scene.start(), REFUSED)
     want(not os.path.exists(scene.run), "a refused call made the folder")
-    scene.ends(scene.start("--new-run", command=["true"]), DONE)
+    old = folder.read(f"{first}/id").decode().strip()
+    scene.ends(scene.start("--new-run", old, command=["true"]), DONE)
     scene.run = first
     scene.ends(scene.start(), REFUSED)
-    for words in (["--workers", "17"], ["--workers", "0"], ["--timeout", "x"], ["--untouched", "256"], ["--halt", "-1"]):
+    for words in (["--new-run", "x"], ["--workers", "17"], ["--workers", "0"], ["--timeout", "x"], ["--untouched", "256"], ["--halt", "-1"]):
         scene.ends(scene.start(*words), WORDS)
     scene.call("work", "--worker", "2", "--workers", "1", scene.jobs, "--", "true", status=WORDS)
     scene.call("stat", status=WORDS)
@@ -218,7 +219,7 @@ def try_leftovers(bench):
     want(f"process {left} (sh -c" in scene.tale(), f"who holds it isn't told: {scene.tale()}")
     want(f"process {left} " in scene.call("status", status=DOUBTFUL), "the status names nobody")
     want(scene.call("doubts") == "", "it is listed while it runs")
-    scene.call("answer", "1.1", "1", "stays", "not-done", status=REFUSED)
+    scene.call("answer", "1.1", "1", "stays", "not-done", status=LATER)
     open(f"{scene.room}/over", "w").close()
     until(lambda: scene.call("doubts"), "it is listed once it has ended")
 
@@ -359,7 +360,7 @@ def try_disk_full(bench):
         scene = bench.scene(["hundred"] * long_codes + ["other"] * (120 - long_codes), 1, ["--halt", "0"])
         disk = f"{scene.room}/disk"
         os.mkdir(disk)
-        if subprocess.run(["mount", "-t", "tmpfs", "-o", "size=40k", "tmpfs", disk], stderr=subprocess.DEVNULL).returncode:
+        if subprocess.run(["mount", "-t", "tmpfs", "-o", "size=104k", "tmpfs", disk], stderr=subprocess.DEVNULL).returncode:
             bench.skipped.append("a full disk, since no tmpfs can be mounted")
             return None
         try:
