@@ -4,10 +4,11 @@
 AMO_REAL is the program of the worker. AMO_ROOM has `effects`, and `moments`, which counts them over all workers of a run: before
 and after each line of the worker is handed on, once the command has begun and once it did its work, and before and after each
 answer is handed on. AMO_PLAN is NUMBER:WHO+WHO, of runner, worker and command, each with `~` before it where it is stopped for a
-while."""
+while, and for as long as there is a file AMO_ROOM/held."""
 
 import fcntl
 import os
+import select
 import signal
 import subprocess
 import sys
@@ -16,6 +17,8 @@ import time
 REAL, ROOM = os.environ["AMO_REAL"], os.environ["AMO_ROOM"]
 AT, _, WHO = os.environ.get("AMO_PLAN", "0:").partition(":")
 STOPPED = 0.7
+# How long a word of a command is waited for, while its runner lives and once that is gone.
+LONGEST, ALONE = 240, 0.6
 
 
 def read(path):
@@ -43,7 +46,8 @@ def befall(process, is_killed):
     except ProcessLookupError:
         return
     if not is_killed:
-        subprocess.Popen(["sh", "-c", f"sleep {STOPPED}; kill -CONT {process}"], stdin=subprocess.DEVNULL, start_new_session=True)
+        goes_on = f'sleep {STOPPED}; while [ -e "$0/held" ]; do sleep 0.05; done; kill -CONT {process}'
+        subprocess.Popen(["sh", "-c", goes_on, ROOM], stdin=subprocess.DEVNULL, start_new_session=True)
 
 
 def moment(worker, name, line, kind):
@@ -65,18 +69,29 @@ def moment(worker, name, line, kind):
                 os.kill(os.getpid(), signal.SIGKILL)
 
 
-def wait_for(word, name, line):
+def is_over(lock):
+    """Whether the runner has answered, or is gone, and nothing of the command is left."""
+    return bool(select.select([0], [], [], 0)[0]) and not os.path.exists(lock)
+
+
+def wait_for(word, name, line, lock, runner):
     """Waits until the command has written this down, or is gone."""
-    end = time.monotonic() + 0.6
+    end, gone = time.monotonic() + LONGEST, False
     while time.monotonic() < end:
+        over = is_over(lock)
         if f"{word} {name}" in read(f"{ROOM}/effects/{line}"):
             return True
+        if over:
+            return False
+        if not gone and os.getppid() != runner:
+            gone, end = True, time.monotonic() + ALONE
         time.sleep(0.004)
     return False
 
 
-def relay(worker, number_of_worker):
+def relay(worker, run, number_of_worker):
     """Hands lines on in both directions, one after the other."""
+    runner = os.getppid()
     while True:
         said = worker.stdout.readline()
         if not said.endswith(b"\n"):
@@ -89,7 +104,7 @@ def relay(worker, number_of_worker):
         moment(worker, name, line, "said")
         if kind == b"perform" and WHO:
             for word in ("begun", "did"):
-                if wait_for(word, name, line):
+                if wait_for(word, name, line, f"{run}/command.{name}", runner):
                     moment(worker, name, line, word)
         answer = sys.stdin.buffer.readline()
         moment(worker, name, line, "unanswered")
@@ -106,7 +121,7 @@ def main(words):
         os.execv(REAL, [REAL, *words])
     worker = subprocess.Popen([REAL, *words], stdin=subprocess.PIPE, stdout=subprocess.PIPE)
     try:
-        relay(worker, words[2])
+        relay(worker, words[1], words[2])
     except BrokenPipeError:
         pass
     worker.stdin.close() if not worker.stdin.closed else None

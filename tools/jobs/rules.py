@@ -7,41 +7,44 @@ import time
 from jobs.scene import DONE, DOUBTFUL, LATER, LEFT, want
 
 
-def until(is_so, what, seconds=60):
-    """Waits for something."""
+def until(is_so, what, seconds=240):
+    """Waits for something, far longer than a loaded machine needs for it."""
     end = time.monotonic() + seconds
     while not is_so():
         want(time.monotonic() < end, f"it never is so: {what}")
         time.sleep(0.01)
 
 
-def orphan(bench):
-    """A run whose crew was killed after its command had begun, and which stands still before it does anything; and that command."""
-    scene = bench.scene(["late", "quick", "quick"])
+def orphan(bench, kind="waits"):
+    """A run whose crew was killed after its command had begun, which waits before it does anything;
+    and that command's process."""
+    scene = bench.scene([kind, "quick", "quick"])
     crew = scene.start()
-    until(lambda: [it for it in scene.tales(1) if it[0] == "begun"], "the command has begun")
-    command = int(scene.tales(1)[0][2])
-    os.kill(command, signal.SIGSTOP)
-    want(len(scene.tales(1)) == 1, "the command was too quick for this test")
+    until(lambda: scene.tales(1), "the command has begun")
     crew.kill()
     crew.wait()
-    return scene, command
+    return scene, int(scene.tales(1)[0][2])
 
 
-def go_on(command):
-    """Has a command that stands still go on to its end."""
-    os.kill(command, signal.SIGCONT)
+def go_on(scene, command):
+    """Has a command that waits go on to its end."""
+    scene.let("go", "over")
     until(lambda: not os.path.exists(f"/proc/{command}"), "the command ends")
+
+
+def look_on(scene):
+    """Starts a crew, which has to end while the command of line 1 waits; its status."""
+    return scene.start().wait(240)
 
 
 def try_orphan(bench):
     """a command whose runner was killed is running, for the next runner and for who asks, until nothing of it is left"""
     scene, command = orphan(bench)
     scene.person()
-    status = scene.start().wait(100)
+    status = look_on(scene)
     scene.person()
     counts = scene.counts(status=None)
-    go_on(command)
+    go_on(scene, command)
     scene.see_out()
     scene.audit()
     want(status == DOUBTFUL and counts["running"] == 1, f"it was no longer running: {counts}, status {status}")
@@ -52,8 +55,8 @@ def try_words_lost(bench):
     """where the words are lost a new round is begun, and what runs is no part of it"""
     scene, command = orphan(bench)
     os.unlink(f"{scene.run}/words")
-    scene.start().wait(100)
-    go_on(command)
+    look_on(scene)
+    go_on(scene, command)
     scene.see_out()
     scene.audit()
 
@@ -61,25 +64,26 @@ def try_words_lost(bench):
 def try_running_is_not_answered(bench):
     """a person who is too quick is refused"""
     scene, command = orphan(bench)
-    scene.call("answer", "1.1", "1", "1 late", "not-done", status=None)
-    scene.start().wait(100)
-    go_on(command)
+    scene.call("answer", "1.1", "1", "1 waits", "not-done", status=None)
+    look_on(scene)
+    go_on(scene, command)
     scene.see_out()
     scene.audit()
 
 
 def try_two_persons(bench):
     """of two who saw one doubt the later one answers nothing that came after it"""
-    scene, command = orphan(bench)
+    scene, command = orphan(bench, "waits_stays")
     os.kill(command, signal.SIGKILL)
     until(lambda: "1.1, line 1" in scene.call("doubts"), "it is listed")
-    scene.call("answer", "1.1", "1", "1 late", "not-done")
+    scene.call("answer", "1.1", "1", "1 waits_stays", "not-done")
     crew = scene.start()
     until(lambda: [it for it in scene.tales(1) if it[0] == "did"], "it is performed once more")
     crew.kill()
     crew.wait()
+    scene.let("go", "over")
     until(lambda: "1.2, line 1" in scene.call("doubts"), "it is listed once more")
-    scene.call("answer", "1.1", "1", "1 late", "not-done", status=None)
+    scene.call("answer", "1.1", "1", "1 waits_stays", "not-done", status=None)
     scene.see_out()
     scene.audit()
 
@@ -95,11 +99,13 @@ def try_late_line(bench):
 def try_two_crews(bench):
     """while a runner is stopped nobody else is the runner of its worker, so that no end that it saw is lost"""
     scene = bench.scene(["quick", "quick"])
+    scene.let("held")
     crew = scene.start(plan="5:~runner+worker")
-    until(lambda: len(scene.tales(1) + scene.tales(2)) > 1, "a command has ended")
-    time.sleep(0.2)
-    second = scene.start()
-    want(crew.wait(100) in (DONE, DOUBTFUL) and second.wait(100) in (DONE, DOUBTFUL, LATER), f"both end: {scene.tale()[-300:]}")
+    until(lambda: os.path.exists(f"{scene.room}/befallen"), "the runner stands still")
+    statuses = [scene.start().wait(240)]
+    os.unlink(f"{scene.room}/held")
+    statuses.append(crew.wait(240))
+    want(set(statuses) <= {DONE, DOUBTFUL, LATER}, f"{statuses}: {scene.tale()[-300:]}")
     scene.see_out()
     scene.audit()
     want(not scene.listed and " is in doubt" not in scene.tale(), f"an end that was seen is a doubt: {scene.tale()[-300:]}")
@@ -107,15 +113,18 @@ def try_two_crews(bench):
 
 def try_left_behind(bench):
     """what a shell leaves behind with & has the lock, and its line is neither done nor a doubt before that ends"""
-    scene = bench.scene(["late_amp", "quick"])
+    scene = bench.scene(["waits_amp", "quick"])
     crew = scene.start()
-    until(lambda: crew.poll() is not None or "runs on" in scene.tale(), "something is left behind")
-    time.sleep(0.3)
-    for it in scene.look().intents.values():
-        is_true = it.line != 1 or it.answer != "done" or ["did", it.name()] in scene.tales(1)
-        want(is_true, f"line 1 counts as done by {it.name()}, which did nothing yet")
+    until(lambda: crew.poll() is not None or scene.tales(2), "its worker has gone on")
     crew.kill()
     crew.wait()
+    for it in scene.look().intents.values():
+        is_true = it.line != 1 or it.answer != "done"
+        want(is_true, f"line 1 counts as done by {it.name()}, which did nothing yet")
+    scene.person()
+    look_on(scene)
+    scene.person()
+    scene.let("go")
     scene.see_out()
     scene.audit()
 
@@ -124,10 +133,13 @@ def try_closed(bench):
     """what closes all descriptors but the standard ones, as sudo does, has the lock"""
     scene = bench.scene(["closes", "quick"])
     crew = scene.start()
-    until(lambda: [it for it in scene.tales(1) if it[0] == "begun"], "the command has begun")
-    time.sleep(0.1)
+    until(lambda: os.path.exists(f"{scene.room}/closed"), "the command has closed them")
     crew.kill()
     crew.wait()
+    scene.person()
+    look_on(scene)
+    scene.person()
+    scene.let("go")
     scene.see_out()
     scene.audit()
 
@@ -144,11 +156,13 @@ def try_kept(bench):
 
 def try_noted_after_all(bench):
     """a runner whose worker died with an answer ends only once a next one has noted it, though a stop was asked for"""
-    scene = bench.scene(["late", "late"])
+    scene = bench.scene(["waits", "quick"])
     crew = scene.start(plan="5:worker")
-    until(lambda: scene.tales(1) + scene.tales(2), "a command has begun")
+    until(lambda: scene.tales(1), "the command has begun")
     crew.send_signal(signal.SIGTERM)
-    want(crew.wait(100) in (LEFT, DOUBTFUL), f"status {crew.poll()}")
+    until(lambda: "no further job" in scene.tale(), "the crew stops")
+    scene.let("go")
+    want(crew.wait(240) in (LEFT, DOUBTFUL), f"status {crew.poll()}")
     scene.see_out()
     scene.audit()
     want(not scene.listed, f"an end that was seen is a doubt: {scene.listed}")

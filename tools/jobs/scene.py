@@ -111,7 +111,7 @@ class Scene:
         """What the crews have said."""
         return folder.read(f"{self.room}/said").decode("utf-8", "replace")
 
-    def ends(self, crew, status, seconds=100):
+    def ends(self, crew, status, seconds=240):
         """Waits for the end of a crew, which has to have this status."""
         try:
             found = crew.wait(seconds)
@@ -121,7 +121,7 @@ class Scene:
 
     def call(self, command, *words, status=DONE):
         """A command for persons: what it writes. None in place of a status takes any."""
-        ran = subprocess.run(self.words(command, *words), stdin=subprocess.DEVNULL, capture_output=True, timeout=120,
+        ran = subprocess.run(self.words(command, *words), stdin=subprocess.DEVNULL, capture_output=True, timeout=240,
                              env=self.environment())
         want(status in (None, ran.returncode), f"{command}: status {ran.returncode}: {(ran.stdout + ran.stderr).decode()[-500:]}")
         return ran.stdout.decode()
@@ -132,9 +132,10 @@ class Scene:
     def look(self):
         return folder.Folder(self.run)
 
-    def go(self):
-        """Lets each command that waits go on."""
-        open(f"{self.room}/go", "w").close()
+    def let(self, *names: str):
+        """Lets the commands go on that wait for these files, `go` and `over`."""
+        for name in names:
+            open(f"{self.room}/{name}", "w").close()
 
     def tell(self, line, text):
         with open(f"{self.effects}/{line}", "a") as file:
@@ -155,7 +156,7 @@ class Scene:
             is_done = ["did", name] in self.tales(line)
             hand = not is_done and self.bench.draws.random() < by_hand
             verdict = "done" if is_done or hand else "not-done"
-            self.call("answer", "--", name, line, text, verdict)
+            self.answer(name, line, text, verdict)
             self.bench.add("doubts")
             self.bench.add(verdict)
             self.tell(line, f"answered {name} {verdict}")
@@ -163,7 +164,18 @@ class Scene:
                 self.tell(line, "did by-hand")
         return len(found)
 
-    def see_out(self, crew=None, seconds=240, pause=0.3, again=True, during=None, workers_of=lambda: None):
+    def answer(self, name: str, line: str, text: str, verdict: str, seconds=240):
+        """Answers a doubt; again where a crew that begins holds it just now."""
+        end = time.monotonic() + seconds
+        while True:
+            ran = subprocess.run(self.words("answer", "--", name, line, text, verdict), timeout=240,
+                                 stdin=subprocess.DEVNULL, capture_output=True, env=self.environment())
+            if ran.returncode == DONE:
+                return
+            told = f"answer {name} {verdict}: status {ran.returncode}: {ran.stderr.decode()[-500:]}"
+            want(ran.returncode == LATER and time.monotonic() < end, told)
+
+    def see_out(self, crew=None, seconds=600, pause=0.3, again=True, during=None, workers_of=lambda: None):
         """Starts crews, with a person beside them, until no line is open, in doubt or running; the status of the last one."""
         end = time.monotonic() + seconds
         crew = crew or self.start(workers=workers_of())

@@ -28,7 +28,7 @@ class Storm:
         self.begun = time.monotonic()
 
     def run(self):
-        self.scene.see_out(during=self.befall, workers_of=self.count, seconds=300)
+        self.scene.see_out(during=self.befall, workers_of=self.count, seconds=600)
         self.scene.audit()
 
     def count(self):

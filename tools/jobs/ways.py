@@ -7,7 +7,6 @@ import shutil
 import signal
 import subprocess
 import sys
-import time
 
 from jobs.scene import DONE, DOUBTFUL, FAILED, KILLED, LATER, LEFT, READ, REFUSED, WORDS, WRITE, want
 from jobs.rules import until
@@ -126,7 +125,7 @@ def try_status(bench):
     until(lambda: [it for it in scene.tales(2) if it[0] == "begun"], "the command has begun")
     name, process = scene.tales(2)[0][1:]
     told, words = scene.call("status", status=DOUBTFUL), f"act.sh {scene.room} 2 waits"
-    scene.go()
+    scene.let("go")
     wanted = f"process {process} ({words if len(words) <= 60 else words[:58] + '..'})"
     line = re.search(rf"^running {re.escape(name)}, line 2: 2 waits -- (.*)$", told, re.M)
     want(line and wanted in line[1], told)
@@ -143,7 +142,7 @@ def try_look(bench):
         file.write(f"#!/bin/sh\nexec {shlex.quote(bench.worker)} \"$@\"\n")
     os.chmod(f"{room}/worker", 0o755)
     os.symlink(bench.program, f"{room}/amo_jobs")
-    how = dict(cwd=room, stdin=subprocess.DEVNULL, capture_output=True, timeout=120, text=True,
+    how = dict(cwd=room, stdin=subprocess.DEVNULL, capture_output=True, timeout=240, text=True,
                env=scene.environment())
     cases = [([], "this list", "'this list'"), (["--run", "a folder"], "other", "--run 'a folder'")]
     for run, jobs, names in cases:
@@ -173,7 +172,7 @@ def try_boot_id(bench):
     unset = {it: value for it, value in scene.environment().items() if it != name}
     for environment, wanted in ((scene.environment(), warning), (unset, "")):
         for command in (["status"], ["status", "--lines", "failed"], ["doubts"], ["again"]):
-            ran = subprocess.run(scene.words(*command), stdin=subprocess.DEVNULL, timeout=120,
+            ran = subprocess.run(scene.words(*command), stdin=subprocess.DEVNULL, timeout=240,
                                  capture_output=True, env=environment)
             want((ran.returncode, ran.stderr.decode()) == (DONE, wanted), f"{command}: {ran}")
     scene.call("status", "--boot-id", scene.boot, status=WORDS)
@@ -181,56 +180,70 @@ def try_boot_id(bench):
 
 def try_timeout(bench):
     """a timeout sends TERM and then KILL to the whole group, and the job is in doubt; one that ends in time isn't"""
-    scene = bench.scene([], 3, ["--timeout", "0.4", "--grace", "0.3", "--linger", "0.1"])
-    with open(scene.jobs, "w") as file:
-        file.write("in time\npolite\ndeaf\n")
-    script = f"""cd {scene.room}; case $1 in polite) trap 'echo TERM > polite; exit 0' TERM; sleep 300 & wait;;
+    script = """cd "$1"; case $2 in polite) trap 'echo TERM > polite; exit 0' TERM; sleep 300 & wait;;
         deaf) trap '' TERM; sleep 300; sleep 300;; esac"""
-    scene.ends(scene.start(command=["sh", "-c", script, "sh"]), DOUBTFUL)
-    want(kinds_of(scene) == ["done", "doubt", "doubt"], f"{kinds_of(scene)}")
+    for seconds in ("0.4", "3", "20", "100"):  # (however long a shell takes to begin here, TERM has to come after that)
+        scene = bench.scene([], 2, ["--timeout", seconds, "--grace", "0.3", "--linger", "0.1"])
+        with open(scene.jobs, "w") as file:
+            file.write("polite\ndeaf\n")
+        scene.ends(scene.start(command=["sh", "-c", script, "sh", scene.room]), DOUBTFUL)
+        want(kinds_of(scene) == ["doubt", "doubt"], f"{kinds_of(scene)}")
+        if os.path.exists(f"{scene.room}/polite"):
+            break
     want(os.path.exists(f"{scene.room}/polite"), "TERM never came")
+    scene = bench.scene(["quick"], 1, ["--timeout", "300"])
+    scene.ends(scene.start(), DONE)
 
 
 def try_last_net(bench):
     """where the runner is gone the kernel's timer ends the command"""
     scene = bench.scene(["never"], 1, ["--timeout", "3", "--grace", "0.1"])
-    script = "import sys, time; open(sys.argv[1] + '/begun', 'w').close(); time.sleep(60)"
+    script = "import sys, time; open(sys.argv[1] + '/begun', 'w').close(); time.sleep(1000)"
     crew = scene.start(command=[sys.executable, "-c", script, scene.room])
     until(lambda: os.path.exists(f"{scene.room}/begun"), "the command runs")
-    want(scene.counts(status=DOUBTFUL)["running"] == 1, "it is running")
     crew.kill()
     crew.wait()
-    until(lambda: not list(scene.processes(script)), "the timer ends it", 30)
-    want(scene.counts(status=None)["doubt"] == 1, "it is in doubt then")
+    is_running = scene.counts(status=DOUBTFUL)["running"] == 1
+    want(is_running or not list(scene.processes(script)), "it runs, and isn't running")
+    until(lambda: not list(scene.processes(script)), "the timer ends it")
+    want(scene.counts(status=DOUBTFUL)["doubt"] == 1, "it is in doubt then")
 
 
 def try_leftovers(bench):
     """what a command leaves behind by &, nohup or setsid is running until it ends; the worker goes on meanwhile"""
-    scene = bench.scene(["amp", "nohup", "setsid", "quick", "slow", "slow", "slow"], 1, ["--linger", "0.05"])
-    scene.ends(scene.start(), DONE)
-    want("something that it began runs on" in scene.tale(), "nothing was left behind")
+    scene = bench.scene(["waits_amp", "waits_nohup", "waits_setsid", "quick", "stays"], 1, ["--linger", "0.05"])
+    crew = scene.start()
+    until(lambda: [it for it in scene.tales(5) if it[0] == "did"], "it goes on to the last line")
+    want(scene.tale().count("something that it began runs on") == 3, f"what is left behind isn't told: {scene.tale()}")
+    locks = [f"{scene.run}/command.{scene.tales(line)[0][1]}" for line in (1, 2, 3)]
+    scene.let("go")
+    until(lambda: all(map(folder.is_free, locks)), "what was left behind ends")
+    scene.let("over")
+    scene.ends(crew, DONE)
     scene.audit()
     scene = bench.scene([], 1, ["--linger", "0.05"])
     with open(scene.jobs, "w") as file:
         file.write("stays\n")
-    script = f"cd {scene.room}; (while ! [ -e over ]; do sleep 0.05; done) & echo $! > left"
-    scene.ends(scene.start(command=["sh", "-c", script, "sh"]), DOUBTFUL)
+    script = 'cd "$1"; (while [ -e jobs ] && ! [ -e over ]; do sleep 0.05; done) & echo $! > left'
+    scene.ends(scene.start(command=["sh", "-c", script, "sh", scene.room]), DOUBTFUL)
     left = folder.read(f"{scene.room}/left").decode().strip()
     want(f"process {left} (sh -c" in scene.tale(), f"who holds it isn't told: {scene.tale()}")
     want(f"process {left} " in scene.call("status", status=DOUBTFUL), "the status names nobody")
     want(scene.call("doubts") == "", "it is listed while it runs")
     scene.call("answer", "1.1", "1", "stays", "not-done", status=LATER)
-    open(f"{scene.room}/over", "w").close()
+    scene.let("over")
     until(lambda: scene.call("doubts"), "it is listed once it has ended")
 
 
 def try_first_signal(bench):
     """the first signal lets the command end and has its end noted; no further job is begun"""
     for number in (signal.SIGINT, signal.SIGTERM, signal.SIGHUP):
-        scene = bench.scene(["late", "quick", "quick"])
+        scene = bench.scene(["waits", "quick", "quick"])
         crew = scene.start()
         until(lambda: scene.tales(1), "a command has begun")
         crew.send_signal(number)
+        until(lambda: "no further job" in scene.tale(), "the signal is told")
+        scene.let("go")
         scene.ends(crew, LEFT)
         want(sorted(kinds_of(scene)) == ["done", "open", "open"], f"{number}: {kinds_of(scene)}")
         want(scene.see_out() == DONE and not scene.listed, "a stop in order leaves no doubt")
@@ -242,10 +255,9 @@ def try_second_signal(bench):
     scene = bench.scene([], 1, [])
     with open(scene.jobs, "w") as file:
         file.write("one\ntwo\n")
-    script = f"trap 'exit 5' INT; : > {scene.room}/begun; sleep 0.1; while :; do sleep 0.1; done"
-    crew = scene.start(command=["sh", "-c", script, "sh"])
+    script = """trap 'exit 5' INT; : > "$1/begun"; while :; do sleep 0.1; done"""
+    crew = scene.start(command=["sh", "-c", script, "sh", scene.room])
     until(lambda: os.path.exists(f"{scene.room}/begun"), "the command has begun")
-    time.sleep(0.1)
     crew.send_signal(signal.SIGTERM)
     until(lambda: "no further job" in scene.tale(), "the first one is told")
     crew.send_signal(signal.SIGINT)
@@ -277,21 +289,23 @@ def try_one_runner(bench):
     until(lambda: os.listdir(scene.effects), "a command has begun")
     second = scene.start()
     scene.ends(crew, DONE)
-    want(second.wait(100) in (DONE, LATER), "the second one ends")
+    want(second.wait(240) in (DONE, LATER), "the second one ends")
     scene.audit()
 
 
 def try_work(bench):
     """workers each with a runner of their own"""
-    scene = bench.scene(["quick", "slow", "fail"] * 4)
+    scene = bench.scene(["waits"] * 12)
     words = ["--workers", "3", scene.jobs, "--", *scene.command]
     how = dict(stdin=subprocess.DEVNULL, stderr=subprocess.DEVNULL, env=scene.environment())
     crews = [subprocess.Popen(scene.words("work", "--worker", str(p), *words), **how) for p in (1, 2, 3)]
     scene.crews += crews
+    workers = lambda: {it[1].split(".")[0] for line in range(1, 13) for it in scene.tales(line)}
+    until(lambda: len(workers()) == 3, "each of them has begun a command")
+    scene.let("go")
     for it in crews:
-        scene.ends(it, FAILED)
+        scene.ends(it, DONE)
     scene.audit()
-    want(len({it.worker for it in scene.look().intents.values()}) > 1, "one worker did all")
 
 
 def try_outputs(bench):
@@ -315,7 +329,7 @@ def try_streams(bench):
         scene = bench.scene(["quick", "amp", "quick"])
         words = scene.words("crew", "--workers", "1", *scene.options, scene.jobs, "--", *scene.command)
         shell = ["sh", "-c", f'"$@" {closing}', "sh", *words]
-        subprocess.run(shell, env=scene.environment(), timeout=100, stderr=subprocess.DEVNULL)
+        subprocess.run(shell, env=scene.environment(), timeout=240, stderr=subprocess.DEVNULL)
         want({*kinds_of(scene)} <= {"done", "doubt", "running"}, f"it has ended before: {kinds_of(scene)}")
         scene.see_out()
         scene.audit()
@@ -323,11 +337,12 @@ def try_streams(bench):
 
 def try_growing(bench):
     """a list may grow while it runs; one that is edited is refused; open lines can be printed"""
-    scene = bench.scene(["slow"] * 3)
+    scene = bench.scene(["waits", "slow", "slow"])
     crew = scene.start()
     until(lambda: os.listdir(scene.effects), "a command has begun")
     scene.grow(["quick", "fail"])
     scene.grow(["quick"], end="")
+    scene.let("go")
     scene.ends(crew, REFUSED)
     want(kinds_of(scene) == ["done"] * 4 + ["failed"], f"a line without its end is left out: {kinds_of(scene)}")
     want(scene.call("status", "--lines", "failed").endswith("\t5\t5 fail\n"), "lines are printed with tabs")
@@ -378,7 +393,7 @@ def fill(scene, disk):
     with open(f"{disk}/ballast", "wb") as file:
         file.write(b"x" * 16 * 1024)
     crew = scene.start()
-    until(lambda: crew.poll() is not None or "goes on trying" in scene.tale(), "the disk is full", 90)
+    until(lambda: crew.poll() is not None or "goes on trying" in scene.tale(), "the disk is full")
     waits, count = crew.poll() is None, len(os.listdir(scene.effects))
     if not waits:
         scene.ends(crew, WRITE)
@@ -387,7 +402,7 @@ def fill(scene, disk):
         want(len(os.listdir(scene.effects)) == count, "something was performed while the disk was full")
     os.unlink(f"{disk}/ballast")
     if waits:
-        want(crew.wait(100) in (DONE, FAILED), f"status {crew.poll()}: {scene.tale()[-500:]}")
+        want(crew.wait(240) in (DONE, FAILED), f"status {crew.poll()}: {scene.tale()[-500:]}")
     want(scene.see_out() in (DONE, FAILED) and not scene.listed, f"a full disk leaves a doubt: {scene.listed}")
     scene.audit()
     return f"full after {count} of 120, " + ("an end waited for room" if waits else "no intent could be put")
