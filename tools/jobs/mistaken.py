@@ -4,6 +4,7 @@
 import os
 import sys
 import tempfile
+import types
 
 sys.dont_write_bytecode = True
 NAME = os.environ.get("AMO_MISTAKE", "")
@@ -12,14 +13,15 @@ sys.path.insert(0, os.path.dirname(os.path.dirname(os.path.realpath(__file__))))
 
 def lists_what_runs(worker):
     """A doubt is listed while its command may still do it."""
-    worker.is_held = lambda run, intent, held: False
+    worker.is_got = lambda path, flags, held: True
 
 
 def answers_by_line(worker):
     """An answer is taken for the intent by which the line is closed now, whichever it names."""
     if sys.argv[1] != "answer":
         return
-    place, closing = sys.argv.index("--from") + 1, worker.Ledger(sys.argv[2]).closing
+    folder = types.SimpleNamespace(run=sys.argv[2], is_old=False)
+    place, closing = sys.argv.index("--from") + 1, worker.Ledger(folder).closing
     with open(sys.argv[place], "rb") as file:
         rows = [row.split(b"\t") for row in file.read().splitlines()]
     with tempfile.NamedTemporaryFile(delete=False) as file:
