@@ -3,7 +3,7 @@
 import os
 import re
 
-from jobs import rules, scene
+from jobs import identity, rules, scene
 
 HERE = os.path.dirname(os.path.realpath(__file__))
 TWICE, LISTED = "performed twice|performed after it was", "is a doubt|as a doubt|though no runner"
@@ -34,7 +34,20 @@ OF_THE_RUNNER = [
     ("running_is_an_end", ['return f"running {serial}"\n            yield', 'return self.ended(command)\n            yield'],
      rules.try_left_behind, TWICE + "|did nothing"),
 ]
-CHEAPEST = 2
+# Mistakes about which folder a list is run in, of the stand-in and of amo_jobs.
+MISSING = [("missing_is_empty", identity.try_journals, TWICE)]
+IDENTITY = [
+    ("id_is_not_compared", [
+        '        return Row.NO_ID if os.path.lexists(folder) else Row.MISSING\n', '        return Row.GOES_ON\n',
+        '*(["--id", run] if run else [])', '*[]', '    program.more += ["--id", run]\n', '',
+    ], identity.try_missing, TWICE),
+    ("mark_is_replaced", ["os.link(new, path)", "os.replace(self.written(path), path)"], identity.try_two_folders, TWICE),
+    ("list_is_put_away_last", [
+        '            rename(self.given.jobs, self.list)\n', '            pass\n',
+        '            rename(self.given.mark, self.old_mark)\n',
+        '            rename(self.given.mark, self.old_mark)\n            rename(self.given.jobs, self.list)\n',
+    ], identity.try_forget_killed, TWICE),
+]
 
 
 def of_the_worker(name, test, wanted):
@@ -81,4 +94,6 @@ def shown(bench, name, test, wanted):
 
 
 ALL = [[of_the_worker(*it) for it in OF_THE_WORKER], [of_the_runner(*it) for it in OF_THE_RUNNER]]
-PARTS = {"controls": [ALL[0][0], ALL[1][0], *ALL[0][1:], *ALL[1][1:]]}
+OF_IDENTITY = [*[of_the_worker(*it) for it in MISSING], *[of_the_runner(*it) for it in IDENTITY]]
+SHORT = [ALL[0][0], ALL[1][0], *OF_IDENTITY]  # those of the short form
+PARTS = {"controls": [*SHORT, *ALL[0][1:], *ALL[1][1:]]}
