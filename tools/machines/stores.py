@@ -2,6 +2,7 @@
 
 import os
 import pwd
+import shlex
 import shutil
 import signal
 import socket
@@ -76,7 +77,7 @@ class Folder(Store):
     def __init__(self, room, percent):
         self.counted, self.environment = f"{room}/counts", {"AMO_CLAIMS": f"{room}/claims"}
         os.mkdir(f"{room}/claims")
-        self.claim = f"{HERE}/faulty.py {percent} {self.counted} {CLAIMS}/folder"
+        self.claim = shlex.join([f"{HERE}/faulty.py", str(percent), self.counted, f"{CLAIMS}/folder"])
 
     def answers(self):
         kinds = read(self.counted).decode().split()
@@ -94,7 +95,7 @@ class Etcd(Store):
         ports = free_ports(6)
         self.room, self.ports, self.peers, self.nodes, self.stopped = room, ports[:3], ports[3:], [None] * 3, set()
         self.proxies = [Proxy(port, b"/v3/kv/txn", draws, percent) for port in self.ports]
-        self.claim = f"{CLAIMS}/etcd"
+        self.claim = shlex.quote(f"{CLAIMS}/etcd")
         self.environment = {"ETCDCTL_ENDPOINTS": ",".join(f"127.0.0.1:{it.port}" for it in self.proxies)}
 
     def begin(self):
@@ -172,7 +173,7 @@ class Postgres(Store):
         self.user = ["setpriv", "--reuid=postgres", "--regid=postgres", "--clear-groups"] if os.geteuid() == 0 else []
         [self.port] = free_ports(1)
         self.proxy = Proxy(self.port, b"INSERT INTO", draws, percent)
-        self.claim = f"{CLAIMS}/postgres"
+        self.claim = shlex.quote(f"{CLAIMS}/postgres")
         self.environment = {**self.straight(), "PGPORT": str(self.proxy.port)}
 
     def begin(self):

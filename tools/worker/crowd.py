@@ -2,6 +2,7 @@
 
 import os
 import random
+import shlex
 import signal
 import subprocess
 import time
@@ -204,7 +205,7 @@ def stay_with_workers(bench):
     partner = os.path.join(os.path.dirname(os.path.realpath(__file__)), "partner.sh")
     program = f"{scene.room}/program"
     with open(program, "w") as file:
-        file.write(f"""#!/bin/sh\nexec {" ".join(bench.command())} "$@" {" ".join(scene.common())}\n""")
+        file.write(f"""#!/bin/sh\nexec {shlex.join(bench.command())} "$@" {shlex.join(scene.common())}\n""")
     os.chmod(program, 0o700)
     subprocess.Popen(["sh", partner, program, scene.run, "3", "3", scene.jobs, "sleep", "0.5"], stdin=subprocess.DEVNULL,
                      stdout=subprocess.DEVNULL, stderr=subprocess.DEVNULL, env={**scene.environment(), "TMPDIR": scene.room})

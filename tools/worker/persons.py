@@ -2,6 +2,7 @@
 
 import json
 import os
+import shlex
 import shutil
 import signal
 import subprocess
@@ -413,7 +414,7 @@ def try_partner_of_shell(bench):
     with open(program, "w") as file:
         file.write(f"""#!/bin/sh
 [ -e {scene.room}/once.$3 ] || {{ : >{scene.room}/once.$3; export AMO_FAULTS={bench.draws.randint(20, 200)}:kill_after; }}
-exec {" ".join(bench.command())} "$@" {" ".join(scene.common())}
+exec {shlex.join(bench.command())} "$@" {shlex.join(scene.common())}
 """)
     os.chmod(program, 0o700)
     words = [scene.jobs, "sh", "-c", f"""printf '%s\\n' "$0" >>{done}; cat"""]
