@@ -272,7 +272,8 @@ int main(int argc, char **argv) {
     return fputs("usage: kills each, doubted or forgotten; or kills random or two RUNS SEED\n", stderr), 2;
   state = random ? strtoull(argv[3], NULL, 10) * 2 + 1 : 1;
   if (random)
-    for (long left = strtol(argv[2], NULL, 10); left > 0; left--)
+    /* A wrong use is run until it shows: in each run that hangs on who is faster. */
+    for (long left = strtol(argv[2], NULL, 10); left > 0 && !(wrong && twice); left--)
       run_random(two);
   else
     for (int asks = BY_NEXT; asks <= (wrong ? BY_NEXT : BY_BATCH); asks++)

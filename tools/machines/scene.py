@@ -30,7 +30,7 @@ def want(so, what):
         raise Wrong(what)
 
 
-def until(is_so, what, seconds=120, pause=0.02):
+def until(is_so, what, seconds=300, pause=0.02):
     """Waits for something."""
     end = time.monotonic() + seconds
     while not is_so():
@@ -93,7 +93,7 @@ class Scene:
     def chunks(self):
         return range(1, -(-len(self.texts) // self.size) + 1)
 
-    def see_out(self, machines=None, seconds=240, during=lambda: None):
+    def see_out(self, machines=None, seconds=600, during=lambda: None):
         """Starts these machines again and again, until each ends by itself with nothing open."""
         end, left = time.monotonic() + seconds, set(machines or self.machines)
         for it in left:
@@ -143,7 +143,7 @@ class Scene:
         self.bench.add("performed", len(did))
 
     def audit_chunk(self, machine, number, did):
-        kinds, end = self.kinds_of(machine, number), time.monotonic() + 10
+        kinds, end = self.kinds_of(machine, number), time.monotonic() + 240
         while "running" in kinds.values() and time.monotonic() < end:  # (a command that its runner has left to itself)
             time.sleep(0.1)
             kinds = self.kinds_of(machine, number)
@@ -218,7 +218,7 @@ class Machine:
 
     def ends(self, *statuses):
         """Waits for the end of amo_share, which has one of these statuses."""
-        status = self.process.wait(120)
+        status = self.process.wait(300)
         self.process = None
         self.statuses.append(status)
         want(not statuses or status in statuses, f"{self.name}: status {status} in place of {statuses}: {self.tale()[-600:]}")
@@ -228,7 +228,7 @@ class Machine:
         """What amo_share status says, and how it ends."""
         bench = self.scene.bench
         words = [sys.executable, bench.program, "status", "--run", self.run, "--worker-program", bench.worker]
-        ran = subprocess.run(words, stdin=subprocess.DEVNULL, capture_output=True, timeout=120, env=self.environment())
+        ran = subprocess.run(words, stdin=subprocess.DEVNULL, capture_output=True, timeout=300, env=self.environment())
         told = ran.stderr.decode()
         warning = f"amo_share: AMO_TEST_BOOT_ID is set; the boot id comes from `{self.boot}`. This is for tests only\n"
         want(told == warning, f"status says {told[-300:]}")
@@ -239,7 +239,7 @@ class Machine:
         bench = self.scene.bench
         words = [sys.executable, f"{os.path.dirname(bench.program)}/amo_jobs", command, "--run", self.chunk(number),
                  "--worker-program", bench.worker, *words]
-        ran = subprocess.run(words, stdin=subprocess.DEVNULL, capture_output=True, timeout=120, env=self.environment())
+        ran = subprocess.run(words, stdin=subprocess.DEVNULL, capture_output=True, timeout=300, env=self.environment())
         want(ran.returncode == status, f"{command}: status {ran.returncode}: {ran.stderr.decode()[-300:]}")
         return ran.stdout.decode()
 

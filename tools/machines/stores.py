@@ -37,7 +37,7 @@ class Store:
 
     def ask(self, *words):
         """What the claim program answers, straight."""
-        ran = subprocess.run([f"{CLAIMS}/{self.kind}", *words], stdin=subprocess.DEVNULL, capture_output=True, timeout=60,
+        ran = subprocess.run([f"{CLAIMS}/{self.kind}", *words], stdin=subprocess.DEVNULL, capture_output=True, timeout=300,
                              env={"PATH": os.environ["PATH"], **self.straight()})
         return ran.stdout.decode() if ran.returncode == 0 else None
 
@@ -47,7 +47,7 @@ class Store:
 
     def owner(self, name, number):
         """The mark that has this chunk; what can't be had is tried for a while."""
-        end = time.monotonic() + 60
+        end = time.monotonic() + 300
         while (found := self.ask("look", name, str(number))) is None:
             want(time.monotonic() < end, "the store doesn't come back")
             time.sleep(0.2)
@@ -144,7 +144,7 @@ class Etcd(Store):
         for node in range(3):
             if self.nodes[node] is None:
                 self.start(node)
-        end = time.monotonic() + 60
+        end = time.monotonic() + 300
         while not all(self.is_up(node) for node in range(3)):
             want(time.monotonic() < end, "etcd doesn't come up")
             time.sleep(0.2)
@@ -208,7 +208,7 @@ class Postgres(Store):
                 self.process = subprocess.Popen(
                     [*self.user, f"{self.programs}/postgres", "-D", f"{self.room}/data", "-h", "127.0.0.1", "-p", str(self.port),
                      "-k", self.room], cwd="/", stdin=subprocess.DEVNULL, stdout=log, stderr=log, start_new_session=True)
-        end = time.monotonic() + 60
+        end = time.monotonic() + 300
         while subprocess.run([f"{self.programs}/pg_isready", "-q", "-h", "127.0.0.1", "-p", str(self.port)]).returncode:
             want(time.monotonic() < end, "PostgreSQL doesn't come up")
             time.sleep(0.2)

@@ -58,8 +58,10 @@ embed() {
 }
 
 # Two looks with the toolchain itself, and that page. Each takes a minute or two, so they run beside all else, and are compared last.
+# RT_SECONDS gives a program more than the minute that `rt try` gives it, for a loaded machine.
 looks='look: running the program with nothing proved, in a minute or two; ./amo with the same words proves it first'
 begin_looks() {
+  local -x RT_SECONDS=900
   look_aside ended replay <examples/three_jobs.toml &
   look_aside faulted stops 3 <examples/each_stop.toml &
   embed >"$room/embedded" &

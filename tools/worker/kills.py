@@ -366,7 +366,7 @@ def stop_one(bench, number):
             it.perform = lambda serial, line, it=it: spoke.append(it) or Runner.perform(it, serial, line)
         if third.process:
             third.lines = [third.lines[-1]]
-        serve(both, seconds=20)
+        serve(both)
     finally:
         for it in (first, stopped, third):
             it.close()

@@ -298,7 +298,7 @@ def try_no_partner(bench):
     runner.process.stdout = open(os.devnull, "rb")
     kept.close()
     runner.process.stdin.close()
-    status = runner.process.wait(20)
+    status = runner.process.wait(300)
     want(status in (LEFT, WRITE, -signal.SIGPIPE), f"status {status}")
     runner.close()
     scene.doubts()
@@ -349,7 +349,7 @@ def try_words(bench):
                   ["work", run, "1", "--workers", "2", "--into", jobs], ["status", run, "--into"],
                   *(["door", run, "--workers", "2", "--id", it, jobs] for it in ("", "1" * 31, "1" * 33, "A" * 32)),
                   *([it, run, "--id", "0" * 31 + "g"] for it in ("status", "doubts", "again"))]:
-        ran = subprocess.run([*bench.command(), *words], stdin=subprocess.DEVNULL, capture_output=True, timeout=20)
+        ran = subprocess.run([*bench.command(), *words], stdin=subprocess.DEVNULL, capture_output=True, timeout=300)
         want(ran.returncode == WORDS and ran.stderr.count(b"\n") >= 1, f"{words}: status {ran.returncode}, {ran.stderr}")
     want(not os.path.exists(run), "the folder was made")
 
@@ -421,7 +421,7 @@ exec {shlex.join(bench.command())} "$@" {shlex.join(scene.common())}
     streams = {"stdin": subprocess.DEVNULL, "stdout": subprocess.DEVNULL, "stderr": subprocess.PIPE}
     made = [subprocess.Popen(["sh", script, program, scene.run, str(p), "2", *words], **streams,
                              env={**scene.environment(), "TMPDIR": scene.room}) for p in (1, 2)]
-    ends = [(it.communicate(timeout=60)[1], it.returncode) for it in made]
+    ends = [(it.communicate(timeout=300)[1], it.returncode) for it in made]
     want(all(status == 0 for _, status in ends), f"it ends with {ends}")
     performed = read(done).decode().split("\n")[:-1]
     doubted = [texts[line - 1] for _, _, line in scene.doubts()]

@@ -144,7 +144,7 @@ class Scene:
         """A command that ends by itself: its status and what it wrote on both streams."""
         self.bench.processes += 1
         ran = subprocess.run([*self.bench.command(), command, *words, *self.common(words)],
-                             stdin=subprocess.DEVNULL, capture_output=True, timeout=120,
+                             stdin=subprocess.DEVNULL, capture_output=True, timeout=300,
                              env=self.environment(faults))
         return ran.returncode, ran.stdout.decode("utf-8", "replace"), ran.stderr.decode("utf-8", "replace")
 
@@ -276,7 +276,7 @@ class Runner:
     """The runner of a worker. What it does at a line is `perform` and `was`, which a test may replace. A stray one has no lock:
     it starts a worker though another runner may have that number."""
 
-    def __init__(self, scene, worker, waits=5, is_stray=False):
+    def __init__(self, scene, worker, waits=240, is_stray=False):
         self.scene, self.worker, self.process, self.lock = scene, worker, None, None
         self.seen, self.statuses, self.said = {}, [], ""
         self.rest, self.lines, self.waiting, self.drops, self.leaves = b"", [], None, False, False
@@ -426,7 +426,7 @@ class Runner:
             self.lock.close()
 
 
-def serve(runners, seconds=30, until=None):
+def serve(runners, seconds=240, until=None):
     """Reads what the workers of these runners say, until each has ended, or something is so. A time in which this tool itself was
     stopped doesn't count."""
     seen = time.monotonic()
@@ -446,7 +446,7 @@ def live(runner, faults=None):
     return runner.statuses[-1]
 
 
-def see_out(runners, seconds=120, draws=None):
+def see_out(runners, seconds=600, draws=None):
     """Starts the workers again until each says that all is done, or that it was told to leave."""
     seen, ended, due = time.monotonic(), set(), {}
     while len(ended) < len(runners):

@@ -162,7 +162,7 @@ def failing_output(scene, words):
     with open("/dev/full", "wb") as out:
         more = scene.bench.kind if "--help" not in words else []
         ran = subprocess.run([*scene.bench.command(), *words, *more], stdin=subprocess.DEVNULL, stdout=out,
-                             stderr=subprocess.PIPE, timeout=60, env=scene.environment())
+                             stderr=subprocess.PIPE, timeout=300, env=scene.environment())
     said = ran.stderr.decode()
     want(ran.returncode == WRITE and said.startswith("amo_worker: standard output can't be written: ") and said.count("\n") == 1,
          f"{words}: status {ran.returncode}, {said}")
@@ -186,7 +186,7 @@ def try_outputs(bench):
             want(again == whole, f"{words}, {fault}: {again}, and not {whole}")
     for words in (["--help"], ["answer", "--help"]):
         failing_output(scene, words)
-        ran = subprocess.run([*bench.command(), *words], stdin=subprocess.DEVNULL, capture_output=True, timeout=60)
+        ran = subprocess.run([*bench.command(), *words], stdin=subprocess.DEVNULL, capture_output=True, timeout=300)
         want(ran.returncode == OVER and b"amo_worker" in ran.stdout and not ran.stderr, f"{words}: {ran}")
 
 
