@@ -232,9 +232,9 @@ def try_missing(bench):
         for words in ("file system may not be mounted", "`forget` was cut off", f"--new-run {run}"):
             want(words in told, f"{words} isn't said: {told}")
         is_refused(scene, f"it is --new-run {OTHER} now", "--new-run", OTHER)
-        shutil.rmtree(scene.run, ignore_errors=True)
-        os.rename(f"{scene.room}/volume", scene.run)
-        goes_on(scene)
+    shutil.rmtree(scene.run)
+    os.rename(f"{scene.room}/volume", scene.run)
+    goes_on(scene)
 
 
 def try_moved(bench):
@@ -479,7 +479,7 @@ def try_folder_renamed(bench):
 
 
 def vanishes(bench, names) -> None:
-    """A name changes while a crew runs and its worker dies; a second crew comes; it changes back."""
+    """Changes a name while a crew runs, kills its worker, has a second crew come, and undoes it."""
     scene, crew_alive = waiting(bench)
     name, away = names(scene)
     before = performed(scene)
@@ -500,6 +500,13 @@ def vanishes(bench, names) -> None:
     check(scene, [1, 1, 1], told)
 
 
+def within(bench, cases):
+    """Yields the cases, as long as there is time."""
+    for it in cases:
+        if bench.has_time():
+            yield it
+
+
 def steps_of(scene: Scene, words: list[str], status: int) -> list[str]:
     """Returns the calls before which these words may be stopped, once all of them are made."""
     path = f"{scene.room}/steps"
@@ -517,10 +524,11 @@ def try_two_folders(bench):
     """of two crews with two folders one is refused, wherever the other one stops meanwhile"""
     scene = bench.scene(["fail"] * 2)
     steps = steps_of(scene, words_of(scene, "crew"), FAILED)
-    mark = next(number for number, it in enumerate(steps) if re.match(r"(link|replace) .*run-is", it))
+    makes = re.compile("(link|replace) .*run-is")
+    mark = next(number for number, it in enumerate(steps) if makes.match(it))
     want(len(steps) > mark + 2, f"too few steps: {steps}")
     chosen = {mark, mark + 1, mark + 2, *bench.sample(range(1, len(steps) + 1), 5)}
-    for number in sorted(chosen):
+    for number in within(bench, sorted(chosen)):
         scene = bench.scene(["fail"] * 2)
         first = Begun(words_of(scene, "crew"), scene, AMO_STEP=f"{number}:stop")
         until(lambda: is_stopped(first.process), "it is stopped")
@@ -539,7 +547,7 @@ def try_killed_making(bench):
     scene = bench.scene(["fail"] * 2)
     steps = steps_of(scene, words_of(scene, "crew"), FAILED)
     chosen = bench.sample(range(1, len(steps) + 1), 6)
-    for number in chosen:
+    for number in within(bench, chosen):
         scene = bench.scene(["fail"] * 2)
         Begun(words_of(scene, "crew"), scene, AMO_STEP=f"{number}:kill").end(KILLED)
         check(scene, [0, 0], steps[number - 1])
@@ -561,8 +569,9 @@ def try_new_runs_at_once(bench):
     steps = steps_of(scene, words_of(scene, "crew", "--new-run", old), FAILED)
     locked, replaced = (next(number for number, it in enumerate(steps, 1) if re.match(word, it))
                         for word in ("flock", r"replace .*run-is"))
-    chosen = sorted({*bench.sample(range(locked, len(steps) + 1), 0), locked, replaced, replaced + 1})
-    for number in chosen:
+    every = range(locked, len(steps) + 1)
+    chosen = sorted({*bench.sample(every, 0), locked, replaced, replaced + 1})
+    for number in within(bench, chosen):
         scene = begun(bench)
         before, words = performed(scene), ["--new-run", id_in(scene.run)]
         os.rename(scene.run, f"{scene.room}/lost")
@@ -579,7 +588,7 @@ def try_new_runs_at_once(bench):
 
 
 def try_mount_point(bench):
-    """a mount point with lost+found is made a run's folder, and one that isn't mounted is refused"""
+    """a mount point with lost+found is taken; once it isn't mounted it is refused"""
     scene = bench.scene(["fail"] * 2)
     image, scene.run = f"{scene.room}/image", f"{scene.room}/volume"
     with open(image, "wb") as file:
@@ -613,7 +622,7 @@ def try_mount_point(bench):
 
 
 def try_by_id(bench):
-    """a crew that is given an id neither reads nor writes a mark, and takes no folder but that run's"""
+    """a crew that is given an id takes the folder with that id alone, and no mark counts"""
     for text in ("a chunk\nof a list\n", ""):
         scene = begun(bench)
         run = id_in(scene.run)
@@ -664,8 +673,6 @@ def runs_anew(scene: Scene, text: str) -> None:
     before = performed(scene)
     crew(scene, FAILED)
     check(scene, [it + 1 for it in before], "tonight's list")
-    crew(scene, FAILED)
-    check(scene, [it + 1 for it in before], "tonight's list, a second time")
 
 
 def try_forget(bench):
@@ -719,6 +726,25 @@ def try_forget_refuses(bench):
     want(not os.path.exists(f"{scene.run}.forgotten-{old}/journal.9"), "it was made")
 
 
+def try_forget_doubts(bench):
+    """a run with a line that is running or in doubt is put away only with --force"""
+    scene, crew_alive = waiting(bench)
+    want("is locked" in forget(scene, LATER), "a crew lives")
+    crew_alive.process.kill()
+    crew_alive.process.wait()
+    until(lambda: not list(scene.processes("work")), "the worker ends")
+    told = forget(scene, REFUSED)
+    want("open: 2; running or in doubt: 1" in told, told)
+    open(f"{scene.room}/go", "w").close()
+    until(lambda: not list(scene.processes(WAITS)), "the command ends")
+    told = forget(scene, REFUSED)
+    want("open: 2; running or in doubt: 1" in told, told)
+    before = performed(scene)
+    forget(scene, DONE, "--force")
+    crew(scene, READ)
+    check(scene, before)
+
+
 def try_forget_mounted(bench):
     """a folder that can't be renamed stays where it is, and no crew takes it"""
     scene = begun(bench, is_over=True)
@@ -747,7 +773,7 @@ def try_forget_killed(bench):
                if re.match("rename|replace|mkdir|fsync|run|open .*new$", it)]
     renames = [it for it in changes if steps[it - 1].startswith("rename")]
     chosen = sorted({*bench.sample(changes, 4), *renames, changes[-1]}, reverse=True)
-    for number in chosen:
+    for number in within(bench, chosen):
         forget_killed(begun(bench, is_over=True), number, steps[number - 1])
     return f"{len(chosen)} of {len(steps)} steps"
 
@@ -772,9 +798,9 @@ def forget_killed(scene: Scene, number: int, step: str) -> None:
 
 
 PARTS = {"identity": [
-    try_first_run, try_without_a_mark, try_own_folder, try_missing, try_moved, try_copies,
-    try_new_run, try_other_marks, try_renamed, try_lists_that_are_none, try_two_lists,
-    try_read_only, try_journals, try_journals_alive, try_folder_renamed, try_two_folders,
-    try_killed_making, try_new_runs_at_once, try_mount_point, try_by_id, try_other_commands,
-    try_forget, try_forget_refuses, try_forget_mounted, try_forget_killed,
+    try_forget_killed, try_two_folders, try_killed_making, try_new_runs_at_once, try_forget_refuses,
+    try_missing, try_other_marks, try_first_run, try_without_a_mark, try_own_folder, try_moved,
+    try_copies, try_new_run, try_renamed, try_lists_that_are_none, try_two_lists, try_read_only,
+    try_journals, try_journals_alive, try_folder_renamed, try_mount_point, try_by_id,
+    try_other_commands, try_forget, try_forget_doubts, try_forget_mounted,
 ]}

@@ -3,8 +3,8 @@
 
 AMO_PROGRAM is amo_jobs. AMO_STEP is NUMBER:WHAT, with WHAT `kill`, `stop` or the number of an error
 that the call then gives. AMO_STEPS is a file to which each call is appended before it is made, a
-line each: its name, and its file if that has one. Those calls count that are made on files below
-AMO_ROOM or on open files, and each start of the worker's program, until a crew begins its runners."""
+line each: its name, and its file if that has one. A call counts if it is on a file below AMO_ROOM
+or on an open file, or starts the worker's program, until a crew begins its runners."""
 
 import builtins
 import fcntl
