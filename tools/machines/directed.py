@@ -8,6 +8,7 @@ import subprocess
 
 from machines.scene import DONE, DOUBTFUL, FAILED, HERE, KILLED, LATER, LEFT, OVER, REFUSED, Scene, until, want
 from machines.stores import store_of
+from worker import folder
 from worker.folder import read
 
 
@@ -139,6 +140,72 @@ def try_same_line_twice(bench):
     want(not scene.store.answers()["requests"] and not scene.tales(), f"it was shared: {scene.tales()}")
 
 
+def try_last_line(bench):
+    """a list whose last line has no end is refused by that line, also later, and nothing is asked for"""
+    scene = scene_of(bench, 4, 2, 1)
+    machine = scene.machines[0]
+    with open(scene.jobs, "a") as file:
+        file.write("pay 5")
+    machine.start().ends(REFUSED)
+    said = "line 5 has no line feed at its end; add one"
+    want(said in machine.tale() and not scene.store.answers()["requests"], f"it says {machine.tale()}")
+    with open(scene.jobs, "a") as file:
+        file.write("\n")
+    machine.start().ends(*OVER)
+    with open(scene.jobs, "a") as file:
+        file.write("pay 6")
+    machine.start().ends(REFUSED)
+    want("line 6 has no line feed" in machine.tale(), f"it says {machine.tale()}")
+    want(len(scene.tales()) == 5, f"performed: {scene.tales()}")
+
+
+def make_old(machine) -> None:
+    """Makes the folders of a machine those of amo 0.1.0."""
+    os.unlink(f"{machine.run}/id")
+    for name in folder.PARTS:
+        os.unlink(f"{machine.run}/{name}")
+    for number in machine.scene.chunks():
+        if os.path.isdir(machine.chunk(number)):
+            folder.make_old(machine.chunk(number))
+
+
+def try_old_folders(bench):
+    """folders of amo 0.1.0: status reads them and writes nothing, sharing refuses them by name and asks for nothing"""
+    scene, first = waiting(bench, 4, 2, 1)
+    first.kill_all()
+    scene.take_back("waits")
+    id_of_run = read(f"{first.run}/id")
+    wanted = first.status()
+    make_old(first)
+    folders = [first.run, first.chunk(1)]
+    before, count = [folder.listing(it) for it in folders], scene.store.answers()["requests"]
+    want(first.status() == wanted, f"the status is {first.status()}, and was {wanted}")
+    first.start().ends(REFUSED)
+    want(f"`{first.run}`: it has no `id`, so amo 0.1.0 made it" in first.tale(), f"it says {first.tale()[-300:]}")
+    want([folder.listing(it) for it in folders] == before, "something is written")
+    for name, data in {**folder.PARTS, "id": id_of_run}.items():
+        folder.put(f"{first.run}/{name}", data)
+    first.start().ends(REFUSED)
+    want(f"`{first.chunk(1)}`: it has no `id`" in first.tale(), f"it says {first.tale()[-300:]}")
+    want(folder.listing(first.chunk(1)) == before[1], "something is written in the chunk's folder")
+    want(scene.store.answers()["requests"] == count, "a chunk is asked for")
+
+
+def try_run_of_a_chunk(bench):
+    """each chunk is a run of its own, which its crews are told by its id; a journal that is missing is refused by name"""
+    scene, first = waiting(bench, 4, 2, 1)
+    want(len({read(f"{it}/id") for it in (first.run, first.chunk(1))}) == 2, "two runs have one id")
+    first.kill_all()
+    scene.take_back("waits")
+    kept = read(f"{first.chunk(1)}/journal.2")
+    os.unlink(f"{first.chunk(1)}/journal.2")
+    first.start().ends(REFUSED)
+    want("journal.2" in first.tale(), f"it says {first.tale()[-300:]}")
+    folder.put(f"{first.chunk(1)}/journal.2", kept)
+    scene.see_out()
+    scene.audit()
+
+
 def try_copy(bench):
     """a folder that is a copy, or that wakes up on another machine, is refused without a person's word"""
     scene, first = waiting(bench, 3, 3, 2)
@@ -267,6 +334,6 @@ def try_claim_programs(bench, kind="folder"):
 
 PARTS = {"folder": [
     try_shares, try_killed_everywhere, try_claim_programs, try_second_amo_share, try_crew_lives_on, try_other_size,
-    try_other_list, try_same_line_twice, try_copy, try_lost_folder, try_answer_lost, try_stopped_in_order, try_failures,
+    try_other_list, try_same_line_twice, try_last_line, try_old_folders, try_run_of_a_chunk, try_copy, try_lost_folder, try_answer_lost, try_stopped_in_order, try_failures,
     try_no_store, try_doubt,
 ]}

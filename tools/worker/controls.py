@@ -4,7 +4,7 @@ acknowledged line that is gone. Without the mistake the stand-in passes them."""
 import os
 import re
 
-from worker import crowd, kills, persons, power, rounds, scene, texts
+from worker import crowd, kills, making, persons, power, rounds, scene, texts
 
 STAND_IN = os.path.join(os.path.dirname(os.path.realpath(__file__)), "stand_in.py")
 TWICE, GONE, DOUBT = "performed twice", "performed twice|acknowledged line is gone", "(?s)status says .* doubt 2 .*'doubt': 1,"
@@ -18,10 +18,23 @@ MISTAKES = [
     ("guard_is_removed", kills.try_two_of_one_number, GONE),
     ("intent_after_the_act", kills.try_killed, GONE),
     ("opens_without_settling", power.try_failed_sync_and_cut, GONE),
-    ("folder_synced_by_the_maker_alone", power.try_killed_and_cut, GONE),
+    ("folder_synced_by_the_maker_alone", making.try_door_killed_and_cut, "another id after the cut|isn't synced|" + GONE),
     ("own_words_forgotten", crowd.try_crew_killed, TWICE),
     ("claim_after_the_act", crowd.try_crew_killed, TWICE),
     ("readers_without_a_lock", crowd.try_readers_beside_each_other, "a final doubt running"),
+    ("missing_is_empty", making.try_missing, "journal.* is removed, .*: status 0"),
+    ("empty_is_empty", making.try_missing, "journal.* is emptied, .*: status 0"),
+    ("id_is_replaced", making.try_door_killed, "the id is replaced"),
+    ("id_first", making.try_door_killed, "there is an id, and not all else"),
+    ("id_before_the_sync", making.try_door_cut, "the next door ends with status 65"),
+    ("leftovers_are_taken", making.try_leftovers, "status 0"),
+    ("users_files_are_refused", making.try_made, "status 65"),
+    ("old_run_is_settled", making.try_old_run, "something is written by who looks"),
+    ("old_run_is_worked", making.try_old_run, "work: status"),
+    ("id_is_not_compared", making.try_id, "status 0"),
+    ("forgotten_is_taken", making.try_forgotten, "status 0"),
+    ("running_is_refused", making.try_answers_that_wait, "status 65"),
+    ("emptied_by_recovery", texts.try_behind_a_gate, "is empty for a moment"),
 ]
 CHEAPEST = 2
 

@@ -73,6 +73,12 @@ def listing(folder: str) -> dict:
             for name, it in found.items()}
 
 
+def contents(folder: str) -> dict:
+    """What each file of a folder is and holds; who settles a journal may write the same bytes anew."""
+    names = [it for it in os.listdir(folder) if os.path.isfile(f"{folder}/{it}")]
+    return {name: (os.stat(f"{folder}/{name}").st_ino, read(f"{folder}/{name}")) for name in names}
+
+
 def texts_of(data):
     """The texts that count."""
     texts = []

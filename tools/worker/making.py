@@ -187,7 +187,8 @@ def stop_one(bench, kind: str, number: int) -> None:
         runner = Runner(scene, 1)
         runner.leaves = True
         live(runner)
-        want(len(scene.effects()) == 1, f"no line is performed: {runner.statuses}, {runner.said}")
+        may_wait = runner.statuses == [LATER]  # (for the first door, which may hold the round's lock)
+        want(len(scene.effects()) == 1 or may_wait, f"no line is performed: {runner.statuses}, {runner.said}")
     first.process.send_signal(signal.SIGCONT)
     status, _, err = first.ended()
     want(status == OVER or kind == "into" and status == REFUSED, f"the first door ends with status {status}: {err}")
@@ -270,12 +271,12 @@ def commands(scene) -> list:
 
 def refuse_all(scene, name: str, what: str, words: list) -> None:
     """Each of these commands refuses the folder for this file, and changes nothing."""
-    before = folder.listing(scene.run)
+    before = folder.contents(scene.run)
     for command, *more in words:
         status, out, err = scene.call(command, scene.run, *more)
         named = name in err.replace(scene.run, "RUN") and err.count("\n") == 1
         want(status == REFUSED and named and not out, f"{name} {what}, {command}: status {status}, {out or err}")
-    want(folder.listing(scene.run) == before, f"{name} {what}: something was changed")
+    want(folder.contents(scene.run) == before, f"{name} {what}: something was changed")
 
 
 def miss_one(bench, name: str, is_removed: bool, few_commands: bool) -> None:
@@ -385,10 +386,10 @@ def try_id(bench):
     scene = prepared(bench, ["doubt", "done 0"], lines=2)
     for command, *more in commands(scene):
         more = [*more[:-1], "--id", ANOTHER, more[-1]] if command in ("door", "work") else [*more, "--id", ANOTHER]
-        before = folder.listing(scene.run)
+        before = folder.contents(scene.run)
         status, out, err = scene.call(command, scene.run, *more)
         want(status == REFUSED and not out and err.count("\n") == 1, f"{command}: status {status}, {out or err}")
-        want(folder.listing(scene.run) == before, f"{command} changes something")
+        want(folder.contents(scene.run) == before, f"{command} changes something")
         more[more.index(ANOTHER)] = scene.id()
         status, _, err = scene.call(command, scene.run, *more)
         want(status == OVER, f"{command} with its own id: status {status}, {err}")
