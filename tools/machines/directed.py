@@ -179,7 +179,8 @@ def try_old_folders(bench):
     make_old(first)
     folders = [first.run, first.chunk(1)]
     before, count = [folder.listing(it) for it in folders], scene.store.answers()["requests"]
-    want(first.status() == wanted, f"the status is {first.status()}, and was {wanted}")
+    found, looks = first.status(), 1  # (of the chunk that is free)
+    want(found == wanted, f"the status is {found}, and was {wanted}")
     first.start().ends(REFUSED)
     want(f"`{first.run}`: it has no `id`, so amo 0.1.0 made it" in first.tale(), f"it says {first.tale()[-300:]}")
     want([folder.listing(it) for it in folders] == before, "something is written")
@@ -188,7 +189,7 @@ def try_old_folders(bench):
     first.start().ends(REFUSED)
     want(f"`{first.chunk(1)}`: it has no `id`" in first.tale(), f"it says {first.tale()[-300:]}")
     want(folder.listing(first.chunk(1)) == before[1], "something is written in the chunk's folder")
-    want(scene.store.answers()["requests"] == count, "a chunk is asked for")
+    want(scene.store.answers()["requests"] == count + looks, "a chunk is asked for")
 
 
 def try_run_of_a_chunk(bench):

@@ -18,7 +18,7 @@ MISTAKES = [
     ("guard_is_removed", kills.try_two_of_one_number, GONE),
     ("intent_after_the_act", kills.try_killed, GONE),
     ("opens_without_settling", power.try_failed_sync_and_cut, GONE),
-    ("folder_synced_by_the_maker_alone", making.try_door_killed_and_cut, "another id after the cut|isn't synced|" + GONE),
+    ("above_synced_by_the_maker_alone", making.try_door_killed_and_cut, "another id after the cut"),
     ("own_words_forgotten", crowd.try_crew_killed, TWICE),
     ("claim_after_the_act", crowd.try_crew_killed, TWICE),
     ("readers_without_a_lock", crowd.try_readers_beside_each_other, "a final doubt running"),

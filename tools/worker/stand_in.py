@@ -19,7 +19,7 @@ import sys
 import time
 
 MISTAKES = ("intent_after_the_act pending_is_open guard_is_removed words_of_another_boot cut_line_is_kept last_journal_wins"
-            " opens_without_settling folder_synced_by_the_maker_alone lists_without_settling own_words_forgotten"
+            " opens_without_settling above_synced_by_the_maker_alone lists_without_settling own_words_forgotten"
             " claim_after_the_act readers_without_a_lock missing_is_empty empty_is_empty id_is_replaced id_first"
             " id_before_the_sync emptied_by_recovery old_run_is_settled old_run_is_worked running_is_refused id_is_not_compared"
             " forgotten_is_taken users_files_are_refused leftovers_are_taken").split()
@@ -167,7 +167,7 @@ class Journal:
     def __init__(self, it, name):
         self.path = f"{it.run}/{name}"
         self.file = opened_part(it, name, os.O_RDONLY if it.is_old else os.O_RDWR)
-        if not it.is_old and MISTAKE != "folder_synced_by_the_maker_alone":
+        if not it.is_old:
             sync_folder(it.run)
 
     def lock(self):
@@ -541,8 +541,7 @@ def share_round(it):
     """Begins a round if nobody is at work; the record of the round, under the shared lock."""
     path = f"{it.run}/lock.round"
     file = opened_part(it, "lock.round", os.O_RDWR)
-    if MISTAKE != "folder_synced_by_the_maker_alone":
-        sync_folder(it.run)
+    sync_folder(it.run)
     if has_lock(file, path, fcntl.LOCK_EX):
         begin_round(it)
         has_lock(file, path, fcntl.LOCK_UN)
@@ -747,6 +746,7 @@ def make(it):
         check_mount(it, above)
         check_list(it)
         (make_folder if it.is_into else make_beside)(it)
+        it.has_made = True
     enter_folder(it)
     if not is_there(f"{it.run}/id"):
         if it.id:
@@ -782,9 +782,10 @@ def enter(it):
         check_whole(it, found, reads)
     if it.jobs:
         check_list(it)
-        if it.command == "door" and MISTAKE != "folder_synced_by_the_maker_alone":
+        if it.command == "door":
             sync_folder(it.run)
-        sync_folder(os.path.dirname(os.path.abspath(it.run)))
+        if it.has_made or MISTAKE != "above_synced_by_the_maker_alone":
+            sync_folder(os.path.dirname(os.path.abspath(it.run)))
 
 
 def check_whole(it, found, reads):
@@ -954,6 +955,7 @@ class Given:
             raise End(64, "an option of another command")
         self.run, self.kind = self.words[1].rstrip("/"), options.get("--file-system")
         self.id, self.is_into, self.is_old = options.get("--id"), "--into" in options, False
+        self.has_made = False
         if self.id is not None and (len(self.id) != 32 or set(self.id) - set("0123456789abcdef")):
             raise End(64, f"no id: {self.id}")
         self.jobs = self.words[-1] if self.command in ("door", "work") else None
