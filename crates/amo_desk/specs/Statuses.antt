@@ -1,9 +1,9 @@
 -- With which status the program ends.
 use Rattle.std.specs.Prelude.{ℕ}
 use Rattle.amo_desk.specs.declared.fault.Fault.{Fault}
-use Rattle.amo_desk.specs.declared.fault.Fault.TheVariants.{Memory, List, Changed, Entry, Refused, Answer, NoAnswerOf, Left, Closed, NoSuchNumber, NoWay, Write, Journal, Read, Later, NoAnswer, Door}
+use Rattle.amo_desk.specs.declared.fault.Fault.TheVariants.{Memory, List, Changed, Entry, Refused, Answer, NoAnswerOf, Missing, Empty, NoRun, NoId, OldRun, OtherId, HasId, NotNew, Forgotten, Left, Closed, NoSuchNumber, NoWay, Write, Journal, Read, Later, NoAnswer, Door}
 
--- 65: a file's text is refused, 69: the partner ended it, 70: no worker goes on, 71: no memory, 73: a file can't be written, 74: one
+-- 65: a file's text is refused, or a file that a run has isn't there, or another run's, 69: the partner ended it, 70: no worker goes on, 71: no memory, 73: a file can't be written, 74: one
 -- can't be read, 75: come back later, 76: no answer, 77: the folder is refused
 abbrev pub status_of : Fault → ℕ
 status_of (List line why) = 65
@@ -12,6 +12,15 @@ status_of (Entry item number) = 65
 status_of (Refused item) = 65
 status_of (Answer number refusal) = 65
 status_of (NoAnswerOf number) = 65
+status_of (Missing item) = 65
+status_of (Empty item) = 65
+status_of NoRun = 65
+status_of NoId = 65
+status_of OldRun = 65
+status_of OtherId = 65
+status_of HasId = 65
+status_of (NotNew name) = 65
+status_of Forgotten = 65
 status_of Left = 69
 status_of Closed = 69
 status_of (NoSuchNumber word value) = 70

@@ -2,6 +2,7 @@
 use crate::asking::now;
 use crate::fault::{Fault, Later, had};
 use crate::guard::{Guarded, lock_within, settled};
+use crate::identity::{check_id, check_kept};
 use crate::item::Item;
 use crate::looking::{Seen, look_behind};
 use crate::setting::Setting;
@@ -37,6 +38,7 @@ pub(crate) fn answer_from(
 /// Has each line tried once more whose intent stands untouched.
 pub(crate) fn once_more(rt: HostRuntime, setting: &Setting<'_>) -> Result<(), Fault> {
     let answers = take_answers(rt, setting)?;
+    check_kept(rt, setting)?;
     let seen = look_behind(rt, setting, answers.texts)?;
     let mut findings = Vec::new(rt.alloc());
     for intent in &untouched(rt.alloc(), &seen.books.findings, &seen.books.journals)? {
@@ -105,6 +107,7 @@ fn take_answers(rt: HostRuntime, setting: &Setting<'_>) -> Result<Guarded, Fault
     let Some(lock) = lock_within(rt, setting, Item::Answers)? else {
         return Err(Fault::Later(Later::Answering));
     };
+    check_id(rt, setting)?;
     settled(rt, setting, Item::Answers, lock)
 }
 

@@ -40,15 +40,19 @@ pub(crate) fn read_pages(rt: HostRuntime, setting: &Setting<'_>) -> Result<Pages
     Ok(Pages { answers, journals })
 }
 
-/// The texts of a journal. One that isn't there has none.
+/// Returns the texts of a journal, which was made with the run's id.
+///
+/// # Errors
+/// `Missing` if it isn't there, `Empty` if it has no byte.
 pub(crate) fn texts_of(
     rt: HostRuntime,
     setting: &Setting<'_>,
     item: Item,
 ) -> Result<Vec<Vec<u8>>, Fault> {
     match bytes_of(rt, setting, item)? {
+        Some(bytes) if bytes.is_empty() => Err(Fault::Empty(item)),
         Some(bytes) => Ok(texts_in(rt.alloc(), &bytes)?),
-        None => Ok(Vec::new(rt.alloc())),
+        None => Err(Fault::Missing(item)),
     }
 }
 

@@ -3,7 +3,9 @@ use crate::beginning::grown;
 use crate::books::known;
 use crate::fault::{Door, Fault, had, written};
 use crate::folder::bytes_of;
+use crate::identity::{Age, check_id, check_kept, check_whole, has_id};
 use crate::item::Item;
+use crate::making::{make_beside, make_within};
 use crate::setting::{Jobs, Setting};
 use amo_file::{is_mine, make_folder, sync_folder};
 use amo_mounts::{is_local, type_of};
@@ -11,29 +13,94 @@ use std::fs;
 use std::io::ErrorKind;
 use std::rt::HostRuntime;
 
-/// Whether a worker may begin in this folder, which is made where there is none, once it was looked whether the jobs' file can be
-/// that of a run. Nothing else is made. The folder above is synced, made or found: whoever made this one may have been killed
-/// before that.
-pub(crate) fn enter(rt: HostRuntime, setting: &Setting<'_>, jobs: &Jobs<'_>) -> Result<(), Fault> {
-    let above = parent_of(setting.run);
-    if is_there(rt, setting)? {
-        look_at(rt, setting)?;
-        return written(Item::Run, sync_folder(&rt, above));
+/// Checks that workers may begin in this folder. Makes it if it is missing, once it is known that
+/// the jobs' file can be that of a run; with `into` under its own name. The folder above is synced,
+/// made or found: whoever made this one may have been killed before that.
+///
+/// # Errors
+/// Those by which a folder is refused, and `Write` for what can't be made.
+pub(crate) fn open(
+    rt: HostRuntime,
+    setting: &Setting<'_>,
+    jobs: &Jobs<'_>,
+    into: bool,
+) -> Result<(), Fault> {
+    if !is_there(rt, setting)? {
+        make(rt, setting, jobs, into)?;
+    } else if into && has_id(rt, setting)? {
+        return Err(Fault::HasId);
     }
-    check_file_system(rt, setting, above)?;
-    check_jobs(rt, setting, jobs)?;
-    match make_folder(&rt, setting.run) {
-        Ok(()) => written(Item::Run, sync_folder(&rt, above)),
-        Err(error) if error.kind() == ErrorKind::AlreadyExists => {
-            look_at(rt, setting)?;
-            written(Item::Run, sync_folder(&rt, above))
+    look_at(rt, setting)?;
+    if !has_id(rt, setting)? {
+        if setting.id.is_some() {
+            return Err(Fault::NoId);
         }
-        Err(error) => Err(Fault::Write(Item::Run, error)),
+        make_within(rt, setting, jobs)?;
+    }
+    enter(rt, setting)?;
+    check_jobs(rt, setting, jobs)
+}
+
+/// Makes the folder, which isn't there: whole, or with `into` without its files.
+fn make(
+    rt: HostRuntime,
+    setting: &Setting<'_>,
+    jobs: &Jobs<'_>,
+    into: bool,
+) -> Result<(), Fault> {
+    if setting.id.is_some() {
+        return Err(Fault::NoRun);
+    }
+    check_file_system(rt, setting, parent_of(setting.run))?;
+    check_jobs(rt, setting, jobs)?;
+    if !into {
+        return make_beside(rt, setting);
+    }
+    match make_folder(&rt, setting.run) {
+        Err(error) if error.kind() == ErrorKind::AlreadyExists => Ok(()),
+        made => written(Item::Run, made),
+    }
+}
+
+/// Checks that a worker may begin in this folder, and makes nothing. The folder above is synced.
+///
+/// # Errors
+/// Those by which a folder is refused.
+pub(crate) fn enter(rt: HostRuntime, setting: &Setting<'_>) -> Result<(), Fault> {
+    look_at(rt, setting)?;
+    check_kept(rt, setting)?;
+    check_whole(rt, setting)?;
+    written(Item::Run, sync_folder(&rt, parent_of(setting.run)))
+}
+
+/// Checks that the folder is a run's, so that answers may be written there.
+///
+/// # Errors
+/// Those by which a folder is refused.
+pub(crate) fn look_to_write(rt: HostRuntime, setting: &Setting<'_>) -> Result<(), Fault> {
+    look_at(rt, setting)?;
+    check_id(rt, setting)?;
+    check_whole(rt, setting)
+}
+
+/// Checks that the folder can be read as a run's, and returns how it was made.
+///
+/// # Errors
+/// Those by which a folder is refused.
+pub(crate) fn look_to_read(rt: HostRuntime, setting: &Setting<'_>) -> Result<Age, Fault> {
+    look_at(rt, setting)?;
+    if has_id(rt, setting)? {
+        check_whole(rt, setting)?;
+        return Ok(Age::Now);
+    }
+    match setting.id {
+        Some(_) => Err(Fault::NoId),
+        None => Ok(Age::Old),
     }
 }
 
 /// Whether the folder that is there is a run's, and one's own.
-pub(crate) fn look_at(rt: HostRuntime, setting: &Setting<'_>) -> Result<(), Fault> {
+fn look_at(rt: HostRuntime, setting: &Setting<'_>) -> Result<(), Fault> {
     let found = had(Item::Run, fs::symlink_metadata(&rt, setting.run))?;
     if !found.is_dir() {
         return Err(Fault::Door(Door::NoFolder));
@@ -59,7 +126,7 @@ pub(crate) fn check_jobs(
 }
 
 /// Whether something has the folder's name, a link that leads nowhere too.
-fn is_there(rt: HostRuntime, setting: &Setting<'_>) -> Result<bool, Fault> {
+pub(crate) fn is_there(rt: HostRuntime, setting: &Setting<'_>) -> Result<bool, Fault> {
     match fs::symlink_metadata(&rt, setting.run) {
         Ok(_) => Ok(true),
         Err(error) if error.kind() == ErrorKind::NotFound => Ok(false),

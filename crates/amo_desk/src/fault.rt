@@ -42,6 +42,9 @@ pub enum Later {
     /// A round is being begun.
     #[error("a round is being begun")]
     Beginning,
+    /// Another process makes the run's files in this folder.
+    #[error("another process makes the run's files")]
+    Making,
     /// Record and words are of another boot, or not of each other, while others are at work.
     #[error("the round that is there can't be joined while others are at work in it")]
     OtherRound,
@@ -92,6 +95,33 @@ pub enum Fault {
     /// The words or the numbers of a round are such that no worker goes on.
     #[error("no worker can go on in this round; end all workers, and the next round begins with new words")]
     NoWay,
+    /// A file of the run is missing.
+    #[error("`{0}`: missing in the run's folder; put the file back, or give up this run (without it nobody knows which lines were performed)")]
+    Missing(Item),
+    /// A file of the run has no byte, though it was made with one.
+    #[error("`{0}`: empty; put its bytes back, or give up this run (without them nobody knows which lines were performed)")]
+    Empty(Item),
+    /// There is no folder, though a run was named.
+    #[error("the run's folder: missing; mount the file system that holds it, or name the path that it has now")]
+    NoRun,
+    /// The folder has no id.
+    #[error("the run's folder: it has no `id`, so it is no run's; name a run's folder (`amo_worker door` makes one)")]
+    NoId,
+    /// The folder has no id, but the record of a run.
+    #[error("the run's folder: made by amo 0.1.0, which gave it no `id`; begin a new run of its open lines (`amo_worker status RUN --lines open`) in a new folder")]
+    OldRun,
+    /// The folder is another run's than the one that was named.
+    #[error("`id`: not the id that --id names; name the folder of that run")]
+    OtherId,
+    /// The folder has an id, and a new one was to be made.
+    #[error("the run's folder: it already has an `id`; --into makes a new run: name another folder")]
+    HasId,
+    /// The folder has no id, but this file, which a run has.
+    #[error("the run's folder: it has `{0}` and no `id`; name another folder")]
+    NotNew(String),
+    /// The run was given up.
+    #[error("the run's folder: this run was given up (`forgotten`); begin a new run in a new folder")]
+    Forgotten,
     /// A file can't be made, written, synced or locked.
     #[error("{0} can't be written: {1}")]
     Write(Item, io::Error),
@@ -120,6 +150,9 @@ impl Fault {
         match self {
             Fault::List(..) | Fault::Changed(_) | Fault::Entry(..) | Fault::Refused(_) => 65,
             Fault::Answer(..) | Fault::NoAnswerOf(_) => 65,
+            Fault::Missing(_) | Fault::Empty(_) | Fault::NoRun | Fault::NoId => 65,
+            Fault::OldRun | Fault::OtherId | Fault::HasId | Fault::NotNew(_) => 65,
+            Fault::Forgotten => 65,
             Fault::Left | Fault::Closed => 69,
             Fault::NoSuchNumber(..) | Fault::NoWay => 70,
             Fault::Memory => 71,

@@ -2,8 +2,10 @@
 use crate::fault::{Fault, had, written};
 use crate::item::Item;
 use crate::setting::Setting;
-use amo_file::{create_private, read_file, replace_file, sync_folder};
+use amo_file::{create_private, open_private, read_file, replace_file, sync_folder};
+use std::fs;
 use std::fs::File;
+use std::io::ErrorKind;
 use std::rt::HostRuntime;
 
 /// The path of a file of the run.
@@ -22,10 +24,36 @@ pub(crate) fn bytes_of(
     had(item, read_file(&rt, path.as_str()))
 }
 
-/// Opens a file of the run to read and write, and makes it where there is none. The folder isn't synced.
+/// Opens a file of the run to read and write. The lock of a runner is made if there is none; every
+/// other file was made with the run's id, and is never made again.
+///
+/// # Errors
+/// `Missing` if it isn't there, else `Write`.
 pub(crate) fn opened(rt: HostRuntime, setting: &Setting<'_>, item: Item) -> Result<File, Fault> {
     let path = path_of(rt, setting, item)?;
-    written(item, create_private(&rt, path.as_str()))
+    if let Item::Runner(_) = item {
+        return written(item, create_private(&rt, path.as_str()));
+    }
+    match open_private(&rt, path.as_str()) {
+        Err(error) if error.kind() == ErrorKind::NotFound => Err(Fault::Missing(item)),
+        file => written(item, file),
+    }
+}
+
+/// Opens a file of the run to read, if there is one.
+///
+/// # Errors
+/// `Read` for the system's.
+pub(crate) fn opened_to_read(
+    rt: HostRuntime,
+    setting: &Setting<'_>,
+    item: Item,
+) -> Result<Option<File>, Fault> {
+    let path = path_of(rt, setting, item)?;
+    match fs::open(&rt, path.as_str()) {
+        Err(error) if error.kind() == ErrorKind::NotFound => Ok(None),
+        file => Ok(Some(had(item, file)?)),
+    }
 }
 
 /// Syncs the folder, made or found: whoever made a file in it may have been killed before that.

@@ -1,6 +1,7 @@
 //! Locks of a run, and the guard of a worker's number.
 use crate::fault::{Fault, Later, had, written};
-use crate::folder::{opened, path_of, sync};
+use crate::folder::{opened, opened_to_read, path_of, sync};
+use crate::identity::check_kept;
 use crate::item::Item;
 use crate::setting::Setting;
 use crate::settled::Settled;
@@ -26,7 +27,7 @@ pub(crate) struct Guarded {
     pub(crate) lock: File,
 }
 
-/// Takes the exclusive lock on a file of the run, which is made where there is none. Nothing where somebody else has one.
+/// Takes the exclusive lock on a file of the run. Returns none if somebody else has one.
 pub(crate) fn lock_of(
     rt: HostRuntime,
     setting: &Setting<'_>,
@@ -88,6 +89,9 @@ pub(crate) fn settled(
     item: Item,
     lock: File,
 ) -> Result<Guarded, Fault> {
+    if had(item, lock.metadata())?.len() == 0 {
+        return Err(Fault::Empty(item));
+    }
     let handle = written(item, lock.try_clone())?;
     let device = had(item, FileDevice::open(rt.alloc(), handle))?;
     let (journal, texts) = match Settled::settle(rt.alloc(), device) {
@@ -103,7 +107,9 @@ pub(crate) fn settled(
     })
 }
 
-/// Takes the number of a worker: the lock on its journal, which is then settled.
+/// Takes the number of a worker: the lock on its journal, which is then settled. The folder is
+/// compared with the run once more behind the lock: it may have been given up, and another put in
+/// its place.
 pub(crate) fn take_number(
     rt: HostRuntime,
     setting: &Setting<'_>,
@@ -111,8 +117,42 @@ pub(crate) fn take_number(
 ) -> Result<Guarded, Fault> {
     let item = Item::Journal(worker);
     match lock_within(rt, setting, item)? {
-        Some(lock) => settled(rt, setting, item, lock),
+        Some(lock) => {
+            check_kept(rt, setting)?;
+            settled(rt, setting, item, lock)
+        }
         None => Err(Fault::Later(holder(rt, setting, item))),
+    }
+}
+
+/// What became of a try to lock a file that may be missing.
+#[derive(Drop)]
+pub(crate) enum Tried {
+    /// It is locked by this handle.
+    Got(File),
+    /// Somebody else has the lock.
+    Held,
+    /// There is no such file.
+    Missing,
+}
+
+/// Tries once to take the exclusive lock on a file of the run, by a handle that only reads. Makes
+/// nothing.
+///
+/// # Errors
+/// `Read` if it can't be opened, `Write` if it can't be locked.
+pub(crate) fn try_lock_of(
+    rt: HostRuntime,
+    setting: &Setting<'_>,
+    item: Item,
+) -> Result<Tried, Fault> {
+    let Some(file) = opened_to_read(rt, setting, item)? else {
+        return Ok(Tried::Missing);
+    };
+    if written(item, try_exclusive(&file))? {
+        Ok(Tried::Got(file))
+    } else {
+        Ok(Tried::Held)
     }
 }
 

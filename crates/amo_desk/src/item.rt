@@ -7,6 +7,10 @@ use std::fmt::{Display, Formatter};
 pub enum Item {
     /// The folder that the processes of a run share.
     Run,
+    /// Which run it is: 32 hexadecimal digits and a line feed. Made last, and never replaced.
+    Id,
+    /// There if the run was given up.
+    Forgotten,
     /// The journal of a worker, whose lock is the guard of its number.
     Journal(u64),
     /// Locked, shared, by each worker from before it reads the record to its end, and by who begins a round.
@@ -29,6 +33,8 @@ pub enum Item {
     Sheet,
     /// The id that the machine has since it was started.
     Boot,
+    /// Where the kernel gives random numbers.
+    Random,
     /// Which file systems are mounted.
     Mounts,
     /// Standard output.
@@ -39,6 +45,8 @@ impl Display for Item {
     fn fmt<W: fmt::Write>(&self, f: &mut Formatter<W>) -> fmt::Result {
         match *self {
             Item::Run => write!(f, "the run's folder"),
+            Item::Id => write!(f, "id"),
+            Item::Forgotten => write!(f, "forgotten"),
             Item::Journal(worker) => write!(f, "journal.{worker}"),
             Item::Round => write!(f, "lock.round"),
             Item::Record => write!(f, "record"),
@@ -50,6 +58,7 @@ impl Display for Item {
             Item::List => write!(f, "the jobs' file"),
             Item::Sheet => write!(f, "the file of answers"),
             Item::Boot => write!(f, "the boot id"),
+            Item::Random => write!(f, "/proc/sys/kernel/random/uuid"),
             Item::Mounts => write!(f, "/proc/self/mountinfo"),
             Item::Output => write!(f, "standard output"),
         }

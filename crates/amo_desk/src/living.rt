@@ -32,7 +32,7 @@ pub(crate) fn work(
     jobs: &Jobs<'_>,
     worker: u64,
 ) -> Result<Counts, Fault> {
-    enter(rt, setting, jobs)?;
+    enter(rt, setting)?;
     let boot = boot_id(rt, setting)?;
     let guarded = take_number(rt, setting, worker)?;
     live(rt, setting, jobs, worker, &boot, guarded)

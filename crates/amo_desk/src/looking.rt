@@ -1,17 +1,18 @@
 //! To look at a run, as a person does: with what nobody is at any more held, so that it stays so while it is looked at.
 use crate::books::{Books, Pages, attempts_of, known, texts_of};
-use crate::fault::{Fault, had, written};
+use crate::fault::{Fault, had};
 use crate::folder::{bytes_of, path_of};
-use crate::guard::{lock_of, lock_within, settled};
+use crate::guard::{Tried, lock_of, lock_within, settled, try_lock_of};
+use crate::identity::Age;
 use crate::item::Item;
 use crate::setting::Setting;
-use amo_file::{is_at, open_private, try_exclusive};
+use amo_file::is_at;
 use amo_givens::MAX_WORKERS;
+use amo_journal::texts_in;
 use amo_ledger::pending;
 use amo_standing::{Intent, Standing, standings};
 use std::alloc::{AllocError, Global};
 use std::fs::File;
-use std::io::ErrorKind;
 use std::rt::HostRuntime;
 
 /// What a run says, and what is held of it.
@@ -49,29 +50,47 @@ impl Corner {
 /// Looks at a run: first at what persons found out, then at the journals, then at the jobs. Who looks holds the lock of what
 /// persons found out meanwhile, so that one doesn't find what another holds and take it for a worker's. Where that lock isn't got it
 /// looks all the same: it may then say of a worker that nobody runs that it is at work, and of a doubt that its command runs.
-pub(crate) fn look(rt: HostRuntime, setting: &Setting<'_>) -> Result<Seen, Fault> {
-    let lock = among_readers(rt, setting)?;
-    let answers = texts_of(rt, setting, Item::Answers)?;
-    let mut seen = look_behind(rt, setting, answers)?;
+pub(crate) fn look(rt: HostRuntime, setting: &Setting<'_>, age: Age) -> Result<Seen, Fault> {
+    let lock = among_readers(rt, setting, age)?;
+    let answers = match age {
+        Age::Now => texts_of(rt, setting, Item::Answers)?,
+        Age::Old => old_texts_of(rt, setting, Item::Answers)?,
+    };
+    let mut seen = look_through(rt, setting, age, answers)?;
     if let Some(lock) = lock {
         seen.held.push(lock)?;
     }
     Ok(seen)
 }
 
-/// The lock of what persons found out, if it is got. Where nobody has found out anything yet, and its file can't be made, as on a
-/// full disk, there is none.
-fn among_readers(rt: HostRuntime, setting: &Setting<'_>) -> Result<Option<File>, Fault> {
-    match lock_within(rt, setting, Item::Answers) {
-        Err(Fault::Write(..)) if bytes_of(rt, setting, Item::Answers)?.is_none() => Ok(None),
-        got => got,
+/// Returns the lock of what persons found out, if it is got.
+fn among_readers(
+    rt: HostRuntime,
+    setting: &Setting<'_>,
+    age: Age,
+) -> Result<Option<File>, Fault> {
+    if age == Age::Now {
+        return lock_within(rt, setting, Item::Answers);
+    }
+    match try_lock_of(rt, setting, Item::Answers)? {
+        Tried::Got(lock) => Ok(Some(lock)),
+        Tried::Held | Tried::Missing => Ok(None),
     }
 }
 
-/// The same where what persons found out was read.
+/// Looks at a run of which it was read what persons found out.
 pub(crate) fn look_behind(
     rt: HostRuntime,
     setting: &Setting<'_>,
+    answers: Vec<Vec<u8>>,
+) -> Result<Seen, Fault> {
+    look_through(rt, setting, Age::Now, answers)
+}
+
+fn look_through(
+    rt: HostRuntime,
+    setting: &Setting<'_>,
+    age: Age,
     answers: Vec<Vec<u8>>,
 ) -> Result<Seen, Fault> {
     let mut held = Vec::new(rt.alloc());
@@ -79,7 +98,10 @@ pub(crate) fn look_behind(
     let mut idle = Vec::new(rt.alloc());
     let mut journals = Vec::new(rt.alloc());
     for worker in 1..=MAX_WORKERS as u64 {
-        let corner = corner_of(rt, setting, worker, &mut held)?;
+        let corner = match age {
+            Age::Now => corner_of(rt, setting, worker, &mut held)?,
+            Age::Old => old_corner_of(rt, setting, worker, &mut held)?,
+        };
         if corner.alive {
             alive.push(worker)?;
         }
@@ -108,7 +130,7 @@ impl Seen {
     }
 }
 
-/// Looks at a worker's journal. One that isn't there isn't made.
+/// Looks at a worker's journal.
 fn corner_of(
     rt: HostRuntime,
     setting: &Setting<'_>,
@@ -154,13 +176,54 @@ fn corner_behind(
     })
 }
 
+/// Looks at a worker's journal in a folder of version 0.1.0, and writes nothing: it takes the locks
+/// of files that are there, and settles nothing.
+fn old_corner_of(
+    rt: HostRuntime,
+    setting: &Setting<'_>,
+    worker: u64,
+    held: &mut Vec<File>,
+) -> Result<Corner, Fault> {
+    let item = Item::Journal(worker);
+    let lock = try_lock_of(rt, setting, item)?;
+    let texts = old_texts_of(rt, setting, item)?;
+    let Tried::Got(lock) = lock else {
+        let alive = matches!(lock, Tried::Held);
+        return Ok(Corner::at_rest(texts, alive));
+    };
+    if !has_pending(rt.alloc(), item, &texts)? {
+        return Ok(Corner::at_rest(texts, false));
+    }
+    match try_lock_of(rt, setting, Item::Runner(worker))? {
+        Tried::Got(runner) => held.push(runner)?,
+        Tried::Held => return Ok(Corner::at_rest(texts, false)),
+        Tried::Missing => {}
+    }
+    held.push(lock)?;
+    Ok(Corner {
+        texts,
+        alive: false,
+        idle: true,
+    })
+}
+
+/// Returns the texts of a journal of version 0.1.0: one that isn't there has none.
+fn old_texts_of(
+    rt: HostRuntime,
+    setting: &Setting<'_>,
+    item: Item,
+) -> Result<Vec<Vec<u8>>, Fault> {
+    match bytes_of(rt, setting, item)? {
+        Some(bytes) => Ok(texts_in(rt.alloc(), &bytes)?),
+        None => Ok(Vec::new(rt.alloc())),
+    }
+}
+
 /// Whether somebody else has the lock on a file. One that isn't there has none.
 fn is_held(rt: HostRuntime, setting: &Setting<'_>, item: Item) -> Result<bool, Fault> {
-    let path = path_of(rt, setting, item)?;
-    match open_private(&rt, path.as_str()) {
-        Ok(file) => Ok(!written(item, try_exclusive(&file))?),
-        Err(error) if error.kind() == ErrorKind::NotFound => Ok(false),
-        Err(error) => Err(Fault::Read(item, error)),
+    match try_lock_of(rt, setting, item)? {
+        Tried::Held => Ok(true),
+        Tried::Got(_) | Tried::Missing => Ok(false),
     }
 }
 
@@ -216,14 +279,11 @@ fn has_ended(
     held: &mut Vec<File>,
 ) -> Result<bool, Fault> {
     let path = path_of(rt, setting, item)?;
-    let file = match open_private(&rt, path.as_str()) {
-        Ok(file) => file,
-        Err(error) if error.kind() == ErrorKind::NotFound => return Ok(true),
-        Err(error) => return Err(Fault::Read(item, error)),
+    let file = match try_lock_of(rt, setting, item)? {
+        Tried::Got(file) => file,
+        Tried::Held => return Ok(false),
+        Tried::Missing => return Ok(true),
     };
-    if !written(item, try_exclusive(&file))? {
-        return Ok(false);
-    }
     let there = had(item, is_at(&rt, &file, path.as_str()))?;
     held.push(file)?;
     Ok(there)

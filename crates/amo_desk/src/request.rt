@@ -2,6 +2,7 @@
 ghost use Rattle.std.specs.Prelude.{◌≤◌, IfOk};
 
 use crate::lines::ByLines;
+use crate::names::is_id;
 use crate::setting::{Jobs, Setting};
 use amo_givens::{MAX_BETA, MAX_JOBS, MAX_WORKERS};
 use amo_ledger::number;
@@ -21,8 +22,9 @@ pub(crate) enum Form {
 /// What is asked for, beside the run's folder.
 #[derive(Clone, Copy)]
 pub(crate) enum Request<'a> {
-    /// Whether a worker may begin.
-    Door(Jobs<'a>),
+    /// To make the run's folder if it is missing, and to say whether workers may begin. With `true`
+    /// it is made under its own name.
+    Door(Jobs<'a>, bool),
     /// To live as this worker.
     Work(Jobs<'a>, u64),
     /// To live as a worker whose partner has words and journal too.
@@ -81,10 +83,14 @@ fn over_run<'a>(alloc: Global, name: &'a str, about: &'a str) -> Result<Command<
         .long("boot-id")
         .default_value(BOOT)
         .help("for tests: a file read in place of the system's boot id");
+    let id = Arg::new(alloc, "id").long("id").help(
+        "the id of the run, 32 hexadecimal digits; a folder that has another is refused (default: any run's)",
+    );
     Command::new(alloc, name)
         .about(about)
         .arg(required(alloc, "RUN"))?
         .arg(kind)?
+        .arg(id)?
         .arg(boot)
 }
 
@@ -111,8 +117,13 @@ fn flag<'a>(alloc: Global, name: &'a str, help: &'a str) -> Arg<'a> {
 }
 
 fn door<'a>(alloc: Global) -> Result<Command<'a>, AllocError> {
-    let about = "Whether a worker may begin; makes the folder RUN where there is none";
-    over_jobs(alloc, over_run(alloc, "door", about)?)
+    let about = "Makes the run's folder RUN if it is missing, and checks that workers may begin there";
+    let into = flag(
+        alloc,
+        "into",
+        "make RUN under its own name; refused if it has an id (default: made as RUN.new-X, and renamed)",
+    );
+    over_jobs(alloc, over_run(alloc, "door", about)?.arg(into)?)
 }
 
 fn working<'a>(alloc: Global) -> Result<Command<'a>, AllocError> {
@@ -270,7 +281,7 @@ fn by_lines_of(matches: &ArgMatches<'_>) -> Result<ByLines, Misuse> {
 
 fn request_of<'a>(name: &str, matches: &ArgMatches<'a>) -> Result<Request<'a>, Misuse> {
     match name {
-        "door" => Ok(Request::Door(jobs_of(matches)?)),
+        "door" => Ok(Request::Door(jobs_of(matches)?, matches.get_flag("into"))),
         "work" => {
             let jobs = jobs_of(matches)?;
             let worker = number_at(matches, "P", 1, jobs.workers)?;
@@ -281,6 +292,14 @@ fn request_of<'a>(name: &str, matches: &ArgMatches<'a>) -> Result<Request<'a>, M
         "doubts" => Ok(Request::Doubts(form_of(matches)?)),
         "answer" => answer_of(matches),
         _ => Ok(Request::Again),
+    }
+}
+
+/// Returns the id that is named, if one is.
+fn id_of<'a>(matches: &ArgMatches<'a>) -> Result<Option<&'a str>, Misuse> {
+    match matches.get_str("id") {
+        Some(id) if !is_id(id.as_bytes()) => Err(Misuse::Number("--id")),
+        id => Ok(id),
     }
 }
 
@@ -301,6 +320,7 @@ pub(crate) fn asked<'a>(
     };
     let setting = Setting {
         run: without_end(inner.get_str("RUN").unwrap_or("")),
+        id: id_of(inner)?,
         file_system: inner.get_str("file-system"),
         boot: inner.get_str("boot-id").unwrap_or(BOOT),
     };

@@ -1,6 +1,6 @@
 //! The whole program.
 use crate::answering::{answer, answer_from, once_more};
-use crate::door::{check_jobs, enter, look_at};
+use crate::door::{look_to_read, look_to_write, open};
 use crate::fault::{Fault, written};
 use crate::item::Item;
 use crate::lines::work_by_lines;
@@ -90,33 +90,30 @@ fn tell_words(rt: HostRuntime, error: &Error) -> u8 {
 /// Does what is asked for.
 fn done(rt: HostRuntime, setting: &Setting<'_>, request: Request<'_>) -> Result<(), Fault> {
     match request {
-        Request::Door(jobs) => {
-            enter(rt, setting, &jobs)?;
-            check_jobs(rt, setting, &jobs)
-        }
+        Request::Door(jobs, into) => open(rt, setting, &jobs, into),
         Request::Work(jobs, worker) => {
             let counts = work(rt, setting, &jobs, worker)?;
             tell_all_done(rt, &counts)
         }
         Request::Lines(asked) => work_by_lines(rt, asked),
         Request::Status(form) => {
-            look_at(rt, setting)?;
-            show_status(rt, setting, form)
+            let age = look_to_read(rt, setting)?;
+            show_status(rt, setting, age, form)
         }
         Request::Doubts(form) => {
-            look_at(rt, setting)?;
-            show_doubts(rt, setting, form)
+            let age = look_to_read(rt, setting)?;
+            show_doubts(rt, setting, age, form)
         }
         Request::Answer(intent, line, text, verdict) => {
-            look_at(rt, setting)?;
+            look_to_write(rt, setting)?;
             answer(rt, setting, said_by(rt, intent, line, text, verdict)?)
         }
         Request::AnswerFrom(sheet) => {
-            look_at(rt, setting)?;
+            look_to_write(rt, setting)?;
             answer_from(rt, setting, sheet)
         }
         Request::Again => {
-            look_at(rt, setting)?;
+            look_to_write(rt, setting)?;
             once_more(rt, setting)
         }
     }

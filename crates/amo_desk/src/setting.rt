@@ -7,6 +7,8 @@ ghost use Rattle.amo_givens.specs.declared.limits.TheConstants.{MAX_WORKERS, MAX
 pub(crate) struct Setting<'a> {
     /// The path of the folder.
     pub(crate) run: &'a str,
+    /// The id that the run must have, if one is named.
+    pub(crate) id: Option<&'a str>,
     /// A type of file system that is taken beside the known local ones, as /proc/self/mountinfo names it.
     pub(crate) file_system: Option<&'a str>,
     /// The path of the file with the id that the machine has since it was started.

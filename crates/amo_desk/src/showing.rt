@@ -2,6 +2,7 @@
 ghost use Rattle.std.specs.Prelude.{◌≡◌, ◌≤◌, length, IfOk};
 
 use crate::fault::{Fault, written};
+use crate::identity::Age;
 use crate::item::Item;
 use crate::looking::{Seen, look};
 use crate::request::Form;
@@ -15,26 +16,46 @@ use std::io::Write;
 use std::rt::HostRuntime;
 
 /// Writes how all lines stand. What was held of the run is let go of before: who reads may take his time.
-pub(crate) fn show_status(rt: HostRuntime, setting: &Setting<'_>, form: Form) -> Result<(), Fault> {
-    let text = status_now(rt, setting, form)?;
+pub(crate) fn show_status(
+    rt: HostRuntime,
+    setting: &Setting<'_>,
+    age: Age,
+    form: Form,
+) -> Result<(), Fault> {
+    let text = status_now(rt, setting, age, form)?;
     print(rt, &text)
 }
 
 /// Writes the doubts that are final, in the same way.
-pub(crate) fn show_doubts(rt: HostRuntime, setting: &Setting<'_>, form: Form) -> Result<(), Fault> {
-    let text = doubts_now(rt, setting, form)?;
+pub(crate) fn show_doubts(
+    rt: HostRuntime,
+    setting: &Setting<'_>,
+    age: Age,
+    form: Form,
+) -> Result<(), Fault> {
+    let text = doubts_now(rt, setting, age, form)?;
     print(rt, &text)
 }
 
-fn status_now(rt: HostRuntime, setting: &Setting<'_>, form: Form) -> Result<Vec<u8>, Fault> {
-    let seen = look(rt, setting)?;
+fn status_now(
+    rt: HostRuntime,
+    setting: &Setting<'_>,
+    age: Age,
+    form: Form,
+) -> Result<Vec<u8>, Fault> {
+    let seen = look(rt, setting, age)?;
     let standings = seen.standings(rt.alloc())?;
     let texts = texts_of(rt.alloc(), &seen.books.jobs, standings.len())?;
     Ok(status_in(rt.alloc(), form, &seen, &standings, &texts)?)
 }
 
-fn doubts_now(rt: HostRuntime, setting: &Setting<'_>, form: Form) -> Result<Vec<u8>, Fault> {
-    let seen = look(rt, setting)?;
+fn doubts_now(
+    rt: HostRuntime,
+    setting: &Setting<'_>,
+    age: Age,
+    form: Form,
+) -> Result<Vec<u8>, Fault> {
+    let seen = look(rt, setting, age)?;
     let standings = seen.standings(rt.alloc())?;
     let texts = texts_of(rt.alloc(), &seen.books.jobs, standings.len())?;
     Ok(doubts_in(rt.alloc(), form, &standings, &texts)?)

@@ -65,6 +65,58 @@ pub fn replace_file<R: Files<File = File>>(
     Ok(())
 }
 
+/// Makes a file with these bytes, for its owner alone, and syncs it. The folder isn't synced.
+///
+/// # Errors
+/// `AlreadyExists` if something has this name, else the system's.
+pub fn make_file<R: Files<File = File>>(rt: &R, path: &str, bytes: &[u8]) -> io::Result<()> {
+    let mut options = OpenOptions::new();
+    options.write(true).create_new(true).mode(0o600);
+    let mut file = options.open(rt, path)?;
+    file.write_all(bytes)?;
+    file.sync_all()
+}
+
+/// Makes a file with these bytes, unless something has this name: makes it whole and synced under
+/// the name `beside`, gives it its name by a link, and removes the name `beside`. So nobody finds a
+/// part of it, and nothing is ever replaced. The folder isn't synced.
+///
+/// # Errors
+/// The system's. The name `beside` may then be left.
+pub fn make_if_missing<R: Files<File = File>>(
+    rt: &R,
+    path: &str,
+    beside: &str,
+    bytes: &[u8],
+) -> io::Result<()> {
+    make_file(rt, beside, bytes)?;
+    let linked = fs::hard_link(rt, beside, path);
+    fs::remove_file(rt, beside)?;
+    match linked {
+        Err(error) if error.kind() != ErrorKind::AlreadyExists => Err(error),
+        _ => Ok(()),
+    }
+}
+
+/// Returns the names in a folder, in no order, without those that are no UTF-8.
+///
+/// # Errors
+/// The system's, or a want of memory.
+pub fn names_in<R: Files + AllocGlobal + Clone + Drop>(
+    rt: &R,
+    folder: &str,
+) -> io::Result<Vec<String>> {
+    let mut names = Vec::new(rt.alloc());
+    for entry in fs::read_dir(rt, folder)? {
+        match entry {
+            Ok(entry) => names.push(String::from_str(rt.alloc(), entry.file_name())?)?,
+            Err(error) if error.kind() == ErrorKind::InvalidFilename => {}
+            Err(error) => return Err(error),
+        }
+    }
+    Ok(names)
+}
+
 /// Whether this process's user owns what has this name, itself no link.
 pub fn is_mine<R: Files>(rt: &R, path: &str) -> io::Result<bool> {
     let found = fs::symlink_metadata(rt, path)?;

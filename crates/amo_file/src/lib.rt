@@ -9,6 +9,7 @@ mod locks;
 
 pub use device::FileDevice;
 pub use folder::{
-    create_private, is_mine, make_folder, open_private, read_file, replace_file, sync_folder,
+    create_private, is_mine, make_file, make_folder, make_if_missing, names_in, open_private,
+    read_file, replace_file, sync_folder,
 };
 pub use locks::{is_at, try_exclusive, try_shared};
