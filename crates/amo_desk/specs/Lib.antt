@@ -1,3 +1,4 @@
+pub mod Names
 pub mod Notes
 pub mod Rounds
 pub mod Statuses

@@ -64,11 +64,7 @@ pub(crate) fn look(rt: HostRuntime, setting: &Setting<'_>, age: Age) -> Result<S
 }
 
 /// Returns the lock of what persons found out, if it is got.
-fn among_readers(
-    rt: HostRuntime,
-    setting: &Setting<'_>,
-    age: Age,
-) -> Result<Option<File>, Fault> {
+fn among_readers(rt: HostRuntime, setting: &Setting<'_>, age: Age) -> Result<Option<File>, Fault> {
     if age == Age::Now {
         return lock_within(rt, setting, Item::Answers);
     }
@@ -208,11 +204,7 @@ fn old_corner_of(
 }
 
 /// Returns the texts of a journal of version 0.1.0: one that isn't there has none.
-fn old_texts_of(
-    rt: HostRuntime,
-    setting: &Setting<'_>,
-    item: Item,
-) -> Result<Vec<Vec<u8>>, Fault> {
+fn old_texts_of(rt: HostRuntime, setting: &Setting<'_>, item: Item) -> Result<Vec<Vec<u8>>, Fault> {
     match bytes_of(rt, setting, item)? {
         Some(bytes) => Ok(texts_in(rt.alloc(), &bytes)?),
         None => Ok(Vec::new(rt.alloc())),

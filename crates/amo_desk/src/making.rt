@@ -130,11 +130,8 @@ fn check_new(rt: HostRuntime, setting: &Setting<'_>) -> Result<(), Fault> {
     for name in had(Item::Run, names_in(&rt, setting.run))? {
         found.push(named(rt, setting, name)?)?;
     }
-    let Some(place) = first_refused(&found) else {
-        return Ok(());
-    };
-    match found.into_iter().nth(place) {
-        Some(file) => Err(Fault::NotNew(file.name)),
+    match first_refused(&found) {
+        Some(file) => Err(Fault::NotNew(file.name.clone()?)),
         None => Ok(()),
     }
 }

@@ -117,7 +117,8 @@ fn flag<'a>(alloc: Global, name: &'a str, help: &'a str) -> Arg<'a> {
 }
 
 fn door<'a>(alloc: Global) -> Result<Command<'a>, AllocError> {
-    let about = "Makes the run's folder RUN if it is missing, and checks that workers may begin there";
+    let about =
+        "Makes the run's folder RUN if it is missing, and checks that workers may begin there";
     let into = flag(
         alloc,
         "into",
