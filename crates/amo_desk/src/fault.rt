@@ -96,31 +96,31 @@ pub enum Fault {
     #[error("no worker can go on in this round; end all workers, and the next round begins with new words")]
     NoWay,
     /// A file of the run is missing.
-    #[error("`{0}`: missing in the run's folder; put the file back, or give up this run (without it nobody knows which lines were performed)")]
+    #[error("`{0}` is missing; put the file back, or give up this run (without it nobody knows which lines were performed)")]
     Missing(Item),
     /// A file of the run has no byte, though it was made with one.
-    #[error("`{0}`: empty; put its bytes back, or give up this run (without them nobody knows which lines were performed)")]
+    #[error("`{0}` is empty; put its bytes back, or give up this run (without them nobody knows which lines were performed)")]
     Empty(Item),
     /// There is no folder, though a run was named.
-    #[error("the run's folder: missing; mount the file system that holds it, or name the path that it has now")]
+    #[error("no run's folder is there; mount the file system that holds it, or name the path that it has now")]
     NoRun,
     /// The folder has no id.
-    #[error("the run's folder: it has no `id`, so it is no run's; name a run's folder (`amo_worker door` makes one)")]
+    #[error("it has no `id`, so it is no run's folder; name a run's folder (`amo_worker door` makes one)")]
     NoId,
     /// The folder has no id, but the record of a run.
-    #[error("the run's folder: made by amo 0.1.0, which gave it no `id`; begin a new run of its open lines (`amo_worker status RUN --lines open`) in a new folder")]
+    #[error("made by amo 0.1.0, which gave it no `id`; begin a new run of its open lines (`amo_worker status RUN --lines open`) in a new folder")]
     OldRun,
     /// The folder is another run's than the one that was named.
-    #[error("`id`: not the id that --id names; name the folder of that run")]
+    #[error("its `id` is not the one that --id names; name the folder of that run")]
     OtherId,
     /// The folder has an id, and a new one was to be made.
-    #[error("the run's folder: it already has an `id`; --into makes a new run: name another folder")]
+    #[error("it has an `id` already, and --into makes a new run; name another folder")]
     HasId,
     /// The folder has no id, but this file, which a run has.
-    #[error("the run's folder: it has `{0}` and no `id`; name another folder")]
+    #[error("it has `{0}` and no `id`, so no run can be made there; name another folder")]
     NotNew(String),
     /// The run was given up.
-    #[error("the run's folder: this run was given up (`forgotten`); begin a new run in a new folder")]
+    #[error("this run was given up, since `forgotten` is there; begin a new run in another folder")]
     Forgotten,
     /// A file can't be made, written, synced or locked.
     #[error("{0} can't be written: {1}")]
@@ -143,6 +143,16 @@ pub enum Fault {
 }
 
 impl Fault {
+    /// Returns whether the fault is one of the run's folder, which the message then names.
+    pub(crate) fn is_of_folder(&self) -> bool {
+        match self {
+            Fault::Missing(_) | Fault::Empty(_) | Fault::NoRun | Fault::NoId => true,
+            Fault::OldRun | Fault::OtherId | Fault::HasId | Fault::NotNew(_) => true,
+            Fault::Forgotten => true,
+            _ => false,
+        }
+    }
+
     /// The status with which the program ends.
     pub fn status(&self) -> u8
         ensures { result ≡ status_of self.now }

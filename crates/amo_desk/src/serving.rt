@@ -52,6 +52,15 @@ fn tell_fault(rt: HostRuntime, fault: &Fault) -> u8 {
     fault.status()
 }
 
+/// Reports a fault of a run on standard error, and returns its status.
+fn tell_fault_of(rt: HostRuntime, setting: &Setting<'_>, fault: &Fault) -> u8 {
+    if !fault.is_of_folder() {
+        return tell_fault(rt, fault);
+    }
+    let _ = eprintln!(rt; "amo_worker: `{}`: {fault}", setting.run);
+    fault.status()
+}
+
 fn serve_words(rt: HostRuntime, words: &[String]) -> u8 {
     let Ok(texts) = texts_of(rt, words) else {
         return tell_fault(rt, &Fault::Memory);
@@ -59,7 +68,7 @@ fn serve_words(rt: HostRuntime, words: &[String]) -> u8 {
     match asked(rt.alloc(), &texts) {
         Ok((setting, request)) => match done(rt, &setting, request) {
             Ok(()) => 0,
-            Err(fault) => tell_fault(rt, &fault),
+            Err(fault) => tell_fault_of(rt, &setting, &fault),
         },
         Err(Misuse::Memory) => tell_fault(rt, &Fault::Memory),
         Err(Misuse::Number(id)) => {
