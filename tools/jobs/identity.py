@@ -200,7 +200,7 @@ def is_mounted(words: list[str]) -> bool:
 
 
 def unmount(path: str) -> None:
-    subprocess.run(["umount", "-l", path], check=True)
+    subprocess.run(["umount", "-l", path], stderr=subprocess.DEVNULL)
 
 
 def try_missing(bench):
@@ -627,10 +627,10 @@ def try_by_id(bench):
         scene = begun(bench)
         run = id_in(scene.run)
         put_mark(scene, text)
-        is_refused(scene, "`id`|its id", "--id", OTHER)
-        is_refused(scene, "missing", "--id", run, run=f"{scene.room}/none")
+        is_refused(scene, "amo_worker: ", "--id", OTHER)
+        is_refused(scene, "amo_worker: .*missing", "--id", run, run=f"{scene.room}/none")
         os.rename(f"{scene.run}/id", f"{scene.room}/id")
-        is_refused(scene, "`id`|no id", "--id", run)
+        is_refused(scene, "amo_worker: ", "--id", run)
         os.rename(f"{scene.room}/id", f"{scene.run}/id")
         goes_on(scene, "--id", run)
         want(mark_of(scene) == text, f"the mark is {mark_of(scene)}")
