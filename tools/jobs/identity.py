@@ -542,6 +542,22 @@ def try_two_folders(bench):
     return f"{len(chosen)} of {len(steps)} steps"
 
 
+def try_one_folder(bench):
+    """two crews of one new folder, one of them stopped before it makes the mark: both go on"""
+    scene = bench.scene(["fail"] * 2)
+    steps = steps_of(scene, words_of(scene, "crew"), FAILED)
+    for number in (place for place, it in enumerate(steps, 1) if re.match("run door|link ", it)):
+        scene = bench.scene(["fail"] * 2)
+        first = Begun(words_of(scene, "crew"), scene, AMO_STEP=f"{number}:stop")
+        until(lambda: is_stopped(first.process), "it is stopped")
+        crew(scene, FAILED)
+        mark = mark_of(scene)
+        first.process.send_signal(signal.SIGCONT)
+        told = first.end()
+        check(scene, [1, 1], told)
+        want(first.process.returncode == FAILED and mark_of(scene) == mark, f"{mark}: {told}")
+
+
 def try_killed_making(bench):
     """a crew is killed before each of its calls: of two crews after that one is refused"""
     scene = bench.scene(["fail"] * 2)
@@ -800,7 +816,7 @@ def forget_killed(scene: Scene, number: int, step: str) -> None:
 PARTS = {"identity": [
     try_forget_killed, try_two_folders, try_killed_making, try_new_runs_at_once, try_forget_refuses,
     try_missing, try_other_marks, try_first_run, try_without_a_mark, try_own_folder, try_moved,
-    try_copies, try_new_run, try_renamed, try_lists_that_are_none, try_two_lists, try_read_only,
-    try_journals, try_journals_alive, try_folder_renamed, try_mount_point, try_by_id,
+    try_copies, try_new_run, try_renamed, try_lists_that_are_none, try_two_lists, try_one_folder,
+    try_read_only, try_journals, try_journals_alive, try_folder_renamed, try_mount_point, try_by_id,
     try_other_commands, try_forget, try_forget_doubts, try_forget_mounted,
 ]}
