@@ -12,6 +12,7 @@ await='while [ -d "$room" ] && ! [ -e "$room/go" ]; do sleep 0.02; done; echo "d
 first() { mkdir "$room/tried.$AMO_LINE" 2> /dev/null; }
 case $what in
 quick) did 0; sleep 0.02 ;;
+late) did 2; sleep 0.5 ;;
 waits) ! first || till go; did 0 ;;
 waits_stays) ! first || till go; did 0; till over ;;
 stays) did 0; till over ;;
