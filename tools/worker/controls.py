@@ -8,10 +8,12 @@ from worker import crowd, kills, making, persons, power, rounds, scene, texts
 
 STAND_IN = os.path.join(os.path.dirname(os.path.realpath(__file__)), "stand_in.py")
 TWICE, GONE, DOUBT = "performed twice", "performed twice|acknowledged line is gone", "(?s)status says .* doubt 2 .*'doubt': 1,"
-# A mistake, the test that has to show it, and what it has to say; in the short form the first of them.
+# A mistake, the test that must show it, and what that must say; the short form has the first of them.
 MISTAKES = [
     ("last_journal_wins", rounds.try_closing_wins, TWICE),
     ("pending_is_open", persons.try_pending, TWICE),
+    ("missing_is_empty", making.try_missing_beside, "journal.1: "),
+    ("forgotten_is_taken", making.try_forgotten, "status 0"),
     ("cut_line_is_kept", texts.try_behind_a_gate, DOUBT),
     ("words_of_another_boot", power.try_words_of_another_boot, TWICE),
     ("lists_without_settling", power.try_listed_and_cut, "after it was listed as a doubt"),
@@ -22,7 +24,6 @@ MISTAKES = [
     ("own_words_forgotten", crowd.try_crew_killed, TWICE),
     ("claim_after_the_act", crowd.try_crew_killed, TWICE),
     ("readers_without_a_lock", crowd.try_readers_beside_each_other, "a final doubt running"),
-    ("missing_is_empty", making.try_missing, "journal.* is removed, .*: status 0"),
     ("empty_is_empty", making.try_missing, "journal.* is emptied, .*: status 0"),
     ("id_is_replaced", making.try_door_killed, "the id is replaced"),
     ("id_first", making.try_door_killed, "there is an id, and not all else"),
@@ -32,11 +33,10 @@ MISTAKES = [
     ("old_run_is_settled", making.try_old_run, "something is written by who looks"),
     ("old_run_is_worked", making.try_old_run, "work: status"),
     ("id_is_not_compared", making.try_id, "status 0"),
-    ("forgotten_is_taken", making.try_forgotten, "status 0"),
     ("running_is_refused", making.try_answers_that_wait, "status 65"),
     ("emptied_by_recovery", texts.try_behind_a_gate, "is empty for a moment"),
 ]
-CHEAPEST = 2
+CHEAPEST = 4
 
 
 def show(bench, mistake, test, wanted):

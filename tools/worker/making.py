@@ -123,9 +123,7 @@ def kill_one(bench, kind: str, number: int) -> None:
     runner.close()
 
 
-def few(bench) -> int:
-    """How many calls of each kind the short form tries; the stand-in is slow."""
-    return 9 if bench.is_slow() else 14
+FEW = 4  # how many calls of a door the short form tries, besides its last ones
 
 
 def points(bench, kind: str, count: int, chosen=changes) -> list:
@@ -136,7 +134,7 @@ def points(bench, kind: str, count: int, chosen=changes) -> list:
 
 def try_door_killed(bench):
     """the door, killed at each call and begun again: the folder is whole or gone on with, and its id is never replaced"""
-    rows = [(bench, kind, it) for kind in BEFORE for it in points(bench, kind, few(bench))]
+    rows = [(bench, kind, it) for kind in BEFORE for it in points(bench, kind, FEW)]
     return f"{each(rows, kill_one)} kills"
 
 
@@ -169,7 +167,7 @@ def refusals(bench, kind: str):
 
 def try_door_refused(bench):
     """each call of the door refused, interrupted or short: it ends by saying so, and the next door goes on"""
-    rows = [bench.sample(refusals(bench, kind), 4 * few(bench) // 3) for kind in BEFORE]
+    rows = [bench.sample(refusals(bench, kind), FEW + 2) for kind in BEFORE]
     return f"{each([it for row in rows for it in row], refuse_one)} refusals"
 
 
@@ -203,7 +201,7 @@ def stop_one(bench, kind: str, number: int) -> None:
 
 def try_two_doors(bench):
     """a door stopped at each call, while another makes the folder and a worker begins: both go on, with one id"""
-    rows = [(bench, kind, it) for kind in BEFORE for it in points(bench, kind, few(bench), lambda calls: calls)]
+    rows = [(bench, kind, it) for kind in BEFORE for it in points(bench, kind, FEW, lambda calls: calls)]
     return f"{each(rows, stop_one)} stops"
 
 
@@ -300,12 +298,10 @@ def miss_one(bench, name: str, is_removed: bool, few_commands: bool) -> None:
 
 def try_missing(bench):
     """each journal, answers, lock.round or id removed or emptied, in the first round: refused by name, by each command"""
-    rows = [(bench, name, is_removed, bench.is_slow() and name not in ("journal.1", "journal.16"))
+    rows = [(bench, name, is_removed, name not in ("journal.1", "journal.16", "id"))
             for name in [*MADE, "id"] for is_removed in (True, False)
             if (name, is_removed) not in (("lock.round", False), ("id", True))]
-    if bench.is_slow() and not bench.is_long:
-        rows = [it for it in rows if it[1] in ("lock.round", "answers", "journal.1", "journal.2", "journal.16", "id")]
-    return f"{each(rows, miss_one)} files"
+    return f"{each(bench.sample(rows, 18), miss_one)} files"
 
 
 def try_missing_beside(bench):
@@ -500,9 +496,11 @@ def perform_and_cut(scene, power) -> None:
 
 def try_door_cut(bench):
     """the door, killed at each call, and the power cut: without an id the folder is gone on with, with one it is whole"""
-    rows = [(bench, kind, it, how) for kind in BEFORE for it in points(bench, kind, few(bench))
+    rows = [(bench, kind, it, how) for kind in BEFORE for it in points(bench, kind, FEW)
             for how in ("none", "all", "drawn", "drawn")]
-    return f"{each(bench.sample(rows, 3 * few(bench)), cut_one)} cuts"
+    ends = [(bench, kind, it, "drawn") for kind in ("users", "into")
+            for it in points(bench, kind, FEW)[-4:]]
+    return f"{each([*ends, *bench.sample(rows, 2 * FEW)], cut_one)} cuts"
 
 
 def again_one(bench, kind: str, number: int) -> None:
@@ -516,7 +514,7 @@ def again_one(bench, kind: str, number: int) -> None:
 
 def try_door_killed_and_cut(bench):
     """the door, killed at each call, and another: all that was made has its name for certain before a line is performed"""
-    rows = [(bench, kind, it) for kind in ("users", "missing") for it in points(bench, kind, few(bench))[-8:]]
+    rows = [(bench, kind, it) for kind in ("users", "missing") for it in points(bench, kind, FEW)[-5:]]
     return f"{each(rows, again_one)} kills"
 
 
