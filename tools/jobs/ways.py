@@ -8,7 +8,7 @@ import signal
 import subprocess
 import sys
 
-from jobs.scene import DONE, DOUBTFUL, FAILED, KILLED, LATER, LEFT, READ, REFUSED, WORDS, WRITE, want
+from jobs.scene import BUILD, DONE, DOUBTFUL, FAILED, KILLED, LATER, LEFT, READ, REFUSED, WORDS, WRITE, want
 from jobs.rules import until
 from worker import folder
 
@@ -159,6 +159,54 @@ def try_look(bench):
         for it in answers:
             ran = subprocess.run(["sh", "-c", f"{it} done"], **how)
             want((ran.stdout, ran.returncode) == ("taken\n", DONE), f"{it}: {ran.stderr}")
+
+
+# What is wrong; the words after the command, with ROOM for the folder; the status; and the message, in
+# which `*` is any text. Each is `object: problem; remedy`.
+MESSAGES = [
+    ("status --worker-program ROOM/none", READ, "`ROOM/none`: no such file or directory; check the path"),
+    ("status --worker-program ROOM/text", WRITE, "`ROOM/text`: exec format error; give it a first line like #!/bin/sh"),
+    ("status --worker-program /bin/true", BUILD, "`/bin/true`: it is no amo_worker of this version; *"),
+    ("doubts --worker-program /bin/true", BUILD, "`/bin/true`: it is no amo_worker of this version; *"),
+    ("crew --workers 1 --results ROOM/text/results", WRITE, "`ROOM/text/results`: not a directory; check the path"),
+    ("crew --workers 1 --damaged", REFUSED, "`ROOM/run/command`: it is damaged; *"),
+]
+OPTIONS = [("--workers", "17", "whole number from 1 to 16"), ("--workers", "x", "whole number from 1 to 16"),
+           ("--timeout", "-1", "number from 0 to 100000000"), ("--untouched", "75,256", "whole number from 1 to 255")]
+
+
+def try_messages(bench):
+    """what a person is told of a fault is an object, a problem and a remedy, and no trace of Python"""
+    scene = bench.scene(["quick"])
+    with open(f"{scene.room}/text", "w") as file:
+        file.write("no program\n")
+    os.chmod(f"{scene.room}/text", 0o755)
+    scene.ends(scene.start(), DONE)
+    for words, status, message in MESSAGES:
+        command, *more = words.replace("ROOM", scene.room).split(" ")
+        if more[-1] == "--damaged":
+            more.pop()
+            with open(f"{scene.run}/command", "w") as file:
+                file.write("{")
+        more += [scene.jobs, "--", *scene.command] if command == "crew" else []
+        wanted = re.escape(message.replace("ROOM", scene.room)).replace(r"\*", ".*")
+        said(scene, [command, *more], status, wanted)
+    for option, word, what in OPTIONS:
+        more = ["--workers", "1", option, word, scene.jobs, "--", *scene.command]
+        said(scene, ["crew", *more], WORDS, rf".*: argument {option}: `{word.split(',')[-1]}` is no {what}")
+    shell = ["sh", "-c", '"$@" | true', "sh", *scene.words("status")]
+    ran = subprocess.run(shell, env=scene.environment(), timeout=240, capture_output=True, text=True)
+    told = ran.stderr.splitlines()[1:]
+    want(set(told) <= {"amo_jobs: standard output: broken pipe; mend that, then start again"}, f"{told}")
+
+
+def said(scene, words, status, wanted):
+    """Runs a command, whose status and last line have to be these."""
+    ran = subprocess.run(scene.words(*words), stdin=subprocess.DEVNULL, timeout=240, text=True,
+                         capture_output=True, env=scene.environment())
+    last = ran.stderr.splitlines()[-1]
+    is_so = ran.returncode == status and re.fullmatch(f"amo_jobs(?: crew)?: {wanted}", last)
+    want(is_so and "Errno" not in ran.stderr and "Traceback" not in ran.stderr, f"{words}: {ran}")
 
 
 def try_boot_id(bench):
@@ -409,7 +457,7 @@ def fill(scene, disk):
 
 
 PARTS = {"ways": [
-    try_ends, try_arguments, try_refusals, try_lists, try_answers, try_status, try_look, try_boot_id, try_timeout, try_last_net, try_leftovers,
+    try_ends, try_arguments, try_refusals, try_lists, try_answers, try_status, try_look, try_messages, try_boot_id, try_timeout, try_last_net, try_leftovers,
     try_first_signal, try_second_signal, try_halt, try_one_runner, try_work, try_outputs, try_streams, try_growing, try_killed_in_turn,
     try_disk_full,
 ]}
