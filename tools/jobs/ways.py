@@ -161,8 +161,8 @@ def try_look(bench):
             want((ran.stdout, ran.returncode) == ("taken\n", DONE), f"{it}: {ran.stderr}")
 
 
-# What is wrong; the words after the command, with ROOM for the folder; the status; and the message, in
-# which `*` is any text. Each is `object: problem; remedy`.
+# A row has the words of a call that fails, with ROOM for the scene's folder, its status, and the
+# message, in which `*` stands for any text. Each message is `object: problem; remedy`.
 MESSAGES = [
     ("status --worker-program ROOM/none", READ, "`ROOM/none`: no such file or directory; check the path"),
     ("status --worker-program ROOM/text", WRITE, "`ROOM/text`: exec format error; give it a first line like #!/bin/sh"),
