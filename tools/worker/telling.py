@@ -26,6 +26,16 @@ def having(name, data):
     return change
 
 
+def without(*names):
+    """Removes these files of the run."""
+
+    def change(scene):
+        for name in names:
+            os.unlink(f"{scene.run}/{name}")
+
+    return change
+
+
 def instead(make):
     """Puts something else in the place of the run's folder."""
 
@@ -79,6 +89,18 @@ def same(scene):
 
 NO_FOLDER, NO_RUN = "it is no folder, or a link to one", "no run writes it so"
 NO_LINE, HELP = "it says nothing of a line of this run", "isn't what it may be; amo_worker --help says more"
+NO_ATTEMPT = "no attempt has this number; take the number from `doubts` or `status`"
+OTHER_LINE = "the attempt is of another line; take number and line from `doubts` or `status`"
+NOT_ASKED = "the attempt was done, or was never begun; it takes no answer"
+MISSING = ("missing in the run's folder; put the file back, or give up this run (without it nobody"
+           " knows which lines were performed)")
+EMPTY = "empty; put its bytes back, or give up this run (without them nobody knows which lines were performed)"
+OLD_RUN = ("the run's folder: made by amo 0.1.0, which gave it no `id`; begin a new run of its open lines"
+           " (`amo_worker status RUN --lines open`) in a new folder")
+FORGOTTEN = "the run's folder: this run was given up (`forgotten`); begin a new run in a new folder"
+HAS_ID = "the run's folder: it already has an `id`; --into makes a new run: name another folder"
+NO_RUN_THERE = "the run's folder: missing; mount the file system that holds it, or name the path that it has now"
+NO_ID = "the run's folder: it has no `id`, so it is no run's; name a run's folder (`amo_worker door` makes one)"
 BEGINS_NEW = "no worker leaves words so; end all workers, and the next round begins with new ones"
 # What is changed in a run whose four lines are done, in doubt, untouched and open; the words of a command, with `_` for a blank; its
 # status, and the line that it says. Where that ends in three dots, the system's own words follow.
@@ -87,11 +109,14 @@ FAULTS = [
     (instead(lambda scene: open(scene.run, "w").close()), "work 1", DOOR, f"the run's folder is refused: {NO_FOLDER}"),
     (instead(same), "doubts", READ, "the run's folder can't be read: ..."),
     (other_version, "again", DOOR, "the run's folder is refused: its record is of another version"),
-    (with_lines(""), "work 1", REFUSED, "the jobs' file is refused at line 5: Empty"),
-    (with_lines("a\0"), "door", REFUSED, "the jobs' file is refused at line 5: Nul"),
-    (with_lines("a\r"), "work 1", REFUSED, "the jobs' file is refused at line 5: CarriageReturn"),
-    (with_lines("x" * 100001), "work 1", REFUSED, "the jobs' file is refused at line 5: TooLong"),
-    (with_lines("a", "job 2"), "door", REFUSED, "the jobs' file is refused at line 6: Repeated"),
+    (with_lines(""), "work 1", REFUSED, "the jobs' file is refused: line 5 is empty; remove it"),
+    (with_lines("a\0"), "door", REFUSED, "the jobs' file is refused: line 5 has a NUL byte; remove that byte"),
+    (with_lines("a\r"), "work 1", REFUSED,
+     "the jobs' file is refused: line 5 has a carriage return; end lines with a line feed alone"),
+    (with_lines("x" * 100001), "work 1", REFUSED,
+     "the jobs' file is refused: line 5 is longer than 100000 bytes; shorten it"),
+    (with_lines("a", "job 2"), "door", REFUSED,
+     "the jobs' file is refused: line 6 is equal to a line before it; remove it, or make the two differ"),
     (other_line, "work 1", REFUSED, "the jobs' file is refused at line 2: the run knows it as another line"),
     (lambda scene: os.unlink(scene.jobs), "work 1", READ, "the jobs' file can't be read: ..."),
     (having("record", b"amo-run 1\n"), "work 1", REFUSED, f"record is refused: {NO_RUN}"),
@@ -102,10 +127,11 @@ FAULTS = [
     (boot_of_two_lines, "work 1", REFUSED, f"the boot id is refused: {NO_RUN}"),
     (same, "answer 1.1 1 job1 done", REFUSED, f"answer 1 isn't taken: {NO_LINE}"),
     (same, "answer 1-2 2 job_2 done", REFUSED, f"answer 1 isn't taken: {NO_LINE}"),
-    (same, "answer 1.9 2 job_2 done", REFUSED, "answer 1 isn't taken: NoIntent"),
-    (same, "answer 1.2 3 job_3 done", REFUSED, "answer 1 isn't taken: OtherLine"),
-    (same, "answer 1.1 1 job_1 done", REFUSED, "answer 1 isn't taken: NotAsked"),
-    (having("answers", b"+done 1 2 9\n-"), "answer 1.2 2 job_2 not-done", REFUSED, "answer 1 isn't taken: AnsweredOtherwise"),
+    (same, "answer 1.9 2 job_2 done", REFUSED, f"answer 1 isn't taken: {NO_ATTEMPT}"),
+    (same, "answer 1.2 3 job_3 done", REFUSED, f"answer 1 isn't taken: {OTHER_LINE}"),
+    (same, "answer 1.1 1 job_1 done", REFUSED, f"answer 1 isn't taken: {NOT_ASKED}"),
+    (having("answers", b"+done 1 2 9\n-"), "answer 1.2 2 job_2 not-done", REFUSED,
+     "answer 1 isn't taken: the other answer was given before; an answer stays as it is"),
     (same, "answer --from /nowhere", READ, "the file of answers can't be read: ..."),
     (same, "answer 1.2 2", WORDS, f"INTENT LINE TEXT done|not-done {HELP}"),
     (same, "status --lines closed", WORDS, f"lines {HELP}"),
@@ -113,6 +139,21 @@ FAULTS = [
     (same, "work 1 --beta 65536", WORDS, f"beta {HELP}"),
     (same, "work 1", LEFT, "nothing more comes from the partner"),
     (spoiled, "work 1", SENSELESS, f"word 6 holds 0: {BEGINS_NEW}"),
+    (without("journal.3"), "status", REFUSED, f"`journal.3`: {MISSING}"),
+    (without("answers"), "door", REFUSED, f"`answers`: {MISSING}"),
+    (without("lock.round"), "work 1", REFUSED, f"`lock.round`: {MISSING}"),
+    (having("journal.16", b""), "doubts", REFUSED, f"`journal.16`: {EMPTY}"),
+    (having("answers", b""), "again", REFUSED, f"`answers`: {EMPTY}"),
+    (having("id", b"none\n"), "status", REFUSED, f"id is refused: {NO_RUN}"),
+    (without("id"), "door", REFUSED, OLD_RUN),
+    (without("id"), "again", REFUSED, OLD_RUN),
+    (without("id", "record"), "door", REFUSED, "the run's folder: it has `jobs` and no `id`; name another folder"),
+    (without("id", "record"), "answer 1.2 2 job_2 done", REFUSED, NO_ID),
+    (having("forgotten", b""), "work 1", REFUSED, FORGOTTEN),
+    (same, f"status --id {32 * '0'}", REFUSED, "`id`: not the id that --id names; name the folder of that run"),
+    (same, f"status --id {31 * '0'}", WORDS, f"--id {HELP}"),
+    (same, "door --into", REFUSED, HAS_ID),
+    (instead(same), f"door --id {32 * '0'}", REFUSED, NO_RUN_THERE),
     (of_another_round, "work 1", LATER, "come back later: the round that is there can't be joined while others are at work in it"),
 ]
 
