@@ -1,5 +1,5 @@
 -- Lists of texts that are all read: what is printed is read back, and what is read was printed so.
-use Rattle.std.proofs.Common.{◌≡◌, ◌≢◌, ℕ, ◌+◌, ◌-◌, ◌<◌, List, [], ◌∷◌, ◌++◌, Vec, Global, map, take, length, get_or, Option, Some, None, refl, sym, ap, subst, ◌∙◌, arith}
+use Rattle.std.proofs.Common.{◌≡◌, ℕ, ◌+◌, ◌-◌, ◌<◌, List, [], ◌∷◌, ◌++◌, Vec, Global, map, take, length, get_or, Option, Some, None, refl, sym, ap, subst, ◌∙◌, arith}
 use Rattle.std.specs.Prelude.{option_and_then, option_map}
 use Rattle.std.specs.List.{AllByRecursion}
 use Rattle.std.proofs.lemmas.List.{map_push, take_more, take-map, get_or-map, length-map, length-take-le}
@@ -66,7 +66,7 @@ some_none e = cc
 -- those before this index were read, and the one that stands there says nothing: by its number it is the first
 pub stops_at : {A : Type 0} (read : List ℕ → Option A) (texts : List (Vec ℕ Global)) (i count : ℕ) (xs : List A) (text : Vec ℕ Global) → i < length texts → text ≡ get_or texts i text
     → read_all read (map bytes_of (take i texts)) ≡ Some xs → count ≡ length xs → read text.items ≡ None
-    → SaysNothing read (map bytes_of texts) (Refused (count + 1)) × (read_all read (take ((count + 1) - 1) (map bytes_of texts)) ≢ None)
+    → SaysNothing read (map bytes_of texts) (Refused (count + 1))
 stops_at read texts i count xs text within stands so_far counted silent =
     let size : length (map bytes_of (take i texts)) ≡ length xs = length_read read (map bytes_of (take i texts)) xs so_far in
     let is : count ≡ i = omega (arith, counted, size, length-map (take i texts) bytes_of, length-take-le i texts (omega (arith, within))) in

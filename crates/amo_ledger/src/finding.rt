@@ -1,5 +1,5 @@
 //! What a person found out about an intent, as a text.
-ghost use Rattle.std.specs.Prelude.{◌≡◌, IfOk, IfErr, IfSome, IfNone, Some, map, string_bytes};
+ghost use Rattle.std.specs.Prelude.{◌≡◌, ◌<◌, ◌-◌, ℕ, true, take, slice_get, IfOk, IfErr, IfSome, IfNone, Some, map, string_bytes};
 ghost use Rattle.std.specs.List.{list_any};
 ghost use Rattle.amo_ledger.specs.Faults.{SaysNothing};
 ghost use Rattle.amo_ledger.specs.Findings.{text_of_finding, FitsFinding, word_of, verdict_in, finding_of_word, finding_in, findings_in, is_intent, is_not_done, is_of, is_undone, may_join, AreInPlace, IsOutOfPlace};
@@ -141,6 +141,8 @@ fn is_not_done(verdict: Verdict) -> bool
 pub fn first_misplaced(journals: &[Vec<Attempt>], findings: &[Finding]) -> Option<usize>
     ensures none { IfNone result (AreInPlace (map (λ journal. journal.items) journals.now) findings.now) }
     ensures found { IfSome result (IsOutOfPlace (map (λ journal. journal.items) journals.now) findings.now) }
+    // Each finding before it may stand where it does.
+    ensures first { IfSome result (λ number. (k : ℕ) (f : FindingView) → k < number - 1 → slice_get findings.now k ≡ Some f → may_join (map (λ journal. journal.items) journals.now) (take k findings.now) f ≡ true) }
 {
     for (i, finding) in findings.iter().enumerate() {
         if !may_join(journals, &findings[..i], finding) {

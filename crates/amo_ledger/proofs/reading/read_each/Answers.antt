@@ -10,6 +10,5 @@ loop-text-preserved g c =
 
 pub returns-in_default-clause-refused : goal.returns-in_default-clause-refused
 returns-in_default-clause-refused g c =
-    let stop = stops_at g.T.FromText.said c.args.texts.now c.loop-text.text-index c.len.result c.loop-text.found.items c.text-item.result c.loop-text-test.true c.text-item.is c.loop-text.invariant
-    (omega (arith, c.len.ensures)) (ap g.T.FromText.said (sym c.deref.ensures.value) ∙ sym c.in_default.ensures.exact) in
-    stop.0
+    stops_at g.T.FromText.said c.args.texts.now c.loop-text.text-index c.len.result c.loop-text.found.items c.text-item.result c.loop-text-test.true c.text-item.is c.loop-text.invariant
+    (omega (arith, c.len.ensures)) (ap g.T.FromText.said (sym c.deref.ensures.value) ∙ sym c.in_default.ensures.exact)
