@@ -1,6 +1,7 @@
 //! The worker that a call is about.
 ghost use Rattle.std.specs.Prelude.{◌≡◌, ◌≢◌, ◌+◌, ◌<◌, ◌≤◌, Ok, Err, IfOk, IfErr};
 ghost use Rattle.amo_givens.specs.Givens.{IsWorker};
+ghost use Rattle.amo_kk.specs.Choice.{first_record};
 ghost use Rattle.amo_process.specs.Heard.{IsOf};
 ghost use Rattle.amo_c.specs.Reply.{givens_in, worker_in, standing_in};
 ghost use Rattle.amo_c.specs.declared.codes.FaultCode.TheVariants.{NoMemory};
@@ -60,6 +61,20 @@ pub(crate) fn standing_after(
     let Ok(local) = Local::new(alloc, worker.givens, worker.number) else {
         return Err(FaultCode::NoMemory);
     };
+    standing_of_new(worker, local, heard)
+}
+
+/// Returns where the worker of this new machine stands, whose process has heard these numbers. It takes
+/// no memory, so that a list that can't be is never reported as a want of memory.
+///
+/// # Errors
+/// `NoSuchNumber`, if no process can hear these numbers.
+fn standing_of_new(worker: Worker, local: Local, heard: &[u64]) -> Result<Standing, FaultCode>
+    requires new { local ≡ record { givens = worker.givens; number = worker.number; state = first_record worker.givens worker.number } }
+    ensures standing { IfOk result (λ s. standing_in worker heard.now ≡ Ok s) }
+    ensures fault { IfErr result (λ e. standing_in worker heard.now ≡ Err e) }
+    ensures of { IfOk result (λ s. IsOf worker.givens worker.number s) }
+{
     match standing_of(local, heard) {
         Ok(standing) => Ok(standing),
         Err(NoSuchNumber) => Err(FaultCode::NoSuchNumber),
