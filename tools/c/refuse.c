@@ -1,6 +1,7 @@
 /* Refuses the library's requests for memory, each in turn alone, and each with all after it. The call has to answer code 8 and
-   write nothing, or what it answers with all memory; and it has to give back all that it took. How often a call asks for memory
-   hangs on the givens alone: of a list that can't be amo_batch asks for none for its items.
+   write nothing, or what it answers with all memory; and it has to give back all that it took. How often a
+   call asks for memory, and for how many bytes, hangs on the givens alone, however long the list is. Of a
+   list that can't be amo_batch asks for none for its items.
 
      refuse
 
@@ -17,13 +18,15 @@ void *__wrap_malloc(size_t size);
 void *__wrap_realloc(void *old, size_t size);
 void __wrap_free(void *old);
 
-/* How many requests come before the next that is refused, or negative; how many there were, and were refused; how many blocks are held. */
-static long until = -1, requests, refusals, held;
+/* How many requests come before the next that is refused, or negative; how many there were, for how many
+   bytes, and were refused; how many blocks are held. */
+static long until = -1, requests, bytes, refusals, held;
 static int all_after; /* whether all requests after one that is refused are refused too */
 
-static int is_refused(void) {
+static int is_refused(size_t size) {
   int refuses = until == 0;
   requests++;
+  bytes += (long)size;
   if (until > 0 || (until == 0 && !all_after))
     until--;
   refusals += refuses;
@@ -31,13 +34,13 @@ static int is_refused(void) {
 }
 
 void *__wrap_malloc(size_t size) {
-  void *block = is_refused() ? NULL : __real_malloc(size);
+  void *block = is_refused(size) ? NULL : __real_malloc(size);
   held += block != NULL;
   return block;
 }
 
 void *__wrap_realloc(void *old, size_t size) {
-  void *block = is_refused() ? NULL : __real_realloc(old, size);
+  void *block = is_refused(size) ? NULL : __real_realloc(old, size);
   held += block != NULL && old == NULL;
   return block;
 }
@@ -63,13 +66,22 @@ static uint32_t call(int which, const uint64_t *heard, size_t len, written_t *to
   return (which == LEAVE ? amo_leave : amo_next)(&givens, 1, heard, len, &to->next);
 }
 
-/* How often this call requests memory of this list. */
-static long requests_of(int which, const uint64_t *heard, size_t len) {
+/* How often a call requests memory, and for how many bytes. */
+typedef struct {
+  long requests, bytes;
+} asked_t;
+
+static int are_same(asked_t one, asked_t other) {
+  return one.requests == other.requests && one.bytes == other.bytes;
+}
+
+/* What this call requests of this list. */
+static asked_t requests_of(int which, const uint64_t *heard, size_t len) {
   written_t found;
-  long before = requests;
+  asked_t before = {requests, bytes};
   until = -1;
   call(which, heard, len, &found);
-  return requests - before;
+  return (asked_t){requests - before.requests, bytes - before.bytes};
 }
 
 /* Refuses each request of this call; how many answers were wrong. */
@@ -93,17 +105,28 @@ static long refuse_each(int which, const uint64_t *heard, size_t len) {
 }
 
 int main(void) {
-  /* Nothing heard, to announce, a job in doubt, in the middle of an attempt, a job in hand, a word that can't be. */
-  static const uint64_t lists[6][8] = {{0}, {0}, {3, 2, 2, 0}, {0}, {0}, {1, 2, 0}};
-  static const size_t lens[6] = {0, 3, 4, 5, 8, 3};
-  long wrong = 0, asked = requests_of(NEXT, lists[0], lens[0]), for_batch = requests_of(BATCH, lists[0], lens[0]);
-  for (int list = 0; list < 6; list++)
-    for (int which = 0; which < CALLS; which++)
-      wrong += requests_of(which, lists[list], lens[list]) != (which == BATCH && list < 5 ? for_batch : asked);
+  /* Nothing heard, to announce, a job in doubt, in the middle of an attempt, a job in hand; three long lists;
+     a word that can't be, and a long list with it. */
+  enum { LISTS = 10, SPOILED = 8 };
+  static const uint64_t zeros[500], doubted[] = {3, 2, 2, 0}, spoiled[1000] = {1, 2, 0};
+  static const uint64_t *const heard[LISTS] = {zeros, zeros, doubted, zeros,   zeros,
+                                               zeros, zeros, zeros,   spoiled, spoiled};
+  static const size_t lens[LISTS] = {0, 3, 4, 5, 8, 100, 333, 500, 3, 1000};
+  long wrong = 0;
+  asked_t asked = requests_of(NEXT, zeros, 0), for_batch = requests_of(BATCH, zeros, 0);
+  written_t found;
+  for (int list = 0; list < LISTS; list++) {
+    int can_be = list < SPOILED;
+    wrong += call(NEXT, heard[list], lens[list], &found) != (can_be ? AMO_OK : AMO_BAD_HEARD);
+    for (int which = 0; which < CALLS; which++) {
+      asked_t found_asked = requests_of(which, heard[list], lens[list]);
+      wrong += !are_same(found_asked, which == BATCH && can_be ? for_batch : asked);
+    }
+  }
   for (all_after = 0; all_after < 2; all_after++)
-    for (int list = 0; list < 6; list++)
+    for (int list = 0; list < LISTS; list++)
       for (int which = 0; which < CALLS; which++)
-        wrong += refuse_each(which, lists[list], lens[list]);
+        wrong += refuse_each(which, heard[list], lens[list]);
   printf("%ld requests refused, %ld answers wrong\n", refusals, wrong);
   return wrong != 0 || refusals == 0;
 }

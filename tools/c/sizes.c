@@ -5,12 +5,14 @@
 
    First, a worker that has loaded its own words, all 0: it announces a job, by its share of the list, and then reads what each other
    worker has announced and filed; or it has ended, where there are fewer jobs than beta. Then a worker alone, with lists of zeros: after
-   its own words each three accesses announce, claim and file a job, in their order. The last line says how many lists were tried. */
+   its own words each three accesses announce, claim and file a job, in their order. Last, many lengths of
+   lists for many givens: no call reports a want of memory, and a list that no process can hear is refused
+   as such, however long it is. The last line says how many lists were tried. */
 #include "amo.h"
 #include <stdio.h>
 #include <string.h>
 
-enum { ROOM = 33, JOBS = 4096 };
+enum { ROOM = 33, JOBS = 4096, EACH_BELOW = 130, LONGEST = 4098 };
 
 static long tried, wrong;
 
@@ -104,6 +106,52 @@ static void try_alone(uint64_t jobs, uint64_t len) {
   try_case(&it);
 }
 
+/* The code that all three calls return of a list, or AMO_NO_MEMORY if they don't agree. */
+static uint32_t code_of(const amo_givens_t *givens, uint64_t p, const uint64_t *heard, size_t len) {
+  amo_next_t next;
+  amo_item_t items[ROOM];
+  uint64_t found;
+  uint32_t code = amo_next(givens, p, heard, len, &next);
+  uint32_t left = amo_leave(givens, p, heard, len, &next);
+  uint32_t batch = amo_batch(givens, p, heard, len, items, ROOM, &found, &next);
+  int agree = batch == code && (left == code || (code == AMO_OK && left == AMO_MAY_NOT_LEAVE));
+  return agree ? code : AMO_NO_MEMORY;
+}
+
+/* A list of zeros, and one whose last number is no job: the code of the first is that of a list that
+   can be heard or of one that can't, and the second can't. */
+static void try_length(const amo_givens_t *givens, uint64_t p, size_t len) {
+  static uint64_t heard[LONGEST];
+  case_t it = {.givens = *givens, .worker = p, .len = len};
+  uint32_t code = code_of(givens, p, heard, len);
+  count("a list of zeros", &it, code == AMO_OK || (len > 3 && code == AMO_BAD_HEARD));
+  if (len > 3) {
+    heard[len - 1] = UINT64_MAX;
+    count("a list that can't be", &it, code_of(givens, p, heard, len) == AMO_BAD_HEARD);
+    heard[len - 1] = 0;
+  }
+  tried++;
+}
+
+/* Whether lists of this length are tried beyond the small ones: those next to multiples of 200 and of
+   256, and the multiples of 97, as tests/amo_test_sizes has it. */
+static int is_tried(size_t len) {
+  return (len + 2) % 200 < 5 || (len + 2) % 256 < 5 || len % 97 == 0;
+}
+
+static void try_lengths(uint64_t jobs, uint64_t workers) {
+  for (uint64_t p = 1; p <= workers; p++)
+    for (uint64_t beta = workers; beta <= workers + 1; beta++) {
+      amo_givens_t givens = {jobs, workers, beta};
+      for (size_t len = 0; len < EACH_BELOW; len++)
+        try_length(&givens, p, len);
+      int is_first_or_last = (p == 1 || p == workers) && beta == workers;
+      for (size_t len = EACH_BELOW; len <= LONGEST && is_first_or_last; len++)
+        if (is_tried(len))
+          try_length(&givens, p, len);
+    }
+}
+
 int main(void) {
   for (uint64_t jobs = 0; jobs <= JOBS; jobs++)
     for (uint64_t workers = 1; workers <= 16; workers++)
@@ -112,6 +160,10 @@ int main(void) {
     try_alone(300, len);
   for (uint64_t len = 0; len <= 3 + 3 * JOBS; len += 61)
     try_alone(JOBS, len);
+  static const uint64_t many[] = {1, 16, 67, 300, JOBS};
+  for (size_t i = 0; i < sizeof many / sizeof *many; i++)
+    for (uint64_t workers = 1; workers <= 16; workers++)
+      try_lengths(many[i], workers);
   printf("%ld lists, %ld answers wrong\n", tried, wrong);
   return wrong != 0;
 }
