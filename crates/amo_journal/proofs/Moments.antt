@@ -1,8 +1,8 @@
 -- How a run of device calls goes on.
-use Rattle.std.proofs.Common.{◌≡◌, inl, inr, ⊎_elim, ℕ, List, sym, ◌∙◌, arith}
+use Rattle.std.proofs.Common.{◌≡◌, ◌≤◌, inl, inr, ⊎_elim, ℕ, List, ◌++◌, length, sym, ◌∙◌, arith}
 use Rattle.amo_journal.specs.Device.{Elapses, LeavesOnly, Only}
 use Rattle.amo_journal.specs.Journal.{IsNear, IsUnsure, MaySettle}
-use Rattle.amo_journal.specs.Texts.{texts_in}
+use Rattle.amo_journal.specs.Texts.{texts_in, blocks}
 
 -- each crash during the calls, and each read after them, has these texts, and the journal can be settled
 pub record KeepsTexts {D : Type 0} (moment : D → ℕ) (left_since : D → ℕ → List ℕ → Type 0) (seen : D → List ℕ) (may_leave : D → List ℕ → Type 0) (stale : D → ℕ → Type 0) (texts : List (List ℕ)) (old new : D) : Type 0 where
@@ -15,6 +15,18 @@ pub record IsOnDisk {D : Type 0} (seen : D → List ℕ) (may_leave : D → List
   pub file_is : seen device ≡ file
   pub durable : Only file (may_leave device)
   pub fresh : (i : ℕ) → stale device i → ⊥
+
+-- the blocks of these texts, and one byte more at most
+pub record IsShort (texts : List (List ℕ)) (file : List ℕ) : Type 0 where
+  pub rest : List ℕ
+  pub file_is : file ≡ blocks texts ++ rest
+  pub one : length rest ≤ 1
+
+-- such a file is read, and left by each crash; no sync need write that byte
+pub record IsCut {D : Type 0} (seen : D → List ℕ) (may_leave : D → List ℕ → Type 0) (stale : D → ℕ → Type 0) (texts : List (List ℕ)) (device : D) : Type 0 where
+  pub read : IsShort texts (seen device)
+  pub crash : (c : List ℕ) → may_leave device c → IsShort texts c
+  pub stale_at : (i : ℕ) → stale device i → i ≡ length (blocks texts)
 
 -- a file that is read as others are is near what is on the disk
 pub near_same : (texts read : List (List ℕ)) (c : List ℕ) → read ≡ texts → texts_in c ≡ texts → IsNear read c

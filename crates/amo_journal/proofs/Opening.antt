@@ -82,10 +82,6 @@ last_text vs v texts is are =
     let split = last_splits vs v (length vs - 1) (omega arith) (sym is) in
     (map (λ (text : Vec ℕ Global). text.items) split.0, sym are ∙ ap (map (λ (text : Vec ℕ Global). text.items)) split.1 ∙ map_push (λ (text : Vec ℕ Global). text.items) split.0 v)
 
-pub not_outside : (i : ℕ) → IsOutside i 1 i → ⊥
-not_outside i (inl lt) = omega arith
-not_outside i (inr le) = omega arith
-
 -- where the last text and its gate stand
 pub record IsLast (texts : List (List ℕ)) (last : List ℕ) (end n : ℕ) : Type 0 where
   pub before : List (List ℕ)

@@ -1,5 +1,5 @@
 -- What stands at a place of a list, and lists that have the same at each place.
-use Rattle.std.proofs.Common.{◌≡◌, ◌≢◌, ℕ, zero, suc, ◌+◌, ◌<◌, ◌≤◌, List, [], ◌∷◌, ◌++◌, length, Some, refl, sym, ◌∙◌, ap, arith, ◌⊎◌, inl, inr, ⊎_elim, length-append}
+use Rattle.std.proofs.Common.{◌≡◌, ◌≢◌, ℕ, zero, suc, ◌+◌, ◌<◌, ◌≤◌, List, [], ◌∷◌, ◌++◌, length, Some, None, refl, sym, ◌∙◌, ap, arith, ◌⊎◌, inl, inr, ⊎_elim, length-append}
 use Rattle.std.specs.List.{slice_get}
 use Rattle.std.proofs.lemmas.Bool.{cases_lt}
 use Rattle.amo_journal.specs.Device.{AgreesBut}
@@ -24,6 +24,16 @@ get-seam [] y ys zero is = refl
 get-seam [] y ys (suc i) is = absurd (omega arith)
 get-seam (x ∷ xs) y ys zero is = absurd (omega arith)
 get-seam (x ∷ xs) y ys (suc i) is = get-seam xs y ys i (omega arith)
+
+pub nothing_beyond : (xs : List ℕ) (i : ℕ) → length xs ≤ i → slice_get xs i ≡ None
+nothing_beyond [] i le = refl
+nothing_beyond (x ∷ xs) zero le = absurd (omega arith)
+nothing_beyond (x ∷ xs) (suc i) le = nothing_beyond xs i (omega arith)
+
+pub ends_before : (xs : List ℕ) (i : ℕ) → slice_get xs i ≡ None → length xs ≤ i
+ends_before [] i none = omega arith
+ends_before (x ∷ xs) zero none = absurd (cc none)
+ends_before (x ∷ xs) (suc i) none = let rest = ends_before xs i none in omega arith
 
 -- lists with one front differ behind it
 pub differ_behind : (xs ys zs : List ℕ) (i : ℕ) → slice_get (xs ++ ys) i ≢ slice_get (xs ++ zs) i → length xs ≤ i

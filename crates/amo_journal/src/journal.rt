@@ -51,7 +51,8 @@ impl<D: Device> Journal<D> {
 
     /// Makes sure that what is read is on the disk, and answers the texts. What is read need not be: after a kill, or a sync that
     /// failed, the last gate may be open in memory and closed on the disk. So it writes that gate again, and syncs; cuts what
-    /// stands behind the blocks, and syncs; and closes the gate behind them, and syncs. At an error it may be settled again.
+    /// stands behind the blocks and the place of their gate, and syncs; and closes that gate, and syncs. At an error it may be
+    /// settled again.
     pub fn settle(&mut self, alloc: Global) -> Result<Vec<Vec<u8>>, DeviceError>
         // The disk may hold what is read with its last gate open or closed.
         requires { MaySettle D.seen D.may_leave D.stale self.old.device }
@@ -59,6 +60,9 @@ impl<D: Device> Journal<D> {
         ensures texts { IfOk result (λ texts. map (λ text. text.items) texts.items ≡ texts_in (D.seen self.old.device)) }
         ensures settled { OnOk result (IsSettled D.seen D.may_leave D.stale self.new) }
         ensures same { texts_in (D.seen self.new.device) ≡ texts_in (D.seen self.old.device) }
+
+        // A file that has a byte keeps one.
+        ensures some { 1 ≤ length (D.seen self.old.device) → 1 ≤ length (D.seen self.new.device) }
 
         // A crash at any moment leaves the texts, or all but the last one.
         ensures any_moment { LeavesOnly D.moment D.left_since self.old.device self.new.device

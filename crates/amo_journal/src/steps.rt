@@ -74,18 +74,26 @@ pub(crate) fn open_again<D: Device>(
 }
 
 /// Cuts what stands behind the blocks, and closes the gate behind them. The cut has to be on the disk first: behind a gate that is
-/// torn open, what was there would count.
-pub(crate) fn close_end<D: Device>(device: &mut D, end: usize) -> Result<(), DeviceError>
+/// torn open, what was there would count. A byte in the place of that gate stays until it is written over, so that the file is
+/// never left without one.
+pub(crate) fn close_end<D: Device>(
+    device: &mut D,
+    end: usize,
+    len: usize,
+) -> Result<(), DeviceError>
     requires kept { (c : List ℕ) → D.may_leave device.old c → texts_in c ≡ texts_in (D.seen device.old) }
     requires fresh { (i : ℕ) → D.stale device.old i → length (blocks (texts_in (D.seen device.old))) ≤ i }
     requires end { end ≡ length (blocks (texts_in (D.seen device.old))) }
+    requires len { len ≡ length (D.seen device.old) }
     ensures same { texts_in (D.seen device.new) ≡ texts_in (D.seen device.old) }
+    ensures some { 1 ≤ length (D.seen device.old) → 1 ≤ length (D.seen device.new) }
     ensures at_rest { OnOk result (IsAtRest D.seen D.may_leave D.stale device.new) }
     ensures again { OnErr result (MaySettle D.seen D.may_leave D.stale device.new) }
     ensures any_moment { LeavesOnly D.moment D.left_since device.old device.new (λ c. texts_in c ≡ texts_in (D.seen device.old)) }
     ensures cause { HasCause (D.faults device.old) (D.faults device.new) result }
 {
-    cut_and_sync(device, end)?;
+    let keep = if end < len { end + 1 } else { len };
+    cut_and_sync(device, keep)?;
     write_and_sync(device, end, b"-")
 }
 
@@ -98,6 +106,7 @@ pub(crate) fn settle_file<D: Device>(
     ensures texts { IfOk result (λ file. map (λ text. text.items) file.0.items ≡ texts_in (D.seen device.old)) }
     ensures end { IfOk result (λ file. file.1 ≡ length (blocks (texts_in (D.seen device.old)))) }
     ensures same { texts_in (D.seen device.new) ≡ texts_in (D.seen device.old) }
+    ensures some { 1 ≤ length (D.seen device.old) → 1 ≤ length (D.seen device.new) }
     ensures at_rest { OnOk result (IsAtRest D.seen D.may_leave D.stale device.new) }
     ensures again { OnErr result (MaySettle D.seen D.may_leave D.stale device.new) }
     ensures any_moment { LeavesOnly D.moment D.left_since device.old device.new
@@ -107,6 +116,6 @@ pub(crate) fn settle_file<D: Device>(
     let bytes = device.read(alloc)?;
     let (texts, end) = texts_and_end(alloc, &bytes)?;
     open_again(device, &texts, end)?;
-    close_end(device, end)?;
+    close_end(device, end, bytes.len())?;
     Ok((texts, end))
 }

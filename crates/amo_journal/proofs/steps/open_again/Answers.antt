@@ -3,9 +3,9 @@ use Rattle.amo_journal.specs.Texts.{texts_in, blocks}
 use Rattle.amo_journal.specs.Journal.{IsNear, IsUnsure, StaysNear}
 use Rattle.amo_journal.proofs.Moments.{leaves_weaker}
 use Rattle.amo_journal.proofs.Parts.{texts_are_one_line}
-use Rattle.amo_journal.proofs.Ending.{within}
+use Rattle.amo_journal.proofs.Ending.{within, not_outside}
 use Rattle.amo_journal.proofs.Results.{on_ok_map}
-use Rattle.amo_journal.proofs.Opening.{IsLast, last_gate, again_read, again_crash, again_kept, again_fresh, again_unsure, stays_near, not_outside}
+use Rattle.amo_journal.proofs.Opening.{IsLast, last_gate, again_read, again_crash, again_kept, again_fresh, again_unsure, stays_near}
 use Rattle.amo_journal.proofs.steps.open_again.Goals as goal
 use Rattle.amo_journal.proofs.steps.open_again.Goals.{After-len}
 
