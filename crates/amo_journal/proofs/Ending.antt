@@ -1,8 +1,8 @@
 -- What a crash or a kill leaves while what stands behind the blocks is cut, and the gate behind them closed.
-use Rattle.std.proofs.Common.{◌≡◌, ◌≢◌, ◌⊎◌, inl, inr, ⊎_elim, ℕ, ◌+◌, ◌-◌, ◌<◌, ◌≤◌, List, [], ◌∷◌, ◌++◌, length, take, drop, refl, sym, ◌∙◌, ap, subst, arith, length-append, length-drop, length-take, take-append-drop}
+use Rattle.std.proofs.Common.{◌≡◌, ◌≢◌, ◌⊎◌, inl, inr, ⊎_elim, ℕ, ◌+◌, ◌-◌, ◌<◌, ◌≤◌, List, [], ◌∷◌, ◌++◌, length, take, drop, refl, sym, ◌∙◌, ap, subst, arith, append_assoc, length-append, length-drop, length-take, take-append-drop}
 use Rattle.std.specs.List.{slice_get}
 use Rattle.std.proofs.lemmas.List.{take_at, take_all, drop_all, append-nil}
-use Rattle.amo_journal.specs.Device.{AgreesBut, Cut, CutFrom, Differs, Holds, IsOutside, LeavesOnly, Only, Torn, TornFrom, WritesFront}
+use Rattle.amo_journal.specs.Device.{AgreesBut, Cut, CutFrom, Differs, Holds, IsOutside, LeavesOnly, Torn, TornFrom, WritesFront}
 use Rattle.amo_journal.specs.Journal.{IsAtRest, IsUnsure}
 use Rattle.amo_journal.specs.Texts.{AreOneLine, texts_in, blocks, at_rest}
 use Rattle.amo_journal.proofs.Blocks.{texts_in-blocks, texts_in_closed}
@@ -14,6 +14,17 @@ use Rattle.amo_journal.proofs.Places.{agrees_all, differ_behind, ends_before, no
 pub cut_none : (n : ℕ) (file : List ℕ) → Cut n file file
 cut_none n file = record { no_shorter = omega arith; front = take_all (length file) file (omega arith) }
 
+-- of some bytes a cut that keeps some leaves some
+pub cut_some : (n : ℕ) (old new : List ℕ) → 1 ≤ n → Cut n old new → 1 ≤ length old → 1 ≤ length new
+cut_some n old new keeps cut some = omega (arith, cut.no_shorter, keeps, some)
+
+-- so does a write
+pub write_some : (at : ℕ) (old new : List ℕ) → at ≤ length old → WritesFront old at (45 ∷ []) new → 1 ≤ length old → 1 ≤ length new
+write_some at old new inside w some =
+    let bytes : List ℕ = take w.count (45 ∷ []) in
+    let behind = drop (at + length bytes) old in
+    omega (arith, ap length w.holds, length-append (take at old ++ bytes) behind, length-append (take at old) bytes, length-take at old, length-drop (at + length bytes) old, inside, some)
+
 module _ (texts : List (List ℕ)) (all : AreOneLine texts) (end : ℕ) (stands : end ≡ length (blocks texts)) where
   -- a file with these texts is their blocks and an end
   pub with_end : (file : List ℕ) (is : texts_in file ≡ texts) → file ≡ blocks texts ++ (parts file).end
@@ -24,6 +35,10 @@ module _ (texts : List (List ℕ)) (all : AreOneLine texts) (end : ℕ) (stands 
 
   pub within : (file : List ℕ) → texts_in file ≡ texts → end ≤ length file
   within file is = omega (arith, ap length (with_end file is), length-append (blocks texts) (parts file).end, stands)
+
+  -- where a cut is that keeps the blocks, and one byte more if there is one
+  pub cut_near : (file : List ℕ) (keep len : ℕ) → texts_in file ≡ texts → len ≡ length file → (end ≤ len → (end ≤ keep) × (keep ≤ end + 1)) → (end ≤ keep) × (keep ≤ end + 1)
+  cut_near file keep len is long near = let inside = within file is in near (omega (arith, inside, long))
 
   -- a cut leaves a front of that end
   cut_split : (keep : ℕ) (d c : List ℕ) → end ≤ keep → (is : texts_in d ≡ texts) → Cut keep d c → c ≡ blocks texts ++ take (length c - length (blocks texts)) (parts d).end
@@ -95,8 +110,8 @@ module _ (texts : List (List ℕ)) (all : AreOneLine texts) (end : ℕ) (stands 
       let some = w.some in
       record {
         rest = rest;
-        file_is = w.holds ∙ ap (λ (l : List ℕ). l ++ rest) (short_front old s);
-        one = omega (arith, length-append new (drop (end + length new) old), length-drop (end + length new) old, length-take w.count (45 ∷ []), some, short);
+        file_is = w.holds ∙ append_assoc (take end old) new (drop (end + length new) old) ∙ ap (λ (l : List ℕ). l ++ rest) (short_front old s);
+        one = omega (arith, length-append new (drop (end + length new) old), length-drop (end + length new) old, length-take {A = ℕ} w.count (45 ∷ []), some, short);
       }
 
   pub close_read : (old seen : List ℕ) → IsShort texts old → WritesFront old end (45 ∷ []) seen → texts_in seen ≡ texts

@@ -73,6 +73,15 @@ pub(crate) fn open_again<D: Device>(
     write_and_sync(device, end - (last.len() + 2), b"+")
 }
 
+/// Returns how many bytes of a file a cut keeps: those of its blocks, and one more if there is one.
+fn kept_len(end: usize, len: usize) -> usize
+    ensures near { end ≤ len → (end ≤ result) × (result ≤ end + 1) }
+    ensures within { result ≤ len }
+    ensures some { 1 ≤ len → 1 ≤ result }
+{
+    if end < len { end + 1 } else { len }
+}
+
 /// Cuts what stands behind the blocks, and closes the gate behind them. The cut has to be on the disk first: behind a gate that is
 /// torn open, what was there would count. A byte in the place of that gate stays until it is written over, so that the file is
 /// never left without one.
@@ -92,8 +101,7 @@ pub(crate) fn close_end<D: Device>(
     ensures any_moment { LeavesOnly D.moment D.left_since device.old device.new (λ c. texts_in c ≡ texts_in (D.seen device.old)) }
     ensures cause { HasCause (D.faults device.old) (D.faults device.new) result }
 {
-    let keep = if end < len { end + 1 } else { len };
-    cut_and_sync(device, keep)?;
+    cut_and_sync(device, kept_len(end, len))?;
     write_and_sync(device, end, b"-")
 }
 
