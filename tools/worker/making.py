@@ -28,6 +28,7 @@ def prepare(bench, kind: str) -> Scene:
     if kind in ("users", "cut"):
         os.mkdir(scene.run, 0o700)
     if kind == "users":
+        os.mkdir(f"{scene.run}/lost+found")
         for name, data in MINE.items():
             put(f"{scene.run}/{name}", data)
     if kind == "cut":
@@ -67,6 +68,7 @@ def first_door(bench, kind: str) -> list:
     want(status == OVER and not out and not err, f"status {status}, {out}{err}")
     scene.logs = False
     want_whole(scene, kind)
+    want(kind != "users" or os.path.isdir(f"{scene.run}/lost+found"), "it removed the user's folder")
     left = [it for it in os.listdir(scene.room) if it.startswith("run.")]
     left += [it for it in os.listdir(scene.run) if it.startswith("door.") and it != "door.old.new"]
     want(not left, f"it leaves {left}")
@@ -81,7 +83,7 @@ def made_one(bench, kind: str) -> None:
         want(os.stat(scene.run).st_mode & 0o777 == 0o700, "the folder isn't its owner's alone")
     modes = {name: os.stat(f"{scene.run}/{name}").st_mode & 0o777 for name in [*MADE, "id"]}
     want(set(modes.values()) == {0o600}, f"modes: {modes}")
-    named = [k for k, it in enumerate(calls) if it[2] in ("link", "rename") and it[8] in (".", "id")]
+    named = [k for k, it in enumerate(calls) if names_it(it)]
     above = [k for k, it in enumerate(calls) if it[2:4] == ["sync", ".."]]
     want(named and above and above[-1] > named[-1], "the folder above isn't synced last")
     before = scene.id()
@@ -127,9 +129,21 @@ FEW = 4  # how many calls of a door the short form tries, besides its last ones
 
 
 def points(bench, kind: str, count: int, chosen=changes) -> list:
-    """The numbers of a door's calls, some of them in the short form, among these its last ones."""
-    numbers = [int(it[1]) for it in chosen(first_door(bench, kind))]
-    return numbers if bench.is_long else sorted({*bench.sample(numbers, count), *numbers[-4:]})
+    """The numbers of a door's calls, some of them in the short form, among these its last one and that
+    by which the run gets its id, with the calls beside it."""
+    calls = chosen(first_door(bench, kind))
+    numbers, named = [int(it[1]) for it in calls], next(k for k, it in enumerate(calls) if names_it(it))
+    return numbers if bench.is_long else sorted({*bench.sample(numbers, count), numbers[-1],
+                                                 *numbers[named - 1:named + 2]})
+
+
+def names_it(call: list) -> bool:
+    """Whether the run has its id from this call on."""
+    return call[2] in ("link", "rename") and call[8] in ("id", ".")
+
+
+def named_at(bench, kind: str) -> int:
+    return next(int(it[1]) for it in first_door(bench, kind) if names_it(it))
 
 
 def try_door_killed(bench):
@@ -207,9 +221,7 @@ def try_two_doors(bench):
 
 def taken_one(bench, make, status: int) -> None:
     """Something else gets the name of the folder just before the door gives it."""
-    calls = first_door(bench, "missing")
-    number = next(int(it[1]) for it in calls if it[2] == "rename" and it[8] == ".")
-    scene = prepare(bench, "missing")
+    number, scene = named_at(bench, "missing"), prepare(bench, "missing")
     door = Reader(scene, "door", *scene.givens(), scene.jobs, faults=f"{number}:stop_before")
     while state_of(door) not in "TZ":
         time.sleep(0.002)
@@ -498,8 +510,7 @@ def try_door_cut(bench):
     """the door, killed at each call, and the power cut: without an id the folder is gone on with, with one it is whole"""
     rows = [(bench, kind, it, how) for kind in BEFORE for it in points(bench, kind, FEW)
             for how in ("none", "all", "drawn", "drawn")]
-    ends = [(bench, kind, it, "drawn") for kind in ("users", "into")
-            for it in points(bench, kind, FEW)[-4:]]
+    ends = [(bench, kind, named_at(bench, kind), "drawn") for kind in ("users", "cut", "into") * 2]
     return f"{each([*ends, *bench.sample(rows, 2 * FEW)], cut_one)} cuts"
 
 
@@ -514,7 +525,7 @@ def again_one(bench, kind: str, number: int) -> None:
 
 def try_door_killed_and_cut(bench):
     """the door, killed at each call, and another: all that was made has its name for certain before a line is performed"""
-    rows = [(bench, kind, it) for kind in ("users", "missing") for it in points(bench, kind, FEW)[-5:]]
+    rows = [(bench, kind, it) for kind in ("users", "missing") for it in points(bench, kind, FEW)[-4:]]
     return f"{each(rows, again_one)} kills"
 
 
