@@ -92,15 +92,22 @@ NO_LINE, HELP = "it says nothing of a line of this run", "isn't what it may be; 
 NO_ATTEMPT = "no attempt has this number; take the number from `doubts` or `status`"
 OTHER_LINE = "the attempt is of another line; take number and line from `doubts` or `status`"
 NOT_ASKED = "the attempt was done, or was never begun; it takes no answer"
-MISSING = ("missing in the run's folder; put the file back, or give up this run (without it nobody"
-           " knows which lines were performed)")
-EMPTY = "empty; put its bytes back, or give up this run (without them nobody knows which lines were performed)"
-OLD_RUN = ("the run's folder: made by amo 0.1.0, which gave it no `id`; begin a new run of its open lines"
+# (`THE RUN` stands for the path of the run's folder.)
+MISSING = ("is missing; put the file back, or give up this run (without it nobody knows which lines were"
+           " performed)")
+EMPTY = ("is empty; put its bytes back, or give up this run (without them nobody knows which lines were"
+         " performed)")
+OLD_RUN = ("`THE RUN`: made by amo 0.1.0, which gave it no `id`; begin a new run of its open lines"
            " (`amo_worker status RUN --lines open`) in a new folder")
-FORGOTTEN = "the run's folder: this run was given up (`forgotten`); begin a new run in a new folder"
-HAS_ID = "the run's folder: it already has an `id`; --into makes a new run: name another folder"
-NO_RUN_THERE = "the run's folder: missing; mount the file system that holds it, or name the path that it has now"
-NO_ID = "the run's folder: it has no `id`, so it is no run's; name a run's folder (`amo_worker door` makes one)"
+FORGOTTEN = ("`THE RUN`: this run was given up, since `forgotten` is there; begin a new run in another"
+             " folder")
+HAS_ID = "`THE RUN`: it has an `id` already, and --into makes a new run; name another folder"
+NO_RUN_THERE = ("`THE RUN`: no run's folder is there; mount the file system that holds it, or name the"
+                " path that it has now")
+NO_ID = ("`THE RUN`: it has no `id`, so it is no run's folder; name a run's folder (`amo_worker door`"
+         " makes one)")
+OTHER_ID = "`THE RUN`: its `id` is not the one that --id names; name the folder of that run"
+NOT_NEW = "`THE RUN`: it has `jobs` and no `id`, so no run can be made there; name another folder"
 BEGINS_NEW = "no worker leaves words so; end all workers, and the next round begins with new ones"
 # What is changed in a run whose four lines are done, in doubt, untouched and open; the words of a command, with `_` for a blank; its
 # status, and the line that it says. Where that ends in three dots, the system's own words follow.
@@ -139,18 +146,18 @@ FAULTS = [
     (same, "work 1 --beta 65536", WORDS, f"beta {HELP}"),
     (same, "work 1", LEFT, "nothing more comes from the partner"),
     (spoiled, "work 1", SENSELESS, f"word 6 holds 0: {BEGINS_NEW}"),
-    (without("journal.3"), "status", REFUSED, f"`journal.3`: {MISSING}"),
-    (without("answers"), "door", REFUSED, f"`answers`: {MISSING}"),
-    (without("lock.round"), "work 1", REFUSED, f"`lock.round`: {MISSING}"),
-    (having("journal.16", b""), "doubts", REFUSED, f"`journal.16`: {EMPTY}"),
-    (having("answers", b""), "again", REFUSED, f"`answers`: {EMPTY}"),
+    (without("journal.3"), "status", REFUSED, f"`THE RUN`: `journal.3` {MISSING}"),
+    (without("answers"), "door", REFUSED, f"`THE RUN`: `answers` {MISSING}"),
+    (without("lock.round"), "work 1", REFUSED, f"`THE RUN`: `lock.round` {MISSING}"),
+    (having("journal.16", b""), "doubts", REFUSED, f"`THE RUN`: `journal.16` {EMPTY}"),
+    (having("answers", b""), "again", REFUSED, f"`THE RUN`: `answers` {EMPTY}"),
     (having("id", b"none\n"), "status", REFUSED, f"id is refused: {NO_RUN}"),
     (without("id"), "door", REFUSED, OLD_RUN),
     (without("id"), "again", REFUSED, OLD_RUN),
-    (without("id", "record"), "door", REFUSED, "the run's folder: it has `jobs` and no `id`; name another folder"),
+    (without("id", "record"), "door", REFUSED, NOT_NEW),
     (without("id", "record"), "answer 1.2 2 job_2 done", REFUSED, NO_ID),
     (having("forgotten", b""), "work 1", REFUSED, FORGOTTEN),
-    (same, f"status --id {32 * '0'}", REFUSED, "`id`: not the id that --id names; name the folder of that run"),
+    (same, f"status --id {32 * '0'}", REFUSED, OTHER_ID),
     (same, f"status --id {31 * '0'}", WORDS, f"--id {HELP}"),
     (same, "door --into", REFUSED, HAS_ID),
     (instead(same), f"door --id {32 * '0'}", REFUSED, NO_RUN_THERE),
@@ -165,6 +172,7 @@ def told_one(bench, change, words, status, said):
     command, *more = (it.replace("_", " ") for it in words.split(" "))
     more += [*scene.givens(), scene.jobs] if command in ("door", "work") else []
     ended, out, err = scene.call(command, scene.run, *more)
+    said = said.replace("THE RUN", scene.run)
     is_right = err.startswith(f"amo_worker: {said[:-3]}") if said.endswith("...") else err == f"amo_worker: {said}\n"
     want(ended == status and is_right and err.count("\n") == 1, f"{words}: status {ended}, {err}, and not {status}, {said}")
     want(not out or words == "work 1", f"{words} says {out}")
