@@ -121,6 +121,97 @@ def try_nothing_is_made(bench):
     each(((bench, *row) for row in rows), refused_before)
 
 
+class System:
+    """Files that a process of this run finds in place of the system's own."""
+
+    def __init__(self, scene):
+        self.room = scene.more["AMO_SYSTEM"] = f"{scene.room}/system"
+
+    def put(self, path: str, text: str) -> None:
+        os.makedirs(os.path.dirname(f"{self.room}{path}"), exist_ok=True)
+        with open(f"{self.room}{path}", "w") as file:
+            file.write(text)
+
+    def name_device(self, number: str, name: str) -> None:
+        """The device of this number has this name."""
+        os.makedirs(f"{self.room}/sys/dev/block", exist_ok=True)
+        os.symlink(f"../../devices/virtual/block/{name}", f"{self.room}/sys/dev/block/{number}")
+
+
+def mount_id(path: str) -> str:
+    """The id of the mount on which a folder lies."""
+    file = os.open(path, os.O_RDONLY)
+    try:
+        told = folder.read(f"/proc/self/fdinfo/{file}").decode()
+    finally:
+        os.close(file)
+    return next(it.split()[1] for it in told.splitlines() if it.startswith("mnt_id:"))
+
+
+def mounted(scene, kind: str, options: str, more: str, defaults: str) -> System:
+    """The folder above the run's lies on such a mount. Others, before it and behind it, have its path."""
+    system, number = System(scene), mount_id(scene.room)
+    other = f"1 8:1 / {scene.room} rw - tmpfs none rw"
+    mount = f"{number} 1 8:99 /sub {scene.room} {options} shared:7 master:1 - {kind} /dev/vdz9 {more}"
+    lines = [f"{number}0 {other}", f"1{number} {other}", mount, f"2{number} {other}"]
+    system.put("/proc/self/mountinfo", "".join(f"{it}\n" for it in lines))
+    if defaults:
+        system.name_device("8:99", "vdz9")
+        system.put("/proc/fs/ext4/vdz9/options", defaults.replace(",", "\n") + "\n")
+    return system
+
+
+OVERLAY = "it lies on `overlay`, which may vanish with its container; put it on a volume, or take it anyway: --file-system overlay"
+MOUNTED, DEFAULT = "its file system is mounted with `{}`, and a power cut", "its file system has `{}` as a default, and a power cut"
+SOUND = "rw,bsddf,barrier,data=ordered,commit=5"
+# A mount: its file system's type, its options, its file system's options and the defaults of ext4.
+# Then the type that --file-system names, and what the program says if it refuses the folder.
+MOUNTS = [
+    *((kind, "rw,relatime", "rw,discard", "", None, None) for kind in "ext2 ext3 ext4 xfs btrfs f2fs zfs".split()),
+    ("ext4", "rw", "rw,barrier=1,metadata=writeback,nobarriers", SOUND, None, None),
+    ("overlay", "rw", "rw", "", None, OVERLAY),
+    ("overlay", "rw", "rw", "", "overlayfs", OVERLAY),
+    ("overlay", "rw", "rw", "", "overlay", None),
+    ("overlay", "rw,nobarrier", "rw", "", "overlay", MOUNTED.format("nobarrier")),
+    ("nfs4", "rw", "rw", "", "nfs", "it lies on `nfs4`, which may lose what was synced; "),
+    ("fuse.sshfs", "rw", "rw", "", None, "it lies on `fuse.sshfs`"),
+    ("xfs", "rw,nobarrier", "rw", "", None, MOUNTED.format("nobarrier")),
+    ("btrfs", "rw", "rw,ssd,nobarrier", "", "btrfs", MOUNTED.format("nobarrier")),
+    ("ext3", "rw", "barrier=0,rw", "", None, MOUNTED.format("barrier=0")),
+    ("ext4", "rw", "rw,data=writeback", SOUND, None, MOUNTED.format("data=writeback")),
+    ("ext4", "rw", "rw", "rw,barrier,data=writeback", None, DEFAULT.format("data=writeback")),
+    ("ext3", "rw", "rw", "rw,nobarrier,data=ordered", "ext3", DEFAULT.format("nobarrier")),
+    ("xfs", "rw", "rw", "rw,nobarrier,data=writeback", None, None),
+]
+
+
+def enter_mount(bench, kind, options, more, defaults, named, said):
+    """A folder is made on this mount, or is refused and not made."""
+    scene = bench.scene(1, 1, makes=False)
+    mounted(scene, kind, options, more, defaults)
+    words = ["--file-system", named] if named else []
+    status, out, err = scene.call("door", scene.run, *scene.givens(), scene.jobs, *words)
+    is_told = not said or f"amo_worker: the run's folder is refused: {said}" in err or bench.is_slow()
+    want(status == (DOOR if said else OVER) and not out and is_told, f"status {status}, {err}")
+    want(os.path.exists(scene.run) == (not said), f"the folder is made: {os.path.exists(scene.run)}")
+    if not said:
+        mounted(scene, "nfs4", "rw", "rw", "")
+        for command in ("status", "doubts", "again"):
+            status, out, err = scene.call(command, scene.run)
+            want(status == DOOR and not out, f"{command} of a folder that lies on another now: status {status}, {err}")
+
+
+def try_mounts(bench):
+    """the mount is that of the folder's handle, whatever its path; which types and options are taken, and which are refused"""
+    rows = [it for it in MOUNTS if not (bench.is_slow() and it[3])]
+    count = each(((bench, *it) for it in rows), enter_mount)
+    scene = bench.scene(1, 1, makes=False)
+    mounted(scene, "ext4", "rw", "rw", "").put("/proc/self/mountinfo", "1 1 8:1 / / rw - ext4 none rw\n")
+    status, _, err = scene.call("door", scene.run, *scene.givens(), scene.jobs)
+    want(status == DOOR and not os.path.exists(scene.run), f"a mount that nothing tells of: status {status}, {err}")
+    return f"{count} mounts"
+
+
 def try_half_made(bench):
     """what a killed process left under the names of files that are made whole is written over, all of it"""
     for kind in (b"x" * 10000 + b"\n", b""):
@@ -246,6 +337,6 @@ def try_last_words(bench):
     want(int.from_bytes(entry, "little") == 4096, "the job in hand isn't filed in the last entry")
 
 
-PARTS = {"door": [try_each_number, try_boot_ids, try_paths, try_nothing_is_made],
+PARTS = {"door": [try_each_number, try_boot_ids, try_paths, try_nothing_is_made, try_mounts],
          "crews": [try_half_made, try_nothing_is_removed, try_what_a_worker_holds, try_locks_that_come_free, try_locks_for_ever,
                    try_last_words]}

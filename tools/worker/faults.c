@@ -18,6 +18,8 @@
    AMO_HARNESS the process that tries: its own children are killed when it dies. What these have begun isn't: it is to see its
                own parent die, as a worker its runner, and ends by that.
 
+   AMO_SYSTEM  a folder: a file that it has of /proc or /sys, by its whole path, is opened in place of the system's own
+
    No sync goes to the disk: what it would keep is what the log says. So tests are quick, and a power cut is made from the log. */
 #define _GNU_SOURCE
 #include <errno.h>
@@ -52,7 +54,7 @@ struct call {
   long place, length, number;
 };
 
-static const char *run, *jobs;
+static const char *run, *jobs, *system_room;
 static int is_on, log_file = -1, keeps_bytes, fault_count;
 static long calls, calls_since_said;
 static struct fault faults[MOST_FAULTS];
@@ -90,6 +92,7 @@ __attribute__((constructor)) static void begin(void) {
   const char *path = getenv("AMO_LOG");
   die_with_harness();
   run = getenv("AMO_RUN"), jobs = getenv("AMO_JOBS"), keeps_bytes = getenv("AMO_BYTES") != NULL;
+  system_room = getenv("AMO_SYSTEM");
   is_on = run != NULL;
   read_faults(getenv("AMO_FAULTS"));
   if (is_on && path) {
@@ -221,8 +224,19 @@ static long leave(struct call *call, long result, const char *text, const void *
 
 static long moved(const struct call *call) { return call->fault == SHORT && call->length > 1 ? call->length / 2 : call->length; }
 
+/* The path of what is opened in place of a file of the system's, in `other`; else the path itself. */
+static const char *instead_of(const char *path, char *other) {
+  struct statx found;
+  if (!system_room || (strncmp(path, "/proc/", 6) != 0 && strncmp(path, "/sys/", 5) != 0))
+    return path;
+  snprintf(other, PATH_MAX, "%s%s", system_room, path);
+  int is_there = syscall(SYS_statx, AT_FDCWD, other, AT_SYMLINK_NOFOLLOW, STATX_TYPE, &found) == 0;
+  return is_there ? other : path;
+}
+
 static int open_named(int folder, const char *path, int flags, mode_t mode) {
-  char name[MOST_NAME], how[32];
+  char name[MOST_NAME], how[32], other[PATH_MAX];
+  path = instead_of(path, other);
   if (!name_of(folder, path, name))
     return syscall(SYS_openat, folder, path, flags, mode);
   struct call call = {.name = "open", .file = name, .length = flags & O_CREAT ? 1 : 0};
@@ -257,6 +271,28 @@ int openat(int folder, const char *path, int flags, ...) {
 int openat64(int folder, const char *path, int flags, ...) {
   MODE(flags);
   return open_named(folder, path, flags, mode);
+}
+
+/* The path with no link in it: of a link in AMO_SYSTEM its text, as it is. */
+char *realpath(const char *restrict path, char *restrict resolved) {
+  char other[PATH_MAX], link[64], *found = resolved ? resolved : malloc(PATH_MAX);
+  const char *from = instead_of(path, other);
+  int file = -1, error;
+  if (from == path) {
+    file = syscall(SYS_openat, AT_FDCWD, path, O_PATH | O_CLOEXEC);
+    snprintf(link, sizeof link, "/proc/self/fd/%d", file);
+    from = link;
+  }
+  long length = file < 0 && from == link ? -1 : syscall(SYS_readlink, from, found, PATH_MAX - 1);
+  error = errno;
+  if (file >= 0)
+    syscall(SYS_close, file);
+  errno = error;
+  if (length >= 0)
+    found[length] = 0;
+  else if (!resolved)
+    free(found);
+  return length >= 0 ? found : NULL;
 }
 
 /* Another descriptor of the same open file. */

@@ -1,6 +1,7 @@
 //! What is looked at before anything is made or written in a run's folder.
 use crate::beginning::grown;
 use crate::books::known;
+use crate::disk::check_file_system;
 use crate::fault::{Door, Fault, had, written};
 use crate::folder::bytes_of;
 use crate::identity::{Age, check_id, check_kept, check_whole, has_id};
@@ -8,7 +9,6 @@ use crate::item::Item;
 use crate::making::{make_beside, make_within};
 use crate::setting::{Jobs, Setting};
 use amo_file::{is_mine, make_folder, sync_folder};
-use amo_mounts::{is_local, type_of};
 use std::fs;
 use std::io::ErrorKind;
 use std::rt::HostRuntime;
@@ -138,24 +138,6 @@ fn check_version(rt: HostRuntime, setting: &Setting<'_>) -> Result<(), Fault> {
         return Err(Fault::Door(Door::Version));
     }
     Ok(())
-}
-
-/// Whether this path lies on a file system that is known to be local and to keep what is synced, or that is named.
-fn check_file_system(rt: HostRuntime, setting: &Setting<'_>, path: &str) -> Result<(), Fault> {
-    let real = had(Item::Run, fs::canonicalize(&rt, path))?;
-    let mounts = had(Item::Mounts, fs::read(&rt, "/proc/self/mountinfo"))?;
-    let Some(kind) = type_of(rt.alloc(), &mounts, real.as_str().as_bytes())? else {
-        return Err(Fault::Door(Door::FileSystem));
-    };
-    let named = match setting.file_system {
-        Some(name) => name.as_bytes() == kind.as_slice(),
-        None => false,
-    };
-    if named || is_local(&kind) {
-        Ok(())
-    } else {
-        Err(Fault::Door(Door::FileSystem))
-    }
 }
 
 /// The folder that holds what has this path.

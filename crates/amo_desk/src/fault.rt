@@ -3,6 +3,7 @@ ghost use Rattle.std.specs.Prelude.{◌≡◌};
 ghost use Rattle.amo_desk.specs.Statuses.{status_of};
 ghost use Rattle.amo_desk.specs.declared.fault.Fault.TheVariants.{Memory};
 
+use crate::disk::Disk;
 use crate::item::Item;
 use amo_round::Why;
 use amo_standing::Refusal;
@@ -11,7 +12,7 @@ use std::io;
 use thiserror::Error;
 
 /// Why nothing is done in a folder.
-#[derive(Clone, Copy, Debug, Error)]
+#[derive(Debug, Drop, Error)]
 pub enum Door {
     /// Its name is a link, or it is no folder.
     #[error("it is no folder, or a link to one")]
@@ -19,9 +20,9 @@ pub enum Door {
     /// It belongs to another user.
     #[error("it belongs to another user")]
     Foreign,
-    /// Its file system isn't known to be a local one that keeps what is synced.
-    #[error("its file system isn't a known local one; --file-system names another that is taken")]
-    FileSystem,
+    /// Its file system isn't taken.
+    #[error("{0}")]
+    Disk(Disk),
     /// Its record is of another version of this program.
     #[error("its record is of another version")]
     Version,

@@ -37,6 +37,10 @@ pub enum Item {
     Random,
     /// Which file systems are mounted.
     Mounts,
+    /// The system's text about an open handle.
+    Handle,
+    /// The system's texts about file systems of the types ext3 and ext4.
+    Ext4,
     /// Standard output.
     Output,
 }
@@ -60,6 +64,8 @@ impl Display for Item {
             Item::Boot => write!(f, "the boot id"),
             Item::Random => write!(f, "/proc/sys/kernel/random/uuid"),
             Item::Mounts => write!(f, "/proc/self/mountinfo"),
+            Item::Handle => write!(f, "/proc/self/fdinfo"),
+            Item::Ext4 => write!(f, "/proc/fs/ext4"),
             Item::Output => write!(f, "standard output"),
         }
     }

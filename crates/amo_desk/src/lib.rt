@@ -9,6 +9,7 @@ mod asking;
 mod beginning;
 mod books;
 mod desk;
+mod disk;
 mod door;
 mod fault;
 mod folder;
@@ -29,6 +30,7 @@ mod settled;
 mod showing;
 mod words;
 
+pub use disk::Disk;
 pub use fault::{Door, Fault, Later};
 pub use item::Item;
 pub use serving::serve;

@@ -1,4 +1,3 @@
-pub mod Deepest
-pub mod HeldPaths
-pub mod ToldMounts
-pub mod WrittenPaths
+pub mod First
+pub mod Lines
+pub mod Refused

@@ -1,4 +1,5 @@
-pub mod Folders
+pub mod Handles
 pub mod Local
 pub mod Mounts
-pub mod Paths
+pub mod Options
+pub mod Parts

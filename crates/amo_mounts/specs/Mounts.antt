@@ -1,62 +1,81 @@
--- The mounts of which the text of /proc/self/mountinfo tells, a line each, as they are read.
-use Rattle.std.specs.Prelude.{ℕ, ◌==◌, nat_lt, List, [], ◌∷◌, codes, length, drop, slice_get, slice_index, slice_index_or, Option, Some, None, option_and_then, option_map, if◌then◌else◌}
-use Rattle.std.specs.List.{slice_split}
+-- The text of /proc/self/mountinfo, a line for each mount, in the words of proc(5).
+use Rattle.std.specs.Prelude.{◌≡◌, ◌≢◌, ℕ, ◌==◌, List, [], ◌∷◌, ◌++◌, codes, length, drop, slice_index_or, Option, Some, None, if◌then◌else◌}
+use Rattle.std.specs.List.{AllByRecursion}
 use Rattle.std.specs.Str.{bytes_eq}
-use Rattle.amo_mounts.specs.Paths.{written, holds}
+use Rattle.amo_mounts.specs.Parts.{lines_of, fields_of, first_by}
 use Rattle.amo_mounts.specs.declared.mount.Mount.{Mount}
 
--- a mount: where it is, as the text has it, and the type of its file system
+-- a mount: its file system's device, its options, its file system's type and its file system's options
 pub record MountView : Type 0 where
-  pub point : List ℕ
+  pub device : List ℕ
+  pub options : List ℕ
   pub kind : List ℕ
+  pub super_options : List ℕ
 
 -- what a mount says
 abbrev pub seen : Mount → MountView
-seen m = record { point = m.point.items; kind = m.kind.items }
+seen m = record { device = m.device.now; options = m.options.now; kind = m.kind.now; super_options = m.super_options.now }
 
--- a mount at this point of this type
-abbrev pub mount_at : List ℕ → List ℕ → MountView
-mount_at point kind = record { point = point; kind = kind }
+-- a mount that says this
+abbrev pub view : List ℕ → List ℕ → List ℕ → List ℕ → MountView
+view device options kind super_options = record { device = device; options = options; kind = kind; super_options = super_options }
 
--- the lines of the text
-abbrev pub lines_of : List ℕ → List (List ℕ)
-lines_of text = slice_split (λ b. b == 10) text
+-- the fields after the first that is a lone dash
+abbrev pub behind_dash : List (List ℕ) → List (List ℕ)
+behind_dash [] = []
+behind_dash (field ∷ fields) = if bytes_eq field (codes "-") then fields else behind_dash fields
 
--- the fields of a line, one blank between each two
-abbrev pub fields_of : List ℕ → List (List ℕ)
-fields_of line = slice_split (λ b. b == 32) line
+-- the mount of this device and these options, whose type and whose file system's options are the first
+-- and the third of three fields
+abbrev pub mount_by : List ℕ → List ℕ → List (List ℕ) → Option MountView
+mount_by device options last = if length last == 3 then Some (view device options (slice_index_or last 0 []) (slice_index_or last 2 [])) else None
 
--- the field behind the first that is a lone dash
-abbrev pub behind_dash : List (List ℕ) → Option (List ℕ)
-behind_dash [] = None
-behind_dash (field ∷ fields) = if bytes_eq field (codes "-") then slice_get fields 0 else behind_dash fields
-
--- the mount of these fields: its point is the fifth, which begins at the root, and its type stands behind the lone dash behind the sixth
+-- the mount of these fields
 abbrev pub mount_of : List (List ℕ) → Option MountView
-mount_of fields =
-    if slice_index (slice_index_or fields 4 []) 0 == 47
-    then option_map (λ kind. mount_at (slice_index_or fields 4 []) kind) (behind_dash (drop 6 fields))
-    else None
+mount_of fields = mount_by (slice_index_or fields 2 []) (slice_index_or fields 5 []) (behind_dash (drop 6 fields))
 
--- a mount, if it holds the path
-abbrev pub if_it_holds : List ℕ → Option MountView → Option MountView
-if_it_holds path found = option_and_then (λ (m : MountView). if holds m.point path then Some m else None) found
+-- the mount of these fields, if the first of them is the id
+abbrev pub mount_in : List ℕ → List (List ℕ) → Option MountView
+mount_in id fields = if bytes_eq (slice_index_or fields 0 []) id then mount_of fields else None
 
--- the mount of a line, if it holds the path
-abbrev pub holding : List ℕ → List ℕ → Option MountView
-holding path line = if_it_holds path (mount_of (fields_of line))
+-- the mount of a line, if it has this id
+abbrev pub mount_at : List ℕ → List ℕ → Option MountView
+mount_at id line = mount_in id (fields_of line)
 
--- the deeper of two mounts that hold one path; of equal ones the second
-abbrev pub deeper : Option MountView → Option MountView → Option MountView
-deeper None other = other
-deeper (Some one) None = Some one
-deeper (Some one) (Some other) = if nat_lt (length other.point) (length one.point) then Some one else Some other
+-- the mount of the first line that describes one of this id
+abbrev pub first_mount : List ℕ → List (List ℕ) → Option MountView
+first_mount id lines = first_by (mount_at id) lines
 
--- the deepest of the mounts that hold the path; of equal ones the last
-abbrev pub deepest : List ℕ → List (List ℕ) → Option MountView
-deepest path [] = None
-deepest path (line ∷ lines) = deeper (holding path line) (deepest path lines)
+-- the mount of this id
+abbrev pub mount_of_id : List ℕ → List ℕ → Option MountView
+mount_of_id text id = first_mount id (lines_of text)
 
--- the type of the file system on which a folder lies
-abbrev pub type_of : List ℕ → List ℕ → Option (List ℕ)
-type_of text path = option_map (λ (m : MountView). m.kind) (deepest (written path) (lines_of text))
+-- The line describes this mount under this id. One blank stands between each two of its fields. The first
+-- six are the id, the parent's id, the device, the root, the mount point and the mount's options. Then
+-- come further fields, none of which is a lone dash, and a lone dash. The last three are the type of the
+-- file system, its source and its options.
+pub record Describes (line id : List ℕ) (m : MountView) : Type 0 where
+  pub parent : List ℕ
+  pub root : List ℕ
+  pub point : List ℕ
+  pub further : List (List ℕ)
+  pub source : List ℕ
+  pub no_dash : AllByRecursion (λ field. field ≢ codes "-") further
+  pub fields : fields_of line ≡ id ∷ parent ∷ m.device ∷ root ∷ point ∷ m.options ∷ (further ++ codes "-" ∷ m.kind ∷ source ∷ m.super_options ∷ [])
+
+-- none of these lines describes a mount under this id
+abbrev pub NoneDescribes : List ℕ → List (List ℕ) → Type 0
+NoneDescribes id lines = AllByRecursion (λ line. (m : MountView) → Describes line id m → ⊥) lines
+
+-- one line of the text describes this mount under this id, and no line before it describes any
+pub record IsMountOf (text id : List ℕ) (m : MountView) : Type 0 where
+  pub before : List (List ℕ)
+  pub line : List ℕ
+  pub behind : List (List ℕ)
+  pub lines : lines_of text ≡ before ++ line ∷ behind
+  pub described : Describes line id m
+  pub first : NoneDescribes id before
+
+-- no line of the text describes a mount under this id
+abbrev pub NoMountOf : List ℕ → List ℕ → Type 0
+NoMountOf text id = NoneDescribes id (lines_of text)

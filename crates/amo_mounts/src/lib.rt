@@ -1,10 +1,14 @@
-//! On which type of file system a folder lies, by the text of /proc/self/mountinfo.
+//! Mounts, by the system's texts: on which mount an open file lies, and whether that mount keeps
+//! what is synced. Start with `mount_of_id`.
 #![tactic(auto)]
 
-mod folder;
+mod handle;
 mod local;
 mod mount;
-mod path;
+mod option;
+mod parts;
 
-pub use folder::type_of;
+pub use handle::mnt_id_in;
 pub use local::is_local;
+pub use mount::{Mount, mount_of_id};
+pub use option::{refused_default, refused_option};

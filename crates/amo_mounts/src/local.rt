@@ -1,9 +1,9 @@
-//! Which types of file systems are a machine's own.
+//! Which types of file systems are taken without being named.
 ghost use Rattle.std.specs.Prelude.{◌≡◌};
 ghost use Rattle.amo_mounts.specs.Local.{is_local};
 
-/// Whether file systems of this type are known to be a machine's own: ext2, ext3, ext4, xfs, btrfs, f2fs and zfs, and overlay,
-/// over whatever it lies.
+/// Returns whether a file system of this type is a machine's own, on a disk: ext2, ext3, ext4, xfs,
+/// btrfs, f2fs or zfs.
 pub fn is_local(kind: &[u8]) -> bool
     ensures { result ≡ is_local kind.now }
 {
@@ -14,5 +14,4 @@ pub fn is_local(kind: &[u8]) -> bool
         || kind == b"btrfs".as_slice()
         || kind == b"f2fs".as_slice()
         || kind == b"zfs".as_slice()
-        || kind == b"overlay".as_slice()
 }

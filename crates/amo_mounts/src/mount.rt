@@ -1,61 +1,113 @@
-//! Mounts, and the lines that tell of them.
-ghost use Rattle.std.specs.Prelude.{◌≡◌, ◌==◌, IfOk, map, option_map, slice_index};
-ghost use Rattle.amo_mounts.specs.Mounts.{seen, lines_of, fields_of, behind_dash, mount_of};
+//! Mounts, and the lines that describe them.
+ghost use Rattle.std.specs.Prelude.{◌≡◌, IfOk, IfSome, IfNone, map, option_map};
+ghost use Rattle.amo_mounts.specs.Mounts.{seen, behind_dash, mount_by, mount_of, mount_at, first_mount, mount_of_id, IsMountOf, NoMountOf};
 
+use crate::parts::{fields_of, lines_of};
 use std::alloc::{AllocError, Global};
 
-/// A mount.
-#[derive(Debug, Drop)]
-pub(crate) struct Mount {
-    /// Where it is, as the text has it.
-    pub(crate) point: Vec<u8>,
+/// A mount, as a line of /proc/self/mountinfo has it.
+#[derive(Clone, Copy, Debug)]
+pub struct Mount<'a> {
+    /// The device of the file system, as MAJOR:MINOR.
+    pub device: &'a [u8],
+    /// The options of the mount, with commas between.
+    pub options: &'a [u8],
     /// The type of the file system.
-    pub(crate) kind: Vec<u8>,
+    pub kind: &'a [u8],
+    /// The options of the file system, with commas between.
+    pub super_options: &'a [u8],
 }
 
-/// The lines of the text.
-pub(crate) fn lines_of(alloc: Global, text: &[u8]) -> Result<Vec<&[u8]>, AllocError>
-    ensures { IfOk result (λ lines. map (λ line. line.now) lines.items ≡ lines_of text.now) }
+/// Returns the mount of this id. The text is that of /proc/self/mountinfo. The mount is that of the
+/// first line whose first field is the id and which has all fields that proc(5) names. Returns
+/// `None` if there is no such line: the system leaves out mounts outside of the process's root.
+///
+/// # Errors
+///
+/// `AllocError` if there is no memory for the lists of lines and fields.
+pub fn mount_of_id<'a>(
+    alloc: Global,
+    mountinfo: &'a [u8],
+    id: &[u8],
+) -> Result<Option<Mount<'a>>, AllocError>
+    ensures exact { IfOk result (λ found. option_map seen found ≡ mount_of_id mountinfo.now id.now) }
+    ensures found { IfOk result (λ found. IfSome found (λ mount. IsMountOf mountinfo.now id.now (seen mount))) }
+    ensures none { IfOk result (λ found. IfNone found (NoMountOf mountinfo.now id.now)) }
 {
-    text.split(|b| *b == b'\n').collect(alloc)
+    find_mount(alloc, mountinfo, id)
 }
 
-/// The fields of a line.
-pub(crate) fn fields_of(alloc: Global, line: &[u8]) -> Result<Vec<&[u8]>, AllocError>
-    ensures { IfOk result (λ fields. map (λ field. field.now) fields.items ≡ fields_of line.now) }
+fn find_mount<'a>(
+    alloc: Global,
+    mountinfo: &'a [u8],
+    id: &[u8],
+) -> Result<Option<Mount<'a>>, AllocError>
+    ensures { IfOk result (λ found. option_map seen found ≡ mount_of_id mountinfo.now id.now) }
 {
-    line.split(|b| *b == b' ').collect(alloc)
+    let lines = lines_of(alloc, mountinfo)?;
+    first_mount(alloc, &lines, id)
 }
 
-/// The mount that a line of these fields tells of, if it tells of one.
-pub(crate) fn mount_of(alloc: Global, fields: &[&[u8]]) -> Result<Option<Mount>, AllocError>
-    ensures { IfOk result (λ found. option_map seen found ≡ mount_of (map (λ field. field.now) fields.now)) }
+fn first_mount<'a>(
+    alloc: Global,
+    lines: &[&'a [u8]],
+    id: &[u8],
+) -> Result<Option<Mount<'a>>, AllocError>
+    ensures { IfOk result (λ found. option_map seen found ≡ first_mount id.now (map (λ line. line.now) lines.now)) }
 {
-    if fields.len() < 6 || !begins_at_root(fields[4]) {
+    for line in lines {
+        let found = mount_at(alloc, line, id)?;
+        if found.is_some() {
+            return Ok(found);
+        }
+    }
+    Ok(None)
+}
+
+/// Returns the mount of a line, if it has this id.
+fn mount_at<'a>(alloc: Global, line: &'a [u8], id: &[u8]) -> Result<Option<Mount<'a>>, AllocError>
+    ensures { IfOk result (λ found. option_map seen found ≡ mount_at id.now line.now) }
+{
+    let fields = fields_of(alloc, line)?;
+    if fields.len() < 6 || fields[0] != id {
         return Ok(None);
     }
-    let Some(kind) = behind_dash(&fields[6..]) else {
-        return Ok(None);
-    };
-    let point = fields[4].to_vec(alloc)?;
-    let kind = kind.to_vec(alloc)?;
-    Ok(Some(Mount { point, kind }))
+    Ok(mount_of(&fields))
 }
 
-fn begins_at_root(text: &[u8]) -> bool
-    ensures { result ≡ (slice_index text.now 0 == 47) }
+/// Returns the mount of a line of these fields.
+fn mount_of<'a>(fields: &[&'a [u8]]) -> Option<Mount<'a>>
+    ensures { option_map seen result ≡ mount_of (map (λ field. field.now) fields.now) }
 {
-    !text.is_empty() && text[0] == b'/'
+    if fields.len() < 6 {
+        return None;
+    }
+    mount_by(fields[2], fields[5], behind_dash(&fields[6..]))
 }
 
-/// The field behind the first that is a lone dash.
-fn behind_dash<'a>(fields: &[&'a [u8]]) -> Option<&'a [u8]>
-    ensures { option_map (λ kind. kind.now) result ≡ behind_dash (map (λ field. field.now) fields.now) }
+/// Returns the mount of this device and these options, if there are three fields after the dash.
+fn mount_by<'a>(device: &'a [u8], options: &'a [u8], last: &[&'a [u8]]) -> Option<Mount<'a>>
+    ensures { option_map seen result ≡ mount_by device.now options.now (map (λ field. field.now) last.now) }
+{
+    if last.len() != 3 {
+        return None;
+    }
+    Some(Mount {
+        device,
+        options,
+        kind: last[0],
+        super_options: last[2],
+    })
+}
+
+/// Returns the fields after the first that is a lone dash.
+fn behind_dash<'s, 'a>(fields: &'s [&'a [u8]]) -> &'s [&'a [u8]]
+    ensures { map (λ field. field.now) result.now ≡ behind_dash (map (λ field. field.now) fields.now) }
 {
     for (i, field) in fields.iter().enumerate() {
         if *field == b"-".as_slice() {
-            return fields.get(i + 1).copied();
+            return &fields[i + 1..];
         }
     }
-    None
+    &[]
 }
