@@ -67,7 +67,7 @@ pub enum Fault {
     #[error("out of memory")]
     Memory,
     /// The line of this number of the jobs' file can't be one of a run's, or is another than the run knows.
-    #[error("the jobs' file is refused at line {0}: {1:?}")]
+    #[error("the jobs' file is refused: line {0} {1}")]
     List(usize, Why),
     /// The line of this number is not what it was when the run first knew it.
     #[error("the jobs' file is refused at line {0}: the run knows it as another line")]
@@ -79,7 +79,7 @@ pub enum Fault {
     #[error("{0} is refused: no run writes it so")]
     Refused(Item),
     /// The answer of this number, from 1, isn't taken.
-    #[error("answer {0} isn't taken: {1:?}")]
+    #[error("answer {0} isn't taken: {1}")]
     Answer(usize, Refusal),
     /// The answer of this number, from 1, says nothing that can be read, or another text than the line has.
     #[error("answer {0} isn't taken: it says nothing of a line of this run")]

@@ -9,25 +9,25 @@ use thiserror::Error;
 #[derive(Clone, Copy, Debug, PartialEq, Eq, Error)]
 pub enum Why {
     /// It has no byte before its end.
-    #[error("is empty")]
+    #[error("is empty; remove it")]
     Empty,
     /// It has a byte 0.
-    #[error("has a NUL")]
+    #[error("has a NUL byte; remove that byte")]
     Nul,
     /// It has a byte 13.
-    #[error("has a carriage return")]
+    #[error("has a carriage return; end lines with a line feed alone")]
     CarriageReturn,
     /// It isn't UTF-8.
-    #[error("is no UTF-8")]
+    #[error("isn't UTF-8; convert the file to UTF-8")]
     NotText,
     /// It has more than 100,000 bytes.
-    #[error("is longer than 100000 bytes")]
+    #[error("is longer than 100000 bytes; shorten it")]
     TooLong,
     /// A line before it is the same.
-    #[error("is equal to a line before it")]
+    #[error("is equal to a line before it; remove it, or make the two differ")]
     Repeated,
     /// No line feed stands behind it: its writer may be at it.
-    #[error("has no end")]
+    #[error("has no line feed at its end; add one once the line is whole")]
     NoEnd,
 }
 
