@@ -4,7 +4,7 @@ acknowledged line that is gone. Without the mistake the stand-in passes them."""
 import os
 import re
 
-from worker import crowd, kills, making, persons, power, rounds, scene, texts
+from worker import crowd, entering, kills, making, persons, power, rounds, scene, texts
 
 STAND_IN = os.path.join(os.path.dirname(os.path.realpath(__file__)), "stand_in.py")
 TWICE, GONE, DOUBT = "performed twice", "performed twice|acknowledged line is gone", "(?s)status says .* doubt 2 .*'doubt': 1,"
@@ -35,6 +35,8 @@ MISTAKES = [
     ("id_is_not_compared", making.try_id, "status 0"),
     ("running_is_refused", making.try_answers_that_wait, "status 65"),
     ("emptied_by_recovery", texts.try_behind_a_gate, "is empty for a moment"),
+    ("mount_by_path", entering.try_mounts, "ext2 rw,relatime rw,discard : status 77"),
+    ("options_are_taken", entering.try_mounts, "overlay rw,nobarrier rw  overlay .*: status 0"),
 ]
 CHEAPEST = 4
 

@@ -10,7 +10,7 @@ import tempfile
 from worker import folder
 from worker.crowd import Reader
 from worker.kills import first_life, state_of
-from worker.persons import prepared
+from worker.persons import Says, prepared
 from worker.scene import DOOR, LATER, OVER, READ, REFUSED, WORDS, Runner, each, finish, live, serve, want, LEFT
 
 
@@ -288,6 +288,45 @@ def try_locks_that_come_free(bench):
     each(((bench, *row) for row in (("journal.1", 3), ("lock.round", 4))), wait_for)
 
 
+def begun_anew(bench):
+    """A run with two attempts in doubt: one that is noted as such, and one that nobody holds any more."""
+    scene = bench.scene(4, 1)
+    runner = Says(scene, 1, ["doubt", "dies"])
+    live(runner)
+    runner.close()
+    want(scene.doubts() == [(1, 1, 1), (1, 2, 2)], f"{scene.doubts()}")
+    return scene
+
+
+def kept_answers(scene):
+    return len(folder.texts_of(folder.read(f"{scene.run}/answers")))
+
+
+def sheet_of(scene, *rows):
+    """These answers, from a file: the status, how many are taken, and what is said."""
+    before, path = kept_answers(scene), f"{scene.room}/sheet"
+    with open(path, "w") as file:
+        file.write("".join(f"{row}\n" for row in rows))
+    status, _, err = scene.call("answer", scene.run, "--from", path)
+    return status, kept_answers(scene) - before, err
+
+
+def try_sheets_beside_who_begins(bench):
+    """a sheet with an answer to what somebody holds: none is taken, 75; if another row is refused, 65, before or after that row"""
+    scene = begun_anew(bench)
+    held = open(f"{scene.run}/runner.1", "ab")
+    fcntl.flock(held, fcntl.LOCK_EX | fcntl.LOCK_NB)
+    sound, runs, wrong = "1.1\t1\tjob 1\tdone", "1.2\t2\tjob 2\tdone", "1.9\t3\tjob 3\tdone"
+    for rows in ((runs, wrong), (wrong, runs), (runs, sound, wrong)):
+        status, taken, err = sheet_of(scene, *rows)
+        want((status, taken) == (REFUSED, 0), f"{rows}: status {status}, {taken} taken, {err}")
+    status, taken, err = sheet_of(scene, sound, runs)
+    want((status, taken) == (LATER, 0) and "answer 2" in err, f"status {status}, {taken} taken, {err}")
+    held.close()
+    status, taken, err = sheet_of(scene, sound, runs)
+    want((status, taken) == (OVER, 2), f"status {status}, {taken} taken, {err}")
+
+
 def try_locks_for_ever(bench):
     """locks that others keep: after some seconds a worker and a person are told so; who only looks is shown all the same"""
     if is_stand_in(bench):
@@ -339,4 +378,4 @@ def try_last_words(bench):
 
 PARTS = {"door": [try_each_number, try_boot_ids, try_paths, try_nothing_is_made, try_mounts],
          "crews": [try_half_made, try_nothing_is_removed, try_what_a_worker_holds, try_locks_that_come_free, try_locks_for_ever,
-                   try_last_words]}
+                   try_sheets_beside_who_begins, try_last_words]}

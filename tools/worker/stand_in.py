@@ -22,6 +22,7 @@ MISTAKES = ("intent_after_the_act pending_is_open guard_is_removed words_of_anot
             " opens_without_settling above_synced_by_the_maker_alone lists_without_settling own_words_forgotten"
             " claim_after_the_act readers_without_a_lock missing_is_empty empty_is_empty id_is_replaced id_first"
             " id_before_the_sync emptied_by_recovery old_run_is_settled old_run_is_worked running_is_refused id_is_not_compared"
+            " mount_by_path options_are_taken"
             " forgotten_is_taken users_files_are_refused leftovers_are_taken").split()
 MISTAKE = os.environ.get("AMO_MISTAKE")
 LOCAL = "ext2 ext3 ext4 xfs btrfs f2fs zfs".split()
@@ -605,7 +606,7 @@ def mount_of(path):
     number = words[words.index(b"mnt_id:") + 1]
     for line in (content("/proc/self/mountinfo") or b"").splitlines():
         words, more = (it.split(b" ") for it in line.split(b" - "))
-        if words[0] == number:
+        if words[0] == number or MISTAKE == "mount_by_path" and words[4] == os.fsencode(path):
             return more[0].decode(), {*words[5].split(b","), *more[2].split(b",")}, more[1]
     raise End(77, f"{path}: it lies on no known file system")
 
@@ -618,7 +619,7 @@ def check_mount(it, path):
     if kind == "ext4":
         name = os.path.basename(os.path.realpath(os.fsdecode(device)))
         options |= set((content(f"/proc/fs/ext4/{name}/options") or b"").split())
-    if options & REFUSED_OPTIONS:
+    if options & REFUSED_OPTIONS and MISTAKE != "options_are_taken":
         raise End(77, f"{path}: it is mounted with {b' '.join(options & REFUSED_OPTIONS).decode()}")
 
 

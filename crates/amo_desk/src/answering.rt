@@ -11,8 +11,14 @@ use amo_file::FileDevice;
 use amo_journal::{DeviceError, PutError};
 use amo_ledger::{Fault as Misread, Finding, Verdict};
 use amo_standing::{Refusal, Said, may_answer, read_answers, untouched};
-use std::fs;
 use std::rt::HostRuntime;
+use std::time::Duration;
+use std::{fs, thread};
+
+/// How often an answer to what may still run is tried, and how many milliseconds lie between.
+const TRIES: u32 = 20;
+
+const PAUSE: u64 = 100;
 
 /// Takes an answer of a person. It is refused where the rules of [`may_answer`] say so, or where the text isn't that of the line.
 /// One that was given so already is taken again, and nothing is written.
@@ -52,27 +58,62 @@ pub(crate) fn once_more(rt: HostRuntime, setting: &Setting<'_>) -> Result<(), Fa
     put_all(rt, answers.journal, &findings)
 }
 
-/// Checks all of the answers, and then puts each that is new.
+/// Takes all of the answers. If one of them is to an attempt that may still run, and none is
+/// refused for another reason, all are tried again, with all locks released in between. A worker
+/// that begins holds its number before it records what became of its past attempts.
+///
+/// # Errors
+///
+/// `Later::Running` if one of the answers is to such an attempt for two seconds. Nothing is written
+/// if an answer is refused.
 fn take_all(rt: HostRuntime, setting: &Setting<'_>, all: &[Said]) -> Result<(), Fault> {
+    let mut runs = 1;
+    for _try in 0..TRIES {
+        match take_once(rt, setting, all)? {
+            None => return Ok(()),
+            Some(number) => runs = number,
+        }
+        thread::sleep(&rt, Duration::from_millis(PAUSE));
+    }
+    Err(Fault::Later(Later::Running(runs)))
+}
+
+/// Checks all of the answers, and then puts each that is new. If one is to an attempt that may
+/// still run, nothing is put. Returns the number of the first such answer.
+fn take_once(rt: HostRuntime, setting: &Setting<'_>, all: &[Said]) -> Result<Option<usize>, Fault> {
     let answers = take_answers(rt, setting)?;
     let mut seen = look_behind(rt, setting, answers.texts)?;
     let mut findings = Vec::new(rt.alloc());
+    let mut runs = None;
     for (i, said) in all.iter().enumerate() {
-        if let Some(finding) = checked(rt, &seen, said, i + 1)? {
-            seen.books.findings.push(finding)?;
-            findings.push(finding)?;
+        match checked(rt, &seen, said, i + 1)? {
+            Outcome::New(finding) => {
+                seen.books.findings.push(finding)?;
+                findings.push(finding)?;
+            }
+            Outcome::Given => {}
+            Outcome::Running => runs = runs.or(Some(i + 1)),
         }
     }
-    put_all(rt, answers.journal, &findings)
+    if runs.is_none() {
+        put_all(rt, answers.journal, &findings)?;
+    }
+    Ok(runs)
 }
 
-/// What is put of an answer, the one of this number: nothing where it was given so already.
-fn checked(
-    rt: HostRuntime,
-    seen: &Seen,
-    said: &Said,
-    number: usize,
-) -> Result<Option<Finding>, Fault> {
+/// What is to be done with an answer that isn't refused.
+#[derive(Clone, Copy)]
+enum Outcome {
+    /// This is to be put.
+    New(Finding),
+    /// It was given so already.
+    Given,
+    /// It is to an attempt that may still run.
+    Running,
+}
+
+/// Checks an answer, the one of this number.
+fn checked(rt: HostRuntime, seen: &Seen, said: &Said, number: usize) -> Result<Outcome, Fault> {
     let books = &seen.books;
     let Some(text) = books.jobs.line(said.line) else {
         return Err(Fault::NoAnswerOf(number));
@@ -91,13 +132,14 @@ fn checked(
         verdict,
     );
     match may {
-        Ok(()) => Ok(Some(Finding {
+        Ok(()) => Ok(Outcome::New(Finding {
             verdict,
             worker,
             serial,
             time: now(rt),
         })),
-        Err(Refusal::AnsweredSo) => Ok(None),
+        Err(Refusal::AnsweredSo) => Ok(Outcome::Given),
+        Err(Refusal::Running) => Ok(Outcome::Running),
         Err(refusal) => Err(Fault::Answer(number, refusal)),
     }
 }

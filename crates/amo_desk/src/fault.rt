@@ -58,6 +58,9 @@ pub enum Later {
     /// Others hold what persons found out.
     #[error("others are answering")]
     Answering,
+    /// The answer of this number, from 1, is to an attempt that runs or may still be begun.
+    #[error("answer {0} is to an attempt that may still run; `doubts` lists it once it has ended")]
+    Running(usize),
 }
 
 /// Why a command ends before it has done what it was asked for.
