@@ -3,7 +3,7 @@
 import os
 import re
 
-from jobs import identity, rules, scene
+from jobs import faults, identity, rules, scene
 
 HERE = os.path.dirname(os.path.realpath(__file__))
 TWICE, LISTED = "performed twice|performed after it was", "is a doubt|as a doubt|though no runner"
@@ -14,10 +14,23 @@ OF_THE_WORKER = [
     ("lists_what_runs", rules.try_orphan, TWICE),
     ("answers_what_runs", rules.try_running_is_not_answered, TWICE),
 ]
-INPUT = ["words, stdin=lock,", "words, stdin=subprocess.DEVNULL,"]
-FURTHER = ["pass_fds=self.locks[1:],", "pass_fds=(),"]
+INPUT = ["enumerate((self.locks[0], out, err))", "enumerate((os.open(os.devnull, os.O_RDONLY), out, err))"]
+FURTHER = ["os.set_inheritable(self.locks[1], True)", "pass"]
+AFTER = """        close_all([files.pop()])
+        why = self.report_in(files[-1])
+        close_all(files)
+"""
 # Of amo_jobs: the mistake, what stands there and what in its place, by pairs, and the same two.
 OF_THE_RUNNER = [
+    ("unbegun_after_a_failed_close", [AFTER, """        close_all([files.pop()])
+        why = self.report_in(files.pop())
+        try:
+            while files:
+                os.close(files.pop())
+        except OSError as error:
+            self.drop_lock()
+            raise NotStarted(error) from None
+"""], faults.try_failed_close, TWICE),
     ("lock_is_not_handed_on", INPUT + FURTHER, rules.try_orphan, TWICE),
     ("lock_only_as_standard_input", FURTHER, rules.try_left_behind, TWICE + "|did nothing"),
     ("lock_only_as_a_further_descriptor", INPUT, rules.try_closed, TWICE),
@@ -95,5 +108,5 @@ def shown(bench, name, test, wanted):
 
 ALL = [[of_the_worker(*it) for it in OF_THE_WORKER], [of_the_runner(*it) for it in OF_THE_RUNNER]]
 OF_IDENTITY = [*[of_the_worker(*it) for it in MISSING], *[of_the_runner(*it) for it in IDENTITY]]
-SHORT = [ALL[0][0], ALL[1][0], *OF_IDENTITY]  # those of the short form
-PARTS = {"controls": [*SHORT, *ALL[0][1:], *ALL[1][1:]]}
+SHORT = [ALL[0][0], *ALL[1][:2], *OF_IDENTITY]  # those of the short form
+PARTS = {"controls": [*SHORT, *ALL[0][1:], *ALL[1][2:]]}
