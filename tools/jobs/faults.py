@@ -5,6 +5,8 @@ A table states for each call what follows. A call has a name and a kind, which t
 gives it. The test fails if a run meets a call that isn't in the table, so the table stays complete.
 """
 
+from __future__ import annotations
+
 import errno
 import os
 import re

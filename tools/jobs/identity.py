@@ -74,7 +74,7 @@ class Begun:
 
     def end(self, *statuses: int) -> str:
         """Wants it to end, with one of these statuses if there are any; returns what it said."""
-        ended = self.process.wait(100)
+        ended = self.process.wait(300)
         told = self.told()
         want(not statuses or ended in statuses, f"status {ended}, not {statuses}: {told[-600:]}")
         return told
@@ -351,7 +351,7 @@ def try_lists_that_are_none(bench):
         scene.jobs = jobs
     words = [it if it != scene.jobs else "/dev/stdin" for it in words_of(scene, "crew")]
     how = dict(env=scene.environment(), stdout=subprocess.PIPE, stderr=subprocess.STDOUT,
-               timeout=100)
+               timeout=300)
     piped = subprocess.run(["sh", "-c", 'cat "$0" | "$@"', scene.jobs, *words], **how)
     want(piped.returncode == REFUSED and not os.path.exists(scene.run), f"{piped}")
     check(scene, [0, 0])
@@ -666,7 +666,7 @@ def try_other_commands(bench):
         for what in ("status", "doubts", "again", "answer"):
             words = scene.words(what, scene.jobs, *(failed if what == "answer" else []))
             del words[words.index("--run"):words.index("--run") + 2]
-            ran = subprocess.run(words, stdin=subprocess.DEVNULL, capture_output=True, timeout=100,
+            ran = subprocess.run(words, stdin=subprocess.DEVNULL, capture_output=True, timeout=300,
                                  env=scene.environment())
             want((ran.returncode == REFUSED) == (status == REFUSED), f"{what}: {ran}")
 
