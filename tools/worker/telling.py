@@ -314,7 +314,9 @@ def try_order_of_reads(bench):
         calls = scene.logged()
         os.unlink(scene.log)
         locks = [it[3] for it in calls if it[2] == "lock"]
-        wanted = ["journal.1", "lock.round", "lock.round"] if words[0] == "work" else ["answers", "journal.1"]
+        wanted = ["journal.1", "lock.round", "lock.round"]
+        if words[0] != "work":
+            wanted = ["answers", *(f"journal.{worker}" for worker in range(1, 17))]
         want(locks == wanted, f"{words} asks for the locks {locks}")
         begins = next((k for k, it in enumerate(calls) if it[2:4] == ["lock", "lock.round"]), 0)
         reads = [it[3].split(".")[0] for it in calls[begins:] if it[2] == "read" and it[3] in ("answers", "journal.1", "jobs")]
