@@ -189,7 +189,7 @@ def enter_mount(bench, kind, options, more, defaults, named, said):
     """A folder is made on this mount, or is refused and not made."""
     scene = bench.scene(1, 1, makes=False)
     mounted(scene, kind, options, more, defaults)
-    words = ["--file-system", named] if named else []
+    words = ["--file-system", named or "none"] if named or bench.kind else []
     status, out, err = scene.call("door", scene.run, *scene.givens(), scene.jobs, *words)
     is_told = not said or f"amo_worker: the run's folder is refused: {said}" in err or bench.is_slow()
     want(status == (DOOR if said else OVER) and not out and is_told, f"status {status}, {err}")
