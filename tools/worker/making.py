@@ -1,5 +1,6 @@
-"""The run's folder: the door alone makes it, and is killed, refused, stopped and begun again at each call of that; what is missing
-in it, or was made by amo 0.1.0, or was forgotten, or is another run's, is refused by all."""
+"""The run's folder: the door alone makes it, and is killed, refused, stopped and begun again at each
+call of that; what is missing in it, or was made by amo 0.1.0, or was forgotten, or is another run's, is
+refused by all."""
 
 import errno
 import os
@@ -19,7 +20,7 @@ from worker.scene import (DOOR, KILLED, LATER, OVER, READ, REFUSED, WRITE, Runne
 # What is there before the door comes, and the words by which it is told.
 BEFORE = ("missing", "users", "cut", "into")
 ANOTHER = "0123456789abcdef0123456789abcdef"
-MINE = {"notes": b"mine\n", "list": b"mine\n", "list.run-is": b"mine\n", "journal.x": b"mine\n", "door.old.new": b""}
+MINE = {**dict.fromkeys(("notes", "list", "list.run-is", "journal.x"), b"mine\n"), "door.old.new": b""}
 
 
 def prepare(bench, kind: str) -> Scene:
@@ -61,7 +62,8 @@ def want_whole(scene, kind: str) -> None:
 
 
 def first_door(bench, kind: str) -> list:
-    """The calls of a door that nothing befalls, after which the folder is whole and nothing is left."""
+    """The calls of a door that nothing befalls, after which the folder is whole and nothing is
+    left."""
     scene = prepare(bench, kind)
     scene.logs = True
     status, out, err = scene.call(*door_words(scene, kind))
@@ -96,7 +98,8 @@ def made_one(bench, kind: str) -> None:
 
 
 def try_made(bench):
-    """the door makes a folder beside, in a folder of the user's, in one that was cut off, or where it is told; nothing is left"""
+    """the door makes a folder beside, in a folder of the user's, in one that was cut off, or where
+    it is told; nothing is left"""
     return f"{each(((bench, kind) for kind in BEFORE), made_one)} folders"
 
 
@@ -116,7 +119,8 @@ def kill_one(bench, kind: str, number: int) -> None:
     scene = prepare(bench, kind)
     status, _, _ = scene.call(*door_words(scene, kind), faults=f"{number}:kill_after")
     want(status == KILLED, f"it isn't killed, and ends with status {status}")
-    want(not has_id(scene) or scene.call("status", scene.run)[0] == OVER, "there is an id, and not all else")
+    is_whole = not has_id(scene) or scene.call("status", scene.run)[0] == OVER
+    want(is_whole, "there is an id, and not all else")
     go_on(scene, kind)
     runner = Runner(scene, 1)
     runner.leaves = True
@@ -147,30 +151,35 @@ def named_at(bench, kind: str) -> int:
 
 
 def try_door_killed(bench):
-    """the door, killed at each call and begun again: the folder is whole or gone on with, and its id is never replaced"""
+    """the door, killed at each call and begun again: the folder is whole or gone on with, and its
+    id is never replaced"""
     rows = [(bench, kind, it) for kind in BEFORE for it in points(bench, kind, FEW)]
     return f"{each(rows, kill_one)} kills"
 
 
 def refuse_one(bench, kind: str, number: int, call: str, file: str, fault) -> None:
-    """A call of the door fails: the status says so, one line names the folder, and the next door goes on."""
+    """A call of the door fails: the status says so, one line names the folder, and the next door
+    goes on."""
     scene = prepare(bench, kind)
     status, out, err = scene.call(*door_words(scene, kind), faults=f"{number}:{fault}")
     may_go_on = fault in ("short", errno.EINTR) or call == "remove"
     told = status in (WRITE, READ) and err.count("\n") == 1 and not out
     want(told or status == OVER and may_go_on, f"status {status}, {err or out!r}")
-    want(not has_id(scene) or scene.call("status", scene.run)[0] == OVER, "there is an id, and not all else")
+    is_whole = not has_id(scene) or scene.call("status", scene.run)[0] == OVER
+    want(is_whole, "there is an id, and not all else")
     go_on(scene, kind)
 
 
 def refusals(bench, kind: str):
-    """Each call of a door with each fault; in the short form, of those that are alike the first and the last."""
+    """Each call of a door with each fault; in the short form, of those that are alike the first and
+    the last."""
     alike = {}
     for it in first_door(bench, kind):
         name = it[3].rpartition("/")[2].rstrip("0123456789")
         name = "door.new" if name.startswith("door.") else name
         alike.setdefault((it[2], name, it[8] if it[2] == "open" else ""), []).append(it)
-    ends = {int(it[1]): it for group in alike.values() for it in (group if bench.is_long else (group[0], group[-1]))}
+    groups = alike.values() if bench.is_long else [(it[0], it[-1]) for it in alike.values()]
+    ends = {int(it[1]): it for group in groups for it in group}
     for number, (_, _, call, file, _, _, length, *_) in ends.items():
         yield bench, kind, number, call, file, errno.ENOSPC if number % 2 and call != "read" else errno.EIO
         if call in ("open", "read", "write", "sync"):
@@ -180,13 +189,15 @@ def refusals(bench, kind: str):
 
 
 def try_door_refused(bench):
-    """each call of the door refused, interrupted or short: it ends by saying so, and the next door goes on"""
+    """each call of the door refused, interrupted or short: it ends by saying so, and the next door
+    goes on"""
     rows = [bench.sample(refusals(bench, kind), FEW + 2) for kind in BEFORE]
     return f"{each([it for row in rows for it in row], refuse_one)} refusals"
 
 
 def stop_one(bench, kind: str, number: int) -> None:
-    """A door is stopped at this call; another comes, and a line is performed; then the first goes on."""
+    """A door is stopped at this call; another comes, and a line is performed; then the first goes
+    on."""
     scene = prepare(bench, kind)
     words = door_words(scene, kind)
     first = Reader(scene, words[0], *words[2:], faults=f"{number}:stop_before")
@@ -203,7 +214,8 @@ def stop_one(bench, kind: str, number: int) -> None:
         want(len(scene.effects()) == 1 or may_wait, f"no line is performed: {runner.statuses}, {runner.said}")
     first.process.send_signal(signal.SIGCONT)
     status, _, err = first.ended()
-    want(status == OVER or kind == "into" and status == REFUSED, f"the first door ends with status {status}: {err}")
+    goes_on = status == OVER or kind == "into" and status == REFUSED
+    want(goes_on, f"the first door ends with status {status}: {err}")
     want(not before or read(f"{scene.run}/id") == before, "the id is replaced")
     if runner:
         runner.close()
@@ -214,7 +226,8 @@ def stop_one(bench, kind: str, number: int) -> None:
 
 
 def try_two_doors(bench):
-    """a door stopped at each call, while another makes the folder and a worker begins: both go on, with one id"""
+    """a door stopped at each call, while another makes the folder and a worker begins: both go on,
+    with one id"""
     rows = [(bench, kind, it) for kind in BEFORE for it in points(bench, kind, FEW, lambda calls: calls)]
     return f"{each(rows, stop_one)} stops"
 
@@ -243,14 +256,16 @@ def leftovers(run: str) -> None:
 
 
 def try_name_taken(bench):
-    """a file, a user's folder or a folder of another run gets the name while the door makes its own: refused, or gone on with"""
+    """a file, a user's folder or a folder of another run gets the name while the door makes its
+    own: refused, or gone on with"""
     rows = [(lambda run: put(run, b"mine"), DOOR), (users_folder, OVER), (leftovers, REFUSED),
             (lambda run: os.symlink("jobs", run), DOOR)]
     each(((bench, *row) for row in rows), taken_one)
 
 
 def leave_one(bench, name: str, data) -> None:
-    """A folder without an id in which amo has left this: the door refuses it, and changes nothing."""
+    """A folder without an id in which amo has left this: the door refuses it, and changes
+    nothing."""
     scene = bench.scene(1, 1, makes=False)
     os.mkdir(scene.run)
     if data is None:
@@ -264,11 +279,13 @@ def leave_one(bench, name: str, data) -> None:
 
 
 def try_leftovers(bench):
-    """what amo leaves in a folder is no user's file: without an id it is refused, and nothing is changed"""
+    """what amo leaves in a folder is no user's file: without an id it is refused, and nothing is
+    changed"""
     names = [*"forgotten jobs words command crew shared lock record.new jobs.new words.new command.new".split(),
              *"journal.17 runner.1 pace.3 command.1.12 out.2.1 err.16.400".split()]
     rows = [(bench, name, b"") for name in (bench.sample(names, 6) if bench.is_slow() else names)]
-    rows += [(bench, "journal.3", b"-x"), (bench, "answers", b"+-"), (bench, "chunk.1", None), (bench, "chunk.12.new", None)]
+    rows += [(bench, "journal.3", b"-x"), (bench, "answers", b"+-"), (bench, "chunk.1", None)]
+    rows.append((bench, "chunk.12.new", None))
     return f"{each(rows, leave_one)} names"
 
 
@@ -290,7 +307,8 @@ def refuse_all(scene, name: str, what: str, words: list) -> None:
 
 
 def miss_one(bench, name: str, is_removed: bool, few_commands: bool) -> None:
-    """A file that the door made is removed or emptied, in the first round: refused by name, also beside a worker that lives."""
+    """A file that the door made is removed or emptied, in the first round: refused by name, also
+    beside a worker that lives."""
     scene = prepared(bench, ["doubt", "done 0"], lines=4)
     path = f"{scene.run}/{name}"
     data = read(path)
@@ -309,7 +327,8 @@ def miss_one(bench, name: str, is_removed: bool, few_commands: bool) -> None:
 
 
 def try_missing(bench):
-    """each journal, answers, lock.round or id removed or emptied, in the first round: refused by name, by each command"""
+    """each journal, answers, lock.round or id removed or emptied, in the first round: refused by
+    name, by each command"""
     rows = [(bench, name, is_removed, name not in ("journal.1", "journal.16", "id"))
             for name in [*MADE, "id"] for is_removed in (True, False)
             if (name, is_removed) not in (("lock.round", False), ("id", True))]
@@ -317,7 +336,8 @@ def try_missing(bench):
 
 
 def try_missing_beside(bench):
-    """a journal removed while a worker has a line in its hand: nobody begins until it is there again, and no line is done twice"""
+    """a journal removed while a worker has a line in its hand: nobody begins until it is there
+    again, and no line is done twice"""
     scene = bench.scene(6, 3)
     first, second = Runner(scene, 1), Runner(scene, 2)
     first.perform = lambda serial, line: None
@@ -340,7 +360,8 @@ def try_missing_beside(bench):
 
 
 def old_run(bench) -> Scene:
-    """A folder of amo 0.1.0, with all kinds of lines, one of them pending behind a journal that nobody has settled."""
+    """A folder of amo 0.1.0, with all kinds of lines, one of them pending behind a journal that
+    nobody has settled."""
     scene = prepared(bench, ["done 0", "untouched 75", "doubt", "unbegun", "dies"], lines=7)
     data = read(f"{scene.run}/journal.1")
     put(f"{scene.run}/journal.1", data + b"doubt 9")
@@ -364,7 +385,8 @@ def read_old(scene, counts: str, doubts: list) -> None:
 
 
 def try_old_run(bench):
-    """a folder of amo 0.1.0: status and doubts read it and write nothing, also beside its locks; all else refuses it"""
+    """a folder of amo 0.1.0: status and doubts read it and write nothing, also beside its locks;
+    all else refuses it"""
     scene = old_run(bench)
     read_old(scene, "lines 7 done 1 failed 0 doubt 2 running 0 untouched 1 open 3", [(1, 3), (1, 5)])
     if os.path.exists(f"{scene.run}/runner.1"):
@@ -390,7 +412,8 @@ def try_old_run(bench):
 
 
 def try_id(bench):
-    """--id: the own one is taken, another is refused by each command; with it no folder is made; an id that is none is refused"""
+    """--id: the own one is taken, another is refused by each command; with it no folder is made; an
+    id that is none is refused"""
     scene = prepared(bench, ["doubt", "done 0"], lines=2)
     for command, *more in commands(scene):
         more = [*more[:-1], "--id", ANOTHER, more[-1]] if command in ("door", "work") else [*more, "--id", ANOTHER]
@@ -457,7 +480,8 @@ def freed(scene, words, held, name):
 
 
 def try_answers_that_wait(bench):
-    """an answer to what still runs waits for its end, and is taken then; one that runs on: later, and nothing is written"""
+    """an answer to what still runs waits for its end, and is taken then; one that runs on: later,
+    and nothing is written"""
     scene = bench.scene(3, 1)
     runner = Runner(scene, 1)
     runner.after = lambda serial: None
@@ -484,7 +508,8 @@ def try_answers_that_wait(bench):
 
 
 def cut_one(bench, kind: str, number: int, how: str) -> None:
-    """The door is killed at this call, and the power is cut; the next one goes on, and a line is performed; the power is cut."""
+    """The door is killed at this call, and the power is cut; the next one goes on, and a line is
+    performed; the power is cut."""
     scene = prepare(bench, kind)
     power = Power(scene, bench.draws, begins=False)
     scene.call(*door_words(scene, kind), faults=f"{number}:kill_after")
@@ -507,7 +532,8 @@ def perform_and_cut(scene, power) -> None:
 
 
 def try_door_cut(bench):
-    """the door, killed at each call, and the power cut: without an id the folder is gone on with, with one it is whole"""
+    """the door, killed at each call, and the power cut: without an id the folder is gone on with,
+    with one it is whole"""
     rows = [(bench, kind, it, how) for kind in BEFORE for it in points(bench, kind, FEW)
             for how in ("none", "all", "drawn", "drawn")]
     ends = [(bench, kind, named_at(bench, kind), "drawn") for kind in ("users", "cut", "into") * 2]
@@ -515,7 +541,8 @@ def try_door_cut(bench):
 
 
 def again_one(bench, kind: str, number: int) -> None:
-    """The door is killed at this call, and another goes through it; a line is performed, and then power is cut."""
+    """The door is killed at this call, and another goes through it; a line is performed, and then
+    power is cut."""
     scene = prepare(bench, kind)
     power = Power(scene, bench.draws, begins=False)
     scene.call(*door_words(scene, kind), faults=f"{number}:kill_after")
@@ -524,11 +551,14 @@ def again_one(bench, kind: str, number: int) -> None:
 
 
 def try_door_killed_and_cut(bench):
-    """the door, killed at each call, and another: all that was made has its name for certain before a line is performed"""
+    """the door, killed at each call, and another: all that was made has its name for certain before
+    a line is performed"""
     rows = [(bench, kind, it) for kind in ("users", "missing") for it in points(bench, kind, FEW)[-4:]]
     return f"{each(rows, again_one)} kills"
 
 
-PARTS = {"making": [try_made, try_door_killed, try_door_refused, try_two_doors, try_name_taken, try_leftovers, try_missing,
-                       try_missing_beside, try_old_run, try_id, try_forgotten, try_into, try_answers_that_wait, try_door_cut,
-                       try_door_killed_and_cut]}
+PARTS = {"making": [
+    try_made, try_door_killed, try_door_refused, try_two_doors, try_name_taken, try_leftovers,
+    try_missing, try_missing_beside, try_old_run, try_id, try_forgotten, try_into,
+    try_answers_that_wait, try_door_cut, try_door_killed_and_cut,
+]}
