@@ -64,8 +64,8 @@ pub(crate) fn standing_after(
     standing_of_new(worker, local, heard)
 }
 
-/// Returns where the worker of this new machine stands, whose process has heard these numbers. It takes
-/// no memory, so that a list that can't be is never reported as a want of memory.
+/// Returns how far the worker of this new machine has come after its process heard these numbers. It
+/// takes no memory. So a list that no process can hear is never reported as a want of memory.
 ///
 /// # Errors
 /// `NoSuchNumber`, if no process can hear these numbers.
