@@ -72,14 +72,7 @@ def of_the_worker(name, test, wanted):
 
 def of_the_runner(name, pairs, test, wanted):
     def try_control(bench):
-        program = f"{bench.room}/{name}"
-        with open(bench.program) as file:
-            text = file.read()
-        for old, new in zip(pairs[::2], pairs[1::2]):
-            scene.want(text.count(old) == 1, f"{name}: this stands {text.count(old)} times in amo_jobs: {old}")
-            text = text.replace(old, new)
-        with open(program, "w") as file:
-            file.write(text)
+        program = scene.changed(bench.program, f"{bench.room}/{name}", pairs)
         return shown(scene.Bench(program, bench.worker, bench.room, False, bench.seed), name, test, wanted)
 
     return named(try_control, name, test)

@@ -15,7 +15,7 @@ from concurrent.futures import ThreadPoolExecutor
 from time import monotonic
 from typing import Callable, NamedTuple
 
-from jobs.scene import DONE, DOUBTFUL, LATER, LEFT, Scene, Wrong, want
+from jobs.scene import DONE, DOUBTFUL, LATER, LEFT, Scene, Wrong, changed, want
 from worker import folder
 
 HERE = os.path.dirname(os.path.realpath(__file__))
@@ -553,13 +553,9 @@ def try_calls(bench):
 
 def try_raised(bench):
     """whatever is raised after the fork, the line isn't open again"""
-    with open(bench.program) as file:
-        text = file.read()
     place = "        self.process, self.begun = process, time.monotonic()\n"
-    want(text.count(place) == 1, f"this stands {text.count(place)} times in amo_jobs: {place}")
-    program, bench.program = bench.program, f"{bench.room}/raises"
-    with open(bench.program, "w") as file:
-        file.write(text.replace(place, "        raise MemoryError\n"))
+    program = bench.program
+    bench.program = changed(program, f"{bench.room}/raises", [place, "        raise MemoryError\n"])
     scene = Failing(bench, WAYS["plain"])
     status = scene.first()
     bench.program = program

@@ -5,6 +5,7 @@ import json
 import os
 import random
 import re
+import shutil
 import signal
 import subprocess
 import sys
@@ -27,6 +28,24 @@ class Wrong(Exception):
 def want(so, what):
     if not so:
         raise Wrong(what)
+
+
+def changed(program: str, room: str, pairs: list) -> str:
+    """Copies amo_jobs and its modules into a new folder, with the first text of each pair replaced
+    by the second; returns the path of the copy. Each first text must stand there once."""
+    os.mkdir(room)
+    shutil.copy(program, room)
+    shutil.copytree(f"{os.path.dirname(program)}/amo_crews", f"{room}/amo_crews")
+    copy = f"{room}/{os.path.basename(program)}"
+    files = [copy, *(f"{room}/amo_crews/{it}" for it in os.listdir(f"{room}/amo_crews"))]
+    for old, new in zip(pairs[::2], pairs[1::2]):
+        texts = {it: folder.read(it).decode() for it in files}
+        found = sum(it.count(old) for it in texts.values())
+        want(found == 1, f"this stands {found} times in amo_jobs and its modules: {old}")
+        for it in (it for it in files if old in texts[it]):
+            with open(it, "w") as file:
+                file.write(texts[it].replace(old, new))
+    return copy
 
 
 class Bench:

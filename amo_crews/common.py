@@ -1,0 +1,231 @@
+"""What the modules of amo_jobs and amo_share stand on: statuses, messages, files, locks, amo_worker."""
+
+from __future__ import annotations
+
+import argparse
+import errno
+import fcntl
+import json
+import os
+import shlex
+import subprocess
+import sys
+import time
+from contextlib import suppress
+
+HERE = os.path.dirname(os.path.dirname(os.path.realpath(__file__)))  # of the programs
+DONE, FAILED, DOUBTFUL, WORDS, REFUSED, LEFT, MEMORY, WRITE, READ, LATER, BUILD = 0, 1, 2, 64, 65, 69, 71, 73, 74, 75, 125
+KINDS = "done failed doubt running untouched open".split()
+PATIENCE = 5.0  # seconds for which a lock is tried
+TEST_BOOT_ID = "AMO_TEST_BOOT_ID"  # the variable that names a file with the boot id, for tests
+REMEDIES = {
+    errno.ENOENT: "check the path", errno.ENOTDIR: "check the path", errno.EISDIR: "check the path",
+    errno.ELOOP: "check the path", errno.ENAMETOOLONG: "choose a shorter path",
+    errno.EACCES: "change its mode, or run this as a user who may",
+    errno.EPERM: "change its owner, or run this as a user who may",
+    errno.EROFS: "choose a place where files can be made", errno.EIO: "check the disk",
+    errno.ENOSPC: "make room, then start again", errno.EDQUOT: "make room, then start again",
+    errno.EMFILE: "allow more open files (ulimit -n), then start again",
+    errno.ENFILE: "allow more open files, then start again",
+    errno.EAGAIN: "allow more processes, or end some, then start again",
+    errno.ENOMEM: "free some memory, then start again",
+    errno.ENOEXEC: "give it a first line like #!/bin/sh", errno.ETXTBSY: "wait until it is written",
+}
+
+
+class End(Exception):
+    """Its status, and what is told of it, if anything."""
+
+
+class Screen:
+    """Standard error, and on a terminal a last line that shows how far it is. One that is gone ends nothing."""
+    clear, shown = "\r\033[K" if os.isatty(2) else "", ""
+
+    @classmethod
+    def tell(cls, text, end="\n"):
+        cls.shown = ""
+        with suppress(OSError):
+            os.write(2, f"{cls.clear}amo_jobs: {text}{end}".encode("utf-8", "replace"))
+
+    @classmethod
+    def show(cls, text):
+        if text != cls.shown:
+            cls.tell(text[:69] if cls.clear else text, "" if cls.clear else "\n")
+            cls.shown = text
+
+
+def visible(text):
+    """A text as it may be written to a terminal."""
+    return "".join(it if it.isprintable() else it.encode("unicode_escape", "replace").decode() for it in text)
+
+
+def boot_id_warning() -> str:
+    """Returns the warning that the boot id is a test's; an empty text if it is the system's."""
+    path = os.environ.get(TEST_BOOT_ID, "")
+    return path and f"{TEST_BOOT_ID} is set; the boot id comes from `{visible(path)}`. This is for tests only"
+
+
+class Program:
+    """amo_worker, which alone knows what the journals say."""
+
+    def __init__(self, given):
+        self.path = os.path.abspath(given.worker_program) if given.worker_program else self.built()
+        options = {"--file-system": given.file_system, "--boot-id": os.environ.get(TEST_BOOT_ID)}
+        self.more = [word for name, value in options.items() if value for word in (name, value)]
+
+    @staticmethod
+    def own() -> str:
+        """Returns the path of the program that belongs to this file: in a release it lies beside."""
+        in_clone = os.path.isdir(f"{HERE}/crates")
+        return f"{HERE}/crates/amo_worker/out/amo_worker" if in_clone else f"{HERE}/amo_worker"
+
+    @staticmethod
+    def built():
+        """The program beside this file, made first where it isn't built, or where its sources have changed."""
+        front, program = f"{HERE}/amo_worker", Program.own()
+        if front == program:
+            return front
+        if not os.path.exists(program):
+            Screen.tell("amo_worker isn't built yet: it is proved and built now, once; that takes 7 to 15 minutes on 4 processors")
+        if subprocess.run([front, "--help"], stdin=subprocess.DEVNULL, stdout=subprocess.DEVNULL).returncode:
+            raise End(BUILD, "amo_worker could not be built")
+        return program
+
+    def call(self, *words):
+        """What it writes; where it isn't done, the end with its status. It has told why."""
+        words = [self.path, *words, *self.more]
+        ended = subprocess.run(words, stdin=subprocess.DEVNULL, stdout=subprocess.PIPE, start_new_session=True)
+        if ended.returncode:
+            raise End(ended.returncode if ended.returncode > 0 else MEMORY, None)
+        return ended.stdout
+
+    def told(self, *words: str):
+        """Returns what the program says in JSON."""
+        try:
+            return json.loads(self.call(*words, "--json"))
+        except ValueError:
+            raise End(BUILD, f"`{visible(self.path)}`: it is no amo_worker of this version; give it by"
+                             " --worker-program, or leave that out") from None
+
+    def status(self, run):
+        return self.told("status", run)
+
+
+def content(path, is_json=False):
+    """What a file that `place` made says; None where there is none."""
+    with suppress(FileNotFoundError), open(path, errors="surrogateescape") as file:
+        try:
+            return json.load(file) if is_json else file.read().rstrip("\n")
+        except ValueError:
+            raise End(REFUSED, f"`{visible(path)}`: it is damaged; restore it from a copy, or move it away"
+                               " if you know what it said") from None
+
+
+def place(path, text):
+    """Makes a file with this text whole beside, and gives it its name, on the disk."""
+    with open(f"{path}.new", "w", errors="surrogateescape") as file:
+        file.write(f"{text}\n")
+        file.flush()
+        os.fsync(file.fileno())
+    os.replace(f"{path}.new", path)
+    sync_folder(os.path.dirname(path))
+
+
+def sync_folder(path: str) -> None:
+    """Has the disk keep which names stand in a folder."""
+    folder = os.open(path, os.O_RDONLY | os.O_DIRECTORY)
+    os.fsync(folder)
+    os.close(folder)
+
+
+def bytes_of(path: str) -> bytes | None:
+    """Returns the bytes of a file; None if it is missing."""
+    with suppress(FileNotFoundError, NotADirectoryError), open(path, "rb") as file:
+        return file.read()
+    return None
+
+
+def without_end(text: str, end: str) -> str:
+    """Returns the text without this end, if it has it. (Python 3.8 has no call for that.)"""
+    return text[:-len(end)] if text.endswith(end) else text
+
+
+def close_all(files: list[int]) -> None:
+    """Closes these descriptors and empties the list. The kernel closes a descriptor even if close(2)
+    reports an error, so errors are ignored."""
+    while files:
+        with suppress(OSError):
+            os.close(files.pop())
+
+
+def locked(path, makes):
+    """A handle with the exclusive lock on this file; None where another has it, or the name has gone to another file. Nothing is
+    synced: a lock doesn't outlive the machine, so its file needn't either."""
+    file = os.open(path, os.O_RDONLY | (os.O_CREAT if makes else 0), 0o600)
+    got = None
+    try:
+        with suppress(BlockingIOError, FileNotFoundError):
+            fcntl.flock(file, fcntl.LOCK_EX | fcntl.LOCK_NB)
+            if os.path.samestat(os.stat(path), os.fstat(file)):
+                got = file
+    finally:
+        close_all([file] if got is None else [])
+    return got
+
+
+def locked_soon(path: str, makes: bool = False, end: float | None = None) -> int | None:
+    """Takes the exclusive lock of a file, and returns its handle; None if another has it for some
+    seconds, or until `end`."""
+    end = end or time.monotonic() + PATIENCE
+    while (lock := locked(path, makes)) is None and time.monotonic() < end:
+        time.sleep(0.05)
+    return lock
+
+
+def refused(text: str) -> End:
+    return End(REFUSED, visible(text))
+
+
+def reason(error: Exception) -> str:
+    """Returns what a failed call of the system says: on which object, what, and what to do."""
+    if not isinstance(error, OSError) or error.errno is None:
+        return visible(str(error)) or type(error).__name__
+    path, problem = error.filename, error.strerror or os.strerror(error.errno)
+    named = "standard output" if error.errno == errno.EPIPE else "the system"
+    if isinstance(path, (str, bytes, os.PathLike)):
+        named = f"`{visible(os.fsdecode(path))}`"
+    remedy = REMEDIES.get(error.errno, "mend that, then start again")
+    return f"{named}: {problem[:1].lower()}{problem[1:]}; {remedy}"
+
+
+def give_up_output() -> None:
+    """Sends what standard output has not taken nowhere; else Python tells of it at its end."""
+    with suppress(OSError):
+        os.dup2(os.open(os.devnull, os.O_WRONLY), 1)
+
+
+def names_of_run(given) -> list:
+    """Returns the words by which another command means the same run, as they were given."""
+    words = [given.jobs] if not given.run else [f"--run={given.run}"] if given.run[:1] == "-" else ["--run", given.run]
+    if given.file_system:
+        words = ["--file-system", given.file_system, *words]
+    worker = given.worker_program
+    if worker and os.path.realpath(worker) != os.path.realpath(Program.own()):
+        words = ["--worker-program", worker, *words]
+    return words
+
+
+def next_command(given, what: str, *words: str) -> str:
+    """Returns the command for the shell that does this with the same run."""
+    return shlex.join([sys.argv[0], what, *given.names, *words])
+
+
+def within(kind, low, high):
+    """Returns the reader of an option that is a number from low to high."""
+    def number(word):
+        with suppress(ValueError):
+            if low <= kind(word) <= high:
+                return kind(word)
+        what = "whole number" if kind is int else "number"
+        raise argparse.ArgumentTypeError(f"`{visible(word)}` is no {what} from {low} to {high:.0f}")
+    return number

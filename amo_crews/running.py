@@ -1,0 +1,495 @@
+"""Runs the commands of a crew: one command, the runner of one worker, the crew of all runners."""
+
+from __future__ import annotations
+
+import errno
+import fcntl
+import os
+import random
+import re
+import select
+import signal
+import subprocess
+import time
+from contextlib import suppress
+
+from amo_crews.common import (
+    close_all, DONE, DOUBTFUL, FAILED, KINDS, LATER, LEFT, locked, MEMORY, next_command, PATIENCE,
+    READ, reason, Screen, visible
+)
+
+PIPES = dict.fromkeys(("stdin", "stdout", "stderr"), subprocess.PIPE)
+OUTPUTS = ("out", "err")
+SHORTEST, LONGEST, FAR, MOST_FIRST_FAILURES = 0.1, 4.0, float("inf"), 10
+INTERPRETER = re.compile(r"(?:|ba|da|k|z)sh|(?:python|perl|ruby|php|lua|node)[\d.]*")
+
+
+class NotStarted(Exception):
+    """States why a command was not begun, and what to do. No process of it was made, or none is
+    left."""
+
+
+def is_free(path):
+    """Whether nothing of a command is left: its lock is got by a handle opened anew. The file is removed then; a missing one says
+    the same, to who holds the runner's lock."""
+    try:
+        lock = locked(path, False)
+    except OSError as error:
+        return isinstance(error, FileNotFoundError)
+    if lock is not None:
+        with suppress(OSError):
+            os.unlink(path)
+        close_all([lock])
+    return lock is not None
+
+
+def words_that_tell(words: list) -> str:
+    """Returns a process's words as a text of up to 60 characters that begins with the base name of
+    its program, or of the script that an interpreter runs."""
+    name, place = os.path.basename(words[0]), 0
+    if INTERPRETER.fullmatch(name) and len(words) > 1:
+        is_code = words[1][-1:] in ("c" if name.endswith("sh") else "cemrEn")
+        place = 1 if words[1][:1] != "-" else 2 if "/" in "".join(words[2:3]) and not is_code else 0
+    text = visible(" ".join([os.path.basename(words[place]), *words[place + 1:]]).strip())
+    return text if len(text) <= 60 else text[:58] + ".."
+
+
+def holders(run, names):
+    """Of the commands of these intents the processes that hold the lock, but runners; the system tells only of one's own."""
+    found = {f"{os.path.realpath(run)}/command.{name}": [] for name in names}
+    for process in filter(str.isdecimal, os.listdir("/proc") if found else []):
+        with suppress(OSError):
+            links = {os.readlink(f"/proc/{process}/fd/{file}") for file in os.listdir(f"/proc/{process}/fd")}
+            with open(f"/proc/{process}/cmdline", "rb") as file:
+                words = file.read().rstrip(b"\0").decode("utf-8", "replace").split("\0")
+            if not any(it.startswith(f"{os.path.realpath(run)}/runner.") for it in links):
+                for path in links & set(found):
+                    found[path].append(f"process {process} ({words_that_tell(words)})")
+    return dict(zip(names, found.values()))
+
+
+class Command:
+    """The command of one intent, and its lock."""
+
+    def __init__(self, given, worker, serial, line):
+        self.given, self.name, self.serial, self.line, self.process = given, f"{worker}.{serial}", serial, line, None
+        self.path, self.outputs = f"{given.run}/command.{self.name}", [f"{given.results}/{it}.{self.name}" for it in OUTPUTS]
+        self.begun, self.locks, self.is_late, self.is_killed = 0, [], False, False
+
+    def start(self, text: bytes) -> None:
+        """Starts the command of this line, whose lock is made and held before.
+
+        The lock is handed on in the child alone: as standard input, since sudo closes all other
+        descriptors, and as a further descriptor, since a shell that begins something with `&` drops
+        the first. The further one has a number that no script gives to a file of its own.
+
+        Raises NotStarted only if no process was made, or if the child reported that it can't become
+        the command and was reaped. If anything else fails after the fork, the command counts as
+        begun: the line of a command that was not begun is open again.
+        """
+        files = []
+        try:
+            self.take_lock()
+            words = [text if it == "{}" else it for it in self.given.command]
+            words += [] if "{}" in self.given.command else [text]
+            surroundings = {**os.environb, b"AMO_JOB": text, b"AMO_LINE": b"%d" % self.line}
+            for path in self.outputs:
+                files.append(os.open(path, os.O_WRONLY | os.O_CREAT | os.O_APPEND, 0o600))
+            files += os.pipe()
+            process = os.fork()
+        except OSError as error:
+            close_all(files)
+            self.drop_lock()
+            raise NotStarted(f"{reason(error)}; no line was lost") from None
+        if process == 0:
+            try:
+                self.become(words, surroundings, *files)
+            finally:
+                while True:  # its end must not be taken for an end of the command
+                    os.kill(os.getpid(), signal.SIGKILL)
+        self.process, self.begun = process, time.monotonic()
+        close_all([files.pop()])
+        why = self.report_in(files[-1])
+        close_all(files)
+        if why and self.is_reaped():
+            self.drop_lock()
+            raise NotStarted(f"{why}; no line was lost. Correct the command and start again with"
+                             " --command-changed")
+
+    def take_lock(self) -> None:
+        """Makes and locks the lock's file, and opens the further descriptor of it."""
+        lock = locked(self.path, True)
+        if lock is None:
+            raise OSError(errno.EBUSY, "it is locked by another process", self.path)
+        self.locks = [lock]
+        self.locks.append(fcntl.fcntl(lock, fcntl.F_DUPFD_CLOEXEC, 50))
+
+    def drop_lock(self) -> None:
+        """Removes the lock's file, if this process has the lock, and closes it. If the file stays, it
+        counts as a missing one: nobody holds its lock."""
+        if self.locks:
+            with suppress(OSError):
+                os.unlink(self.path)
+        self.let_go()
+
+    def become(self, words: list, surroundings: dict, *files: int) -> None:
+        """In the child: becomes the command, or writes to the last file why it can't. If it becomes
+        the command, exec closes that file, and nothing is written."""
+        out, err, _, report = files
+        try:
+            os.setsid()
+            for number, file in enumerate((self.locks[0], out, err)):
+                os.dup2(file, number)
+            os.set_inheritable(self.locks[1], True)
+            if self.given.timeout:
+                self.set_timer()
+            for number in (signal.SIGPIPE, signal.SIGXFSZ):  # Python ignores them; commands don't
+                signal.signal(number, signal.SIG_DFL)
+            os.execvpe(words[0], words, surroundings)
+        except Exception as error:
+            why = os.strerror(error.errno) if isinstance(error, OSError) else reason(error)
+            os.write(report, why.encode("utf-8", "replace")[:1000])
+
+    @staticmethod
+    def report_in(pipe: int) -> str:
+        """Returns the child's report; an empty text if it became the command.
+
+        If the pipe can't be read, the text is empty too: the command counts as begun, and its end is
+        judged as any other. A child that couldn't become the command has killed itself, so its line
+        is in doubt then, and is neither open nor done.
+        """
+        with suppress(OSError):
+            return os.read(pipe, 4096).decode("utf-8", "replace")
+        return ""
+
+    def is_reaped(self) -> bool:
+        """Waits for the end of a child that reported, and returns whether it is known to be gone."""
+        with suppress(OSError):
+            return os.waitpid(self.process, 0)[0] == self.process
+        return False
+
+    def set_timer(self):
+        """In the child, before it becomes the command: the kernel's timer, which exec keeps, ends it where no runner is left to
+        do so. (There are no threads here, so a child may run this.)"""
+        signal.signal(signal.SIGALRM, signal.SIG_DFL)
+        signal.pthread_sigmask(signal.SIG_UNBLOCK, [signal.SIGALRM])
+        signal.setitimer(signal.ITIMER_REAL, self.given.timeout + self.given.grace + 1)
+
+    def let_go(self):
+        """Closes the own handles of the lock."""
+        close_all(self.locks)
+
+    def has_ended(self):
+        """Whether the command itself has ended. It isn't waited for: so its number stays its own, and that of its group."""
+        return os.waitid(os.P_PID, self.process, os.WEXITED | os.WNOHANG | os.WNOWAIT) is not None
+
+    def signal(self, number):
+        """To all of the command's group."""
+        with suppress(OSError):
+            os.killpg(self.process, number)
+
+    def press(self):
+        """Sends TERM when its time is over, and KILL once the grace is over too. Answers when that is to be looked at again."""
+        due = self.begun + (self.given.timeout or 0) + (self.given.grace if self.is_late else 0)
+        if not self.given.timeout or self.is_killed:
+            return FAR
+        if time.monotonic() >= due:
+            self.signal(signal.SIGKILL if self.is_late else signal.SIGTERM)
+            self.is_late, self.is_killed, due = True, self.is_late, due + self.given.grace
+        return due
+
+    def answer(self):
+        """Returns what came of the command, once nothing of it is left. Any status counts as performed.
+        An end by a signal is a doubt, and so is an end that the system doesn't report. Removes outputs
+        that are empty."""
+        code = -1
+        with suppress(OSError):
+            status = os.waitpid(self.process, 0)[1]
+            code = -os.WTERMSIG(status) if os.WIFSIGNALED(status) else os.WEXITSTATUS(status)
+        for path in self.outputs:
+            with suppress(OSError):
+                _ = os.path.getsize(path) or os.unlink(path)
+        if self.is_late or code < 0:
+            return "doubt", None
+        return ("untouched" if code in self.given.untouched else "done"), code
+
+
+def next_line(worker, rest):
+    """The next whole line that a worker says, and the rest; None at the end. A line without its end counts for nothing."""
+    while b"\n" not in rest:
+        yield worker.stdout.fileno(), FAR
+        part = worker.stdout.read(1 << 16)
+        if part == b"":
+            return None, b""
+        rest += part or b""
+    return rest.split(b"\n", 1)
+
+
+class Runner:
+    """The runner of one worker. `run` is its life, which yields what it waits for, a file that can be read, or None, and a time.
+    It may be resumed sooner, so each place looks again at what it waits for."""
+
+    def __init__(self, crew, number):
+        self.crew, self.given, self.number, self.steps = crew, crew.given, number, self.run()
+        self.seen, self.left, self.command, self.lock, self.ends = {}, {}, None, None, 0
+        self.status, self.told, self.warned, self.wait = None, "", None, (None, 0.0)
+
+    def run(self):
+        """Takes the lock of its number before any worker is begun, and keeps it as long as it lives. (Who asks for doubts has it
+        for a moment, so it is tried for some seconds.) A worker that dies, or has to come back later, is begun again after a
+        pause that differs each time: two that try in step might else go round for ever."""
+        end, pause = time.monotonic() + PATIENCE, SHORTEST
+        while (lock := locked(f"{self.given.run}/runner.{self.number}", True)) is None:
+            if time.monotonic() > end or self.crew.is_stopping:
+                self.status, self.told = LATER, "it has another runner"
+                return
+            yield None, time.monotonic() + 0.05
+        self.lock = lock
+        while True:
+            pause = SHORTEST if (yield from self.live()) else min(2 * pause, LONGEST)
+            if self.is_over():
+                return
+            end, news = time.monotonic() + random.uniform(pause / 2, pause), self.crew.news
+            while time.monotonic() < end and news == self.crew.news:
+                yield None, end
+
+    def live(self):
+        """One life of the worker; whether it said anything. All that it says is read, to the end of its pipe, before the next one
+        is begun, and once it is dead nothing is carried out. (Carried out after the next one was told of a doubt, it would do
+        what a person may have done by hand.) A worker is told to leave after a stop, once no other end waits to be noted, and
+        where what a command left behind has ended, so that the next one asks for it."""
+        given, program, has_got, last, rest = self.given, self.crew.program, False, None, b""
+        words = ["work", given.run, str(self.number), "--workers", str(given.workers), "--beta", str(given.beta), given.jobs]
+        try:
+            worker = subprocess.Popen([program.path, *words, *program.more], bufsize=0, start_new_session=True, **PIPES)
+        except OSError as error:
+            self.status, self.told = MEMORY if isinstance(error, BlockingIOError) else READ, reason(error)
+            return False
+        os.set_blocking(worker.stdout.fileno(), False)
+        with worker:
+            while True:
+                line, rest = yield from next_line(worker, rest)
+                if line is None:
+                    break
+                kind, serial, number, text = line.split(b" ", 3)
+                serial, is_perform, has_got = int(serial), kind == b"perform", True
+                self.is_noted(last, is_perform)
+                last = serial if worker.poll() is None else None
+                if last is not None:
+                    answer = (yield from self.perform(serial, int(number), text)) if is_perform else self.was(serial)
+                    is_over = self.crew.is_stopping and not set(self.seen) - {serial}
+                    leaves = is_over or any(is_free(it.path) for it in self.left.values())
+                    try:
+                        worker.stdin.write(f"{answer} {'leave' if leaves else 'go'}\n".encode())
+                    except (OSError, ValueError):  # it is dead, or leaves now; the next one asks
+                        last = None
+                        with suppress(OSError):
+                            worker.stdin.close()
+                elif is_perform:
+                    self.saw(serial, "unbegun")
+            while worker.poll() is None:
+                yield None, FAR
+            self.status, self.told = worker.returncode, worker.stderr.read().decode("utf-8", "replace").strip()
+        if self.status in (DONE, LEFT, LATER):
+            self.is_noted(last, self.status == DONE)
+        return has_got
+
+    def is_noted(self, last, is_past):
+        """What a worker goes on after is on the disk: its last answer, and once it is past asking whatever it didn't ask for."""
+        self.seen.pop(last, None)
+        if is_past:
+            self.seen.clear()
+
+    def saw(self, serial, word, code=None):
+        """Keeps what came of an intent until it is noted, and puts it as the answer."""
+        self.seen[serial] = f"{word} {serial}" + ("" if code is None else f" {code}")
+        return self.seen[serial]
+
+    def perform(self, serial, line, text):
+        """Performs a line, if no stop was asked for. What a command leaves behind when it ends is waited for, for a while."""
+        if self.crew.is_stopping:
+            return self.saw(serial, "unbegun")
+        command = Command(self.given, self.number, serial, line)
+        try:
+            command.start(text)
+        except NotStarted as why:
+            if not self.crew.is_stopping:
+                Screen.tell(f"line {line}: cannot start `{visible(self.given.command[0])}`: {why}")
+            self.crew.stop("a line cannot be started")
+            return self.saw(serial, "unbegun")
+        self.command = command
+        while not command.has_ended():
+            yield None, command.press()
+        command.let_go()
+        end = time.monotonic() + self.given.linger
+        while not is_free(command.path):
+            if command.is_late:
+                command.press()
+            if time.monotonic() > end and command.is_killed >= command.is_late:
+                self.command, self.left[serial] = None, command
+                Screen.tell(f"line {line}: {command.name} has ended, and something that it began runs on")
+                return f"running {serial}"
+            yield None, time.monotonic() + 0.02
+        self.command = None
+        return self.ended(command)
+
+    def ended(self, command):
+        """An end is seen, since nothing of the command is left."""
+        word, code = command.answer()
+        self.ends += 1
+        with suppress(OSError), open(f"{self.given.run}/pace.{self.number}", "w") as file:
+            file.write(f"{time.time() - time.monotonic() + self.crew.begun} {self.ends}\n")
+        self.crew.count(word, code, command)
+        return self.saw(command.serial, word, code)
+
+    def was(self, serial):
+        """What became of an earlier intent: what this runner saw; else something of it still runs, or it is a doubt for ever."""
+        if serial in self.seen:
+            return self.seen[serial]
+        if not is_free(f"{self.given.run}/command.{self.number}.{serial}"):
+            return f"running {serial}"
+        if serial in self.left:
+            return self.ended(self.left.pop(serial))
+        Screen.tell(f"{self.number}.{serial} is in doubt: its runner was gone before its end was noted")
+        return self.saw(serial, "doubt")
+
+    def is_over(self):
+        """Whether this runner may end: only where each end that it saw is noted, else the worker is begun once more, whatever its
+        last status was. So no end that was seen becomes a doubt."""
+        for serial in [it for it, command in self.left.items() if is_free(command.path)]:
+            self.ended(self.left.pop(serial))
+        if self.seen and self.status not in (DONE, LEFT, LATER, self.warned) and self.status >= 0:
+            self.warned = self.status
+            Screen.tell(f"worker {self.number}: {self.told}; it goes on trying, since {len(self.seen)} ends are not noted yet")
+        return not self.seen and (self.crew.is_stopping or self.status not in (LATER, MEMORY) and self.status >= 0)
+
+
+class Crew:
+    """Some runners in one process, one thread and one loop."""
+
+    def __init__(self, given, program, numbers):
+        self.given, self.program, self.begun, self.due = given, program, time.monotonic(), 0.0
+        self.is_stopping, self.news, self.signals, self.asked, self.ended, self.good, self.row = False, 0, [], 0, 0, 0, 0
+        self.before = program.status(given.run)
+        with open(given.jobs, "rb") as file:
+            self.lines = sum(1 for _ in file)
+        self.wake, self.bell = os.pipe2(os.O_NONBLOCK | os.O_CLOEXEC)
+        self.runners = [Runner(self, number) for number in numbers]
+
+    def run(self):
+        """Signals are taken in the loop. One that was ignored at the start, as by nohup, stays so."""
+        signal.set_wakeup_fd(self.bell, warn_on_full_buffer=False)
+        signal.signal(signal.SIGCHLD, lambda *_: None)
+        for number in (signal.SIGINT, signal.SIGTERM, signal.SIGHUP):
+            if number == signal.SIGTERM or signal.getsignal(number) != signal.SIG_IGN:
+                signal.signal(number, lambda number, _: self.signals.append(number))
+        while any(it.wait for it in self.runners):
+            self.turn()
+        return self.end()
+
+    def turn(self):
+        """Waits until something may have changed, and resumes whoever waits for it."""
+        living = [it for it in self.runners if it.wait]
+        files, due = [it.wait[0] for it in living if it.wait[0]], min([self.due] + [it.wait[1] for it in living])
+        ready = select.select([self.wake, *files], [], [], max(due - time.monotonic(), 0))[0]
+        if self.wake in ready:
+            os.read(self.wake, 4096)
+        while self.signals:
+            self.take(self.signals.pop(0))
+        now = time.monotonic()
+        for it in living:
+            if self.wake in ready or it.wait[0] in ready or it.wait[1] <= now:
+                it.wait = next(it.steps, None)
+                if not it.wait:
+                    self.has_ended(it)
+        if now >= self.due:
+            self.due = now + (0.5 if Screen.clear else 30)
+            self.show()
+
+    def has_ended(self, runner):
+        """A status with which no worker is begun again wants a person. Where all is done the others needn't wait."""
+        if runner.status not in (DONE, LEFT, LATER) or runner.lock is None:
+            Screen.tell(f"worker {runner.number}: {runner.told} (status {runner.status})")
+        if runner.status not in (DONE, LEFT, LATER):
+            self.stop(f"worker {runner.number} isn't begun again")
+        self.ring()
+
+    def ring(self):
+        """Ends all pauses."""
+        self.news += 1
+        with suppress(OSError):
+            os.write(self.bell, b"\0")
+
+    def stop(self, why):
+        """No further job. Those that run go on to their end."""
+        if not self.is_stopping:
+            running = sum(it.command is not None for it in self.runners)
+            Screen.tell(f"{why}; no further job is begun" + (f", {running} go on to their end" if running else ""))
+            self.is_stopping = True
+            self.ring()
+
+    def take(self, number):
+        """A signal: the first one stops in order, and each further one is handed on to the commands that run."""
+        self.asked += 1
+        name, running = signal.Signals(number).name, [it.command for it in self.runners if it.command]
+        if self.asked == 1:
+            return self.stop(f"{name} (once more hands it on to the commands)")
+        Screen.tell(f"{name} is handed on to {', '.join(it.name for it in running) or 'no command, since none runs'}")
+        for command in running:
+            command.signal(number)
+
+    def count(self, word, code, command):
+        """Counts an end. Failures in a row stop the crew, few where none was good before: a misspelt command burns no list."""
+        self.ended += 1
+        if word == "done" and code == 0:
+            self.good, self.row = self.good + 1, 0
+            return
+        self.row += word != "untouched"
+        how = f"ended by {'the timeout' if command.is_late else 'a signal'}" if word == "doubt" else f"status {code}"
+        Screen.tell(f"line {command.line} {word.replace('done', 'failed')}: {how} (intent {command.name})")
+        most = self.given.halt if self.good or self.given.halt == 0 else min(self.given.halt or FAR, MOST_FIRST_FAILURES)
+        if most and self.row >= most:
+            self.stop(f"{self.row} failures in a row" + ("" if self.good else ", and none was good before"))
+
+    def show(self):
+        closed = min(sum(self.before[it] for it in KINDS[:5]) + self.ended, self.lines)
+        running = sum(it.command is not None for it in self.runners)
+        pace = self.ended / max(time.monotonic() - self.begun, 1)
+        Screen.show(f"{closed} of {self.lines} lines, {running} running{outlook(pace, self.lines - closed)}")
+
+    def end(self):
+        """Tells how all lines stand. The status is that of a worker that was refused, else what the counts say."""
+        refused = [it.status for it in self.runners if it.status not in (DONE, LEFT, LATER, MEMORY) and it.status > 0]
+        taken = [LATER] if all(it.lock is None for it in self.runners) else []
+        close_all([it.lock for it in self.runners if it.lock is not None])  # no worker is begun any more
+        found = self.program.status(self.given.run)
+        more = f"; look: {next_command(self.given, 'doubts')}" if found["doubt"] else ""
+        Screen.tell("\n".join([counted(found) + more, *listed(self.given.run, found, ["running"])]))
+        return (refused + taken + [status_of(found, LEFT)])[0]
+
+
+def status_of(found, if_open):
+    """The status by the counts of all lines."""
+    if found["doubt"] or found["running"]:
+        return DOUBTFUL
+    return if_open if found["open"] else FAILED if found["failed"] or found["untouched"] else DONE
+
+
+def counted(found):
+    return f"{found['lines']} lines: " + ", ".join(f"{found[it]} {'in doubt' if it == 'doubt' else it}" for it in KINDS)
+
+
+def listed(run, found, states):
+    """A text for each line in one of these states, with the processes that hold it."""
+    rows = [it for it in found["intents"] if it["state"] in states]
+    held = holders(run, [it["intent"] for it in rows if it["state"] == "running"])
+    for it in rows:
+        more = f" -- {', '.join(held[it['intent']]) or 'its worker is at it'}" if it["intent"] in held else ""
+        yield f"{it['state']} {it['intent']}, line {it['line']}: {visible(it['text'])}{more}"
+
+
+def outlook(pace, count):
+    """How fast it goes, and when it is over, as the end of a sentence."""
+    if not pace or count <= 0:
+        return ""
+    return f", {pace:.3g} a second, over at {time.strftime('%H:%M:%S', time.localtime(time.time() + count / pace))}"
