@@ -644,7 +644,7 @@ def try_by_id(bench):
         run = id_in(scene.run)
         put_mark(scene, text)
         is_refused(scene, "amo_worker: ", "--id", OTHER)
-        is_refused(scene, "amo_worker: .*missing", "--id", run, run=f"{scene.room}/none")
+        is_refused(scene, "amo_worker: ", "--id", run, run=f"{scene.room}/none")
         os.rename(f"{scene.run}/id", f"{scene.room}/id")
         is_refused(scene, "amo_worker: ", "--id", run)
         os.rename(f"{scene.room}/id", f"{scene.run}/id")
