@@ -3,7 +3,7 @@
 import os
 import re
 
-from jobs import faults, identity, rules, scene
+from jobs import faults, forgetting, identity, rules, scene
 
 HERE = os.path.dirname(os.path.realpath(__file__))
 TWICE, LISTED = "performed twice|performed after it was", "is a doubt|as a doubt|though no runner"
@@ -59,7 +59,7 @@ IDENTITY = [
         '            rename(self.given.jobs, self.list)\n', '            pass\n',
         '            rename(self.given.mark, self.old_mark)\n',
         '            rename(self.given.mark, self.old_mark)\n            rename(self.given.jobs, self.list)\n',
-    ], identity.try_forget_killed, TWICE),
+    ], forgetting.try_forget_killed, TWICE),
 ]
 
 

@@ -12,102 +12,23 @@ It is plain and slow, and nobody should work with it. AMO_MISTAKE names one of M
 each of them.
 """
 
-import errno
 import fcntl
 import os
 import sys
 import time
 
-MISTAKES = ("intent_after_the_act pending_is_open guard_is_removed words_of_another_boot cut_line_is_kept last_journal_wins"
-            " opens_without_settling above_synced_by_the_maker_alone lists_without_settling own_words_forgotten"
-            " claim_after_the_act readers_without_a_lock missing_is_empty empty_is_empty id_is_replaced id_first"
-            " id_before_the_sync emptied_by_recovery old_run_is_settled old_run_is_worked running_is_refused id_is_not_compared"
-            " mount_by_path options_are_taken"
-            " forgotten_is_taken users_files_are_refused leftovers_are_taken").split()
-MISTAKE = os.environ.get("AMO_MISTAKE")
-LOCAL = "ext2 ext3 ext4 xfs btrfs f2fs zfs".split()
-REFUSED_OPTIONS = {b"nobarrier", b"barrier=0", b"data=writeback"}
+sys.dont_write_bytecode = True
+sys.path.insert(0, os.path.dirname(os.path.realpath(__file__)))
+
+from stand_files import (
+    MISTAKES, MISTAKE, MOST_JOBS, MOST_WORKERS, MOST_BYTES, VERSION, LATER, PATIENCE, End, called,
+    opened, whole, content, put_at, sync, sync_folder, has_lock, opened_part, part,
+)
+from stand_folder import (
+    check_mount, is_there, drawn, make_folder, make_beside, make_in_place, check_whole,
+)
+
 KINDS = "done failed doubt running untouched open".split()
-MOST_JOBS, MOST_WORKERS, MOST_BYTES, VERSION = 4096, 16, 100000, b"amo-run 1"
-LATER, PATIENCE = 75, 2.0
-# What the door makes besides `id`, and all other names of files that amo makes in a run's folder.
-PARTS = ["lock.round", "answers", *(f"journal.{p}" for p in range(1, MOST_WORKERS + 1))]
-FIXED = {*PARTS, *"id forgotten record jobs words command crew shared lock record.new jobs.new words.new command.new".split()}
-NUMBERED = {"journal": 1, "runner": 1, "pace": 1, "command": 2, "out": 2, "err": 2, "chunk": 1}
-
-
-class End(Exception):
-    """How it ends: a status, and a line for standard error."""
-
-
-def called(status, path, call, *given):
-    """A call on this file; where it fails, the end with this status."""
-    while True:
-        try:
-            return call(*given)
-        except InterruptedError:
-            continue
-        except OSError as error:
-            if status is None:
-                raise
-            raise End(status, f"{path}: {error.strerror}") from error
-
-
-def opened(path, flags, status):
-    return called(status, path, os.open, path, flags | os.O_CLOEXEC, 0o600)
-
-
-def whole(file, path):
-    """All bytes of an open file."""
-    parts, place = [], 0
-    while part := called(74, path, os.pread, file, 1 << 16, place):
-        parts.append(part)
-        place += len(part)
-    return b"".join(parts)
-
-
-def content(path):
-    """All bytes of a file, or None where there is none; else it has to be read."""
-    try:
-        file = opened(path, os.O_RDONLY, None)
-    except FileNotFoundError:
-        return None
-    except OSError as error:
-        raise End(74, f"{path}: {error.strerror}") from error
-    try:
-        return whole(file, path)
-    finally:
-        os.close(file)
-
-
-def put_at(file, path, data, place):
-    while data:
-        wrote = called(73, path, os.pwrite, file, data, place)
-        data, place = data[wrote:], place + wrote
-
-
-def sync(file, path):
-    called(73, path, os.fsync, file)
-
-
-def sync_folder(path):
-    folder = opened(path, os.O_RDONLY | os.O_DIRECTORY, 73)
-    sync(folder, path)
-    os.close(folder)
-
-
-def has_lock(file, path, how):
-    """Whether it got this lock, and the file is still the one of that name."""
-    try:
-        called(None, path, fcntl.flock, file, how | fcntl.LOCK_NB)
-    except BlockingIOError:
-        return False
-    except OSError as error:
-        raise End(73, f"{path}: {error.strerror}") from error
-    if how == fcntl.LOCK_UN or MISTAKE == "guard_is_removed" and "guard." in path:
-        return True
-    found, held = called(73, path, os.stat, path), os.fstat(file)
-    return (found.st_dev, found.st_ino) == (held.st_dev, held.st_ino)
 
 
 def number(word, most=2**64 - 1):
@@ -131,35 +52,6 @@ def texts_in(data):
         texts.append(data[place + 1:end])
         gate, place = place, end + 1
     return texts, gate, place
-
-
-def opened_part(it, name, flags):
-    """A file that the door makes, which must be there; None if it is missing in a folder of 0.1.0."""
-    path = f"{it.run}/{name}"
-    try:
-        return opened(path, flags | (os.O_CREAT if MISTAKE == "missing_is_empty" else 0), None)
-    except FileNotFoundError as error:
-        if it.is_old:
-            return None
-        raise End(65, f"{path}: it is missing") from error
-    except OSError as error:
-        raise End(73, f"{path}: {error.strerror}") from error
-
-
-def part(it, name):
-    """All bytes of a file that the door makes, none if it is missing; in a folder of 0.1.0 alone it may be missing or empty."""
-    data = content(f"{it.run}/{name}")
-    if not it.is_old:
-        check_part(it, name, None if data is None else len(data))
-    return data or b""
-
-
-def check_part(it, name, size):
-    """Refuses a file that the door makes if it is missing, where its size is None, or empty."""
-    if size is None and MISTAKE != "missing_is_empty":
-        raise End(65, f"{it.run}/{name}: it is missing")
-    if size == 0 and name != "lock.round" and MISTAKE not in ("missing_is_empty", "empty_is_empty"):
-        raise End(65, f"{it.run}/{name}: it is empty")
 
 
 class Journal:
@@ -598,144 +490,10 @@ def work(it):
     raise End(LATER, f"round {record.round} is over")
 
 
-def mount_of(path):
-    """The type, the options and the device of the mount on which a folder lies."""
-    file = opened(path, os.O_RDONLY | os.O_DIRECTORY, 74)
-    words = (content(f"/proc/self/fdinfo/{file}") or b"").split()
-    os.close(file)
-    number = words[words.index(b"mnt_id:") + 1]
-    for line in (content("/proc/self/mountinfo") or b"").splitlines():
-        words, more = (it.split(b" ") for it in line.split(b" - "))
-        if words[0] == number or MISTAKE == "mount_by_path" and words[4] == os.fsencode(path):
-            return more[0].decode(), {*words[5].split(b","), *more[2].split(b",")}, more[1]
-    raise End(77, f"{path}: it lies on no known file system")
-
-
-def check_mount(it, path):
-    """Refuses a folder on a file system that isn't taken, or that is mounted so that it may forget what was synced."""
-    kind, options, device = mount_of(path)
-    if kind not in [*LOCAL, it.kind]:
-        raise End(77, f"{path}: it lies on a file system of type {kind}")
-    if kind == "ext4":
-        name = os.path.basename(os.path.realpath(os.fsdecode(device)))
-        options |= set((content(f"/proc/fs/ext4/{name}/options") or b"").split())
-    if options & REFUSED_OPTIONS and MISTAKE != "options_are_taken":
-        raise End(77, f"{path}: it is mounted with {b' '.join(options & REFUSED_OPTIONS).decode()}")
-
-
 def check_list(it):
     """Refuses a list that can't be that of the run."""
     known = content(f"{it.run}/jobs")
     jobs_of(it.jobs, known, known is None)
-
-
-def is_made(name):
-    """Whether amo makes files of this name in a run's folder."""
-    kind, *said = name.removesuffix(".new").split(".") if name.startswith("chunk.") else name.split(".")
-    return name in FIXED or len(said) == NUMBERED.get(kind) and all(it.isdigit() and it.isascii() for it in said)
-
-
-def is_there(path):
-    try:
-        called(None, path, os.lstat, path)
-    except FileNotFoundError:
-        return False
-    except OSError as error:
-        raise End(74, f"{path}: {error.strerror}") from error
-    return True
-
-
-def drawn():
-    """32 hexadecimal digits that were never there before."""
-    return (content("/proc/sys/kernel/random/uuid") or b"").strip().replace(b"-", b"")
-
-
-def first_bytes(name):
-    return drawn() + b"\n" if name == "id" else b"" if name == "lock.round" else b"-"
-
-
-def write_new(path, data):
-    """A new file with these bytes, on the disk."""
-    file = opened(path, os.O_RDWR | os.O_CREAT | os.O_EXCL, 73)
-    put_at(file, path, data, 0)
-    sync(file, path)
-    os.close(file)
-
-
-def make_folder(it):
-    """Makes the folder under its own name, if it isn't there by then."""
-    try:
-        called(None, it.run, os.mkdir, it.run, 0o700)
-    except FileExistsError:
-        pass
-    except OSError as error:
-        raise End(73, f"{it.run}: {error.strerror}") from error
-
-
-def make_beside(it):
-    """Makes the folder whole beside, and gives it its name; if something has that name by then, that is gone on with."""
-    new = f"{it.run}.new-{drawn().decode()}"
-    called(73, new, os.mkdir, new, 0o700)
-    try:
-        for name in [*PARTS, "id"]:
-            write_new(f"{new}/{name}", first_bytes(name))
-        sync_folder(new)
-        called(None, it.run, os.rename, new, it.run)
-    except (End, OSError) as error:
-        for name in os.listdir(new):
-            os.unlink(f"{new}/{name}")
-        os.rmdir(new)
-        if isinstance(error, End):
-            raise
-        if error.errno not in (errno.EEXIST, errno.ENOTEMPTY, errno.EBUSY, errno.ENOTDIR):
-            raise End(73, f"{it.run}: {error.strerror}") from error
-
-
-def make_in_place(it):
-    """Makes what is missing in a folder without `id`, each file with its bytes before its name, and `id` last."""
-    found = set(called(74, it.run, os.listdir, it.run))
-    if "id" in found:
-        return
-    made = [name for name in found if is_made(name)]
-    is_cut_off = all(name in PARTS and os.path.getsize(f"{it.run}/{name}") < 2 for name in made if is_there(f"{it.run}/{name}"))
-    if not is_cut_off and MISTAKE == "leftovers_are_taken":
-        is_cut_off = "record" not in made
-    if not is_cut_off or MISTAKE == "users_files_are_refused" and found - set(made):
-        if is_there(f"{it.run}/id"):  # by another door, meanwhile
-            return
-        what = "it was made by amo 0.1.0" if "record" in made else f"it has no id, but {min(made, default='files')}"
-        raise End(65, f"{it.run}: {what}")
-    for name in ["id", *PARTS] if MISTAKE == "id_first" else [*PARTS, "id"]:
-        if name == "id" and MISTAKE != "id_before_the_sync":
-            sync_folder(it.run)  # so that no cut of power keeps this name and loses another
-        path, new = f"{it.run}/{name}", f"{it.run}/door.{drawn().decode()}.new"
-        if name in found:
-            fill_empty(path, first_bytes(name))
-            continue
-        write_new(new, first_bytes(name))
-        try:
-            called(None, path, os.link, new, path)
-        except FileExistsError:
-            pass
-        except OSError as error:
-            raise End(73, f"{path}: {error.strerror}") from error
-        called(73, new, os.unlink, new)
-    sync_folder(it.run)
-
-
-def fill_empty(path, data):
-    """Gives a file that is empty its first bytes, under its lock: so nobody has begun to write there. (Renamed over it, another
-    file might take the place of one in which a worker has written meanwhile.)"""
-    file, end = opened(path, os.O_RDWR, 73), time.monotonic() + PATIENCE
-    while data and os.fstat(file).st_size == 0:
-        if has_lock(file, path, fcntl.LOCK_EX) and os.fstat(file).st_size == 0:
-            put_at(file, path, data, 0)
-            sync(file, path)
-        elif time.monotonic() > end:
-            raise End(LATER, f"{path}: another process has its lock")
-        else:
-            time.sleep(0.02)
-    os.close(file)
 
 
 def make(it):
@@ -787,19 +545,6 @@ def enter(it):
             sync_folder(it.run)
         if it.has_made or MISTAKE != "above_synced_by_the_maker_alone":
             sync_folder(os.path.dirname(os.path.abspath(it.run)))
-
-
-def check_whole(it, found, reads):
-    """Refuses a folder whose id is none or another one, that was forgotten, or of which a file is missing or empty."""
-    if len(found) != 33 or found[32:] != b"\n" or set(found[:32]) - set(b"0123456789abcdef"):
-        raise End(65, f"{it.run}/id: it is no id")
-    if it.id and it.id.encode() != found[:32] and MISTAKE != "id_is_not_compared":
-        raise End(65, f"{it.run}: it is another run, {found[:32].decode()}, and not {it.id}")
-    if not reads and it.command != "answer" and MISTAKE != "forgotten_is_taken" and is_there(f"{it.run}/forgotten"):
-        raise End(65, f"{it.run}: it is forgotten")
-    for name in PARTS:
-        is_one = is_there(f"{it.run}/{name}")
-        check_part(it, name, os.path.getsize(f"{it.run}/{name}") if is_one else None)
 
 
 def counts(ledger):
@@ -859,8 +604,6 @@ def doubts(it):
     else:
         for line, found in told:
             say(f"doubt {found.name()} {line} ", ledger.lines[line - 1] + b" %d" % found.time)
-
-
 RUNNING, AGAIN = "it is running", "another answer stands above"
 
 

@@ -1,0 +1,119 @@
+"""What the stand-in for the worker stands on: its mistakes, its ends, its calls on files."""
+
+import fcntl
+import os
+
+MISTAKES = ("intent_after_the_act pending_is_open guard_is_removed words_of_another_boot cut_line_is_kept last_journal_wins"
+            " opens_without_settling above_synced_by_the_maker_alone lists_without_settling own_words_forgotten"
+            " claim_after_the_act readers_without_a_lock missing_is_empty empty_is_empty id_is_replaced id_first"
+            " id_before_the_sync emptied_by_recovery old_run_is_settled old_run_is_worked running_is_refused id_is_not_compared"
+            " mount_by_path options_are_taken"
+            " forgotten_is_taken users_files_are_refused leftovers_are_taken").split()
+MISTAKE = os.environ.get("AMO_MISTAKE")
+MOST_JOBS, MOST_WORKERS, MOST_BYTES, VERSION = 4096, 16, 100000, b"amo-run 1"
+LATER, PATIENCE = 75, 2.0
+# What the door makes besides `id`, and all other names of files that amo makes in a run's folder.
+PARTS = ["lock.round", "answers", *(f"journal.{p}" for p in range(1, MOST_WORKERS + 1))]
+
+
+class End(Exception):
+    """How it ends: a status, and a line for standard error."""
+
+
+def called(status, path, call, *given):
+    """A call on this file; where it fails, the end with this status."""
+    while True:
+        try:
+            return call(*given)
+        except InterruptedError:
+            continue
+        except OSError as error:
+            if status is None:
+                raise
+            raise End(status, f"{path}: {error.strerror}") from error
+
+
+def opened(path, flags, status):
+    return called(status, path, os.open, path, flags | os.O_CLOEXEC, 0o600)
+
+
+def whole(file, path):
+    """All bytes of an open file."""
+    parts, place = [], 0
+    while part := called(74, path, os.pread, file, 1 << 16, place):
+        parts.append(part)
+        place += len(part)
+    return b"".join(parts)
+
+
+def content(path):
+    """All bytes of a file, or None where there is none; else it has to be read."""
+    try:
+        file = opened(path, os.O_RDONLY, None)
+    except FileNotFoundError:
+        return None
+    except OSError as error:
+        raise End(74, f"{path}: {error.strerror}") from error
+    try:
+        return whole(file, path)
+    finally:
+        os.close(file)
+
+
+def put_at(file, path, data, place):
+    while data:
+        wrote = called(73, path, os.pwrite, file, data, place)
+        data, place = data[wrote:], place + wrote
+
+
+def sync(file, path):
+    called(73, path, os.fsync, file)
+
+
+def sync_folder(path):
+    folder = opened(path, os.O_RDONLY | os.O_DIRECTORY, 73)
+    sync(folder, path)
+    os.close(folder)
+
+
+def has_lock(file, path, how):
+    """Whether it got this lock, and the file is still the one of that name."""
+    try:
+        called(None, path, fcntl.flock, file, how | fcntl.LOCK_NB)
+    except BlockingIOError:
+        return False
+    except OSError as error:
+        raise End(73, f"{path}: {error.strerror}") from error
+    if how == fcntl.LOCK_UN or MISTAKE == "guard_is_removed" and "guard." in path:
+        return True
+    found, held = called(73, path, os.stat, path), os.fstat(file)
+    return (found.st_dev, found.st_ino) == (held.st_dev, held.st_ino)
+
+
+def opened_part(it, name, flags):
+    """A file that the door makes, which must be there; None if it is missing in a folder of 0.1.0."""
+    path = f"{it.run}/{name}"
+    try:
+        return opened(path, flags | (os.O_CREAT if MISTAKE == "missing_is_empty" else 0), None)
+    except FileNotFoundError as error:
+        if it.is_old:
+            return None
+        raise End(65, f"{path}: it is missing") from error
+    except OSError as error:
+        raise End(73, f"{path}: {error.strerror}") from error
+
+
+def part(it, name):
+    """All bytes of a file that the door makes, none if it is missing; in a folder of 0.1.0 alone it may be missing or empty."""
+    data = content(f"{it.run}/{name}")
+    if not it.is_old:
+        check_part(it, name, None if data is None else len(data))
+    return data or b""
+
+
+def check_part(it, name, size):
+    """Refuses a file that the door makes if it is missing, where its size is None, or empty."""
+    if size is None and MISTAKE != "missing_is_empty":
+        raise End(65, f"{it.run}/{name}: it is missing")
+    if size == 0 and name != "lock.round" and MISTAKE not in ("missing_is_empty", "empty_is_empty"):
+        raise End(65, f"{it.run}/{name}: it is empty")
