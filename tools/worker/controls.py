@@ -14,6 +14,8 @@ MISTAKES = [
     ("pending_is_open", persons.try_pending, TWICE),
     ("missing_is_empty", making.try_missing_beside, "journal.1: "),
     ("forgotten_is_taken", making.try_forgotten, "status 0"),
+    ("mount_by_path", entering.try_mounts, "ext2 rw,relatime rw,discard : status 77"),
+    ("options_are_taken", entering.try_mounts, "overlay rw,nobarrier rw  overlay .*: status 0"),
     ("cut_line_is_kept", texts.try_behind_a_gate, DOUBT),
     ("words_of_another_boot", power.try_words_of_another_boot, TWICE),
     ("lists_without_settling", power.try_listed_and_cut, "after it was listed as a doubt"),
@@ -35,10 +37,8 @@ MISTAKES = [
     ("id_is_not_compared", making.try_id, "status 0"),
     ("running_is_refused", making.try_answers_that_wait, "status 65"),
     ("emptied_by_recovery", texts.try_behind_a_gate, "is empty for a moment"),
-    ("mount_by_path", entering.try_mounts, "ext2 rw,relatime rw,discard : status 77"),
-    ("options_are_taken", entering.try_mounts, "overlay rw,nobarrier rw  overlay .*: status 0"),
 ]
-CHEAPEST = 4
+CHEAPEST = 6
 
 
 def show(bench, mistake, test, wanted):
