@@ -1,4 +1,5 @@
-"""What the modules of amo_jobs and amo_share stand on: statuses, messages, files, locks, amo_worker."""
+"""What the modules of amo_jobs and amo_share stand on:
+statuses, messages, files, locks, amo_worker."""
 
 from __future__ import annotations
 
@@ -14,7 +15,8 @@ import time
 from contextlib import suppress
 
 HERE = os.path.dirname(os.path.dirname(os.path.realpath(__file__)))  # of the programs
-DONE, FAILED, DOUBTFUL, WORDS, REFUSED, LEFT, MEMORY, WRITE, READ, LATER, BUILD = 0, 1, 2, 64, 65, 69, 71, 73, 74, 75, 125
+DONE, FAILED, DOUBTFUL, WORDS, REFUSED, LEFT, MEMORY, WRITE, READ, LATER, BUILD = (
+    0, 1, 2, 64, 65, 69, 71, 73, 74, 75, 125)
 KINDS = "done failed doubt running untouched open".split()
 PATIENCE = 5.0  # seconds for which a lock is tried
 TEST_BOOT_ID = "AMO_TEST_BOOT_ID"  # the variable that names a file with the boot id, for tests
@@ -38,7 +40,8 @@ class End(Exception):
 
 
 class Screen:
-    """Standard error, and on a terminal a last line that shows how far it is. One that is gone ends nothing."""
+    """Standard error, and on a terminal a last line that shows how far it is.
+    One that is gone ends nothing."""
     clear, shown = "\r\033[K" if os.isatty(2) else "", ""
 
     @classmethod
@@ -56,13 +59,15 @@ class Screen:
 
 def visible(text):
     """A text as it may be written to a terminal."""
-    return "".join(it if it.isprintable() else it.encode("unicode_escape", "replace").decode() for it in text)
+    return "".join(it if it.isprintable() else it.encode("unicode_escape", "replace").decode()
+                   for it in text)
 
 
 def boot_id_warning() -> str:
     """Returns the warning that the boot id is a test's; an empty text if it is the system's."""
     path = os.environ.get(TEST_BOOT_ID, "")
-    return path and f"{TEST_BOOT_ID} is set; the boot id comes from `{visible(path)}`. This is for tests only"
+    return path and (f"{TEST_BOOT_ID} is set; the boot id comes from `{visible(path)}`."
+                     " This is for tests only")
 
 
 class Program:
@@ -75,26 +80,31 @@ class Program:
 
     @staticmethod
     def own() -> str:
-        """Returns the path of the program that belongs to this file: in a release it lies beside."""
+        """Returns the path of the program that belongs to this file:
+        in a release it lies beside."""
         in_clone = os.path.isdir(f"{HERE}/crates")
         return f"{HERE}/crates/amo_worker/out/amo_worker" if in_clone else f"{HERE}/amo_worker"
 
     @staticmethod
     def built():
-        """The program beside this file, made first where it isn't built, or where its sources have changed."""
+        """The program beside this file, made first where it isn't built,
+        or where its sources have changed."""
         front, program = f"{HERE}/amo_worker", Program.own()
         if front == program:
             return front
         if not os.path.exists(program):
-            Screen.tell("amo_worker isn't built yet: it is proved and built now, once; that takes 7 to 15 minutes on 4 processors")
-        if subprocess.run([front, "--help"], stdin=subprocess.DEVNULL, stdout=subprocess.DEVNULL).returncode:
+            Screen.tell("amo_worker isn't built yet: it is proved and built now, once; that takes 7"
+                        " to 15 minutes on 4 processors")
+        if subprocess.run([front, "--help"], stdin=subprocess.DEVNULL,
+                          stdout=subprocess.DEVNULL).returncode:
             raise End(BUILD, "amo_worker could not be built")
         return program
 
     def call(self, *words):
         """What it writes; where it isn't done, the end with its status. It has told why."""
         words = [self.path, *words, *self.more]
-        ended = subprocess.run(words, stdin=subprocess.DEVNULL, stdout=subprocess.PIPE, start_new_session=True)
+        ended = subprocess.run(words, stdin=subprocess.DEVNULL, stdout=subprocess.PIPE,
+                               start_new_session=True)
         if ended.returncode:
             raise End(ended.returncode if ended.returncode > 0 else MEMORY, None)
         return ended.stdout
@@ -104,8 +114,8 @@ class Program:
         try:
             return json.loads(self.call(*words, "--json"))
         except ValueError:
-            raise End(BUILD, f"`{visible(self.path)}`: it is no amo_worker of this version; give it by"
-                             " --worker-program, or leave that out") from None
+            raise End(BUILD, f"`{visible(self.path)}`: it is no amo_worker of this version; give it"
+                             " by --worker-program, or leave that out") from None
 
     def status(self, run):
         return self.told("status", run)
@@ -117,8 +127,8 @@ def content(path, is_json=False):
         try:
             return json.load(file) if is_json else file.read().rstrip("\n")
         except ValueError:
-            raise End(REFUSED, f"`{visible(path)}`: it is damaged; restore it from a copy, or move it away"
-                               " if you know what it said") from None
+            raise End(REFUSED, f"`{visible(path)}`: it is damaged; restore it from a copy, or move"
+                               " it away if you know what it said") from None
 
 
 def place(path, text):
@@ -151,16 +161,17 @@ def without_end(text: str, end: str) -> str:
 
 
 def close_all(files: list[int]) -> None:
-    """Closes these descriptors and empties the list. The kernel closes a descriptor even if close(2)
-    reports an error, so errors are ignored."""
+    """Closes these descriptors and empties the list. The kernel closes a descriptor even if
+    close(2) reports an error, so errors are ignored."""
     while files:
         with suppress(OSError):
             os.close(files.pop())
 
 
 def locked(path, makes):
-    """A handle with the exclusive lock on this file; None where another has it, or the name has gone to another file. Nothing is
-    synced: a lock doesn't outlive the machine, so its file needn't either."""
+    """A handle with the exclusive lock on this file; None where another has it, or the name has
+    gone to another file. Nothing is synced: a lock doesn't outlive the machine, so its file needn't
+    either."""
     file = os.open(path, os.O_RDONLY | (os.O_CREAT if makes else 0), 0o600)
     got = None
     try:
@@ -206,7 +217,8 @@ def give_up_output() -> None:
 
 def names_of_run(given) -> list:
     """Returns the words by which another command means the same run, as they were given."""
-    words = [given.jobs] if not given.run else [f"--run={given.run}"] if given.run[:1] == "-" else ["--run", given.run]
+    words = ([given.jobs] if not given.run
+             else [f"--run={given.run}"] if given.run[:1] == "-" else ["--run", given.run])
     if given.file_system:
         words = ["--file-system", given.file_system, *words]
     worker = given.worker_program

@@ -25,13 +25,14 @@ class Forgetting:
         self.given, self.program, self.held = given, program, []
         self.mark = Mark.read(given.mark)
         if self.mark and not ID.fullmatch(self.mark.id):
-            raise refused(f"list `{given.asked}`: `{given.mark}` is no mark of this version; nothing"
-                          " is put away")
+            raise refused(f"list `{given.asked}`: `{given.mark}` is no mark of this version;"
+                          " nothing is put away")
         own = self.mark.folder if self.mark and not given.has_folder else given.run
         self.folder = os.path.realpath(own)
         self.run = self.mark.id if self.mark else id_of(self.folder)
         name = os.path.basename(given.jobs)
-        self.away, self.moved = f"{given.jobs}.forgotten-{self.run}", f"{self.folder}.forgotten-{self.run}"
+        self.away, self.moved = (
+            f"{given.jobs}.forgotten-{self.run}", f"{self.folder}.forgotten-{self.run}")
         self.list, self.old_mark = f"{self.away}/{name}", f"{self.away}/{name}.run-is"
 
     def take(self) -> None:
@@ -52,7 +53,8 @@ class Forgetting:
         names = {"list": self.list, "mark": self.old_mark,
                  "folder": self.moved if id_of(self.moved) == self.run else self.folder}
         print(f"run {self.run} is put away, and nothing of it is deleted")
-        print("".join(f"  {it}: {visible(path)}\n" for it, path in names.items() if os.path.lexists(path)), end="")
+        print("".join(f"  {it}: {visible(path)}\n" for it, path in names.items()
+                      if os.path.lexists(path)), end="")
 
     def take_nothing(self) -> None:
         """Prints what was put away before. If nothing was, the list has no run."""
@@ -110,7 +112,8 @@ class Forgetting:
 
     def refuse(self, text: str) -> None:
         if not self.given.force:
-            raise refused(f"list `{self.given.asked}`: {text}; or, to put the run away as it is: --force")
+            raise refused(f"list `{self.given.asked}`: {text}; or, to put the run away as it is:"
+                          " --force")
 
 
 def make_folder(path: str) -> None:

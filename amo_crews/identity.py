@@ -157,7 +157,8 @@ def refusal(row: Row, mark: Mark, given) -> End:
         text = (f"{run} is in `{mark.folder}`, and `{given.run}` {row.value}. Go on there: --run"
                 f" {shlex.quote(mark.folder)}; or, {anew}")
     else:
-        where = "" if mark.folder == os.path.realpath(given.run) else f", and was in `{mark.folder}`"
+        where = ("" if mark.folder == os.path.realpath(given.run)
+                 else f", and was in `{mark.folder}`")
         text = (f"{run} isn't in `{given.run}`, which {row.value}{where}; a file system may not be"
                 f" mounted, or a `forget` was cut off. Mount it, or go on with {program} forget"
                 f" {jobs}; or, {anew}")
@@ -211,8 +212,8 @@ def enter(given, program: Program, run: str | None = None) -> str:
     makes the folder if it is missing, unless `run` is an id, which it must have."""
     if os.path.lexists(f"{given.run}/{FORGOTTEN}"):
         raise refused(f"folder `{given.run}`: its run is put away, or a `forget` was cut off. Go on"
-                      f" with {sys.argv[0]} forget {shlex.quote(given.asked)}, or begin a new run in"
-                      " another folder: --run DIR")
+                      f" with {sys.argv[0]} forget {shlex.quote(given.asked)}, or begin a new run"
+                      " in another folder: --run DIR")
     refuse_other_command(given)
     workers = ["--workers", str(given.workers), "--beta", str(given.beta)]
     program.call("door", given.run, *workers, *(["--id", run] if run else []), given.jobs)
@@ -287,9 +288,11 @@ def refuse_other_command(given):
 
 
 def note_command(given):
-    """Notes the command before a line is performed. Of two that come at once the later is refused."""
+    """Notes the command before a line is performed.
+    Of two that come at once the later is refused."""
     with open(given.jobs, "rb") as file:
         with suppress(OSError):  # on a file system over a network there may be no locks
             fcntl.flock(file, fcntl.LOCK_EX)
         refuse_other_command(given)
-        place(f"{given.run}/command", json.dumps({"command": given.command, "results": given.results}))
+        place(f"{given.run}/command",
+              json.dumps({"command": given.command, "results": given.results}))

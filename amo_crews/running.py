@@ -30,8 +30,8 @@ class NotStarted(Exception):
 
 
 def is_free(path):
-    """Whether nothing of a command is left: its lock is got by a handle opened anew. The file is removed then; a missing one says
-    the same, to who holds the runner's lock."""
+    """Whether nothing of a command is left: its lock is got by a handle opened anew. The file is
+    removed then; a missing one says the same, to who holds the runner's lock."""
     try:
         lock = locked(path, False)
     except OSError as error:
@@ -55,11 +55,13 @@ def words_that_tell(words: list) -> str:
 
 
 def holders(run, names):
-    """Of the commands of these intents the processes that hold the lock, but runners; the system tells only of one's own."""
+    """Of the commands of these intents the processes that hold the lock, but runners;
+    the system tells only of one's own."""
     found = {f"{os.path.realpath(run)}/command.{name}": [] for name in names}
     for process in filter(str.isdecimal, os.listdir("/proc") if found else []):
         with suppress(OSError):
-            links = {os.readlink(f"/proc/{process}/fd/{file}") for file in os.listdir(f"/proc/{process}/fd")}
+            links = {os.readlink(f"/proc/{process}/fd/{file}")
+                     for file in os.listdir(f"/proc/{process}/fd")}
             with open(f"/proc/{process}/cmdline", "rb") as file:
                 words = file.read().rstrip(b"\0").decode("utf-8", "replace").split("\0")
             if not any(it.startswith(f"{os.path.realpath(run)}/runner.") for it in links):
@@ -72,8 +74,10 @@ class Command:
     """The command of one intent, and its lock."""
 
     def __init__(self, given, worker, serial, line):
-        self.given, self.name, self.serial, self.line, self.process = given, f"{worker}.{serial}", serial, line, None
-        self.path, self.outputs = f"{given.run}/command.{self.name}", [f"{given.results}/{it}.{self.name}" for it in OUTPUTS]
+        self.given, self.name, self.serial, self.line, self.process = (
+            given, f"{worker}.{serial}", serial, line, None)
+        self.path, self.outputs = (f"{given.run}/command.{self.name}",
+                                   [f"{given.results}/{it}.{self.name}" for it in OUTPUTS])
         self.begun, self.locks, self.is_late, self.is_killed = 0, [], False, False
 
     def start(self, text: bytes) -> None:
@@ -125,8 +129,8 @@ class Command:
         self.locks.append(fcntl.fcntl(lock, fcntl.F_DUPFD_CLOEXEC, 50))
 
     def drop_lock(self) -> None:
-        """Removes the lock's file, if this process has the lock, and closes it. If the file stays, it
-        counts as a missing one: nobody holds its lock."""
+        """Removes the lock's file, if this process has the lock, and closes it. If the file stays,
+        it counts as a missing one: nobody holds its lock."""
         if self.locks:
             with suppress(OSError):
                 os.unlink(self.path)
@@ -154,23 +158,25 @@ class Command:
     def report_in(pipe: int) -> str:
         """Returns the child's report; an empty text if it became the command.
 
-        If the pipe can't be read, the text is empty too: the command counts as begun, and its end is
-        judged as any other. A child that couldn't become the command has killed itself, so its line
-        is in doubt then, and is neither open nor done.
+        If the pipe can't be read, the text is empty too: the command counts as begun, and its end
+        is judged as any other. A child that couldn't become the command has killed itself, so its
+        line is in doubt then, and is neither open nor done.
         """
         with suppress(OSError):
             return os.read(pipe, 4096).decode("utf-8", "replace")
         return ""
 
     def is_reaped(self) -> bool:
-        """Waits for the end of a child that reported, and returns whether it is known to be gone."""
+        """Waits for the end of a child that reported,
+        and returns whether it is known to be gone."""
         with suppress(OSError):
             return os.waitpid(self.process, 0)[0] == self.process
         return False
 
     def set_timer(self):
-        """In the child, before it becomes the command: the kernel's timer, which exec keeps, ends it where no runner is left to
-        do so. (There are no threads here, so a child may run this.)"""
+        """In the child, before it becomes the command: the kernel's timer, which exec keeps, ends
+        it where no runner is left to do so. (There are no threads here, so a child may run
+        this.)"""
         signal.signal(signal.SIGALRM, signal.SIG_DFL)
         signal.pthread_sigmask(signal.SIG_UNBLOCK, [signal.SIGALRM])
         signal.setitimer(signal.ITIMER_REAL, self.given.timeout + self.given.grace + 1)
@@ -180,7 +186,8 @@ class Command:
         close_all(self.locks)
 
     def has_ended(self):
-        """Whether the command itself has ended. It isn't waited for: so its number stays its own, and that of its group."""
+        """Whether the command itself has ended.
+        It isn't waited for: so its number stays its own, and that of its group."""
         return os.waitid(os.P_PID, self.process, os.WEXITED | os.WNOHANG | os.WNOWAIT) is not None
 
     def signal(self, number):
@@ -189,7 +196,8 @@ class Command:
             os.killpg(self.process, number)
 
     def press(self):
-        """Sends TERM when its time is over, and KILL once the grace is over too. Answers when that is to be looked at again."""
+        """Sends TERM when its time is over, and KILL once the grace is over too.
+        Answers when that is to be looked at again."""
         due = self.begun + (self.given.timeout or 0) + (self.given.grace if self.is_late else 0)
         if not self.given.timeout or self.is_killed:
             return FAR
@@ -199,9 +207,9 @@ class Command:
         return due
 
     def answer(self):
-        """Returns what came of the command, once nothing of it is left. Any status counts as performed.
-        An end by a signal is a doubt, and so is an end that the system doesn't report. Removes outputs
-        that are empty."""
+        """Returns what came of the command, once nothing of it is left. Any status counts as
+        performed. An end by a signal is a doubt, and so is an end that the system doesn't report.
+        Removes outputs that are empty."""
         code = -1
         with suppress(OSError):
             status = os.waitpid(self.process, 0)[1]
@@ -215,7 +223,8 @@ class Command:
 
 
 def next_line(worker, rest):
-    """The next whole line that a worker says, and the rest; None at the end. A line without its end counts for nothing."""
+    """The next whole line that a worker says, and the rest; None at the end.
+    A line without its end counts for nothing."""
     while b"\n" not in rest:
         yield worker.stdout.fileno(), FAR
         part = worker.stdout.read(1 << 16)
@@ -226,8 +235,9 @@ def next_line(worker, rest):
 
 
 class Runner:
-    """The runner of one worker. `run` is its life, which yields what it waits for, a file that can be read, or None, and a time.
-    It may be resumed sooner, so each place looks again at what it waits for."""
+    """The runner of one worker. `run` is its life, which yields what it waits for, a file that can
+    be read, or None, and a time. It may be resumed sooner, so each place looks again at what it
+    waits for."""
 
     def __init__(self, crew, number):
         self.crew, self.given, self.number, self.steps = crew, crew.given, number, self.run()
@@ -235,9 +245,10 @@ class Runner:
         self.status, self.told, self.warned, self.wait = None, "", None, (None, 0.0)
 
     def run(self):
-        """Takes the lock of its number before any worker is begun, and keeps it as long as it lives. (Who asks for doubts has it
-        for a moment, so it is tried for some seconds.) A worker that dies, or has to come back later, is begun again after a
-        pause that differs each time: two that try in step might else go round for ever."""
+        """Takes the lock of its number before any worker is begun, and keeps it as long as it
+        lives. (Who asks for doubts has it for a moment, so it is tried for some seconds.) A worker
+        that dies, or has to come back later, is begun again after a pause that differs each time:
+        two that try in step might else go round for ever."""
         end, pause = time.monotonic() + PATIENCE, SHORTEST
         while (lock := locked(f"{self.given.run}/runner.{self.number}", True)) is None:
             if time.monotonic() > end or self.crew.is_stopping:
@@ -254,16 +265,20 @@ class Runner:
                 yield None, end
 
     def live(self):
-        """One life of the worker; whether it said anything. All that it says is read, to the end of its pipe, before the next one
-        is begun, and once it is dead nothing is carried out. (Carried out after the next one was told of a doubt, it would do
-        what a person may have done by hand.) A worker is told to leave after a stop, once no other end waits to be noted, and
+        """One life of the worker; whether it said anything. All that it says is read, to the end of
+        its pipe, before the next one is begun, and once it is dead nothing is carried out. (Carried
+        out after the next one was told of a doubt, it would do what a person may have done by
+        hand.) A worker is told to leave after a stop, once no other end waits to be noted, and
         where what a command left behind has ended, so that the next one asks for it."""
         given, program, has_got, last, rest = self.given, self.crew.program, False, None, b""
-        words = ["work", given.run, str(self.number), "--workers", str(given.workers), "--beta", str(given.beta), given.jobs]
+        words = ["work", given.run, str(self.number), "--workers", str(given.workers),
+                 "--beta", str(given.beta), given.jobs]
         try:
-            worker = subprocess.Popen([program.path, *words, *program.more], bufsize=0, start_new_session=True, **PIPES)
+            worker = subprocess.Popen([program.path, *words, *program.more], bufsize=0,
+                                      start_new_session=True, **PIPES)
         except OSError as error:
-            self.status, self.told = MEMORY if isinstance(error, BlockingIOError) else READ, reason(error)
+            self.status, self.told = (
+                MEMORY if isinstance(error, BlockingIOError) else READ, reason(error))
             return False
         os.set_blocking(worker.stdout.fileno(), False)
         with worker:
@@ -276,7 +291,8 @@ class Runner:
                 self.is_noted(last, is_perform)
                 last = serial if worker.poll() is None else None
                 if last is not None:
-                    answer = (yield from self.perform(serial, int(number), text)) if is_perform else self.was(serial)
+                    answer = ((yield from self.perform(serial, int(number), text)) if is_perform
+                              else self.was(serial))
                     is_over = self.crew.is_stopping and not set(self.seen) - {serial}
                     leaves = is_over or any(is_free(it.path) for it in self.left.values())
                     try:
@@ -289,13 +305,15 @@ class Runner:
                     self.saw(serial, "unbegun")
             while worker.poll() is None:
                 yield None, FAR
-            self.status, self.told = worker.returncode, worker.stderr.read().decode("utf-8", "replace").strip()
+            self.status, self.told = (
+                worker.returncode, worker.stderr.read().decode("utf-8", "replace").strip())
         if self.status in (DONE, LEFT, LATER):
             self.is_noted(last, self.status == DONE)
         return has_got
 
     def is_noted(self, last, is_past):
-        """What a worker goes on after is on the disk: its last answer, and once it is past asking whatever it didn't ask for."""
+        """What a worker goes on after is on the disk: its last answer, and once it is past asking
+        whatever it didn't ask for."""
         self.seen.pop(last, None)
         if is_past:
             self.seen.clear()
@@ -306,7 +324,8 @@ class Runner:
         return self.seen[serial]
 
     def perform(self, serial, line, text):
-        """Performs a line, if no stop was asked for. What a command leaves behind when it ends is waited for, for a while."""
+        """Performs a line, if no stop was asked for.
+        What a command leaves behind when it ends is waited for, for a while."""
         if self.crew.is_stopping:
             return self.saw(serial, "unbegun")
         command = Command(self.given, self.number, serial, line)
@@ -327,7 +346,8 @@ class Runner:
                 command.press()
             if time.monotonic() > end and command.is_killed >= command.is_late:
                 self.command, self.left[serial] = None, command
-                Screen.tell(f"line {line}: {command.name} has ended, and something that it began runs on")
+                Screen.tell(f"line {line}: {command.name} has ended, and something that it began"
+                            " runs on")
                 return f"running {serial}"
             yield None, time.monotonic() + 0.02
         self.command = None
@@ -343,25 +363,29 @@ class Runner:
         return self.saw(command.serial, word, code)
 
     def was(self, serial):
-        """What became of an earlier intent: what this runner saw; else something of it still runs, or it is a doubt for ever."""
+        """What became of an earlier intent: what this runner saw;
+        else something of it still runs, or it is a doubt for ever."""
         if serial in self.seen:
             return self.seen[serial]
         if not is_free(f"{self.given.run}/command.{self.number}.{serial}"):
             return f"running {serial}"
         if serial in self.left:
             return self.ended(self.left.pop(serial))
-        Screen.tell(f"{self.number}.{serial} is in doubt: its runner was gone before its end was noted")
+        Screen.tell(f"{self.number}.{serial} is in doubt: its runner was gone before its end was"
+                    " noted")
         return self.saw(serial, "doubt")
 
     def is_over(self):
-        """Whether this runner may end: only where each end that it saw is noted, else the worker is begun once more, whatever its
-        last status was. So no end that was seen becomes a doubt."""
+        """Whether this runner may end: only where each end that it saw is noted, else the worker is
+        begun once more, whatever its last status was. So no end that was seen becomes a doubt."""
         for serial in [it for it, command in self.left.items() if is_free(command.path)]:
             self.ended(self.left.pop(serial))
         if self.seen and self.status not in (DONE, LEFT, LATER, self.warned) and self.status >= 0:
             self.warned = self.status
-            Screen.tell(f"worker {self.number}: {self.told}; it goes on trying, since {len(self.seen)} ends are not noted yet")
-        return not self.seen and (self.crew.is_stopping or self.status not in (LATER, MEMORY) and self.status >= 0)
+            Screen.tell(f"worker {self.number}: {self.told}; it goes on trying, since"
+                        f" {len(self.seen)} ends are not noted yet")
+        return not self.seen and (
+            self.crew.is_stopping or self.status not in (LATER, MEMORY) and self.status >= 0)
 
 
 class Crew:
@@ -369,7 +393,8 @@ class Crew:
 
     def __init__(self, given, program, numbers):
         self.given, self.program, self.begun, self.due = given, program, time.monotonic(), 0.0
-        self.is_stopping, self.news, self.signals, self.asked, self.ended, self.good, self.row = False, 0, [], 0, 0, 0, 0
+        self.is_stopping, self.news, self.signals, self.asked, self.ended, self.good, self.row = (
+            False, 0, [], 0, 0, 0, 0)
         self.before = program.status(given.run)
         with open(given.jobs, "rb") as file:
             self.lines = sum(1 for _ in file)
@@ -377,7 +402,8 @@ class Crew:
         self.runners = [Runner(self, number) for number in numbers]
 
     def run(self):
-        """Signals are taken in the loop. One that was ignored at the start, as by nohup, stays so."""
+        """Signals are taken in the loop.
+        One that was ignored at the start, as by nohup, stays so."""
         signal.set_wakeup_fd(self.bell, warn_on_full_buffer=False)
         signal.signal(signal.SIGCHLD, lambda *_: None)
         for number in (signal.SIGINT, signal.SIGTERM, signal.SIGHUP):
@@ -390,7 +416,8 @@ class Crew:
     def turn(self):
         """Waits until something may have changed, and resumes whoever waits for it."""
         living = [it for it in self.runners if it.wait]
-        files, due = [it.wait[0] for it in living if it.wait[0]], min([self.due] + [it.wait[1] for it in living])
+        files, due = ([it.wait[0] for it in living if it.wait[0]],
+                      min([self.due] + [it.wait[1] for it in living]))
         ready = select.select([self.wake, *files], [], [], max(due - time.monotonic(), 0))[0]
         if self.wake in ready:
             os.read(self.wake, 4096)
@@ -407,7 +434,8 @@ class Crew:
             self.show()
 
     def has_ended(self, runner):
-        """A status with which no worker is begun again wants a person. Where all is done the others needn't wait."""
+        """A status with which no worker is begun again wants a person.
+        Where all is done the others needn't wait."""
         if runner.status not in (DONE, LEFT, LATER) or runner.lock is None:
             Screen.tell(f"worker {runner.number}: {runner.told} (status {runner.status})")
         if runner.status not in (DONE, LEFT, LATER):
@@ -424,44 +452,57 @@ class Crew:
         """No further job. Those that run go on to their end."""
         if not self.is_stopping:
             running = sum(it.command is not None for it in self.runners)
-            Screen.tell(f"{why}; no further job is begun" + (f", {running} go on to their end" if running else ""))
+            Screen.tell(f"{why}; no further job is begun"
+                        + (f", {running} go on to their end" if running else ""))
             self.is_stopping = True
             self.ring()
 
     def take(self, number):
-        """A signal: the first one stops in order, and each further one is handed on to the commands that run."""
+        """A signal: the first one stops in order,
+        and each further one is handed on to the commands that run."""
         self.asked += 1
-        name, running = signal.Signals(number).name, [it.command for it in self.runners if it.command]
+        name, running = (
+            signal.Signals(number).name, [it.command for it in self.runners if it.command])
         if self.asked == 1:
             return self.stop(f"{name} (once more hands it on to the commands)")
-        Screen.tell(f"{name} is handed on to {', '.join(it.name for it in running) or 'no command, since none runs'}")
+        Screen.tell(f"{name} is handed on to"
+                    f" {', '.join(it.name for it in running) or 'no command, since none runs'}")
         for command in running:
             command.signal(number)
 
     def count(self, word, code, command):
-        """Counts an end. Failures in a row stop the crew, few where none was good before: a misspelt command burns no list."""
+        """Counts an end. Failures in a row stop the crew, few where none was good before: a
+        misspelt command burns no list."""
         self.ended += 1
         if word == "done" and code == 0:
             self.good, self.row = self.good + 1, 0
             return
         self.row += word != "untouched"
-        how = f"ended by {'the timeout' if command.is_late else 'a signal'}" if word == "doubt" else f"status {code}"
-        Screen.tell(f"line {command.line} {word.replace('done', 'failed')}: {how} (intent {command.name})")
-        most = self.given.halt if self.good or self.given.halt == 0 else min(self.given.halt or FAR, MOST_FIRST_FAILURES)
+        how = (f"ended by {'the timeout' if command.is_late else 'a signal'}" if word == "doubt"
+               else f"status {code}")
+        Screen.tell(f"line {command.line} {word.replace('done', 'failed')}: {how}"
+                    f" (intent {command.name})")
+        most = (self.given.halt if self.good or self.given.halt == 0
+                else min(self.given.halt or FAR, MOST_FIRST_FAILURES))
         if most and self.row >= most:
-            self.stop(f"{self.row} failures in a row" + ("" if self.good else ", and none was good before"))
+            self.stop(f"{self.row} failures in a row"
+                      + ("" if self.good else ", and none was good before"))
 
     def show(self):
         closed = min(sum(self.before[it] for it in KINDS[:5]) + self.ended, self.lines)
         running = sum(it.command is not None for it in self.runners)
         pace = self.ended / max(time.monotonic() - self.begun, 1)
-        Screen.show(f"{closed} of {self.lines} lines, {running} running{outlook(pace, self.lines - closed)}")
+        Screen.show(f"{closed} of {self.lines} lines, {running} running"
+                    f"{outlook(pace, self.lines - closed)}")
 
     def end(self):
-        """Tells how all lines stand. The status is that of a worker that was refused, else what the counts say."""
-        refused = [it.status for it in self.runners if it.status not in (DONE, LEFT, LATER, MEMORY) and it.status > 0]
+        """Tells how all lines stand. The status is that of a worker that was refused,
+        else what the counts say."""
+        refused = [it.status for it in self.runners
+                   if it.status not in (DONE, LEFT, LATER, MEMORY) and it.status > 0]
         taken = [LATER] if all(it.lock is None for it in self.runners) else []
-        close_all([it.lock for it in self.runners if it.lock is not None])  # no worker is begun any more
+        # no worker is begun any more
+        close_all([it.lock for it in self.runners if it.lock is not None])
         found = self.program.status(self.given.run)
         more = f"; look: {next_command(self.given, 'doubts')}" if found["doubt"] else ""
         Screen.tell("\n".join([counted(found) + more, *listed(self.given.run, found, ["running"])]))
@@ -476,7 +517,8 @@ def status_of(found, if_open):
 
 
 def counted(found):
-    return f"{found['lines']} lines: " + ", ".join(f"{found[it]} {'in doubt' if it == 'doubt' else it}" for it in KINDS)
+    return f"{found['lines']} lines: " + ", ".join(
+        f"{found[it]} {'in doubt' if it == 'doubt' else it}" for it in KINDS)
 
 
 def listed(run, found, states):
@@ -484,7 +526,8 @@ def listed(run, found, states):
     rows = [it for it in found["intents"] if it["state"] in states]
     held = holders(run, [it["intent"] for it in rows if it["state"] == "running"])
     for it in rows:
-        more = f" -- {', '.join(held[it['intent']]) or 'its worker is at it'}" if it["intent"] in held else ""
+        more = (f" -- {', '.join(held[it['intent']]) or 'its worker is at it'}"
+                if it["intent"] in held else "")
         yield f"{it['state']} {it['intent']}, line {it['line']}: {visible(it['text'])}{more}"
 
 
@@ -492,4 +535,5 @@ def outlook(pace, count):
     """How fast it goes, and when it is over, as the end of a sentence."""
     if not pace or count <= 0:
         return ""
-    return f", {pace:.3g} a second, over at {time.strftime('%H:%M:%S', time.localtime(time.time() + count / pace))}"
+    return (f", {pace:.3g} a second, over at"
+            f" {time.strftime('%H:%M:%S', time.localtime(time.time() + count / pace))}")
