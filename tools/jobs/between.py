@@ -46,8 +46,10 @@ def befall(process, is_killed):
     except ProcessLookupError:
         return
     if not is_killed:
-        goes_on = f'sleep {STOPPED}; while [ -e "$0/held" ]; do sleep 0.05; done; kill -CONT {process}'
-        subprocess.Popen(["sh", "-c", goes_on, ROOM], stdin=subprocess.DEVNULL, start_new_session=True)
+        goes_on = (f'sleep {STOPPED}; while [ -e "$0/held" ]; do sleep 0.05; done;'
+                   f' kill -CONT {process}')
+        subprocess.Popen(["sh", "-c", goes_on, ROOM], stdin=subprocess.DEVNULL,
+                         start_new_session=True)
 
 
 def moment(worker, name, line, kind):

@@ -14,7 +14,8 @@ OF_THE_WORKER = [
     ("lists_what_runs", rules.try_orphan, TWICE),
     ("answers_what_runs", rules.try_running_is_not_answered, TWICE),
 ]
-INPUT = ["enumerate((self.locks[0], out, err))", "enumerate((os.open(os.devnull, os.O_RDONLY), out, err))"]
+INPUT = ["enumerate((self.locks[0], out, err))",
+         "enumerate((os.open(os.devnull, os.O_RDONLY), out, err))"]
 FURTHER = ["os.set_inheritable(self.locks[1], True)", "pass"]
 AFTER = """        close_all([files.pop()])
         why = self.report_in(files[-1])
@@ -51,14 +52,17 @@ OF_THE_RUNNER = [
 MISSING = [("missing_is_empty", identity.try_journals, TWICE)]
 IDENTITY = [
     ("id_is_not_compared", [
-        '        return Row.NO_ID if os.path.lexists(folder) else Row.MISSING\n', '        return Row.GOES_ON\n',
+        '        return Row.NO_ID if os.path.lexists(folder) else Row.MISSING\n',
+        '        return Row.GOES_ON\n',
         '*(["--id", run] if run else [])', '*[]', '    program.more += ["--id", run]\n', '',
     ], identity.try_missing, TWICE),
-    ("mark_is_replaced", ["os.link(new, path)", "os.replace(self.written(path), path)"], identity.try_two_folders, TWICE),
+    ("mark_is_replaced", ["os.link(new, path)", "os.replace(self.written(path), path)"],
+     identity.try_two_folders, TWICE),
     ("list_is_put_away_last", [
         '            rename(self.given.jobs, self.list)\n', '            pass\n',
         '            rename(self.given.mark, self.old_mark)\n',
-        '            rename(self.given.mark, self.old_mark)\n            rename(self.given.jobs, self.list)\n',
+        '            rename(self.given.mark, self.old_mark)\n'
+        '            rename(self.given.jobs, self.list)\n',
     ], forgetting.try_forget_killed, TWICE),
 ]
 

@@ -23,8 +23,8 @@ LANES, BUILD = 4, 125
 
 # The columns of the table:
 #   CALL KIND COUNT..   each count is tried. A `*` stands before a call that not every Python makes.
-#   ERRORS              each is tried. SHORT is no error: the write takes half of the bytes. `-` is for
-#                       a call that can give no error here; the rest of the row is the reason.
+#   ERRORS              each is tried. SHORT is no error: the write takes half of the bytes. `-` is
+#                       for a call that can give no error here; the rest of the row is the reason.
 #   STATUS              that of the crew in which the call fails.
 #   SAYS                a part of what this crew prints, in either case: % is the error's text, * is
 #                       any text, and NOT begins the message that line 1 can't be started.

@@ -15,7 +15,8 @@ import time
 from worker import folder
 
 HERE = os.path.dirname(os.path.realpath(__file__))
-DONE, FAILED, DOUBTFUL, WORDS, REFUSED, LEFT, WRITE, READ, LATER, BUILD = 0, 1, 2, 64, 65, 69, 73, 74, 75, 125
+DONE, FAILED, DOUBTFUL, WORDS, REFUSED, LEFT, WRITE, READ, LATER, BUILD = (
+    0, 1, 2, 64, 65, 69, 73, 74, 75, 125)
 KILLED = -signal.SIGKILL
 UNHEARD = (-signal.SIGHUP, -signal.SIGTERM, -signal.SIGINT, 130)  # of a signal that came before a crew took any
 COMMAND = [f"{HERE}/act.sh"]
@@ -140,8 +141,8 @@ class Scene:
 
     def call(self, command, *words, status=DONE):
         """A command for persons: what it writes. None in place of a status takes any."""
-        ran = subprocess.run(self.words(command, *words), stdin=subprocess.DEVNULL, capture_output=True, timeout=240,
-                             env=self.environment())
+        ran = subprocess.run(self.words(command, *words), stdin=subprocess.DEVNULL,
+                             capture_output=True, timeout=240, env=self.environment())
         want(status in (None, ran.returncode), f"{command}: status {ran.returncode}: {(ran.stdout + ran.stderr).decode()[-500:]}")
         return ran.stdout.decode()
 
@@ -188,13 +189,15 @@ class Scene:
         end = time.monotonic() + seconds
         while True:
             ran = subprocess.run(self.words("answer", "--", name, line, text, verdict), timeout=240,
-                                 stdin=subprocess.DEVNULL, capture_output=True, env=self.environment())
+                                 stdin=subprocess.DEVNULL, capture_output=True,
+                                 env=self.environment())
             if ran.returncode == DONE:
                 return
             told = f"answer {name} {verdict}: status {ran.returncode}: {ran.stderr.decode()[-500:]}"
             want(ran.returncode == LATER and time.monotonic() < end, told)
 
-    def see_out(self, crew=None, seconds=600, pause=0.3, again=True, during=None, workers_of=lambda: None):
+    def see_out(self, crew=None, seconds=600, pause=0.3, again=True, during=None,
+                workers_of=lambda: None):
         """Starts crews, with a person beside them, until no line is open, in doubt or running; the status of the last one."""
         end = time.monotonic() + seconds
         crew = crew or self.start(workers=workers_of())

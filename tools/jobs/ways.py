@@ -8,7 +8,9 @@ import signal
 import subprocess
 import sys
 
-from jobs.scene import BUILD, DONE, DOUBTFUL, FAILED, KILLED, LATER, LEFT, READ, REFUSED, WORDS, WRITE, want
+from jobs.scene import (
+    BUILD, DONE, DOUBTFUL, FAILED, KILLED, LATER, LEFT, READ, REFUSED, WORDS, WRITE, want
+)
 from jobs.rules import until
 from worker import folder
 
@@ -76,7 +78,8 @@ def try_refusals(bench):
     scene.ends(scene.start("--new-run", old, command=["true"]), DONE)
     scene.run = first
     scene.ends(scene.start(), REFUSED)
-    for words in (["--new-run", "x"], ["--workers", "17"], ["--workers", "0"], ["--timeout", "x"], ["--untouched", "256"], ["--halt", "-1"]):
+    for words in (["--new-run", "x"], ["--workers", "17"], ["--workers", "0"], ["--timeout", "x"],
+                  ["--untouched", "256"], ["--halt", "-1"]):
         scene.ends(scene.start(*words), WORDS)
     scene.call("work", "--worker", "2", "--workers", "1", scene.jobs, "--", "true", status=WORDS)
     scene.call("stat", status=WORDS)
@@ -164,19 +167,29 @@ def try_look(bench):
 # A row has the words of a call that fails, with ROOM for the scene's folder, its status, and the
 # message, in which `*` stands for any text. Each message is `object: problem; remedy`.
 MESSAGES = [
-    ("status --worker-program ROOM/none", READ, "`ROOM/none`: no such file or directory; check the path"),
-    ("status --worker-program ROOM/text", WRITE, "`ROOM/text`: exec format error; give it a first line like #!/bin/sh"),
-    ("status --worker-program /bin/true", BUILD, "`/bin/true`: it is no amo_worker of this version; *"),
-    ("doubts --worker-program /bin/true", BUILD, "`/bin/true`: it is no amo_worker of this version; *"),
-    ("crew --workers 1 --results ROOM/text/results", WRITE, "`ROOM/text/results`: not a directory; check the path"),
+    ("status --worker-program ROOM/none", READ,
+     "`ROOM/none`: no such file or directory; check the path"),
+    ("status --worker-program ROOM/text", WRITE,
+     "`ROOM/text`: exec format error; give it a first line like #!/bin/sh"),
+    ("status --worker-program /bin/true", BUILD,
+     "`/bin/true`: it is no amo_worker of this version; *"),
+    ("doubts --worker-program /bin/true", BUILD,
+     "`/bin/true`: it is no amo_worker of this version; *"),
+    ("crew --workers 1 --results ROOM/text/results", WRITE,
+     "`ROOM/text/results`: not a directory; check the path"),
     ("crew --workers 1 --damaged", REFUSED, "`ROOM/run/command`: it is damaged; *"),
 ]
-OPTIONS = [("--workers", "17", "whole number from 1 to 16"), ("--workers", "x", "whole number from 1 to 16"),
-           ("--timeout", "-1", "number from 0 to 100000000"), ("--untouched", "75,256", "whole number from 1 to 255")]
+OPTIONS = [
+    ("--workers", "17", "whole number from 1 to 16"),
+    ("--workers", "x", "whole number from 1 to 16"),
+    ("--timeout", "-1", "number from 0 to 100000000"),
+    ("--untouched", "75,256", "whole number from 1 to 255"),
+]
 
 
 def try_messages(bench):
-    """what a person is told of a fault is an object, a problem and a remedy, and no trace of Python"""
+    """what a person is told of a fault is an object, a problem and a remedy,
+    and no trace of Python"""
     scene = bench.scene(["quick"])
     with open(f"{scene.room}/text", "w") as file:
         file.write("no program\n")
@@ -193,11 +206,14 @@ def try_messages(bench):
         said(scene, [command, *more], status, wanted)
     for option, word, what in OPTIONS:
         more = ["--workers", "1", option, word, scene.jobs, "--", *scene.command]
-        said(scene, ["crew", *more], WORDS, rf".*: argument {option}: `{word.split(',')[-1]}` is no {what}")
+        said(scene, ["crew", *more], WORDS,
+             rf".*: argument {option}: `{word.split(',')[-1]}` is no {what}")
     shell = ["sh", "-c", '"$@" | true', "sh", *scene.words("status")]
-    ran = subprocess.run(shell, env=scene.environment(), timeout=240, capture_output=True, text=True)
+    ran = subprocess.run(shell, env=scene.environment(), timeout=240, capture_output=True,
+                         text=True)
     told = ran.stderr.splitlines()[1:]
-    want(set(told) <= {"amo_jobs: standard output: broken pipe; mend that, then start again"}, f"{told}")
+    want(set(told) <= {"amo_jobs: standard output: broken pipe; mend that, then start again"},
+         f"{told}")
 
 
 def said(scene, words, status, wanted):
@@ -212,7 +228,8 @@ def said(scene, words, status, wanted):
 def try_boot_id(bench):
     """only the tests' variable names a file with the boot id, and each command warns of it once"""
     scene, name = bench.scene(["quick"]), "AMO_TEST_BOOT_ID"
-    warning = f"amo_jobs: {name} is set; the boot id comes from `{scene.boot}`. This is for tests only\n"
+    warning = (f"amo_jobs: {name} is set; the boot id comes from `{scene.boot}`."
+               " This is for tests only\n")
     scene.ends(scene.start(), DONE)
     want(scene.tale().startswith(warning) and scene.tale().count(name) == 1, scene.tale())
     boot = folder.read(scene.boot).decode().strip()
@@ -228,9 +245,11 @@ def try_boot_id(bench):
 
 def try_timeout(bench):
     """a timeout sends TERM and then KILL to the whole group, and the job is in doubt; one that ends in time isn't"""
-    script = """cd "$1"; case $2 in polite) trap 'echo TERM > polite; exit 0' TERM; sleep 300 & wait;;
-        deaf) trap '' TERM; sleep 300; sleep 300;; esac"""
-    for seconds in ("0.4", "3", "20", "100"):  # (however long a shell takes to begin here, TERM has to come after that)
+    script = ("""cd "$1"; case $2 in """
+              """polite) trap 'echo TERM > polite; exit 0' TERM; sleep 300 & wait;;
+        deaf) trap '' TERM; sleep 300; sleep 300;; esac""")
+    # (however long a shell takes to begin here, TERM has to come after that)
+    for seconds in ("0.4", "3", "20", "100"):
         scene = bench.scene([], 2, ["--timeout", seconds, "--grace", "0.3", "--linger", "0.1"])
         with open(scene.jobs, "w") as file:
             file.write("polite\ndeaf\n")
@@ -259,10 +278,12 @@ def try_last_net(bench):
 
 def try_leftovers(bench):
     """what a command leaves behind by &, nohup or setsid is running until it ends; the worker goes on meanwhile"""
-    scene = bench.scene(["waits_amp", "waits_nohup", "waits_setsid", "quick", "stays"], 1, ["--linger", "0.05"])
+    scene = bench.scene(["waits_amp", "waits_nohup", "waits_setsid", "quick", "stays"], 1,
+                        ["--linger", "0.05"])
     crew = scene.start()
     until(lambda: [it for it in scene.tales(5) if it[0] == "did"], "it goes on to the last line")
-    want(scene.tale().count("something that it began runs on") == 3, f"what is left behind isn't told: {scene.tale()}")
+    want(scene.tale().count("something that it began runs on") == 3,
+         f"what is left behind isn't told: {scene.tale()}")
     locks = [f"{scene.run}/command.{scene.tales(line)[0][1]}" for line in (1, 2, 3)]
     scene.let("go")
     until(lambda: all(map(folder.is_free, locks)), "what was left behind ends")
@@ -423,7 +444,8 @@ def try_disk_full(bench):
         scene = bench.scene(["hundred"] * long_codes + ["other"] * (120 - long_codes), 1, ["--halt", "0"])
         disk = f"{scene.room}/disk"
         os.mkdir(disk)
-        if subprocess.run(["mount", "-t", "tmpfs", "-o", "size=104k", "tmpfs", disk], stderr=subprocess.DEVNULL).returncode:
+        if subprocess.run(["mount", "-t", "tmpfs", "-o", "size=104k", "tmpfs", disk],
+                          stderr=subprocess.DEVNULL).returncode:
             bench.skipped.append("a full disk, since no tmpfs can be mounted")
             return None
         try:
@@ -457,7 +479,8 @@ def fill(scene, disk):
 
 
 PARTS = {"ways": [
-    try_ends, try_arguments, try_refusals, try_lists, try_answers, try_status, try_look, try_messages, try_boot_id, try_timeout, try_last_net, try_leftovers,
+    try_ends, try_arguments, try_refusals, try_lists, try_answers, try_status, try_look,
+    try_messages, try_boot_id, try_timeout, try_last_net, try_leftovers,
     try_first_signal, try_second_signal, try_halt, try_one_runner, try_work, try_outputs, try_streams, try_growing, try_killed_in_turn,
     try_disk_full,
 ]}

@@ -21,9 +21,13 @@ MISTAKES = [
     ("copy_is_taken", ["        it.check()\n", "        pass\n"], directed.try_copy, TWICE),
     ("new_mark_with_each_start", ["if not os.path.isdir(self.folder):", "if not self.note('owner'):\n            shutil.rmtree("
                                   "self.folder, ignore_errors=True)"], directed.try_killed_everywhere, LOST),
-    ("last_line_is_dropped", ['if data and not data.endswith(b"\\n"):', "if False:"], directed.try_last_line, "it says"),
-    ("old_run_is_shared", ['if os.path.exists(f"{given.run}/shared") and', "if False and"], directed.try_old_folders, "it says"),
-    ("old_chunk_is_worked", ['content(f"{self.folder}/id")', 'content(f"{self.folder}/id") or "0" * 32'], directed.try_old_folders, "status|it says"),
+    ("last_line_is_dropped", ['if data and not data.endswith(b"\\n"):', "if False:"],
+     directed.try_last_line, "it says"),
+    ("old_run_is_shared", ['if os.path.exists(f"{given.run}/shared") and', "if False and"],
+     directed.try_old_folders, "it says"),
+    ("old_chunk_is_worked",
+     ['content(f"{self.folder}/id")', 'content(f"{self.folder}/id") or "0" * 32'],
+     directed.try_old_folders, "status|it says"),
     ("folder_is_not_synced", ["        os.fsync(folder)\n", ""], directed.try_killed_everywhere, "not on the disk"),
 ]
 CHEAPEST = 3

@@ -141,14 +141,16 @@ def try_same_line_twice(bench):
 
 
 def try_last_line(bench):
-    """a list whose last line has no end is refused by that line, also later, and nothing is asked for"""
+    """a list whose last line has no end is refused by that line, also later,
+    and nothing is asked for"""
     scene = scene_of(bench, 4, 2, 1)
     machine = scene.machines[0]
     with open(scene.jobs, "a") as file:
         file.write("pay 5")
     machine.start().ends(REFUSED)
     said = "line 5 has no line feed at its end; add one"
-    want(said in machine.tale() and not scene.store.answers()["requests"], f"it says {machine.tale()}")
+    want(said in machine.tale() and not scene.store.answers()["requests"],
+         f"it says {machine.tale()}")
     with open(scene.jobs, "a") as file:
         file.write("\n")
     machine.start().ends(*OVER)
@@ -170,7 +172,8 @@ def make_old(machine) -> None:
 
 
 def try_old_folders(bench):
-    """folders of amo 0.1.0: status reads them and writes nothing, sharing refuses them by name and asks for nothing"""
+    """folders of amo 0.1.0: status reads them and writes nothing,
+    sharing refuses them by name and asks for nothing"""
     scene, first = waiting(bench, 4, 2, 1)
     first.kill_all()
     scene.take_back("waits")
@@ -182,7 +185,8 @@ def try_old_folders(bench):
     found, looks = first.status(), 1  # (of the chunk that is free)
     want(found == wanted, f"the status is {found}, and was {wanted}")
     first.start().ends(REFUSED)
-    want(f"`{first.run}`: it has no `id`, so amo 0.1.0 made it" in first.tale(), f"it says {first.tale()[-300:]}")
+    want(f"`{first.run}`: it has no `id`, so amo 0.1.0 made it" in first.tale(),
+         f"it says {first.tale()[-300:]}")
     want([folder.listing(it) for it in folders] == before, "something is written")
     for name, data in {**folder.PARTS, "id": id_of_run}.items():
         folder.put(f"{first.run}/{name}", data)
@@ -193,7 +197,8 @@ def try_old_folders(bench):
 
 
 def try_run_of_a_chunk(bench):
-    """each chunk is a run of its own, which its crews are told by its id; a journal that is missing is refused by name"""
+    """each chunk is a run of its own, which its crews are told by its id;
+    a journal that is missing is refused by name"""
     scene, first = waiting(bench, 4, 2, 1)
     want(len({read(f"{it}/id") for it in (first.run, first.chunk(1))}) == 2, "two runs have one id")
     first.kill_all()
@@ -335,6 +340,7 @@ def try_claim_programs(bench, kind="folder"):
 
 PARTS = {"folder": [
     try_shares, try_killed_everywhere, try_claim_programs, try_second_amo_share, try_crew_lives_on, try_other_size,
-    try_other_list, try_same_line_twice, try_last_line, try_old_folders, try_run_of_a_chunk, try_copy, try_lost_folder, try_answer_lost, try_stopped_in_order, try_failures,
+    try_other_list, try_same_line_twice, try_last_line, try_old_folders, try_run_of_a_chunk,
+    try_copy, try_lost_folder, try_answer_lost, try_stopped_in_order, try_failures,
     try_no_store, try_doubt,
 ]}

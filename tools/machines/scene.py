@@ -195,14 +195,15 @@ class Machine:
         return [it.partition('"mark": "')[2].partition('"')[0] for it in notes]
 
     def environment(self):
-        return {"PATH": os.environ["PATH"], "AMO_REAL": self.scene.bench.worker, "AMO_TEST_BOOT_ID": self.boot,
-                **self.scene.store.environment}
+        return {"PATH": os.environ["PATH"], "AMO_REAL": self.scene.bench.worker,
+                "AMO_TEST_BOOT_ID": self.boot, **self.scene.store.environment}
 
     def words(self, *more):
         scene = self.scene
         return [scene.bench.program, "--name", scene.name, "--claim", scene.store.claim, "--chunk", str(self.size),
                 "--run", self.run, "--workers", "2", "--worker-program", scene.bench.worker, "--machine-id", self.id,
-                "--crew=--linger 0.2", *more, self.jobs, "--", f"{HERE}/act.sh", scene.room, self.told_as]
+                "--crew=--linger 0.2", *more, self.jobs, "--", f"{HERE}/act.sh", scene.room,
+                self.told_as]
 
     def start(self, *more, before=()):
         """Starts amo_share; words that stand before it, as those of a program that kills it."""
@@ -227,10 +228,13 @@ class Machine:
     def status(self):
         """What amo_share status says, and how it ends."""
         bench = self.scene.bench
-        words = [sys.executable, bench.program, "status", "--run", self.run, "--worker-program", bench.worker]
-        ran = subprocess.run(words, stdin=subprocess.DEVNULL, capture_output=True, timeout=300, env=self.environment())
+        words = [sys.executable, bench.program, "status", "--run", self.run,
+                 "--worker-program", bench.worker]
+        ran = subprocess.run(words, stdin=subprocess.DEVNULL, capture_output=True, timeout=300,
+                             env=self.environment())
         told = ran.stderr.decode()
-        warning = f"amo_share: AMO_TEST_BOOT_ID is set; the boot id comes from `{self.boot}`. This is for tests only\n"
+        warning = (f"amo_share: AMO_TEST_BOOT_ID is set; the boot id comes from `{self.boot}`."
+                   " This is for tests only\n")
         want(told == warning, f"status says {told[-300:]}")
         return ran.stdout.decode().splitlines(), ran.returncode
 
@@ -239,7 +243,8 @@ class Machine:
         bench = self.scene.bench
         words = [sys.executable, f"{os.path.dirname(bench.program)}/amo_jobs", command, "--run", self.chunk(number),
                  "--worker-program", bench.worker, *words]
-        ran = subprocess.run(words, stdin=subprocess.DEVNULL, capture_output=True, timeout=300, env=self.environment())
+        ran = subprocess.run(words, stdin=subprocess.DEVNULL, capture_output=True, timeout=300,
+                             env=self.environment())
         want(ran.returncode == status, f"{command}: status {ran.returncode}: {ran.stderr.decode()[-300:]}")
         return ran.stdout.decode()
 

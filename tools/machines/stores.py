@@ -37,7 +37,8 @@ class Store:
 
     def ask(self, *words):
         """What the claim program answers, straight."""
-        ran = subprocess.run([f"{CLAIMS}/{self.kind}", *words], stdin=subprocess.DEVNULL, capture_output=True, timeout=300,
+        ran = subprocess.run([f"{CLAIMS}/{self.kind}", *words], stdin=subprocess.DEVNULL,
+                             capture_output=True, timeout=300,
                              env={"PATH": os.environ["PATH"], **self.straight()})
         return ran.stdout.decode() if ran.returncode == 0 else None
 
@@ -77,7 +78,8 @@ class Folder(Store):
     def __init__(self, room, percent):
         self.counted, self.environment = f"{room}/counts", {"AMO_CLAIMS": f"{room}/claims"}
         os.mkdir(f"{room}/claims")
-        self.claim = shlex.join([f"{HERE}/faulty.py", str(percent), self.counted, f"{CLAIMS}/folder"])
+        self.claim = shlex.join(
+            [f"{HERE}/faulty.py", str(percent), self.counted, f"{CLAIMS}/folder"])
 
     def answers(self):
         kinds = read(self.counted).decode().split()

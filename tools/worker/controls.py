@@ -8,7 +8,8 @@ from worker import crowd, entering, kills, making, persons, power, rounds, scene
 
 STAND_IN = os.path.join(os.path.dirname(os.path.realpath(__file__)), "stand_in.py")
 TWICE, GONE, DOUBT = "performed twice", "performed twice|acknowledged line is gone", "(?s)status says .* doubt 2 .*'doubt': 1,"
-# A mistake, the test that must show it, and what that must say; the short form has the first of them.
+# A mistake, the test that must show it, and what that must say; the short form has the first of
+# them.
 MISTAKES = [
     ("last_journal_wins", rounds.try_closing_wins, TWICE),
     ("pending_is_open", persons.try_pending, TWICE),

@@ -143,8 +143,8 @@ def readers_of(scene, draws, count=READERS):
 
 
 def begin_beside(scene, counts, draws):
-    """A worker is begun beside readers, again if it has to come back: it gets on. Nobody answers it,
-    and it is killed."""
+    """A worker is begun beside readers, again if it has to come back: it gets on.
+    Nobody answers it, and it is killed."""
     readers, runner = readers_of(scene, draws, 4), Runner(scene, 1)
     runner.was = lambda serial, line: None
     while not runner.lines and set(runner.statuses) <= {LATER} and len(runner.statuses) < TRIES:
@@ -211,7 +211,8 @@ def stay_with_workers(bench):
     partner = os.path.join(os.path.dirname(os.path.realpath(__file__)), "partner.sh")
     program = f"{scene.room}/program"
     with open(program, "w") as file:
-        file.write(f"""#!/bin/sh\nexec {shlex.join(bench.command())} "$@" {shlex.join(scene.common())}\n""")
+        file.write(f"""#!/bin/sh\nexec {shlex.join(bench.command())} "$@" """
+                   f"""{shlex.join(scene.common())}\n""")
     os.chmod(program, 0o700)
     subprocess.Popen(["sh", partner, program, scene.run, "3", "3", scene.jobs, "sleep", "0.5"], stdin=subprocess.DEVNULL,
                      stdout=subprocess.DEVNULL, stderr=subprocess.DEVNULL, env={**scene.environment(), "TMPDIR": scene.room})

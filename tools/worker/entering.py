@@ -1,5 +1,5 @@
-"""What lets a worker in, and what it waits for: its number, the boot id, the path of the folder, what earlier processes have left
-half made, locks that others hold for a while or for ever."""
+"""What lets a worker in, and what it waits for: its number, the boot id, the path of the folder,
+what earlier processes have left half made, locks that others hold for a while or for ever."""
 
 import fcntl
 import os
@@ -11,7 +11,8 @@ from worker import folder
 from worker.crowd import Reader
 from worker.kills import first_life, state_of
 from worker.persons import Says, prepared
-from worker.scene import DOOR, LATER, OVER, READ, REFUSED, WORDS, Runner, each, finish, live, serve, want, LEFT
+from worker.scene import (DOOR, LATER, OVER, READ, REFUSED, WORDS, Runner, each, finish, live,
+                          serve, want, LEFT)
 
 
 def is_stand_in(bench):
@@ -65,7 +66,8 @@ def try_boot_ids(bench):
     get_in(scene, 1, READ, "the boot id")
     words = [*bench.command(), "work", scene.run, "1", *scene.givens(), *bench.kind, scene.jobs]
     scene.write_jobs(["job 1", "job 2", "job 3"])
-    subprocess.run(words, stdin=subprocess.DEVNULL, capture_output=True, timeout=300, env=scene.environment())
+    subprocess.run(words, stdin=subprocess.DEVNULL, capture_output=True, timeout=300,
+                   env=scene.environment())
     system = folder.read("/proc/sys/kernel/random/boot_id").decode().strip()
     want(folder.record_of(scene.run)["boot"] == system, "with no other word it isn't the system's boot id")
 
@@ -82,7 +84,8 @@ def go_by(bench, path):
     named = next((k for k, it in enumerate(calls) if it[2] == "rename" and it[8] == "."), 0)
     is_synced = any(it[2:4] == ["sync", ".."] for it in calls[named:])
     want(is_synced or not path.startswith("run"), "the folder above isn't synced")
-    want(sorted(os.listdir(scene.room)) == sorted(["boot", "jobs", "link", "log", "run"]), "something is left")
+    want(sorted(os.listdir(scene.room)) == sorted(["boot", "jobs", "link", "log", "run"]),
+         "something is left")
     status, _, err = scene.call("work", path, "1", *scene.givens(), scene.jobs)
     want(status == LEFT and folder.record_of(scene.run), f"status {status}, {err}")
     finish(scene)
@@ -99,9 +102,11 @@ def refused_before(bench, prepare, status):
     run = prepare(scene) or scene.run
     for command, wanted in ((["door", run], status), (["work", run, "1"], READ)):
         ended, out, err = scene.call(*command, *scene.givens(), scene.jobs)
-        want(ended == wanted and not out and err.count("\n") == 1, f"{command}: status {ended}, {err}")
+        want(ended == wanted and not out and err.count("\n") == 1,
+             f"{command}: status {ended}, {err}")
         above = os.path.dirname(run)
-        made = [it for it in os.listdir(above) if it.startswith("run")] if os.path.isdir(above) else []
+        made = ([it for it in os.listdir(above) if it.startswith("run")]
+                if os.path.isdir(above) else [])
         want(not made, f"{command[0]} makes {made} though it refuses")
 
 
@@ -149,10 +154,12 @@ def mount_id(path: str) -> str:
 
 
 def mounted(scene, kind: str, options: str, more: str, defaults: str) -> System:
-    """The folder above the run's lies on such a mount. Others, before it and behind it, have its path."""
+    """The folder above the run's lies on such a mount.
+    Others, before it and behind it, have its path."""
     system, number = System(scene), mount_id(scene.room)
     other = f"1 8:1 / {scene.room} rw - tmpfs none rw"
-    mount = f"{number} 1 8:99 /sub {scene.room} {options} shared:7 master:1 - {kind} /dev/vdz9 {more}"
+    mount = (f"{number} 1 8:99 /sub {scene.room} {options} shared:7 master:1"
+             f" - {kind} /dev/vdz9 {more}")
     lines = [f"{number}0 {other}", f"1{number} {other}", mount, f"2{number} {other}"]
     system.put("/proc/self/mountinfo", "".join(f"{it}\n" for it in lines))
     if defaults:
@@ -161,13 +168,16 @@ def mounted(scene, kind: str, options: str, more: str, defaults: str) -> System:
     return system
 
 
-OVERLAY = "it lies on `overlay`, which may vanish with its container; put it on a volume, or take it anyway: --file-system overlay"
-MOUNTED, DEFAULT = "its file system is mounted with `{}`, and a power cut", "its file system has `{}` as a default, and a power cut"
+OVERLAY = ("it lies on `overlay`, which may vanish with its container; put it on a volume, or take"
+           " it anyway: --file-system overlay")
+MOUNTED, DEFAULT = ("its file system is mounted with `{}`, and a power cut",
+                    "its file system has `{}` as a default, and a power cut")
 SOUND = "rw,bsddf,barrier,data=ordered,commit=5"
 # A mount: its file system's type, its options, its file system's options and the defaults of ext4.
 # Then the type that --file-system names, and what the program says if it refuses the folder.
 MOUNTS = [
-    *((kind, "rw,relatime", "rw,discard", "", None, None) for kind in "ext2 ext3 ext4 xfs btrfs f2fs zfs".split()),
+    *((kind, "rw,relatime", "rw,discard", "", None, None)
+      for kind in "ext2 ext3 ext4 xfs btrfs f2fs zfs".split()),
     ("ext4", "rw", "rw,barrier=1,metadata=writeback,nobarriers", SOUND, None, None),
     ("overlay", "rw", "rw", "", None, OVERLAY),
     ("overlay", "rw", "rw", "", "overlayfs", OVERLAY),
@@ -191,24 +201,30 @@ def enter_mount(bench, kind, options, more, defaults, named, said):
     mounted(scene, kind, options, more, defaults)
     words = ["--file-system", named or "none"] if named or bench.kind else []
     status, out, err = scene.call("door", scene.run, *scene.givens(), scene.jobs, *words)
-    is_told = not said or f"amo_worker: the run's folder is refused: {said}" in err or bench.is_slow()
+    is_told = (not said or f"amo_worker: the run's folder is refused: {said}" in err
+               or bench.is_slow())
     want(status == (DOOR if said else OVER) and not out and is_told, f"status {status}, {err}")
-    want(os.path.exists(scene.run) == (not said), f"the folder is made: {os.path.exists(scene.run)}")
+    want(os.path.exists(scene.run) == (not said),
+         f"the folder is made: {os.path.exists(scene.run)}")
     if not said:
         mounted(scene, "nfs4", "rw", "rw", "")
         for command in ("status", "doubts", "again"):
             status, out, err = scene.call(command, scene.run)
-            want(status == DOOR and not out, f"{command} of a folder that lies on another now: status {status}, {err}")
+            want(status == DOOR and not out,
+                 f"{command} of a folder that lies on another now: status {status}, {err}")
 
 
 def try_mounts(bench):
-    """the mount is that of the folder's handle, whatever its path; which types and options are taken, and which are refused"""
+    """the mount is that of the folder's handle, whatever its path; which types and options are
+    taken, and which are refused"""
     rows = [it for it in MOUNTS if not (bench.is_slow() and it[3])]
     count = each(((bench, *it) for it in rows), enter_mount)
     scene = bench.scene(1, 1, makes=False)
-    mounted(scene, "ext4", "rw", "rw", "").put("/proc/self/mountinfo", "1 1 8:1 / / rw - ext4 none rw\n")
+    mounted(scene, "ext4", "rw", "rw", "").put("/proc/self/mountinfo",
+                                               "1 1 8:1 / / rw - ext4 none rw\n")
     status, _, err = scene.call("door", scene.run, *scene.givens(), scene.jobs)
-    want(status == DOOR and not os.path.exists(scene.run), f"a mount that nothing tells of: status {status}, {err}")
+    want(status == DOOR and not os.path.exists(scene.run),
+         f"a mount that nothing tells of: status {status}, {err}")
     return f"{count} mounts"
 
 
@@ -289,7 +305,8 @@ def try_locks_that_come_free(bench):
 
 
 def begun_anew(bench):
-    """A run with two attempts in doubt: one that is noted as such, and one that nobody holds any more."""
+    """A run with two attempts in doubt:
+    one that is noted as such, and one that nobody holds any more."""
     scene = bench.scene(4, 1)
     runner = Says(scene, 1, ["doubt", "dies"])
     live(runner)
@@ -312,7 +329,8 @@ def sheet_of(scene, *rows):
 
 
 def try_sheets_beside_who_begins(bench):
-    """a sheet with an answer to what somebody holds: none is taken, 75; if another row is refused, 65, before or after that row"""
+    """a sheet with an answer to what somebody holds: none is taken, 75; if another row is refused,
+    65, before or after that row"""
     scene = begun_anew(bench)
     held = open(f"{scene.run}/runner.1", "ab")
     fcntl.flock(held, fcntl.LOCK_EX | fcntl.LOCK_NB)
@@ -321,7 +339,8 @@ def try_sheets_beside_who_begins(bench):
         status, taken, err = sheet_of(scene, *rows)
         want((status, taken) == (REFUSED, 0), f"{rows}: status {status}, {taken} taken, {err}")
     status, taken, err = sheet_of(scene, sound, runs)
-    want((status, taken) == (LATER, 0) and "answer 2" in err, f"status {status}, {taken} taken, {err}")
+    want((status, taken) == (LATER, 0) and "answer 2" in err,
+         f"status {status}, {taken} taken, {err}")
     held.close()
     status, taken, err = sheet_of(scene, sound, runs)
     want((status, taken) == (OVER, 2), f"status {status}, {taken} taken, {err}")

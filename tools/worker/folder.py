@@ -15,7 +15,8 @@ FINDING = re.compile(rb"(done|not-done) N N N".replace(b"N", NUMBER))
 KINDS = "done failed doubt running untouched open".split()
 MOST_WORKERS = 16
 # What the door makes besides `id`, and what stands in it at first.
-PARTS = {"lock.round": b"", "answers": b"-", **{f"journal.{p}": b"-" for p in range(1, MOST_WORKERS + 1)}}
+PARTS = {"lock.round": b"", "answers": b"-",
+         **{f"journal.{p}": b"-" for p in range(1, MOST_WORKERS + 1)}}
 ID = re.compile(rb"[0-9a-f]{32}\n")
 TAKEN = "ext2 ext3 ext4 xfs btrfs f2fs zfs".split()
 
@@ -74,7 +75,8 @@ def listing(folder: str) -> dict:
 
 
 def contents(folder: str) -> dict:
-    """What each file of a folder is and holds; who settles a journal may write the same bytes anew."""
+    """What each file of a folder is and holds;
+    who settles a journal may write the same bytes anew."""
     names = [it for it in os.listdir(folder) if os.path.isfile(f"{folder}/{it}")]
     return {name: (os.stat(f"{folder}/{name}").st_ino, read(f"{folder}/{name}")) for name in names}
 

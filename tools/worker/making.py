@@ -1,6 +1,6 @@
-"""The run's folder: the door alone makes it, and is killed, refused, stopped and begun again at each
-call of that; what is missing in it, or was made by amo 0.1.0, or was forgotten, or is another run's, is
-refused by all."""
+"""The run's folder: the door alone makes it, and is killed, refused, stopped and begun again at
+each call of that; what is missing in it, or was made by amo 0.1.0, or was forgotten, or is another
+run's, is refused by all."""
 
 import errno
 import os
@@ -20,7 +20,8 @@ from worker.scene import (DOOR, KILLED, LATER, OVER, READ, REFUSED, WRITE, Runne
 # What is there before the door comes, and the words by which it is told.
 BEFORE = ("missing", "users", "cut", "into")
 ANOTHER = "0123456789abcdef0123456789abcdef"
-MINE = {**dict.fromkeys(("notes", "list", "list.run-is", "journal.x"), b"mine\n"), "door.old.new": b""}
+MINE = {**dict.fromkeys(("notes", "list", "list.run-is", "journal.x"), b"mine\n"),
+        "door.old.new": b""}
 
 
 def prepare(bench, kind: str) -> Scene:
@@ -57,7 +58,8 @@ def want_whole(scene, kind: str) -> None:
     want(not wrong, f"the door has left {wrong}")
     mine = MINE if kind == "users" else {}
     want(all(found.get(name) == data for name, data in mine.items()), "it changed the user's files")
-    others = [it for it in set(found) - set(MADE) - set(mine) - {"id"} if not it.startswith("door.")]
+    others = [it for it in set(found) - set(MADE) - set(mine) - {"id"}
+              if not it.startswith("door.")]
     want(not others, f"it has made {others}")
 
 
@@ -70,7 +72,8 @@ def first_door(bench, kind: str) -> list:
     want(status == OVER and not out and not err, f"status {status}, {out}{err}")
     scene.logs = False
     want_whole(scene, kind)
-    want(kind != "users" or os.path.isdir(f"{scene.run}/lost+found"), "it removed the user's folder")
+    want(kind != "users" or os.path.isdir(f"{scene.run}/lost+found"),
+         "it removed the user's folder")
     left = [it for it in os.listdir(scene.room) if it.startswith("run.")]
     left += [it for it in os.listdir(scene.run) if it.startswith("door.") and it != "door.old.new"]
     want(not left, f"it leaves {left}")
@@ -133,10 +136,11 @@ FEW = 4  # how many calls of a door the short form tries, besides its last ones
 
 
 def points(bench, kind: str, count: int, chosen=changes) -> list:
-    """The numbers of a door's calls, some of them in the short form, among these its last one and that
-    by which the run gets its id, with the calls beside it."""
+    """The numbers of a door's calls, some of them in the short form, among these its last one and
+    that by which the run gets its id, with the calls beside it."""
     calls = chosen(first_door(bench, kind))
-    numbers, named = [int(it[1]) for it in calls], next(k for k, it in enumerate(calls) if names_it(it))
+    numbers, named = ([int(it[1]) for it in calls],
+                      next(k for k, it in enumerate(calls) if names_it(it)))
     return numbers if bench.is_long else sorted({*bench.sample(numbers, count), numbers[-1],
                                                  *numbers[named - 1:named + 2]})
 
@@ -181,7 +185,8 @@ def refusals(bench, kind: str):
     groups = alike.values() if bench.is_long else [(it[0], it[-1]) for it in alike.values()]
     ends = {int(it[1]): it for group in groups for it in group}
     for number, (_, _, call, file, _, _, length, *_) in ends.items():
-        yield bench, kind, number, call, file, errno.ENOSPC if number % 2 and call != "read" else errno.EIO
+        yield (bench, kind, number, call, file,
+               errno.ENOSPC if number % 2 and call != "read" else errno.EIO)
         if call in ("open", "read", "write", "sync"):
             yield bench, kind, number, call, file, errno.EINTR
         if call in ("read", "write") and int(length) > 1:
@@ -210,8 +215,10 @@ def stop_one(bench, kind: str, number: int) -> None:
         runner = Runner(scene, 1)
         runner.leaves = True
         live(runner)
-        may_wait = runner.statuses == [LATER]  # (for the first door, which may hold the round's lock)
-        want(len(scene.effects()) == 1 or may_wait, f"no line is performed: {runner.statuses}, {runner.said}")
+        # (for the first door, which may hold the round's lock)
+        may_wait = runner.statuses == [LATER]
+        want(len(scene.effects()) == 1 or may_wait,
+             f"no line is performed: {runner.statuses}, {runner.said}")
     first.process.send_signal(signal.SIGCONT)
     status, _, err = first.ended()
     goes_on = status == OVER or kind == "into" and status == REFUSED
@@ -228,7 +235,8 @@ def stop_one(bench, kind: str, number: int) -> None:
 def try_two_doors(bench):
     """a door stopped at each call, while another makes the folder and a worker begins: both go on,
     with one id"""
-    rows = [(bench, kind, it) for kind in BEFORE for it in points(bench, kind, FEW, lambda calls: calls)]
+    rows = [(bench, kind, it) for kind in BEFORE
+            for it in points(bench, kind, FEW, lambda calls: calls)]
     return f"{each(rows, stop_one)} stops"
 
 
@@ -281,7 +289,8 @@ def leave_one(bench, name: str, data) -> None:
 def try_leftovers(bench):
     """what amo leaves in a folder is no user's file: without an id it is refused, and nothing is
     changed"""
-    names = [*"forgotten jobs words command crew shared lock record.new jobs.new words.new command.new".split(),
+    names = [*("forgotten jobs words command crew shared lock record.new jobs.new words.new"
+               " command.new").split(),
              *"journal.17 runner.1 pace.3 command.1.12 out.2.1 err.16.400".split()]
     rows = [(bench, name, b"") for name in (bench.sample(names, 6) if bench.is_slow() else names)]
     rows += [(bench, "journal.3", b"-x"), (bench, "answers", b"+-"), (bench, "chunk.1", None)]
@@ -302,7 +311,8 @@ def refuse_all(scene, name: str, what: str, words: list) -> None:
     for command, *more in words:
         status, out, err = scene.call(command, scene.run, *more)
         named = name in err.replace(scene.run, "RUN") and err.count("\n") == 1
-        want(status == REFUSED and named and not out, f"{name} {what}, {command}: status {status}, {out or err}")
+        want(status == REFUSED and named and not out,
+             f"{name} {what}, {command}: status {status}, {out or err}")
     want(folder.contents(scene.run) == before, f"{name} {what}: something was changed")
 
 
@@ -319,7 +329,8 @@ def miss_one(bench, name: str, is_removed: bool, few_commands: bool) -> None:
     what, words = "is removed" if is_removed else "is emptied", commands(scene)
     refuse_all(scene, name, what, bench.draws.sample(words, 2) if few_commands else words)
     runner = Runner(scene, 1)
-    want(live(runner) == REFUSED and not runner.lines, f"{name} {what}: {runner.statuses}, {runner.lines}")
+    want(live(runner) == REFUSED and not runner.lines,
+         f"{name} {what}: {runner.statuses}, {runner.lines}")
     runner.close()
     put(path, data)
     finish(scene)
@@ -345,7 +356,8 @@ def try_missing_beside(bench):
     for name in ("journal.1", "journal.2", "journal.3"):
         os.rename(f"{scene.run}/{name}", f"{scene.room}/{name}")
         for runner in (second, Runner(scene, 3)):
-            want(live(runner) == REFUSED and name in runner.said, f"{name}: {runner.statuses}, {runner.said}")
+            want(live(runner) == REFUSED and name in runner.said,
+                 f"{name}: {runner.statuses}, {runner.said}")
             want(not runner.lines, f"{name}: it says {runner.lines}")
             if runner is not second:
                 runner.close()
@@ -376,7 +388,8 @@ def read_old(scene, counts: str, doubts: list) -> None:
     """status and doubts read it, and write nothing."""
     before = folder.listing(scene.run)
     status, out, err = scene.call("status", scene.run)
-    want(status == OVER and out.split("\n")[0] == counts, f"status {status}: {out or err}, and not {counts}")
+    want(status == OVER and out.split("\n")[0] == counts,
+         f"status {status}: {out or err}, and not {counts}")
     for words in (["--json"], ["--lines", "open"], ["--lines", "doubt"]):
         status, out, err = scene.call("status", scene.run, *words)
         want(status == OVER and out, f"{words}: status {status}, {err}")
@@ -388,22 +401,26 @@ def try_old_run(bench):
     """a folder of amo 0.1.0: status and doubts read it and write nothing, also beside its locks;
     all else refuses it"""
     scene = old_run(bench)
-    read_old(scene, "lines 7 done 1 failed 0 doubt 2 running 0 untouched 1 open 3", [(1, 3), (1, 5)])
+    read_old(scene, "lines 7 done 1 failed 0 doubt 2 running 0 untouched 1 open 3",
+             [(1, 3), (1, 5)])
     if os.path.exists(f"{scene.run}/runner.1"):
         for name in ("journal.1", "runner.1", "command.1.5"):
             other = Runner(scene, 2, is_stray=True)
             held, scene.account = other.taken(name), []
-            read_old(scene, "lines 7 done 1 failed 0 doubt 1 running 1 untouched 1 open 3", [(1, 3)])
+            read_old(scene, "lines 7 done 1 failed 0 doubt 1 running 1 untouched 1 open 3",
+                     [(1, 3)])
             held.close()
     for name in ("runner.1", "command.1.5", "lock.round"):
         os.unlink(f"{scene.run}/{name}")
-    read_old(scene, "lines 7 done 1 failed 0 doubt 2 running 0 untouched 1 open 3", [(1, 3), (1, 5)])
+    read_old(scene, "lines 7 done 1 failed 0 doubt 2 running 0 untouched 1 open 3",
+             [(1, 3), (1, 5)])
     before = folder.listing(scene.run)
     for command, *more in commands(scene):
         if command in ("status", "doubts"):
             continue
         status, out, err = scene.call(command, scene.run, *more)
-        want(status == REFUSED and not out and err.count("\n") == 1, f"{command}: status {status}, {out or err}")
+        want(status == REFUSED and not out and err.count("\n") == 1,
+             f"{command}: status {status}, {out or err}")
         want(command != "door" or "0.1.0" in err, f"the door doesn't name the version: {err}")
     for command in ("status", "doubts"):
         status, out, err = scene.call(command, scene.run, "--id", ANOTHER)
@@ -416,10 +433,12 @@ def try_id(bench):
     id that is none is refused"""
     scene = prepared(bench, ["doubt", "done 0"], lines=2)
     for command, *more in commands(scene):
-        more = [*more[:-1], "--id", ANOTHER, more[-1]] if command in ("door", "work") else [*more, "--id", ANOTHER]
+        more = ([*more[:-1], "--id", ANOTHER, more[-1]] if command in ("door", "work")
+                else [*more, "--id", ANOTHER])
         before = folder.contents(scene.run)
         status, out, err = scene.call(command, scene.run, *more)
-        want(status == REFUSED and not out and err.count("\n") == 1, f"{command}: status {status}, {out or err}")
+        want(status == REFUSED and not out and err.count("\n") == 1,
+             f"{command}: status {status}, {out or err}")
         want(folder.contents(scene.run) == before, f"{command} changes something")
         more[more.index(ANOTHER)] = scene.id()
         status, _, err = scene.call(command, scene.run, *more)
@@ -429,13 +448,16 @@ def try_id(bench):
         before = os.path.isdir(scene.run) and folder.listing(scene.run)
         status, _, err = scene.call("door", scene.run, *scene.givens(), "--id", ANOTHER, scene.jobs)
         want(status == REFUSED and err.count("\n") == 1, f"{kind}: status {status}, {err}")
-        want((os.path.isdir(scene.run) and folder.listing(scene.run)) == before, f"{kind}: something is made")
+        want((os.path.isdir(scene.run) and folder.listing(scene.run)) == before,
+             f"{kind}: something is made")
         left = [it for it in os.listdir(scene.room) if it.startswith("run.")]
         want(not left, f"{kind}: it leaves {left}")
     scene = prepared(bench, ["doubt", "done 0"], lines=2)
-    for data in (b"0" * 32, b"0" * 31 + b"\n", b"0" * 33 + b"\n", b"A" * 32 + b"\n", b"0" * 32 + b"\n\n", b"g" * 32 + b"\n"):
+    for data in (b"0" * 32, b"0" * 31 + b"\n", b"0" * 33 + b"\n", b"A" * 32 + b"\n",
+                 b"0" * 32 + b"\n\n", b"g" * 32 + b"\n"):
         put(f"{scene.run}/id", data)
-        refuse_all(scene, "id", f"says {data}", bench.draws.sample(commands(scene), 2 if bench.is_slow() else 7))
+        refuse_all(scene, "id", f"says {data}",
+                   bench.draws.sample(commands(scene), 2 if bench.is_slow() else 7))
 
 
 def try_forgotten(bench):
@@ -443,7 +465,8 @@ def try_forgotten(bench):
     scene = prepared(bench, ["doubt", "done 0"], lines=2)
     put(f"{scene.run}/forgotten", b"")
     words = commands(scene)
-    refuse_all(scene, "forgotten", "is there", [it for it in words if it[0] in ("door", "work", "again")])
+    refuse_all(scene, "forgotten", "is there",
+               [it for it in words if it[0] in ("door", "work", "again")])
     for command, *more in (it for it in words if it[0] in ("status", "doubts")):
         status, _, err = scene.call(command, scene.run, *more)
         want(status == OVER, f"{command}: status {status}, {err}")
@@ -469,8 +492,8 @@ def try_into(bench):
 
 
 def freed(scene, words, held, name):
-    """Frees this lock once an answer was refused it twice; how the answer ends. It may end by itself
-    before that, if this tool is slow."""
+    """Frees this lock once an answer was refused it twice; how the answer ends. It may end by
+    itself before that, if this tool is slow."""
     refused = lambda: sum(it[2:4] == ["lock", name] and int(it[7]) < 0 for it in scene.logged())
     before, waiting = refused(), Reader(scene, *words)
     while refused() < before + 2 and waiting.process.poll() is None:
@@ -492,9 +515,11 @@ def try_answers_that_wait(bench):
     for name in ("journal.1", "runner.1"):
         other = Runner(scene, 2, is_stray=True)
         held, before = other.taken(name), read(f"{scene.run}/answers")
-        words = ["answer", "--from", path] if name == "runner.1" else ["answer", "1.1", "1", "job 1", "done"]
+        words = (["answer", "--from", path] if name == "runner.1"
+                 else ["answer", "1.1", "1", "job 1", "done"])
         status, out, err = scene.call(words[0], scene.run, *words[1:])
-        want(status == LATER and not out and err.count("\n") == 1, f"while {name} is held: status {status}, {err}")
+        want(status == LATER and not out and err.count("\n") == 1,
+             f"while {name} is held: status {status}, {err}")
         want(read(f"{scene.run}/answers") == before, f"while {name} is held something is written")
         if name == "runner.1":
             scene.logs, tries = True, 0
@@ -504,7 +529,8 @@ def try_answers_that_wait(bench):
         held.close()
     want(len(folder.texts_of(read(f"{scene.run}/answers"))) == 1, "the answer isn't taken once")
     put(path, b"1.1\t1\tjob 1\tdone\n2.7\t2\tjob 2\tdone\n")
-    want(scene.call("answer", scene.run, "--from", path)[0] == REFUSED, "an answer to nothing is put off")
+    want(scene.call("answer", scene.run, "--from", path)[0] == REFUSED,
+         "an answer to nothing is put off")
 
 
 def cut_one(bench, kind: str, number: int, how: str) -> None:
@@ -553,7 +579,8 @@ def again_one(bench, kind: str, number: int) -> None:
 def try_door_killed_and_cut(bench):
     """the door, killed at each call, and another: all that was made has its name for certain before
     a line is performed"""
-    rows = [(bench, kind, it) for kind in ("users", "missing") for it in points(bench, kind, FEW)[-4:]]
+    rows = [(bench, kind, it) for kind in ("users", "missing")
+            for it in points(bench, kind, FEW)[-4:]]
     return f"{each(rows, again_one)} kills"
 
 

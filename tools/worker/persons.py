@@ -9,8 +9,8 @@ import subprocess
 import tempfile
 
 from worker.folder import KINDS, read, texts_of
-from worker.scene import (ANSWER, DOOR, KILLED, LATER, LEFT, OVER, REFUSED, WORDS, WRITE, Runner, each, finish, live,
-                          see_out, serve, want)
+from worker.scene import (ANSWER, DOOR, KILLED, LATER, LEFT, OVER, REFUSED, WORDS, WRITE, Runner,
+                          each, finish, live, see_out, serve, want)
 
 
 class Says(Runner):
@@ -97,7 +97,8 @@ def answered(scene, name, line, text, verdict, status, taken):
     said = f"{name} {line} {text} {verdict}: status {ended}, {after - before} taken, {err}"
     want((ended, after - before) == (status, taken), said)
     named = status == LATER or "answer 1" in err
-    want(status == OVER or err.count("\n") == 1 and named, f"{name} {verdict} is refused without a word: {err}")
+    want(status == OVER or err.count("\n") == 1 and named,
+         f"{name} {verdict} is refused without a word: {err}")
 
 
 def try_answers(bench):
@@ -345,11 +346,14 @@ def try_words(bench):
                   ["status", run, "--lines", "all"], ["status", run, "more"], ["doubts", run, "--lines", "open"],
                   ["answer", run, "1.1", "1"], ["again"], ["work", run, "1", "--workers", "2", "--json", jobs],
                   ["work", run, "1", "--workers", "two", jobs], ["status", run, "--json", "--lines", "open"],
-                  ["answer", run, "--from", jobs, "1.1", "1", "job 1", "done"], ["answer", run], ["doubts", run, "--from", jobs],
+                  ["answer", run, "--from", jobs, "1.1", "1", "job 1", "done"], ["answer", run],
+                  ["doubts", run, "--from", jobs],
                   ["work", run, "1", "--workers", "2", "--into", jobs], ["status", run, "--into"],
-                  *(["door", run, "--workers", "2", "--id", it, jobs] for it in ("", "1" * 31, "1" * 33, "A" * 32)),
+                  *(["door", run, "--workers", "2", "--id", it, jobs]
+                    for it in ("", "1" * 31, "1" * 33, "A" * 32)),
                   *([it, run, "--id", "0" * 31 + "g"] for it in ("status", "doubts", "again"))]:
-        ran = subprocess.run([*bench.command(), *words], stdin=subprocess.DEVNULL, capture_output=True, timeout=300)
+        ran = subprocess.run([*bench.command(), *words], stdin=subprocess.DEVNULL,
+                             capture_output=True, timeout=300)
         want(ran.returncode == WORDS and ran.stderr.count(b"\n") >= 1, f"{words}: status {ran.returncode}, {ran.stderr}")
     want(not os.path.exists(run), "the folder was made")
 
@@ -434,4 +438,5 @@ exec {shlex.join(bench.command())} "$@" {shlex.join(scene.common())}
 
 PARTS = {"persons": [try_counts, try_answers, try_answers_open, try_answers_from_file, try_many_answers],
          "commands": [try_commands_that_stay, try_pending, try_locks_of_a_doubt, try_senseless_answers, try_ends, try_no_partner],
-         "door": [try_jobs, try_words, try_door, try_file_system, try_owner], "shell": [try_partner_of_shell]}
+         "door": [try_jobs, try_words, try_door, try_file_system, try_owner],
+         "shell": [try_partner_of_shell]}

@@ -222,5 +222,6 @@ def try_order(bench):
 
 
 PARTS = {"order": [try_order],
-         "cuts": [try_cut_at_each_call, try_killed_and_cut, try_listed_and_cut, try_failed_sync_and_cut,
-                  try_failed_answers_and_cut, try_words_of_another_boot]}
+         "cuts": [try_cut_at_each_call, try_killed_and_cut, try_listed_and_cut,
+                  try_failed_sync_and_cut, try_failed_answers_and_cut,
+                  try_words_of_another_boot]}

@@ -52,7 +52,8 @@ def change_between(bench, name):
 
 def try_changes(bench):
     """another boot, words or record removed, other WORKERS and BETA, a jobs' file that has grown: a new round"""
-    each(((bench, it) for it in ("boot", "words", "record", "fewer", "more", "grown")), change_between)
+    each(((bench, it) for it in ("boot", "words", "record", "fewer", "more", "grown")),
+         change_between)
 
 
 def try_givens(bench):

@@ -3,12 +3,14 @@
 import fcntl
 import os
 
-MISTAKES = ("intent_after_the_act pending_is_open guard_is_removed words_of_another_boot cut_line_is_kept last_journal_wins"
-            " opens_without_settling above_synced_by_the_maker_alone lists_without_settling own_words_forgotten"
-            " claim_after_the_act readers_without_a_lock missing_is_empty empty_is_empty id_is_replaced id_first"
-            " id_before_the_sync emptied_by_recovery old_run_is_settled old_run_is_worked running_is_refused id_is_not_compared"
-            " mount_by_path options_are_taken"
-            " forgotten_is_taken users_files_are_refused leftovers_are_taken").split()
+MISTAKES = ("intent_after_the_act pending_is_open guard_is_removed words_of_another_boot"
+            " cut_line_is_kept last_journal_wins opens_without_settling"
+            " above_synced_by_the_maker_alone lists_without_settling own_words_forgotten"
+            " claim_after_the_act readers_without_a_lock missing_is_empty empty_is_empty"
+            " id_is_replaced id_first id_before_the_sync emptied_by_recovery old_run_is_settled"
+            " old_run_is_worked running_is_refused id_is_not_compared mount_by_path"
+            " options_are_taken forgotten_is_taken users_files_are_refused"
+            " leftovers_are_taken").split()
 MISTAKE = os.environ.get("AMO_MISTAKE")
 MOST_JOBS, MOST_WORKERS, MOST_BYTES, VERSION = 4096, 16, 100000, b"amo-run 1"
 LATER, PATIENCE = 75, 2.0
@@ -91,7 +93,8 @@ def has_lock(file, path, how):
 
 
 def opened_part(it, name, flags):
-    """A file that the door makes, which must be there; None if it is missing in a folder of 0.1.0."""
+    """A file that the door makes, which must be there;
+    None if it is missing in a folder of 0.1.0."""
     path = f"{it.run}/{name}"
     try:
         return opened(path, flags | (os.O_CREAT if MISTAKE == "missing_is_empty" else 0), None)
@@ -104,7 +107,8 @@ def opened_part(it, name, flags):
 
 
 def part(it, name):
-    """All bytes of a file that the door makes, none if it is missing; in a folder of 0.1.0 alone it may be missing or empty."""
+    """All bytes of a file that the door makes, none if it is missing;
+    in a folder of 0.1.0 alone it may be missing or empty."""
     data = content(f"{it.run}/{name}")
     if not it.is_old:
         check_part(it, name, None if data is None else len(data))

@@ -12,7 +12,8 @@ from stand_files import (
 
 LOCAL = "ext2 ext3 ext4 xfs btrfs f2fs zfs".split()
 REFUSED_OPTIONS = {b"nobarrier", b"barrier=0", b"data=writeback"}
-FIXED = {*PARTS, *"id forgotten record jobs words command crew shared lock record.new jobs.new words.new command.new".split()}
+FIXED = {*PARTS, *("id forgotten record jobs words command crew shared lock record.new jobs.new"
+                   " words.new command.new").split()}
 NUMBERED = {"journal": 1, "runner": 1, "pace": 1, "command": 2, "out": 2, "err": 2, "chunk": 1}
 
 
@@ -30,7 +31,8 @@ def mount_of(path):
 
 
 def check_mount(it, path):
-    """Refuses a folder on a file system that isn't taken, or that is mounted so that it may forget what was synced."""
+    """Refuses a folder on a file system that isn't taken,
+    or that is mounted so that it may forget what was synced."""
     kind, options, device = mount_of(path)
     if kind not in [*LOCAL, it.kind]:
         raise End(77, f"{path}: it lies on a file system of type {kind}")
@@ -43,8 +45,10 @@ def check_mount(it, path):
 
 def is_made(name):
     """Whether amo makes files of this name in a run's folder."""
-    kind, *said = name.removesuffix(".new").split(".") if name.startswith("chunk.") else name.split(".")
-    return name in FIXED or len(said) == NUMBERED.get(kind) and all(it.isdigit() and it.isascii() for it in said)
+    kind, *said = (name.removesuffix(".new").split(".") if name.startswith("chunk.")
+                   else name.split("."))
+    return name in FIXED or (len(said) == NUMBERED.get(kind)
+                             and all(it.isdigit() and it.isascii() for it in said))
 
 
 def is_there(path):
@@ -85,7 +89,8 @@ def make_folder(it):
 
 
 def make_beside(it):
-    """Makes the folder whole beside, and gives it its name; if something has that name by then, that is gone on with."""
+    """Makes the folder whole beside, and gives it its name;
+    if something has that name by then, that is gone on with."""
     new = f"{it.run}.new-{drawn().decode()}"
     called(73, new, os.mkdir, new, 0o700)
     try:
@@ -104,18 +109,21 @@ def make_beside(it):
 
 
 def make_in_place(it):
-    """Makes what is missing in a folder without `id`, each file with its bytes before its name, and `id` last."""
+    """Makes what is missing in a folder without `id`, each file with its bytes before its name,
+    and `id` last."""
     found = set(called(74, it.run, os.listdir, it.run))
     if "id" in found:
         return
     made = [name for name in found if is_made(name)]
-    is_cut_off = all(name in PARTS and os.path.getsize(f"{it.run}/{name}") < 2 for name in made if is_there(f"{it.run}/{name}"))
+    is_cut_off = all(name in PARTS and os.path.getsize(f"{it.run}/{name}") < 2
+                     for name in made if is_there(f"{it.run}/{name}"))
     if not is_cut_off and MISTAKE == "leftovers_are_taken":
         is_cut_off = "record" not in made
     if not is_cut_off or MISTAKE == "users_files_are_refused" and found - set(made):
         if is_there(f"{it.run}/id"):  # by another door, meanwhile
             return
-        what = "it was made by amo 0.1.0" if "record" in made else f"it has no id, but {min(made, default='files')}"
+        what = ("it was made by amo 0.1.0" if "record" in made
+                else f"it has no id, but {min(made, default='files')}")
         raise End(65, f"{it.run}: {what}")
     for name in ["id", *PARTS] if MISTAKE == "id_first" else [*PARTS, "id"]:
         if name == "id" and MISTAKE != "id_before_the_sync":
@@ -136,8 +144,9 @@ def make_in_place(it):
 
 
 def fill_empty(path, data):
-    """Gives a file that is empty its first bytes, under its lock: so nobody has begun to write there. (Renamed over it, another
-    file might take the place of one in which a worker has written meanwhile.)"""
+    """Gives a file that is empty its first bytes, under its lock: so nobody has begun to write
+    there. (Renamed over it, another file might take the place of one in which a worker has written
+    meanwhile.)"""
     file, end = opened(path, os.O_RDWR, 73), time.monotonic() + PATIENCE
     while data and os.fstat(file).st_size == 0:
         if has_lock(file, path, fcntl.LOCK_EX) and os.fstat(file).st_size == 0:
@@ -151,12 +160,14 @@ def fill_empty(path, data):
 
 
 def check_whole(it, found, reads):
-    """Refuses a folder whose id is none or another one, that was forgotten, or of which a file is missing or empty."""
+    """Refuses a folder whose id is none or another one, that was forgotten,
+    or of which a file is missing or empty."""
     if len(found) != 33 or found[32:] != b"\n" or set(found[:32]) - set(b"0123456789abcdef"):
         raise End(65, f"{it.run}/id: it is no id")
     if it.id and it.id.encode() != found[:32] and MISTAKE != "id_is_not_compared":
         raise End(65, f"{it.run}: it is another run, {found[:32].decode()}, and not {it.id}")
-    if not reads and it.command != "answer" and MISTAKE != "forgotten_is_taken" and is_there(f"{it.run}/forgotten"):
+    if (not reads and it.command != "answer" and MISTAKE != "forgotten_is_taken"
+            and is_there(f"{it.run}/forgotten")):
         raise End(65, f"{it.run}: it is forgotten")
     for name in PARTS:
         is_one = is_there(f"{it.run}/{name}")

@@ -8,8 +8,8 @@
 
 Each takes --id ID, --file-system TYPE and --boot-id FILE too.
 
-It is plain and slow, and nobody should work with it. AMO_MISTAKE names one of MISTAKES, which it then makes: the tests must show
-each of them.
+It is plain and slow, and nobody should work with it. AMO_MISTAKE names one of MISTAKES, which it
+then makes: the tests must show each of them.
 """
 
 import fcntl
@@ -55,7 +55,8 @@ def texts_in(data):
 
 
 class Journal:
-    """A file of texts behind gates, open to be written; in a folder of 0.1.0, to be read and locked alone."""
+    """A file of texts behind gates, open to be written;
+    in a folder of 0.1.0, to be read and locked alone."""
 
     def __init__(self, it, name):
         self.path = f"{it.run}/{name}"
@@ -70,7 +71,8 @@ class Journal:
         os.close(self.file)
 
     def settle(self):
-        """Has the disk keep what is read, and a closed gate behind it. The file is never empty meanwhile."""
+        """Has the disk keep what is read, and a closed gate behind it.
+        The file is never empty meanwhile."""
         data = whole(self.file, self.path)
         texts, gate, self.end = texts_in(data)
         if MISTAKE == "opens_without_settling":
@@ -179,18 +181,21 @@ class Ledger:
 
 
 def final_ledger(it):
-    """The ledger with the locks of all pending intents that can be got, and the files of those locks; such an intent is final. In
-    a folder of 0.1.0 nothing is written, and a file that is missing is held by nobody."""
+    """The ledger with the locks of all pending intents that can be got, and the files of those
+    locks; such an intent is final. In a folder of 0.1.0 nothing is written, and a file that is
+    missing is held by nobody."""
     held, final = [], set()
     for journal in Ledger(it).journals:
         if any(intent.answer is None for intent in journal):
             worker = journal[0].worker
             file, runner = Journal(it, f"journal.{worker}"), f"{it.run}/runner.{worker}"
             held.append(file.file)
-            if file.lock() and is_got(runner, os.O_RDONLY if it.is_old else os.O_RDWR | os.O_CREAT, held):
+            if file.lock() and is_got(
+                    runner, os.O_RDONLY if it.is_old else os.O_RDWR | os.O_CREAT, held):
                 if MISTAKE == "old_run_is_settled" and it.is_old:
                     file.file = opened(file.path, os.O_RDWR, 73)
-                if MISTAKE != "lists_without_settling" and not it.is_old or MISTAKE == "old_run_is_settled":
+                if (MISTAKE != "lists_without_settling" and not it.is_old
+                        or MISTAKE == "old_run_is_settled"):
                     file.settle()
                 final |= {(worker, intent.serial) for intent in journal if intent.answer is None
                           and is_got(f"{it.run}/command.{intent.name()}", os.O_RDONLY, held)}
@@ -422,8 +427,8 @@ def guard(it):
 
 
 def readers_lock(it):
-    """The lock of answers, once no reader has it: each keeps it as long as it holds locks of workers. A folder of 0.1.0 in which
-    nobody has answered has none."""
+    """The lock of answers, once no reader has it: each keeps it as long as it holds locks of
+    workers. A folder of 0.1.0 in which nobody has answered has none."""
     file = Journal(it, "answers")
     if MISTAKE != "readers_without_a_lock" and file.file is not None:
         called(73, file.path, fcntl.flock, file.file, fcntl.LOCK_EX)
@@ -519,7 +524,8 @@ def make(it):
 
 
 def enter_folder(it):
-    """Refuses what is no folder of one's own, or lies where none may lie, or is of another version."""
+    """Refuses what is no folder of one's own, or lies where none may lie,
+    or is of another version."""
     found = called(74, it.run, os.lstat, it.run)
     if (found.st_mode & 0o170000) != 0o040000 or found.st_uid != os.geteuid():
         raise End(77, f"{it.run}: it is no folder of one's own")
@@ -528,7 +534,8 @@ def enter_folder(it):
 
 
 def enter(it):
-    """Refuses a folder that isn't this run's, or of which something is missing; only the door makes something."""
+    """Refuses a folder that isn't this run's, or of which something is missing;
+    only the door makes something."""
     if it.command == "door":
         make(it)
     enter_folder(it)
@@ -536,7 +543,8 @@ def enter(it):
     it.is_old = found is None
     reads = it.command in ("status", "doubts")
     if it.is_old and (it.id or not reads and MISTAKE != "old_run_is_worked"):
-        raise End(65, f"{it.run}: it has no id; only the door makes a folder, and only status and doubts read one of amo 0.1.0")
+        raise End(65, f"{it.run}: it has no id; only the door makes a folder, and only status and"
+                      " doubts read one of amo 0.1.0")
     if not it.is_old:
         check_whole(it, found, reads)
     if it.jobs:
@@ -647,7 +655,8 @@ def answer_once(it, rows):
     try:
         verdicts, running = {}, None
         for place, row in enumerate(rows, 1):
-            why = refusal(ledger, *row) or (AGAIN if verdicts.setdefault(row[0], row[3]) != row[3] else None)
+            why = (refusal(ledger, *row)
+                   or (AGAIN if verdicts.setdefault(row[0], row[3]) != row[3] else None))
             said = f"answer {place}, {row[0].decode(errors='replace')}: {why}"
             if why == RUNNING and MISTAKE != "running_is_refused":
                 running = running or said
@@ -678,8 +687,8 @@ class Given:
 
     def __init__(self, words):
         self.words, options = [], {}
-        wants = {"--workers": 1, "--beta": 1, "--json": 0, "--lines": 1, "--from": 1, "--file-system": 1, "--boot-id": 1,
-                 "--id": 1, "--into": 0}
+        wants = {"--workers": 1, "--beta": 1, "--json": 0, "--lines": 1, "--from": 1,
+                 "--file-system": 1, "--boot-id": 1, "--id": 1, "--into": 0}
         while words:
             word = words.pop(0)
             if word.startswith("--") and self.words[:1] != ["answer"] or word in wants:
@@ -690,12 +699,13 @@ class Given:
                 self.words.append(word)
         shapes = {"door": (3, 3), "work": (4, 4), "status": (2, 2), "doubts": (2, 2), "again": (2, 2),
                   "answer": (2, 2) if "--from" in options else (6, 6)}
-        taken = {"door": "--workers --beta --into", "work": "--workers --beta", "status": "--json --lines", "doubts": "--json",
-                 "answer": "--from"}
+        taken = {"door": "--workers --beta --into", "work": "--workers --beta",
+                 "status": "--json --lines", "doubts": "--json", "answer": "--from"}
         self.command = self.words[0] if self.words else None
         if self.command not in shapes or not shapes[self.command][0] <= len(self.words) <= shapes[self.command][1]:
             raise End(64, "usage: door, work, status, doubts, answer or again, and RUN")
-        if set(options) - {*taken.get(self.command, "").split(), "--file-system", "--boot-id", "--id"}:
+        if set(options) - {*taken.get(self.command, "").split(),
+                           "--file-system", "--boot-id", "--id"}:
             raise End(64, "an option of another command")
         self.run, self.kind = self.words[1].rstrip("/"), options.get("--file-system")
         self.id, self.is_into, self.is_old = options.get("--id"), "--into" in options, False

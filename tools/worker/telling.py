@@ -93,19 +93,19 @@ NO_ATTEMPT = "no attempt has this number; take the number from `doubts` or `stat
 OTHER_LINE = "the attempt is of another line; take number and line from `doubts` or `status`"
 NOT_ASKED = "the attempt was done, or was never begun; it takes no answer"
 # (`THE RUN` stands for the path of the run's folder.)
-MISSING = ("is missing; put the file back, or give up this run (without it nobody knows which lines were"
-           " performed)")
-EMPTY = ("is empty; put its bytes back, or give up this run (without them nobody knows which lines were"
-         " performed)")
+MISSING = ("is missing; put the file back, or give up this run (without it nobody knows which lines"
+           " were performed)")
+EMPTY = ("is empty; put its bytes back, or give up this run (without them nobody knows which lines"
+         " were performed)")
 OLD_RUN = ("`THE RUN`: made by amo 0.1.0, which gave it no `id`; begin a new run of its open lines"
            " (`amo_worker status RUN --lines open`) in a new folder")
-FORGOTTEN = ("`THE RUN`: this run was given up, since `forgotten` is there; begin a new run in another"
-             " folder")
+FORGOTTEN = ("`THE RUN`: this run was given up, since `forgotten` is there; begin a new run in"
+             " another folder")
 HAS_ID = "`THE RUN`: it has an `id` already, and --into makes a new run; name another folder"
-NO_RUN_THERE = ("`THE RUN`: no run's folder is there; mount the file system that holds it, or name the"
-                " path that it has now")
-NO_ID = ("`THE RUN`: it has no `id`, so it is no run's folder; name a run's folder (`amo_worker door`"
-         " makes one)")
+NO_RUN_THERE = ("`THE RUN`: no run's folder is there; mount the file system that holds it, or name"
+                " the path that it has now")
+NO_ID = ("`THE RUN`: it has no `id`, so it is no run's folder; name a run's folder (`amo_worker"
+         " door` makes one)")
 OTHER_ID = "`THE RUN`: its `id` is not the one that --id names; name the folder of that run"
 NOT_NEW = "`THE RUN`: it has `jobs` and no `id`, so no run can be made there; name another folder"
 BEGINS_NEW = "no worker leaves words so; end all workers, and the next round begins with new ones"
@@ -117,13 +117,15 @@ FAULTS = [
     (instead(same), "doubts", READ, "the run's folder can't be read: ..."),
     (other_version, "again", DOOR, "the run's folder is refused: its record is of another version"),
     (with_lines(""), "work 1", REFUSED, "the jobs' file is refused: line 5 is empty; remove it"),
-    (with_lines("a\0"), "door", REFUSED, "the jobs' file is refused: line 5 has a NUL byte; remove that byte"),
+    (with_lines("a\0"), "door", REFUSED,
+     "the jobs' file is refused: line 5 has a NUL byte; remove that byte"),
     (with_lines("a\r"), "work 1", REFUSED,
      "the jobs' file is refused: line 5 has a carriage return; end lines with a line feed alone"),
     (with_lines("x" * 100001), "work 1", REFUSED,
      "the jobs' file is refused: line 5 is longer than 100000 bytes; shorten it"),
     (with_lines("a", "job 2"), "door", REFUSED,
-     "the jobs' file is refused: line 6 is equal to a line before it; remove it, or make the two differ"),
+     "the jobs' file is refused: line 6 is equal to a line before it; remove it, or make the two"
+     " differ"),
     (other_line, "work 1", REFUSED, "the jobs' file is refused at line 2: the run knows it as another line"),
     (lambda scene: os.unlink(scene.jobs), "work 1", READ, "the jobs' file can't be read: ..."),
     (having("record", b"amo-run 1\n"), "work 1", REFUSED, f"record is refused: {NO_RUN}"),
@@ -210,8 +212,9 @@ def failing_output(scene, words):
     """A command whose standard output takes nothing."""
     with open("/dev/full", "wb") as out:
         more = scene.bench.kind if "--help" not in words else []
-        ran = subprocess.run([*scene.bench.command(), *words, *more], stdin=subprocess.DEVNULL, stdout=out,
-                             stderr=subprocess.PIPE, timeout=300, env=scene.environment())
+        ran = subprocess.run([*scene.bench.command(), *words, *more], stdin=subprocess.DEVNULL,
+                             stdout=out, stderr=subprocess.PIPE, timeout=300,
+                             env=scene.environment())
     said = ran.stderr.decode()
     want(ran.returncode == WRITE and said.startswith("amo_worker: standard output can't be written: ") and said.count("\n") == 1,
          f"{words}: status {ran.returncode}, {said}")
@@ -235,7 +238,8 @@ def try_outputs(bench):
             want(again == whole, f"{words}, {fault}: {again}, and not {whole}")
     for words in (["--help"], ["answer", "--help"]):
         failing_output(scene, words)
-        ran = subprocess.run([*bench.command(), *words], stdin=subprocess.DEVNULL, capture_output=True, timeout=300)
+        ran = subprocess.run([*bench.command(), *words], stdin=subprocess.DEVNULL,
+                             capture_output=True, timeout=300)
         want(ran.returncode == OVER and b"amo_worker" in ran.stdout and not ran.stderr, f"{words}: {ran}")
 
 

@@ -25,7 +25,8 @@ def read_as(scene, name, data):
     if not data:
         status, out, err = scene.call("status", scene.run)
         named = name in err.replace(scene.run, "RUN")
-        want(status == REFUSED and not out and named, f"{name} is empty: status {status}, {out or err}")
+        want(status == REFUSED and not out and named,
+             f"{name} is empty: status {status}, {out or err}")
         return False
     try:
         found = scene.look()
