@@ -175,7 +175,8 @@ def torn_one(bench, whole, length, tail):
     same = os.path.commonprefix([known, data])
     line = same.count(b"\n") + 1 if len(same) < len(known) else data.count(b"\n") + 1
     is_whole = len(same) == len(known) and data.endswith(b"\n")
-    named = f"line {line}:" in runner.said and "jobs" in runner.said.replace(scene.run, "")
+    said = runner.said
+    named = re.search(rf"line {line}\b", said) and "jobs" in said.replace(scene.run, "")
     want(statuses[-1] == (OVER if is_whole else REFUSED) and (is_whole or named), f"statuses {statuses}, {runner.said}")
     done = 2 if len(same) < len(known) else data.count(b"\n")
     want(len(scene.effects()) == done, f"{done} lines are whole, and performed are {scene.effects()}")
