@@ -17,7 +17,7 @@ MISTAKES = [
     ("forgotten_is_taken", making.try_forgotten, "status 0"),
     ("mount_by_path", entering.try_mounts, "ext2 rw,relatime rw,discard : status 77"),
     ("options_are_taken", entering.try_mounts, "overlay rw,nobarrier rw  overlay .*: status 0"),
-    ("cut_line_is_kept", texts.try_behind_a_gate, DOUBT),
+    ("cut_line_is_kept", texts.try_behind_a_gate, DOUBT + "|no entry that may stand there"),
     ("words_of_another_boot", power.try_words_of_another_boot, TWICE),
     ("lists_without_settling", power.try_listed_and_cut, "after it was listed as a doubt"),
     ("guard_is_removed", kills.try_two_of_one_number, GONE),

@@ -562,7 +562,7 @@ def try_door_cut(bench):
     with one it is whole"""
     rows = [(bench, kind, it, how) for kind in BEFORE for it in points(bench, kind, FEW)
             for how in ("none", "all", "drawn", "drawn")]
-    ends = [(bench, kind, named_at(bench, kind), "drawn") for kind in ("users", "cut", "into") * 2]
+    ends = [(bench, kind, named_at(bench, kind), "drawn") for kind in ("users", "cut", "into") * 4]
     return f"{each([*ends, *bench.sample(rows, 2 * FEW)], cut_one)} cuts"
 
 
