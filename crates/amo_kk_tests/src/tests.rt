@@ -326,7 +326,7 @@ fn own_words_that_no_worker_left_are_refused(rt: HostRuntime) -> Result<(), Fail
     }
     assert_eq!(rt;
         NoSuchWords.to_string(rt.alloc())?.as_str(),
-        "no worker can have left these own words"
+        "own words: impossible values; stop all workers, and start a new round"
     );
     Ok(())
 }

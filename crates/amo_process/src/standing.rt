@@ -20,9 +20,9 @@ pub enum Standing {
     Going(Local, bool),
 }
 
-/// A number was heard that can't come where the worker stands.
+/// The error for a loaded number that no worker can have stored there.
 #[derive(Clone, Copy, Debug, PartialEq, Eq, Error)]
-#[error("a number was heard that can't come where the worker stands")]
+#[error("loaded number: impossible in this state; stop all workers, and start a new round")]
 pub struct NoSuchNumber;
 
 impl From<NoSuchWords> for NoSuchNumber {

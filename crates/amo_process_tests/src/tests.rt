@@ -153,7 +153,7 @@ fn what_can_not_come_is_refused(rt: HostRuntime) -> Result<(), Fail> {
     }
     assert_eq!(rt;
         NoSuchNumber.to_string(rt.alloc())?.as_str(),
-        "a number was heard that can't come where the worker stands"
+        "loaded number: impossible in this state; stop all workers, and start a new round"
     );
     Ok(())
 }

@@ -15,9 +15,9 @@ use crate::phase::Phase;
 use amo_givens::Givens;
 use thiserror::Error;
 
-/// No worker can have left these own words.
+/// The error for own words that no worker can have left.
 #[derive(Clone, Copy, Debug, PartialEq, Eq, Error)]
-#[error("no worker can have left these own words")]
+#[error("own words: impossible values; stop all workers, and start a new round")]
 pub struct NoSuchWords;
 
 /// Whether j is a job that isn't known.
