@@ -1,4 +1,4 @@
-//! Locks of a run, and the guard of a worker's number.
+//! The locks of a run, and the guard of a worker's number.
 use crate::fault::{Fault, Later, had, written};
 use crate::folder::{opened, opened_to_read, path_of, sync};
 use crate::identity::check_kept;
@@ -13,9 +13,10 @@ use std::rt::HostRuntime;
 use std::thread;
 use std::time::Duration;
 
-/// How often a lock is tried, and how many milliseconds lie between.
+/// How often a lock is tried, since readers hold locks for a moment: for two seconds in all.
 const TRIES: u32 = 100;
 
+/// The pause between two tries, in milliseconds.
 const PAUSE: u64 = 20;
 
 /// A journal whose lock this process has. The lock is kept as long as the value is.
@@ -27,7 +28,7 @@ pub(crate) struct Guarded {
     pub(crate) lock: File,
 }
 
-/// Takes the exclusive lock on a file of the run. Returns none if somebody else has one.
+/// Takes the exclusive lock on a file of the run. Returns `None` if another process has a lock.
 pub(crate) fn lock_of(
     rt: HostRuntime,
     setting: &Setting<'_>,
@@ -40,7 +41,8 @@ pub(crate) fn lock_of(
     still_there(rt, setting, item, file)
 }
 
-/// The same, tried again and again for two seconds: who looks at a run holds its locks for a moment.
+/// Takes the exclusive lock on a file of the run, and tries for two seconds. Returns `None` if
+/// another process has a lock for all of them.
 pub(crate) fn lock_within(
     rt: HostRuntime,
     setting: &Setting<'_>,
@@ -55,8 +57,25 @@ pub(crate) fn lock_within(
     Ok(None)
 }
 
-/// The same of a shared lock, on a handle that has none, tried once.
-pub(crate) fn shared_lock_of(
+/// Takes a shared lock on a file of the run, and tries for two seconds. Returns `None` if another
+/// process has the exclusive lock for all of them.
+pub(crate) fn shared_lock_within(
+    rt: HostRuntime,
+    setting: &Setting<'_>,
+    item: Item,
+) -> Result<Option<File>, Fault> {
+    for _try in 0..TRIES {
+        if let Some(lock) = shared_lock_of(rt, setting, item)? {
+            return Ok(Some(lock));
+        }
+        thread::sleep(&rt, Duration::from_millis(PAUSE));
+    }
+    Ok(None)
+}
+
+/// Takes a shared lock on a file of the run, by a new handle. Returns `None` if another process has
+/// the exclusive lock.
+fn shared_lock_of(
     rt: HostRuntime,
     setting: &Setting<'_>,
     item: Item,
@@ -68,7 +87,10 @@ pub(crate) fn shared_lock_of(
     still_there(rt, setting, item, file)
 }
 
-/// The handle, if it is of the file that has this name now.
+/// Returns the handle if its file still has this name.
+///
+/// # Errors
+/// `Later` if the file was removed or replaced.
 fn still_there(
     rt: HostRuntime,
     setting: &Setting<'_>,
@@ -82,7 +104,7 @@ fn still_there(
     Ok(Some(file))
 }
 
-/// Settles the journal behind a handle that has its lock, and syncs the folder.
+/// Recovers the journal of a handle that has its lock, and syncs the folder.
 pub(crate) fn settled(
     rt: HostRuntime,
     setting: &Setting<'_>,
@@ -107,9 +129,9 @@ pub(crate) fn settled(
     })
 }
 
-/// Takes the number of a worker: the lock on its journal, which is then settled. The folder is
-/// compared with the run once more behind the lock: it may have been given up, and another put in
-/// its place.
+/// Takes the number of a worker: the lock on its journal, which is then recovered. The folder is
+/// compared with the run once more under the lock: the run may have been given up, and another
+/// folder put in its place.
 pub(crate) fn take_number(
     rt: HostRuntime,
     setting: &Setting<'_>,
@@ -125,12 +147,12 @@ pub(crate) fn take_number(
     }
 }
 
-/// What became of a try to lock a file that may be missing.
+/// The result of a try to lock a file that may be missing.
 #[derive(Drop)]
 pub(crate) enum Tried {
     /// It is locked by this handle.
     Got(File),
-    /// Somebody else has the lock.
+    /// Another process has the lock.
     Held,
     /// There is no such file.
     Missing,
@@ -156,7 +178,7 @@ pub(crate) fn try_lock_of(
     }
 }
 
-/// Who has the lock, where the system tells.
+/// Returns why a number can't be taken, with the process that has its lock if the system lists it.
 fn holder(rt: HostRuntime, setting: &Setting<'_>, item: Item) -> Later {
     match holder_of(rt, setting, item) {
         Ok(Some(process)) => Later::TakenBy(process),
@@ -172,7 +194,7 @@ fn holder_of(rt: HostRuntime, setting: &Setting<'_>, item: Item) -> Result<Optio
     Ok(holder_in(locks.as_str(), end.as_str()))
 }
 
-/// The process that has a lock on a whole file whose number of device and inode ends so.
+/// Returns the process that has a lock on a whole file whose device and inode number end so.
 fn holder_in(locks: &str, end: &str) -> Option<u64> {
     for line in locks.lines() {
         if let Some(process) = holder_by(line, end) {
@@ -182,7 +204,8 @@ fn holder_in(locks: &str, end: &str) -> Option<u64> {
     None
 }
 
-/// The process that has the lock of this line, as `1: FLOCK ADVISORY WRITE 708 08:01:1234 0 EOF`.
+/// Returns the process of a line like `1: FLOCK ADVISORY WRITE 708 08:01:1234 0 EOF`, if that is a
+/// lock on such a file.
 fn holder_by(line: &str, end: &str) -> Option<u64> {
     let mut words = line.split_whitespace();
     let _number = words.next()?;

@@ -1,7 +1,7 @@
 //! To join a round that was begun.
 use crate::fault::{Fault, Later};
 use crate::folder::{bytes_of, sync};
-use crate::guard::shared_lock_of;
+use crate::guard::shared_lock_within;
 use crate::item::Item;
 use crate::setting::Setting;
 use crate::words::Words;
@@ -10,13 +10,6 @@ use amo_ledger::{Record, seat_of};
 use amo_round::{head_of, words_len};
 use std::fs::File;
 use std::rt::HostRuntime;
-use std::thread;
-use std::time::Duration;
-
-/// How often the lock of a round is tried, and how many milliseconds lie between.
-const TRIES: u32 = 100;
-
-const PAUSE: u64 = 20;
 
 /// A round in which this process has a seat. While it has this value nobody begins another.
 #[derive(Drop)]
@@ -29,23 +22,25 @@ pub(crate) struct Joined {
     pub(crate) lock: File,
 }
 
-/// Joins the round that is there. The lock is taken before record and words are read.
+/// Joins the current round. The lock is taken before record and words are read.
+///
+/// # Errors
+/// `Later` if a round is being begun for two seconds, if the current one can't be joined, or if this
+/// worker has no seat in it.
 pub(crate) fn join(
     rt: HostRuntime,
     setting: &Setting<'_>,
     worker: u64,
     boot: &[u8],
 ) -> Result<Joined, Fault> {
-    for _try in 0..TRIES {
-        if let Some(lock) = shared_lock_of(rt, setting, Item::Round)? {
-            return read(rt, setting, worker, boot, lock);
-        }
-        thread::sleep(&rt, Duration::from_millis(PAUSE));
+    match shared_lock_within(rt, setting, Item::Round)? {
+        Some(lock) => read(rt, setting, worker, boot, lock),
+        None => Err(Fault::Later(Later::Beginning)),
     }
-    Err(Fault::Later(Later::Beginning))
 }
 
-/// Reads the round behind its lock. The folder is synced, since who made these files may have been killed before that.
+/// Reads the round under its lock. The folder is synced, since the process that made these files may
+/// have been killed before it did that.
 fn read(
     rt: HostRuntime,
     setting: &Setting<'_>,
@@ -72,7 +67,7 @@ fn read(
     })
 }
 
-/// The record of the last round, if there is one.
+/// Returns the record of the last round, if there is one.
 pub(crate) fn record_of(rt: HostRuntime, setting: &Setting<'_>) -> Result<Option<Record>, Fault> {
     let Some(bytes) = bytes_of(rt, setting, Item::Record)? else {
         return Ok(None);
@@ -83,7 +78,10 @@ pub(crate) fn record_of(rt: HostRuntime, setting: &Setting<'_>) -> Result<Option
     }
 }
 
-/// The words of this round.
+/// Opens the words of this round.
+///
+/// # Errors
+/// `Refused` if the record is damaged, `Later` if the words are of another round.
 fn words_of(rt: HostRuntime, setting: &Setting<'_>, record: &Record) -> Result<Words, Fault> {
     if record.givens.jobs > MAX_JOBS as u64 || record.givens.workers > MAX_WORKERS as u64 {
         return Err(Fault::Refused(Item::Record));
@@ -106,7 +104,7 @@ fn words_of(rt: HostRuntime, setting: &Setting<'_>, record: &Record) -> Result<W
     }
 }
 
-/// As which number this worker acts in the round, if it has a seat.
+/// Returns the number as which this worker acts in the round, if it has a seat.
 fn seat_in(record: &Record, worker: u64) -> Option<u64> {
     let (first, workers) = (record.first, record.workers);
     if first < 1 || first > workers || workers > MAX_WORKERS as u64 {
