@@ -3,6 +3,7 @@ what earlier processes have left half made, locks that others hold for a while o
 
 import fcntl
 import os
+import re
 import signal
 import subprocess
 import tempfile
@@ -43,7 +44,8 @@ def try_each_number(bench):
 
 
 def try_boot_ids(bench):
-    """a boot id of each length that one may have; none, a longer one and two lines are refused; with no word it is the system's"""
+    """a boot id of each length that one may have; none, a longer one and two lines are refused; the
+    default is the system's"""
     if is_stand_in(bench):
         return
     scene = bench.scene(0)
@@ -51,7 +53,7 @@ def try_boot_ids(bench):
     def boot(text, status):
         with open(scene.boot, "w") as file:
             file.write(text)
-        get_in(scene, 1, status, "" if status == OVER else "the boot id")
+        get_in(scene, 1, status, "" if status == OVER else f"boot id `{scene.boot}`: ")
 
     for length in range(1, 201):
         boot("b" * length + "\n" * (length % 2), OVER)
@@ -63,7 +65,7 @@ def try_boot_ids(bench):
     finish(scene)
     want(folder.record_of(scene.run)["boot"] == "b" * 200, "the record has another boot id")
     os.unlink(scene.boot)
-    get_in(scene, 1, READ, "the boot id")
+    get_in(scene, 1, READ, f"boot id `{scene.boot}`: ")
     words = [*bench.command(), "work", scene.run, "1", *scene.givens(), *bench.kind, scene.jobs]
     scene.write_jobs(["job 1", "job 2", "job 3"])
     subprocess.run(words, stdin=subprocess.DEVNULL, capture_output=True, timeout=300,
@@ -168,13 +170,17 @@ def mounted(scene, kind: str, options: str, more: str, defaults: str) -> System:
     return system
 
 
-OVERLAY = ("it lies on `overlay`, which may vanish with its container; put it on a volume, or take"
-           " it anyway: --file-system overlay")
-MOUNTED, DEFAULT = ("its file system is mounted with `{}`, and a power cut",
-                    "its file system has `{}` as a default, and a power cut")
+OVERLAY = ("its file system is `overlay`, which may vanish with its container; put it on a volume,"
+           " or use it anyway: --file-system overlay")
+OTHER = ("its file system is `{0}`, which may lose synced data; put it on a local disk, or use it"
+         " anyway: --file-system {0}")
+MOUNTED = ("its file system is mounted with `{0}`, so a power cut may lose synced data; mount it"
+           " without `{0}`")
+DEFAULT = ("its file system has `{}` as a default, so a power cut may lose synced data; mount it"
+           " with `{}`")
 SOUND = "rw,bsddf,barrier,data=ordered,commit=5"
 # A mount: its file system's type, its options, its file system's options and the defaults of ext4.
-# Then the type that --file-system names, and what the program says if it refuses the folder.
+# Then the type that --file-system names, and the message if the program refuses the folder.
 MOUNTS = [
     *((kind, "rw,relatime", "rw,discard", "", None, None)
       for kind in "ext2 ext3 ext4 xfs btrfs f2fs zfs".split()),
@@ -183,14 +189,16 @@ MOUNTS = [
     ("overlay", "rw", "rw", "", "overlayfs", OVERLAY),
     ("overlay", "rw", "rw", "", "overlay", None),
     ("overlay", "rw,nobarrier", "rw", "", "overlay", MOUNTED.format("nobarrier")),
-    ("nfs4", "rw", "rw", "", "nfs", "it lies on `nfs4`, which may lose what was synced; "),
-    ("fuse.sshfs", "rw", "rw", "", None, "it lies on `fuse.sshfs`"),
+    ("nfs4", "rw", "rw", "", "nfs", OTHER.format("nfs4")),
+    ("fuse.sshfs", "rw", "rw", "", None, OTHER.format("fuse.sshfs")),
     ("xfs", "rw,nobarrier", "rw", "", None, MOUNTED.format("nobarrier")),
     ("btrfs", "rw", "rw,ssd,nobarrier", "", "btrfs", MOUNTED.format("nobarrier")),
     ("ext3", "rw", "barrier=0,rw", "", None, MOUNTED.format("barrier=0")),
     ("ext4", "rw", "rw,data=writeback", SOUND, None, MOUNTED.format("data=writeback")),
-    ("ext4", "rw", "rw", "rw,barrier,data=writeback", None, DEFAULT.format("data=writeback")),
-    ("ext3", "rw", "rw", "rw,nobarrier,data=ordered", "ext3", DEFAULT.format("nobarrier")),
+    ("ext4", "rw", "rw", "rw,barrier,data=writeback", None,
+     DEFAULT.format("data=writeback", "data=ordered")),
+    ("ext3", "rw", "rw", "rw,nobarrier,data=ordered", "ext3",
+     DEFAULT.format("nobarrier", "barrier=1")),
     ("xfs", "rw", "rw", "rw,nobarrier,data=writeback", None, None),
 ]
 
@@ -201,8 +209,7 @@ def enter_mount(bench, kind, options, more, defaults, named, said):
     mounted(scene, kind, options, more, defaults)
     words = ["--file-system", named or "none"] if named or bench.kind else []
     status, out, err = scene.call("door", scene.run, *scene.givens(), scene.jobs, *words)
-    is_told = (not said or f"amo_worker: the run's folder is refused: {said}" in err
-               or bench.is_slow())
+    is_told = not said or err == f"amo_worker: folder `{scene.run}`: {said}\n" or bench.is_slow()
     want(status == (DOOR if said else OVER) and not out and is_told, f"status {status}, {err}")
     want(os.path.exists(scene.run) == (not said),
          f"the folder is made: {os.path.exists(scene.run)}")
@@ -360,16 +367,19 @@ def try_locks_for_ever(bench):
     for it in holders:
         fcntl.flock(it, fcntl.LOCK_EX | fcntl.LOCK_NB)
     working = lambda scene: Reader(scene, "work", "1", *scene.givens(), scene.jobs)
-    rows = [(Reader(scene, "answer", "1.1", "1", "job 1", "done"), LATER, "others are answering"),
-            (Reader(scene, "again"), LATER, "others are answering"),
+    answering = f"`{scene.run}/answers`: another process is answering; start again in a second\n"
+    rows = [(Reader(scene, "answer", "1.1", "1", "job 1", "done"), LATER, answering),
+            (Reader(scene, "again"), LATER, answering),
             (Reader(scene, "status"), OVER, ""), (Reader(scene, "doubts"), OVER, ""),
-            (working(other), LATER, "has this number"), (working(beside), LATER, "a round is being begun")]
+            (working(other), LATER, "has this number; wait for its end, or start another worker\n"),
+            (working(beside), LATER,
+             "another worker is beginning a round; start again in a second\n")]
     alive = other.call("status", other.run)[1].split("\n")[1]
     want(alive == "alive 1 16", f"who has put nothing yet isn't alive: {alive}")
     for it, status, said in rows:
         ended, _, err = it.ended()
         want(ended == status and said in err, f"{it.words}: status {ended}, {err}")
-        named = "process " not in err or f"process {os.getpid()} has this number" in err
+        named = not re.search(r"process \d", err) or f"process {os.getpid()} has this number" in err
         want(named, f"another process is named than the one that has the number: {err}")
     want(not folder.texts_of(folder.read(f"{scene.run}/answers")), "an answer was taken without the lock")
     for it in holders:

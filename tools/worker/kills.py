@@ -137,10 +137,10 @@ def try_killed_with_its_runner(bench):
 
 
 def names_file(said, file, scene):
-    """Whether a fault names the file of a call, by its path or by what it is; of the folder, what was made there will do."""
-    names = {"JOBS": (scene.jobs, "the jobs' file"), "..": (scene.room, "the run's folder"),
-             ".": (scene.run, "the run's folder", "record", "jobs", "journal", "answers", "lock.round")}
-    return any(name in said or name.endswith(".new") and name[:-4] in said for name in names.get(file, (file,)))
+    """Returns whether a fault names the file of a call by its path; of the folder above, the path
+    of what was made there is enough."""
+    path = {"JOBS": scene.jobs, "..": scene.room, ".": scene.run}.get(file, f"{scene.run}/{file}")
+    return path in said or path.endswith(".new") and path[:-4] in said
 
 
 def status_of(call, file):

@@ -1,5 +1,6 @@
 """What the stand-in for the worker stands on: its mistakes, its ends, its calls on files."""
 
+import errno
 import fcntl
 import os
 
@@ -18,12 +19,40 @@ LATER, PATIENCE = 75, 2.0
 PARTS = ["lock.round", "answers", *(f"journal.{p}" for p in range(1, MOST_WORKERS + 1))]
 
 
+REMEDIES = {
+    **dict.fromkeys((errno.ENOENT, errno.ENOTDIR, errno.EISDIR, errno.ELOOP), "check the path"),
+    errno.ENAMETOOLONG: "choose a shorter path",
+    errno.EACCES: "change its mode or owner, or run this as a user who may",
+    errno.EPERM: "change its mode or owner, or run this as a user who may",
+    errno.EROFS: "choose a place where files can be made",
+    errno.ENOSPC: "make room, then start again", errno.EDQUOT: "make room, then start again",
+    errno.EPIPE: "keep its reader open",
+}
+NO_ID = ("it has no `id`, so it is not a run's folder; name one, or make one (amo_worker door RUN"
+         " --workers M JOBS)")
+OLD_RUN = ("made by amo 0.1.0, without an `id`; start a new run of its open lines (amo_worker"
+           " status RUN --lines open) in a new folder")
+
+
 class End(Exception):
-    """How it ends: a status, and a line for standard error."""
+    """How it ends: a status, and a message for standard error."""
+
+
+def failed(status, path, error):
+    """Returns the end of a call on this file that has failed, with this status."""
+    what = "read" if status == 74 else "written"
+    remedy = REMEDIES.get(error.errno, "check the disk, then start again")
+    return End(status, f"`{path}`: cannot be {what}: {error.strerror} (os error {error.errno});"
+                       f" {remedy}")
+
+
+def refused_folder(it, status, message):
+    """Returns the end of a command that refuses the run's folder."""
+    return End(status, f"folder `{it.run}`: {message}")
 
 
 def called(status, path, call, *given):
-    """A call on this file; where it fails, the end with this status."""
+    """A call on this file; if it fails, the end with this status."""
     while True:
         try:
             return call(*given)
@@ -32,7 +61,7 @@ def called(status, path, call, *given):
         except OSError as error:
             if status is None:
                 raise
-            raise End(status, f"{path}: {error.strerror}") from error
+            raise failed(status, path, error) from error
 
 
 def opened(path, flags, status):
@@ -55,7 +84,7 @@ def content(path):
     except FileNotFoundError:
         return None
     except OSError as error:
-        raise End(74, f"{path}: {error.strerror}") from error
+        raise failed(74, path, error) from error
     try:
         return whole(file, path)
     finally:
@@ -85,11 +114,17 @@ def has_lock(file, path, how):
     except BlockingIOError:
         return False
     except OSError as error:
-        raise End(73, f"{path}: {error.strerror}") from error
+        raise failed(73, path, error) from error
     if how == fcntl.LOCK_UN or MISTAKE == "guard_is_removed" and "guard." in path:
         return True
     found, held = called(73, path, os.stat, path), os.fstat(file)
     return (found.st_dev, found.st_ino) == (held.st_dev, held.st_ino)
+
+
+def missing(path):
+    """Returns the end of a command for which a file of the run is missing."""
+    return End(65, f"`{path}`: this file is missing; put it back, or give up this run (without it"
+                   " nobody knows which lines were performed)")
 
 
 def opened_part(it, name, flags):
@@ -101,9 +136,9 @@ def opened_part(it, name, flags):
     except FileNotFoundError as error:
         if it.is_old:
             return None
-        raise End(65, f"{path}: it is missing") from error
+        raise missing(path) from error
     except OSError as error:
-        raise End(73, f"{path}: {error.strerror}") from error
+        raise failed(73, path, error) from error
 
 
 def part(it, name):
@@ -118,6 +153,7 @@ def part(it, name):
 def check_part(it, name, size):
     """Refuses a file that the door makes if it is missing, where its size is None, or empty."""
     if size is None and MISTAKE != "missing_is_empty":
-        raise End(65, f"{it.run}/{name}: it is missing")
+        raise missing(f"{it.run}/{name}")
     if size == 0 and name != "lock.round" and MISTAKE not in ("missing_is_empty", "empty_is_empty"):
-        raise End(65, f"{it.run}/{name}: it is empty")
+        raise End(65, f"`{it.run}/{name}`: this file is empty; put its bytes back, or give up this"
+                      " run (without them nobody knows which lines were performed)")

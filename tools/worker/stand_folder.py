@@ -6,8 +6,8 @@ import os
 import time
 
 from stand_files import (
-    MISTAKE, LATER, PATIENCE, PARTS, End, called, opened, content, put_at, sync, sync_folder,
-    has_lock, check_part,
+    MISTAKE, LATER, PATIENCE, PARTS, OLD_RUN, End, called, failed, refused_folder, opened, content,
+    put_at, sync, sync_folder, has_lock, check_part,
 )
 
 LOCAL = "ext2 ext3 ext4 xfs btrfs f2fs zfs".split()
@@ -17,7 +17,7 @@ FIXED = {*PARTS, *("id forgotten record jobs words command crew shared lock reco
 NUMBERED = {"journal": 1, "runner": 1, "pace": 1, "command": 2, "out": 2, "err": 2, "chunk": 1}
 
 
-def mount_of(path):
+def mount_of(it, path):
     """The type, the options and the device of the mount on which a folder lies."""
     file = opened(path, os.O_RDONLY | os.O_DIRECTORY, 74)
     words = (content(f"/proc/self/fdinfo/{file}") or b"").split()
@@ -27,20 +27,25 @@ def mount_of(path):
         words, more = (it.split(b" ") for it in line.split(b" - "))
         if words[0] == number or MISTAKE == "mount_by_path" and words[4] == os.fsencode(path):
             return more[0].decode(), {*words[5].split(b","), *more[2].split(b",")}, more[1]
-    raise End(77, f"{path}: it lies on no known file system")
+    raise refused_folder(it, 77, "/proc/self/mountinfo doesn't list its mount, as in a chroot; use"
+                                 " a folder on a volume that is mounted there")
 
 
 def check_mount(it, path):
-    """Refuses a folder on a file system that isn't taken,
-    or that is mounted so that it may forget what was synced."""
-    kind, options, device = mount_of(path)
+    """Refuses a folder on another file system than the known ones,
+    or with a mount that may lose synced data."""
+    kind, options, device = mount_of(it, path)
     if kind not in [*LOCAL, it.kind]:
-        raise End(77, f"{path}: it lies on a file system of type {kind}")
+        raise refused_folder(it, 77, f"its file system is `{kind}`, which may lose synced data; put"
+                                     " it on a local disk, or use it anyway: --file-system"
+                                     f" {kind}")
     if kind == "ext4":
         name = os.path.basename(os.path.realpath(os.fsdecode(device)))
         options |= set((content(f"/proc/fs/ext4/{name}/options") or b"").split())
     if options & REFUSED_OPTIONS and MISTAKE != "options_are_taken":
-        raise End(77, f"{path}: it is mounted with {b' '.join(options & REFUSED_OPTIONS).decode()}")
+        option = min(options & REFUSED_OPTIONS).decode()
+        raise refused_folder(it, 77, f"its file system is mounted with `{option}`, so a power cut"
+                                     f" may lose synced data; mount it without `{option}`")
 
 
 def is_made(name):
@@ -57,7 +62,7 @@ def is_there(path):
     except FileNotFoundError:
         return False
     except OSError as error:
-        raise End(74, f"{path}: {error.strerror}") from error
+        raise failed(74, path, error) from error
     return True
 
 
@@ -85,7 +90,7 @@ def make_folder(it):
     except FileExistsError:
         pass
     except OSError as error:
-        raise End(73, f"{it.run}: {error.strerror}") from error
+        raise failed(73, it.run, error) from error
 
 
 def make_beside(it):
@@ -105,7 +110,7 @@ def make_beside(it):
         if isinstance(error, End):
             raise
         if error.errno not in (errno.EEXIST, errno.ENOTEMPTY, errno.EBUSY, errno.ENOTDIR):
-            raise End(73, f"{it.run}: {error.strerror}") from error
+            raise failed(73, it.run, error) from error
 
 
 def make_in_place(it):
@@ -122,9 +127,9 @@ def make_in_place(it):
     if not is_cut_off or MISTAKE == "users_files_are_refused" and found - set(made):
         if is_there(f"{it.run}/id"):  # by another door, meanwhile
             return
-        what = ("it was made by amo 0.1.0" if "record" in made
-                else f"it has no id, but {min(made, default='files')}")
-        raise End(65, f"{it.run}: {what}")
+        other = (f"it has `{min(made, default='files')}` and no `id`, so no run can be made there;"
+                 " name another folder")
+        raise refused_folder(it, 65, OLD_RUN if "record" in made else other)
     for name in ["id", *PARTS] if MISTAKE == "id_first" else [*PARTS, "id"]:
         if name == "id" and MISTAKE != "id_before_the_sync":
             sync_folder(it.run)  # so that no cut of power keeps this name and loses another
@@ -138,7 +143,7 @@ def make_in_place(it):
         except FileExistsError:
             pass
         except OSError as error:
-            raise End(73, f"{path}: {error.strerror}") from error
+            raise failed(73, path, error) from error
         called(73, new, os.unlink, new)
     sync_folder(it.run)
 
@@ -153,7 +158,7 @@ def fill_empty(path, data):
             put_at(file, path, data, 0)
             sync(file, path)
         elif time.monotonic() > end:
-            raise End(LATER, f"{path}: another process has its lock")
+            raise End(LATER, f"`{path}`: another process has its lock; start again in a second")
         else:
             time.sleep(0.02)
     os.close(file)
@@ -163,12 +168,14 @@ def check_whole(it, found, reads):
     """Refuses a folder whose id is none or another one, that was forgotten,
     or of which a file is missing or empty."""
     if len(found) != 33 or found[32:] != b"\n" or set(found[:32]) - set(b"0123456789abcdef"):
-        raise End(65, f"{it.run}/id: it is no id")
+        raise End(65, f"`{it.run}/id`: it is damaged, or was edited; undo the edit, or give up this"
+                      " run")
     if it.id and it.id.encode() != found[:32] and MISTAKE != "id_is_not_compared":
-        raise End(65, f"{it.run}: it is another run, {found[:32].decode()}, and not {it.id}")
+        raise refused_folder(it, 65, "its `id` is not the one of --id; name the folder of that run")
     if (not reads and it.command != "answer" and MISTAKE != "forgotten_is_taken"
             and is_there(f"{it.run}/forgotten")):
-        raise End(65, f"{it.run}: it is forgotten")
+        raise refused_folder(it, 65, "this run was given up, since `forgotten` is there; start a"
+                                     " new run in another folder")
     for name in PARTS:
         is_one = is_there(f"{it.run}/{name}")
         check_part(it, name, os.path.getsize(f"{it.run}/{name}") if is_one else None)

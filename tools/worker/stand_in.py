@@ -12,6 +12,7 @@ It is plain and slow, and nobody should work with it. AMO_MISTAKE names one of M
 then makes: the tests must show each of them.
 """
 
+import errno
 import fcntl
 import os
 import sys
@@ -21,14 +22,19 @@ sys.dont_write_bytecode = True
 sys.path.insert(0, os.path.dirname(os.path.realpath(__file__)))
 
 from stand_files import (
-    MISTAKES, MISTAKE, MOST_JOBS, MOST_WORKERS, MOST_BYTES, VERSION, LATER, PATIENCE, End, called,
-    opened, whole, content, put_at, sync, sync_folder, has_lock, opened_part, part,
+    MISTAKES, MISTAKE, MOST_JOBS, MOST_WORKERS, MOST_BYTES, VERSION, LATER, PATIENCE, NO_ID,
+    OLD_RUN, End, called, failed, refused_folder, opened, whole, content, put_at, sync,
+    sync_folder, has_lock, opened_part, part,
 )
 from stand_folder import (
     check_mount, is_there, drawn, make_folder, make_beside, make_in_place, check_whole,
 )
 
 KINDS = "done failed doubt running untouched open".split()
+DAMAGED = "damaged, or was edited; undo the edit, or give up this run"
+COPIES = "(with an older copy lines would be performed twice)"
+IMPOSSIBLE = "stop all workers, and the next round starts with new words"
+HELP = "; see amo_worker --help"
 
 
 def number(word, most=2**64 - 1):
@@ -139,7 +145,7 @@ def journal_of(worker, name, texts, count):
         elif is_answer:
             intents[said[0] - 1].answer = [kind, *rest[1:]]
         else:
-            raise End(65, f"{name}: line {place}: no entry that may stand there")
+            raise End(65, f"`{name}`: entry {place} is {DAMAGED} {COPIES}")
     return intents
 
 
@@ -158,7 +164,7 @@ class Ledger:
             said = numbers(rest, 3)
             intent = said and kind in (b"done", b"not-done") and self.intent(*said[:2])
             if not intent or intent.found:
-                raise End(65, f"{run}/answers: line {place}: no entry that may stand there")
+                raise End(65, f"`{run}/answers`: entry {place} is {DAMAGED} {COPIES}")
             intent.found = kind
         for it in (it for journal in self.journals for it in journal):
             if it.closes():
@@ -213,36 +219,50 @@ def is_got(path, flags, held):
     except FileNotFoundError:
         return True
     except OSError as error:
-        raise End(73, f"{path}: {error.strerror}") from error
+        raise failed(73, path, error) from error
     held.append(file)
     return has_lock(file, path, fcntl.LOCK_EX)
+
+
+def why_refused(line, seen):
+    """Returns why a line of the list is refused, with what to do; None if it isn't."""
+    if not line:
+        return "is empty; remove it"
+    if b"\0" in line:
+        return "has a NUL byte; remove that byte"
+    if b"\r" in line:
+        return "has a carriage return; end lines with a line feed alone"
+    try:
+        line.decode()
+    except UnicodeDecodeError:
+        return "isn't UTF-8; convert the file to UTF-8"
+    if len(line) > MOST_BYTES:
+        return "is longer than 100000 bytes; shorten it"
+    return ("is equal to a line before it; remove it, or make the two differ" if line in seen
+            else None)
 
 
 def jobs_of(jobs, known, is_first):
     """The jobs' file, without a last line that has no end, and whether there is one; in the first round that is refused."""
     data = content(jobs)
     if data is None:
-        raise End(74, f"{jobs}: there is no such file")
+        raise failed(74, jobs, FileNotFoundError(errno.ENOENT, os.strerror(errno.ENOENT)))
     file = opened(jobs, os.O_RDONLY, 74)
     called(74, jobs, os.fsync, file)
     os.close(file)
     if not data.startswith(known or b""):
         line = os.path.commonprefix([known, data]).count(b"\n") + 1
-        raise End(65, f"{jobs}: line {line}: it was another one")
+        raise End(65, f"list `{jobs}`: line {line} is not the line that the run knows; restore it"
+                      " from the run's file `jobs`, and add lines only at the end")
     lines, seen = data.split(b"\n"), set()
     last = lines.pop()
     for place, line in enumerate(lines, 1):
-        why = ("it is empty" if not line else "a NUL byte" if b"\0" in line else "a carriage return" if b"\r" in line else
-               "it is longer than 100000 bytes" if len(line) > MOST_BYTES else "it stands there twice" if line in seen else None)
-        try:
-            line.decode()
-        except UnicodeDecodeError:
-            why = "it is no UTF-8"
-        if why:
-            raise End(65, f"{jobs}: line {place}: {why}")
+        if why := why_refused(line, seen):
+            raise End(65, f"list `{jobs}`: line {place} {why}")
         seen.add(line)
     if last and is_first:
-        raise End(65, f"{jobs}: line {len(lines) + 1}: it has no end")
+        raise End(65, f"list `{jobs}`: line {len(lines) + 1} has no line feed at its end; add one"
+                      " once the line is whole")
     return data[:len(data) - len(last)], bool(last)
 
 
@@ -253,14 +273,16 @@ class Record:
         data = content(path)
         texts = data.split(b"\n") if data else []
         if texts and texts[0].startswith(b"amo-run ") and texts[0] != VERSION:
-            raise End(77, f"{path}: a run of another version")
+            raise End(77, f"folder `{os.path.dirname(path)}`: its `record` is of another version of"
+                          " amo; go on with that version, or use another folder")
         labels = [it.split(b" ") for it in texts[:5]]
         names = [b"amo-run", b"round", b"boot", b"givens", b"workers"]
         fits = [it[0] for it in labels] == names and texts[-1] == b""
         said = fits and numbers(labels[1][1:] + labels[3][1:] + labels[4][1:], 6)
         self.lines = numbers(texts[5:-1], len(texts[5:-1])) if said else None
         if data is not None and (self.lines is None or said[1] != len(self.lines) or not 1 <= said[2] <= said[4] <= MOST_WORKERS):
-            raise End(65, f"{path}: line 1: no record of a round")
+            raise End(65, f"`{path}`: it is damaged, or was edited; undo the edit, or stop all"
+                          " workers and remove this file")
         self.round, self.boot = (said[0], texts[2][5:]) if said else (0, None)
         self.jobs, self.shared, self.beta, self.workers, self.first = said[1:] if said else (0, 0, 0, 0, 0)
 
@@ -294,7 +316,7 @@ def begin_round(it):
     if not lines and is_begun:
         jobs_of(it.jobs, ledger.jobs, True)
     if not lines:
-        raise End(0, counts(ledger))
+        raise End(0, f"all done: {counts(ledger)}")
     n = len(lines)
     m = min(it.workers, n // 4 + 1)
     beta = max(it.beta, m) if m > 1 and n >= 2 * (it.beta + m - 2) else m
@@ -318,7 +340,8 @@ class Words:
             data += part
         value = int.from_bytes(data, "little")
         if len(data) < 8 or value > most:
-            raise End(70, f"{self.path}: word {word}: no worker leaves this")
+            raise End(70, f"`{self.path}`: word {word} has the impossible value {value};"
+                          f" {IMPOSSIBLE}")
         return value
 
     def store(self, word, value):
@@ -342,7 +365,8 @@ class Words:
             row.append(job)
         claims, job = self.load(self.m + self.seat, self.n), self.announced(self.seat)
         if claims not in (len(row), len(row) + 1) or len(set(row)) < len(row) or claims > len(row) and (not job or job in row):
-            raise End(70, f"{self.path}: word {self.m + self.seat}: no worker leaves this")
+            raise End(70, f"`{self.path}`: word {self.m + self.seat} has the impossible value"
+                          f" {claims}; {IMPOSSIBLE}")
         if claims > len(row):
             row.append(job)
             self.store(self.entry(self.seat, len(row)), job)
@@ -396,17 +420,24 @@ class Partner:
         while b"\n" not in self.kept:
             part = called(69, "standard input", os.read, 0, 4096)
             if not part:
-                raise End(69, "the partner has ended")
+                raise End(69, "runner: it has ended, or closed its pipe; start both again to go on")
             self.kept += part
         said, _, self.kept = self.kept.partition(b"\n")
         words = said.split(b" ")
         wanted = {b"done": 4, b"doubt": 3, b"unbegun": 3, b"untouched": 4, b"running": 3}.get(words[0])
         fits = wanted == len(words) and number(words[1]) == serial and words[-1] in (b"go", b"leave")
         if not fits or wanted == 4 and number(words[2], 255) is None:
-            raise End(76, f"no answer: {said.decode(errors='replace')}")
+            raise End(76, f"runner: its reply `{said.decode(errors='replace')}` is invalid;"
+                          " docs/PROCESSES.md lists the replies")
         if words[0] == b"done":
             words.insert(3, b"%d" % time.time())
         return None if words[0] == b"running" else b" ".join(words[:-1]), words[-1] == b"leave"
+
+
+def taken(it):
+    """Returns the end of a worker whose number another process has."""
+    return refused_folder(it, LATER, "another process has this number; wait for its end, or start"
+                                     " another worker")
 
 
 def guard(it):
@@ -415,13 +446,13 @@ def guard(it):
         path = f"{it.run}/guard.{it.worker}"
         file = opened(path, os.O_RDWR | os.O_CREAT, 73)
         if not has_lock(file, path, fcntl.LOCK_EX):
-            raise End(LATER, f"somebody else is worker {it.worker}")
+            raise taken(it)
         return Journal(it, f"journal.{it.worker}")
     journal = Journal(it, f"journal.{it.worker}")
     if not journal.lock():
         held = readers_lock(it)  # so that it is no reader who has it
         if not journal.lock():
-            raise End(LATER, f"somebody else is worker {it.worker}")
+            raise taken(it)
         held.close()
     return journal
 
@@ -448,14 +479,21 @@ def share_round(it):
             break
         time.sleep(0.02)
     else:
-        raise End(LATER, "somebody begins a round")
+        raise refused_folder(it, LATER, "another worker is beginning a round; start again in a"
+                                        " second")
     record = Record(f"{it.run}/record")
     words = content(f"{it.run}/words") or b""
     if MISTAKE == "words_of_another_boot" and record.boot:
         return record
     if record.boot != it.boot or words[:512] != record.head() or len(words) != 512 + 8 * (record.shared * (record.jobs + 3) + 1):
-        raise End(LATER, "record and words are not of this round and boot")
+        raise refused_folder(it, LATER, "the current round cannot be joined; start again when all"
+                                        " of its workers have ended")
     return record
+
+
+def told_to_leave():
+    """Returns the end of a worker that its runner told to leave."""
+    return End(69, "runner: it told this worker to leave; start the worker again to go on")
 
 
 def work(it):
@@ -469,12 +507,13 @@ def work(it):
         if answer:
             journal.put(answer)
         if leaves:
-            raise End(69, "the partner said so")
+            raise told_to_leave()
     record = share_round(it)
     lines = (content(f"{it.run}/jobs") or b"").split(b"\n")
     seat = (it.worker - record.first) % record.workers + 1
     if seat > record.shared or it.worker > record.workers:
-        raise End(LATER, f"no seat in round {record.round} for worker {it.worker}")
+        raise refused_folder(it, LATER, "this worker has no seat in the current round; start again"
+                                        " when that round is over")
     state = {"serial": len(own)}
 
     def perform(job):
@@ -491,8 +530,9 @@ def work(it):
         return leaves
 
     if work_in(Words(it.run, record, seat), record.beta, perform):
-        raise End(69, "the partner said so")
-    raise End(LATER, f"round {record.round} is over")
+        raise told_to_leave()
+    raise refused_folder(it, LATER, "this round is over for this worker; start again to join the"
+                                    " next one")
 
 
 def check_list(it):
@@ -506,7 +546,8 @@ def make(it):
     above = os.path.dirname(os.path.abspath(it.run))
     if not is_there(it.run):
         if it.id:
-            raise End(65, f"{it.run}: the run's folder is missing")
+            raise refused_folder(it, 65, "no folder is there; mount the file system that holds it,"
+                                         " or name the path that it has now")
         check_mount(it, above)
         check_list(it)
         (make_folder if it.is_into else make_beside)(it)
@@ -514,11 +555,12 @@ def make(it):
     enter_folder(it)
     if not is_there(f"{it.run}/id"):
         if it.id:
-            raise End(65, f"{it.run}: it has no id")
+            raise refused_folder(it, 65, NO_ID)
         check_list(it)
         make_in_place(it)
     elif it.is_into:
-        raise End(65, f"{it.run}: it has an id already")
+        raise refused_folder(it, 65, "it already has an `id`, and --into makes a new run; name"
+                                     " another folder, or go on with this run without --into")
     if MISTAKE == "id_is_replaced":
         make_whole(it.run, "id", drawn() + b"\n")
 
@@ -528,7 +570,10 @@ def enter_folder(it):
     or is of another version."""
     found = called(74, it.run, os.lstat, it.run)
     if (found.st_mode & 0o170000) != 0o040000 or found.st_uid != os.geteuid():
-        raise End(77, f"{it.run}: it is no folder of one's own")
+        is_folder = (found.st_mode & 0o170000) == 0o040000
+        foreign = "it belongs to another user; run this as that user, or name a folder of your own"
+        other = "it is a file, or a link; name the folder itself"
+        raise refused_folder(it, 77, foreign if is_folder else other)
     check_mount(it, it.run)
     Record(f"{it.run}/record")
 
@@ -543,8 +588,8 @@ def enter(it):
     it.is_old = found is None
     reads = it.command in ("status", "doubts")
     if it.is_old and (it.id or not reads and MISTAKE != "old_run_is_worked"):
-        raise End(65, f"{it.run}: it has no id; only the door makes a folder, and only status and"
-                      " doubts read one of amo 0.1.0")
+        is_run = not reads and is_there(f"{it.run}/record")
+        raise refused_folder(it, 65, OLD_RUN if is_run else NO_ID)
     if not it.is_old:
         check_whole(it, found, reads)
     if it.jobs:
@@ -612,24 +657,32 @@ def doubts(it):
     else:
         for line, found in told:
             say(f"doubt {found.name()} {line} ", ledger.lines[line - 1] + b" %d" % found.time)
-RUNNING, AGAIN = "it is running", "another answer stands above"
+RUNNING = "its attempt may still run; answer once `doubts` lists it"
+AGAIN = "the other answer was given before; an answer stays as it is"
+NO_ROW = ("it must be P.S, LINE, TEXT and done or not-done, of one line of the run; copy the first"
+          " three from `doubts` or `status`")
 
 
 def refusal(ledger, name, line, text, verdict):
-    """Why this answer isn't taken, or None; an answer that stands there already is taken again."""
+    """Returns why this answer is refused, or None; one that was given before is taken again."""
     words = name.split(b".")
     said = numbers(words, 2)
     found = ledger.intent(*said) if said else None
     if verdict not in (b"done", b"not-done") or not found:
-        return "there is no such intent" if verdict in (b"done", b"not-done") else "neither done nor not-done"
+        is_row = verdict in (b"done", b"not-done") and said
+        return ("no attempt has this number; take the number from `doubts` or `status`" if is_row
+                else NO_ROW)
     if b"%d" % found.line != line or ledger.lines[found.line - 1] != text:
-        return "it is of another line"
+        return "the attempt is of another line; take number and line from `doubts` or `status`"
     if found.found:
-        return None if found.found == verdict else "another answer was taken"
+        return None if found.found == verdict else AGAIN
     kind, closing = next((kind, it) for line, kind, it in ledger.kinds() if line == found.line)
     if closing is not found:
-        return "its line is not closed by it"
-    return None if kind in ("doubt", "untouched", "failed") else f"it is {kind}"
+        return "another attempt closes the line now; answer that one, as `status` lists it"
+    if kind == "running":
+        return RUNNING
+    return (None if kind in ("doubt", "untouched", "failed")
+            else "the attempt was done, or was never begun; it takes no answer")
 
 
 def answer(it):
@@ -657,7 +710,7 @@ def answer_once(it, rows):
         for place, row in enumerate(rows, 1):
             why = (refusal(ledger, *row)
                    or (AGAIN if verdicts.setdefault(row[0], row[3]) != row[3] else None))
-            said = f"answer {place}, {row[0].decode(errors='replace')}: {why}"
+            said = f"answer {place}: {why}"
             if why == RUNNING and MISTAKE != "running_is_refused":
                 running = running or said
             elif why:
@@ -693,7 +746,7 @@ class Given:
             word = words.pop(0)
             if word.startswith("--") and self.words[:1] != ["answer"] or word in wants:
                 if word not in wants or word in options or len(words) < wants[word]:
-                    raise End(64, f"no such word here: {word}")
+                    raise End(64, f"`{word}`: there is no such option here{HELP}")
                 options[word] = words.pop(0) if wants[word] else True
             else:
                 self.words.append(word)
@@ -703,32 +756,36 @@ class Given:
                  "status": "--json --lines", "doubts": "--json", "answer": "--from"}
         self.command = self.words[0] if self.words else None
         if self.command not in shapes or not shapes[self.command][0] <= len(self.words) <= shapes[self.command][1]:
-            raise End(64, "usage: door, work, status, doubts, answer or again, and RUN")
+            raise End(64, "`amo_worker`: it must be followed by door, work, status, doubts, answer"
+                          f" or again, and RUN{HELP}")
         if set(options) - {*taken.get(self.command, "").split(),
                            "--file-system", "--boot-id", "--id"}:
-            raise End(64, "an option of another command")
+            raise End(64, f"`{self.command}`: it has no such option{HELP}")
         self.run, self.kind = self.words[1].rstrip("/"), options.get("--file-system")
         self.id, self.is_into, self.is_old = options.get("--id"), "--into" in options, False
         self.has_made = False
         if self.id is not None and (len(self.id) != 32 or set(self.id) - set("0123456789abcdef")):
-            raise End(64, f"no id: {self.id}")
+            raise End(64, "`--id`: it must be 32 hexadecimal digits, none of them a capital letter"
+                          f"{HELP}")
         self.jobs = self.words[-1] if self.command in ("door", "work") else None
         self.is_json, self.lines, self.source = "--json" in options, options.get("--lines"), options.get("--from")
         if self.lines not in (None, *KINDS[1:]) or self.lines and self.is_json:
-            raise End(64, "no such kind of lines")
+            raise End(64, "`--lines`: it must be failed, doubt, untouched, running or open"
+                          f"{HELP}")
         if self.jobs:
-            self.workers = self.number(options.get("--workers", ""), MOST_WORKERS)
-            self.beta = self.number(options.get("--beta", "1"), 65535)
-            self.worker = self.number(self.words[2], self.workers) if self.command == "work" else None
+            self.workers = self.number("--workers", options.get("--workers", ""), MOST_WORKERS)
+            self.beta = self.number("--beta", options.get("--beta", "1"), 65535)
+            self.worker = (self.number("P", self.words[2], self.workers)
+                           if self.command == "work" else None)
         self.words = self.words[2:]
         boot = options.get("--boot-id", "/proc/sys/kernel/random/boot_id")
         self.boot = (content(boot) or b"").split(b"\n")[0]
 
     @staticmethod
-    def number(word, most):
+    def number(name, word, most):
         found = number(word.encode(errors="surrogateescape"), most)
         if not found:
-            raise End(64, f"no number from 1 to {most}: {word}")
+            raise End(64, f"`{name}`: it must be a whole number from 1 to {most}{HELP}")
         return found
 
 

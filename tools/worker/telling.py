@@ -1,10 +1,11 @@
-"""What is told: the line of each fault, outputs that fail, times; what is held while a person asks or answers, and in which order
-files are read."""
+"""The message of each fault, outputs that fail, times; what is held while a person asks or answers,
+and in which order files are read."""
 
 import errno
 import fcntl
 import json
 import os
+import re
 import signal
 import subprocess
 import time
@@ -87,84 +88,118 @@ def same(scene):
     """As it is."""
 
 
-NO_FOLDER, NO_RUN = "it is no folder, or a link to one", "no run writes it so"
-NO_LINE, HELP = "it says nothing of a line of this run", "isn't what it may be; amo_worker --help says more"
+# (`THE RUN` stands for the path of the run's folder, `THE LIST` for the list's, `THE BOOT` for that
+# of the file with the boot id.)
+NO_FOLDER = "folder `THE RUN`: it is a file, or a link; name the folder itself"
+DAMAGED = "it is damaged, or was edited; undo the edit, or give up this run"
+DAMAGED_ENTRY = ("is damaged, or was edited; undo the edit, or give up this run (with an older copy"
+                 " lines would be performed twice)")
+MISSING = ("this file is missing; put it back, or give up this run (without it nobody knows which"
+           " lines were performed)")
+EMPTY = ("this file is empty; put its bytes back, or give up this run (without them nobody knows"
+         " which lines were performed)")
+ROW = ("answer 1: it must be P.S, LINE, TEXT and done or not-done, of one line of the run; copy the"
+       " first three from `doubts` or `status`")
 NO_ATTEMPT = "no attempt has this number; take the number from `doubts` or `status`"
 OTHER_LINE = "the attempt is of another line; take number and line from `doubts` or `status`"
 NOT_ASKED = "the attempt was done, or was never begun; it takes no answer"
-# (`THE RUN` stands for the path of the run's folder.)
-MISSING = ("is missing; put the file back, or give up this run (without it nobody knows which lines"
-           " were performed)")
-EMPTY = ("is empty; put its bytes back, or give up this run (without them nobody knows which lines"
-         " were performed)")
-OLD_RUN = ("`THE RUN`: made by amo 0.1.0, which gave it no `id`; begin a new run of its open lines"
-           " (`amo_worker status RUN --lines open`) in a new folder")
-FORGOTTEN = ("`THE RUN`: this run was given up, since `forgotten` is there; begin a new run in"
-             " another folder")
-HAS_ID = "`THE RUN`: it has an `id` already, and --into makes a new run; name another folder"
-NO_RUN_THERE = ("`THE RUN`: no run's folder is there; mount the file system that holds it, or name"
-                " the path that it has now")
-NO_ID = ("`THE RUN`: it has no `id`, so it is no run's folder; name a run's folder (`amo_worker"
-         " door` makes one)")
-OTHER_ID = "`THE RUN`: its `id` is not the one that --id names; name the folder of that run"
-NOT_NEW = "`THE RUN`: it has `jobs` and no `id`, so no run can be made there; name another folder"
-BEGINS_NEW = "no worker leaves words so; end all workers, and the next round begins with new ones"
-# What is changed in a run whose four lines are done, in doubt, untouched and open; the words of a command, with `_` for a blank; its
-# status, and the line that it says. Where that ends in three dots, the system's own words follow.
+OLD_RUN = ("folder `THE RUN`: made by amo 0.1.0, without an `id`; start a new run of its open lines"
+           " (amo_worker status RUN --lines open) in a new folder")
+FORGOTTEN = ("folder `THE RUN`: this run was given up, since `forgotten` is there; start a new run"
+             " in another folder")
+HAS_ID = ("folder `THE RUN`: it already has an `id`, and --into makes a new run; name another"
+          " folder, or go on with this run without --into")
+NO_RUN = ("folder `THE RUN`: no folder is there; mount the file system that holds it, or name the"
+          " path that it has now")
+NO_ID = ("folder `THE RUN`: it has no `id`, so it is not a run's folder; name one, or make one"
+         " (amo_worker door RUN --workers M JOBS)")
+OTHER_ID = "folder `THE RUN`: its `id` is not the one of --id; name the folder of that run"
+NOT_NEW = ("folder `THE RUN`: it has `jobs` and no `id`, so no run can be made there; name another"
+           " folder")
+VERSION = ("folder `THE RUN`: its `record` is of another version of amo; go on with that version,"
+           " or use another folder")
+CHANGED = ("list `THE LIST`: line 2 is not the line that the run knows; restore it from the run's"
+           " file `jobs`, and add lines only at the end")
+BOOT = ("boot id `THE BOOT`: it must be one line of 1 to 200 bytes; name another file with"
+        " --boot-id")
+IMPOSSIBLE = "has the impossible value 0; stop all workers, and the next round starts with new words"
+CLOSED = "runner: it has ended, or closed its pipe; start both again to go on"
+OTHER_ROUND = ("folder `THE RUN`: the current round cannot be joined; start again when all of its"
+               " workers have ended")
+HELP = "; see amo_worker --help"
+# What is changed in a run whose four lines are done, in doubt, untouched and open; the arguments of
+# a command, with `_` for a blank; its status, and its message. If that has three dots, the system's
+# own text stands there.
 FAULTS = [
-    (instead(lambda scene: os.symlink("old", scene.run)), "status", DOOR, f"the run's folder is refused: {NO_FOLDER}"),
-    (instead(lambda scene: open(scene.run, "w").close()), "work 1", DOOR, f"the run's folder is refused: {NO_FOLDER}"),
-    (instead(same), "doubts", READ, "the run's folder can't be read: ..."),
-    (other_version, "again", DOOR, "the run's folder is refused: its record is of another version"),
-    (with_lines(""), "work 1", REFUSED, "the jobs' file is refused: line 5 is empty; remove it"),
+    (instead(lambda scene: os.symlink("old", scene.run)), "status", DOOR, NO_FOLDER),
+    (instead(lambda scene: open(scene.run, "w").close()), "work 1", DOOR, NO_FOLDER),
+    (instead(same), "doubts", READ, "folder `THE RUN`: cannot be read: ...; check the path"),
+    (other_version, "again", DOOR, VERSION),
+    (with_lines(""), "work 1", REFUSED, "list `THE LIST`: line 5 is empty; remove it"),
     (with_lines("a\0"), "door", REFUSED,
-     "the jobs' file is refused: line 5 has a NUL byte; remove that byte"),
+     "list `THE LIST`: line 5 has a NUL byte; remove that byte"),
     (with_lines("a\r"), "work 1", REFUSED,
-     "the jobs' file is refused: line 5 has a carriage return; end lines with a line feed alone"),
+     "list `THE LIST`: line 5 has a carriage return; end lines with a line feed alone"),
     (with_lines("x" * 100001), "work 1", REFUSED,
-     "the jobs' file is refused: line 5 is longer than 100000 bytes; shorten it"),
+     "list `THE LIST`: line 5 is longer than 100000 bytes; shorten it"),
     (with_lines("a", "job 2"), "door", REFUSED,
-     "the jobs' file is refused: line 6 is equal to a line before it; remove it, or make the two"
-     " differ"),
-    (other_line, "work 1", REFUSED, "the jobs' file is refused at line 2: the run knows it as another line"),
-    (lambda scene: os.unlink(scene.jobs), "work 1", READ, "the jobs' file can't be read: ..."),
-    (having("record", b"amo-run 1\n"), "work 1", REFUSED, f"record is refused: {NO_RUN}"),
-    (having("jobs", b"a\n\n"), "status", REFUSED, f"jobs is refused: {NO_RUN}"),
-    (having("journal.16", b"+doubt 1\n-"), "status", REFUSED, "journal.16 is refused at entry 1"),
-    (having("answers", b"+done 1 2 9\n+done 9 9 9\n-"), "doubts", REFUSED, "answers is refused at entry 2"),
-    (lambda scene: os.unlink(scene.boot), "work 1", READ, "the boot id can't be read: ..."),
-    (boot_of_two_lines, "work 1", REFUSED, f"the boot id is refused: {NO_RUN}"),
-    (same, "answer 1.1 1 job1 done", REFUSED, f"answer 1 isn't taken: {NO_LINE}"),
-    (same, "answer 1-2 2 job_2 done", REFUSED, f"answer 1 isn't taken: {NO_LINE}"),
-    (same, "answer 1.9 2 job_2 done", REFUSED, f"answer 1 isn't taken: {NO_ATTEMPT}"),
-    (same, "answer 1.2 3 job_3 done", REFUSED, f"answer 1 isn't taken: {OTHER_LINE}"),
-    (same, "answer 1.1 1 job_1 done", REFUSED, f"answer 1 isn't taken: {NOT_ASKED}"),
+     "list `THE LIST`: line 6 is equal to a line before it; remove it, or make the two differ"),
+    (other_line, "work 1", REFUSED, CHANGED),
+    (lambda scene: os.unlink(scene.jobs), "work 1", READ,
+     "list `THE LIST`: cannot be read: ...; check the path"),
+    (having("record", b"amo-run 1\n"), "work 1", REFUSED,
+     "`THE RUN/record`: it is damaged, or was edited; undo the edit, or stop all workers and remove"
+     " this file"),
+    (having("jobs", b"a\n\n"), "status", REFUSED, f"`THE RUN/jobs`: {DAMAGED}"),
+    (having("journal.16", b"+doubt 1\n-"), "status", REFUSED,
+     f"`THE RUN/journal.16`: entry 1 {DAMAGED_ENTRY}"),
+    (having("answers", b"+done 1 2 9\n+done 9 9 9\n-"), "doubts", REFUSED,
+     f"`THE RUN/answers`: entry 2 {DAMAGED_ENTRY}"),
+    (lambda scene: os.unlink(scene.boot), "work 1", READ,
+     "boot id `THE BOOT`: cannot be read: ...; check the path"),
+    (boot_of_two_lines, "work 1", REFUSED, BOOT),
+    (same, "answer 1.1 1 job1 done", REFUSED, ROW),
+    (same, "answer 1-2 2 job_2 done", REFUSED, ROW),
+    (same, "answer 1.9 2 job_2 done", REFUSED, f"answer 1: {NO_ATTEMPT}"),
+    (same, "answer 1.2 3 job_3 done", REFUSED, f"answer 1: {OTHER_LINE}"),
+    (same, "answer 1.1 1 job_1 done", REFUSED, f"answer 1: {NOT_ASKED}"),
     (having("answers", b"+done 1 2 9\n-"), "answer 1.2 2 job_2 not-done", REFUSED,
-     "answer 1 isn't taken: the other answer was given before; an answer stays as it is"),
-    (same, "answer --from /nowhere", READ, "the file of answers can't be read: ..."),
-    (same, "answer 1.2 2", WORDS, f"INTENT LINE TEXT done|not-done {HELP}"),
-    (same, "status --lines closed", WORDS, f"lines {HELP}"),
-    (same, "work 2", WORDS, f"P {HELP}"),
-    (same, "work 1 --beta 65536", WORDS, f"beta {HELP}"),
-    (same, "work 1", LEFT, "nothing more comes from the partner"),
-    (spoiled, "work 1", SENSELESS, f"word 6 holds 0: {BEGINS_NEW}"),
-    (without("journal.3"), "status", REFUSED, f"`THE RUN`: `journal.3` {MISSING}"),
-    (without("answers"), "door", REFUSED, f"`THE RUN`: `answers` {MISSING}"),
-    (without("lock.round"), "work 1", REFUSED, f"`THE RUN`: `lock.round` {MISSING}"),
-    (having("journal.16", b""), "doubts", REFUSED, f"`THE RUN`: `journal.16` {EMPTY}"),
-    (having("answers", b""), "again", REFUSED, f"`THE RUN`: `answers` {EMPTY}"),
-    (having("id", b"none\n"), "status", REFUSED, f"id is refused: {NO_RUN}"),
+     "answer 1: the other answer was given before; an answer stays as it is"),
+    (same, "answer --from /nowhere", READ,
+     "answers `/nowhere`: cannot be read: ...; check the path"),
+    (same, "answer 1.2 2", WORDS,
+     f"`answer`: it must be INTENT LINE TEXT done|not-done, or --from FILE{HELP}"),
+    (same, "status --lines closed", WORDS,
+     f"`--lines`: it must be failed, doubt, untouched, running or open{HELP}"),
+    (same, "work 2", WORDS, f"`P`: it must be a whole number from 1 to 1{HELP}"),
+    (same, "work 1 --beta 65536", WORDS,
+     f"`--beta`: it must be a whole number from 1 to 65535{HELP}"),
+    (same, "work 1", LEFT, CLOSED),
+    (spoiled, "work 1", SENSELESS, f"`THE RUN/words`: word 6 {IMPOSSIBLE}"),
+    (without("journal.3"), "status", REFUSED, f"`THE RUN/journal.3`: {MISSING}"),
+    (without("answers"), "door", REFUSED, f"`THE RUN/answers`: {MISSING}"),
+    (without("lock.round"), "work 1", REFUSED, f"`THE RUN/lock.round`: {MISSING}"),
+    (having("journal.16", b""), "doubts", REFUSED, f"`THE RUN/journal.16`: {EMPTY}"),
+    (having("answers", b""), "again", REFUSED, f"`THE RUN/answers`: {EMPTY}"),
+    (having("id", b"none\n"), "status", REFUSED, f"`THE RUN/id`: {DAMAGED}"),
     (without("id"), "door", REFUSED, OLD_RUN),
     (without("id"), "again", REFUSED, OLD_RUN),
     (without("id", "record"), "door", REFUSED, NOT_NEW),
     (without("id", "record"), "answer 1.2 2 job_2 done", REFUSED, NO_ID),
     (having("forgotten", b""), "work 1", REFUSED, FORGOTTEN),
     (same, f"status --id {32 * '0'}", REFUSED, OTHER_ID),
-    (same, f"status --id {31 * '0'}", WORDS, f"--id {HELP}"),
+    (same, f"status --id {31 * '0'}", WORDS,
+     f"`--id`: it must be 32 hexadecimal digits, none of them a capital letter{HELP}"),
     (same, "door --into", REFUSED, HAS_ID),
-    (instead(same), f"door --id {32 * '0'}", REFUSED, NO_RUN_THERE),
-    (of_another_round, "work 1", LATER, "come back later: the round that is there can't be joined while others are at work in it"),
+    (instead(same), f"door --id {32 * '0'}", REFUSED, NO_RUN),
+    (of_another_round, "work 1", LATER, OTHER_ROUND),
 ]
+
+
+def is_message(said, message):
+    """Returns whether a program has printed this message, with any text in place of three dots."""
+    parts = (re.escape(it) for it in message.split("..."))
+    return re.fullmatch(f"amo_worker: {'[^;]+'.join(parts)}\n", said) is not None
 
 
 def told_one(bench, change, words, status, said):
@@ -174,14 +209,15 @@ def told_one(bench, change, words, status, said):
     command, *more = (it.replace("_", " ") for it in words.split(" "))
     more += [*scene.givens(), scene.jobs] if command in ("door", "work") else []
     ended, out, err = scene.call(command, scene.run, *more)
-    said = said.replace("THE RUN", scene.run)
-    is_right = err.startswith(f"amo_worker: {said[:-3]}") if said.endswith("...") else err == f"amo_worker: {said}\n"
-    want(ended == status and is_right and err.count("\n") == 1, f"{words}: status {ended}, {err}, and not {status}, {said}")
+    for mark, path in (("RUN", scene.run), ("LIST", scene.jobs), ("BOOT", scene.boot)):
+        said = said.replace(f"THE {mark}", path)
+    want(ended == status and is_message(err, said) and err.count("\n") == 1,
+         f"{words}: status {ended}, {err}, and not {status}, {said}")
     want(not out or words == "work 1", f"{words} says {out}")
 
 
 def try_lines_of_faults(bench):
-    """each fault has its status and its line"""
+    """each fault has its status and its message"""
     if bench.is_slow():
         bench.skipped.append("the stand-in has other words for faults")
         return None
@@ -189,23 +225,29 @@ def try_lines_of_faults(bench):
 
 
 def try_lines_of_lives(bench):
-    """how a life ends that was told to leave, or is over; an answer that can't be is shown, unless it is no text"""
+    """how a life ends that was told to leave, or is over; an invalid reply is shown if it is
+    UTF-8"""
     if bench.is_slow():
         bench.skipped.append("the stand-in has other words for faults")
         return
     scene = bench.scene(3, 4)
     first, other = Says(scene, 1, ["done 0"]), Runner(scene, 2)
-    want(live(first) == LEFT and first.said == "amo_worker: told to leave\n", f"{first.statuses}: {first.said}")
+    left = "amo_worker: runner: it told this worker to leave; start the worker again to go on\n"
+    want(live(first) == LEFT and first.said == left, f"{first.statuses}: {first.said}")
     others_at_work(scene)
-    later = "amo_worker: come back later: "
-    want(live(other) == LATER and other.said == f"{later}this worker has no seat in the round that is there\n", other.said)
+    later = f"amo_worker: folder `{scene.run}`: "
+    no_seat = "this worker has no seat in the current round; start again when that round is over\n"
+    want(live(other) == LATER and other.said == later + no_seat, other.said)
     first.leaves, first.perform = False, lambda *given: Runner.perform(first, *given)
-    want(live(first) == LATER and first.said == f"{later}this round is over for this worker\n", first.said)
-    for said, shown in ((b"done 9 0 go\n", "done 9 0 go"), (b"\xff 1 go\n", "(no text)"), (b"\n", "")):
+    over = "this round is over for this worker; start again to join the next one\n"
+    want(live(first) == LATER and first.said == later + over, first.said)
+    for said, shown in ((b"done 9 0 go\n", "done 9 0 go"), (b"\xff 1 go\n", "(not UTF-8)"),
+                        (b"\n", "")):
         runner = Runner(bench.scene(1, 1), 1)
         runner.take = lambda line, runner=runner, said=said: runner.process.stdin.write(said)
         live(runner)
-        want(runner.said == f"amo_worker: the partner's answer can't be: {shown}\n", runner.said)
+        invalid = f"runner: its reply `{shown}` is invalid; docs/PROCESSES.md lists the replies\n"
+        want(runner.said == f"amo_worker: {invalid}", runner.said)
 
 
 def failing_output(scene, words):
@@ -216,7 +258,8 @@ def failing_output(scene, words):
                              stdout=out, stderr=subprocess.PIPE, timeout=300,
                              env=scene.environment())
     said = ran.stderr.decode()
-    want(ran.returncode == WRITE and said.startswith("amo_worker: standard output can't be written: ") and said.count("\n") == 1,
+    wanted = "standard output: cannot be written: ...; make room, then start again"
+    want(ran.returncode == WRITE and is_message(said, wanted),
          f"{words}: status {ran.returncode}, {said}")
 
 

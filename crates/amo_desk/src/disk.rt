@@ -1,4 +1,4 @@
-//! Whether the file system of a run's folder keeps what is synced.
+//! The checks that the file system of a run's folder keeps synced data.
 use crate::fault::{Door, Fault, had};
 use crate::item::Item;
 use crate::setting::Setting;
@@ -11,28 +11,28 @@ use std::os::fd::AsRawFd;
 use std::rt::HostRuntime;
 use thiserror::Error;
 
-/// Why a file system isn't taken.
+/// Why a file system is refused.
 #[derive(Debug, Drop, Error)]
 pub enum Disk {
     /// The system doesn't list the mount of the folder.
-    #[error("/proc/self/mountinfo doesn't list its mount, as in a chroot; use a folder on a volume that is mounted in there")]
+    #[error("/proc/self/mountinfo doesn't list its mount, as in a chroot; use a folder on a volume that is mounted there")]
     Unknown,
     /// It is an overlay.
-    #[error("it lies on `overlay`, which may vanish with its container; put it on a volume, or take it anyway: --file-system overlay")]
+    #[error("its file system is `overlay`, which may vanish with its container; put it on a volume, or use it anyway: --file-system overlay")]
     Overlay,
-    /// It is of this type, which isn't known to be local.
-    #[error("it lies on `{0}`, which may lose what was synced; put it on a local disk, or take it anyway: --file-system {0}")]
+    /// It is of this type, which isn't among the known local ones.
+    #[error("its file system is `{0}`, which may lose synced data; put it on a local disk, or use it anyway: --file-system {0}")]
     Other(String),
     /// It is mounted with this option.
-    #[error("its file system is mounted with `{0}`, and a power cut may lose what was synced; mount it without `{0}`")]
+    #[error("its file system is mounted with `{0}`, so a power cut may lose synced data; mount it without `{0}`")]
     Option(String),
     /// It has this option as a default; the second is the one that it needs.
-    #[error("its file system has `{0}` as a default, and a power cut may lose what was synced; mount it with `{1}`")]
+    #[error("its file system has `{0}` as a default, so a power cut may lose synced data; mount it with `{1}`")]
     Default(String, String),
 }
 
-/// Checks that the folder of this path lies on a file system that is taken, and that is mounted so
-/// that it keeps what is synced. The mount is the one on which an open handle of the folder lies.
+/// Checks that the folder of this path lies on an accepted file system whose mount keeps synced
+/// data. The mount is the one on which an open handle of the folder lies.
 ///
 /// # Errors
 ///
@@ -58,7 +58,7 @@ pub(crate) fn check_file_system(
     check_defaults(rt, &mount)
 }
 
-/// Checks that a file system of this type is taken, as a known local one or because it is named.
+/// Checks that a file system of this type is accepted: it is a known local one, or it is named.
 fn check_type(alloc: Global, setting: &Setting<'_>, kind: &[u8]) -> Result<(), Fault> {
     let is_named = match setting.file_system {
         Some(name) => name.as_bytes() == kind,
@@ -73,7 +73,7 @@ fn check_type(alloc: Global, setting: &Setting<'_>, kind: &[u8]) -> Result<(), F
     Err(refused(Disk::Other(text_of(alloc, kind)?)))
 }
 
-/// Checks that the mount has no option by which what was synced may be lost.
+/// Checks that the mount has no option by which synced data may be lost.
 fn check_options(alloc: Global, mount: &Mount<'_>) -> Result<(), Fault> {
     match refused_option(alloc, mount)? {
         Some(option) => Err(refused(Disk::Option(text_of(alloc, option)?))),

@@ -1,4 +1,4 @@
-//! The files that a worker reads and writes, by what they are.
+//! The files that a worker reads and writes, and how a message names them.
 use std::fmt;
 use std::fmt::{Display, Formatter};
 
@@ -13,7 +13,8 @@ pub enum Item {
     Forgotten,
     /// The journal of a worker, whose lock is the guard of its number.
     Journal(u64),
-    /// Locked, shared, by each worker from before it reads the record to its end, and by who begins a round.
+    /// Locked, shared, by each worker from before it reads the record to its end, and by the worker
+    /// that begins a round.
     Round,
     /// The record of the last round.
     Record,
@@ -25,13 +26,13 @@ pub enum Item {
     Runner(u64),
     /// Of a worker's intent of this serial number: locked as long as its command runs.
     Command(u64, u64),
-    /// What persons found out.
+    /// The answers of operators.
     Answers,
     /// The jobs' file, outside of the folder.
     List,
-    /// The file of a person's answers.
+    /// The file that `answer --from` names.
     Sheet,
-    /// The id that the machine has since it was started.
+    /// The boot id.
     Boot,
     /// Where the kernel gives random numbers.
     Random,
@@ -43,6 +44,19 @@ pub enum Item {
     Ext4,
     /// Standard output.
     Output,
+}
+
+impl Item {
+    /// Returns whether this is a file in the run's folder.
+    pub(crate) fn is_in_run(self) -> bool {
+        match self {
+            Item::Id | Item::Forgotten | Item::Journal(_) | Item::Round => true,
+            Item::Record | Item::Known | Item::Words | Item::Runner(_) => true,
+            Item::Command(..) | Item::Answers => true,
+            Item::Run | Item::List | Item::Sheet | Item::Boot | Item::Random => false,
+            Item::Mounts | Item::Handle | Item::Ext4 | Item::Output => false,
+        }
+    }
 }
 
 impl Display for Item {

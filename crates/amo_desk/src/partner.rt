@@ -1,4 +1,4 @@
-//! The partner, on standard input and output: who performs jobs.
+//! The runner, which starts the commands: the worker speaks with it by standard input and output.
 use crate::fault::Fault;
 use amo_course::Reply;
 use amo_lines::whole_line;
@@ -8,12 +8,12 @@ use std::io;
 use std::io::{BufRead, Input, Write};
 use std::rt::HostRuntime;
 
-/// The partner, and what it said last.
+/// The runner, and its last line.
 #[derive(Drop)]
 pub(crate) struct Partner {
     rt: HostRuntime,
     input: <HostRuntime as Input>::Reader,
-    /// The last line that came, without its end.
+    /// The runner's last line, without its line feed.
     pub(crate) said: Vec<u8>,
 }
 
@@ -26,8 +26,11 @@ impl Partner {
         }
     }
 
-    /// Says a line, and waits for the line that answers it; it is given without its end. Where the partner takes no line or has no more
-    /// to say, that is the end. A line without its end is the end too.
+    /// Writes a line to the runner, waits for its reply, and returns that without its line feed.
+    /// Returns `None` if the runner takes no line or has closed its pipe, also within a line.
+    ///
+    /// # Errors
+    /// `Memory` if the reply finds no room.
     pub(crate) fn exchange(&mut self, line: &[u8]) -> Result<Option<Vec<u8>>, Fault> {
         let mut out = self.rt.stdout();
         if out.write_all(line).is_err() || out.flush().is_err() {
@@ -41,7 +44,10 @@ impl Partner {
         }
     }
 
-    /// Says a line, and waits for what comes in answer.
+    /// Writes a line to the runner, waits for its reply, and parses it.
+    ///
+    /// # Errors
+    /// As [`Partner::exchange`].
     pub(crate) fn ask(&mut self, line: &[u8]) -> Result<Reply, Fault> {
         match self.exchange(line)? {
             Some(said) => {
@@ -53,16 +59,16 @@ impl Partner {
         }
     }
 
-    /// What it said last, as a text to show.
+    /// Returns the runner's last line as a text to print.
     pub(crate) fn shown(&self) -> Result<String, AllocError> {
         shown(self.rt, &self.said)
     }
 }
 
-/// A line as a text to show.
+/// Returns a line as a text to print.
 pub(crate) fn shown(rt: HostRuntime, said: &[u8]) -> Result<String, AllocError> {
     match std::str::from_utf8(said) {
         Ok(text) => String::from_str(rt.alloc(), text),
-        Err(_) => String::from_str(rt.alloc(), "(no text)"),
+        Err(_) => String::from_str(rt.alloc(), "(not UTF-8)"),
     }
 }

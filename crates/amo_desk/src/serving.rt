@@ -1,4 +1,4 @@
-//! The whole program.
+//! The whole program: its commands, its messages, and the statuses with which it ends.
 use crate::answering::{answer, answer_from, once_more};
 use crate::door::{look_to_read, look_to_write, open};
 use crate::fault::{Fault, written};
@@ -17,8 +17,8 @@ use std::io::Write;
 use std::process::ExitCode;
 use std::rt::HostRuntime;
 
-/// Does what the words ask for, the program's name first. The status is 0 where it was done, 64 where the words are none of the
-/// program's, else that of the fault, of which a line on standard error tells.
+/// Carries out a command line, the program's name first. The status is 0 if it was done, 64 for a
+/// usage error, else that of the fault. A fault is a line on standard error: object, problem, remedy.
 pub fn serve(rt: HostRuntime, words: io::Result<Args>) -> ExitCode {
     let status = match words {
         Ok(words) => match listed(rt, words) {
@@ -46,18 +46,54 @@ fn texts_of<'a>(rt: HostRuntime, words: &'a [String]) -> Result<Vec<&'a str>, Al
     Ok(texts)
 }
 
-/// Tells of a fault on standard error, and answers its status.
+/// Prints a fault that is about no file, and returns its status.
 fn tell_fault(rt: HostRuntime, fault: &Fault) -> u8 {
     let _ = eprintln!(rt; "amo_worker: {fault}");
     fault.status()
 }
 
-/// Reports a fault of a run on standard error, and returns its status.
-fn tell_fault_of(rt: HostRuntime, setting: &Setting<'_>, fault: &Fault) -> u8 {
-    if !fault.is_of_folder() {
-        return tell_fault(rt, fault);
+/// Returns the file outside of the run's folder that a request names, if it names one: the list, or
+/// the file of answers.
+fn file_of<'a>(request: &Request<'a>) -> &'a str {
+    match request {
+        Request::Door(jobs, _) => jobs.list,
+        Request::Work(jobs, _) => jobs.list,
+        Request::AnswerFrom(sheet) => *sheet,
+        _ => "",
     }
-    let _ = eprintln!(rt; "amo_worker: `{}`: {fault}", setting.run);
+}
+
+/// Prints a fault with the path that it is about, and returns its status.
+fn tell_fault_of(rt: HostRuntime, setting: &Setting<'_>, file: &str, fault: &Fault) -> u8 {
+    let (run, boot) = (setting.run, setting.boot);
+    match fault.item() {
+        Some(item) if !run.is_empty() => match item {
+            Item::Run => {
+                let _ = eprintln!(rt; "amo_worker: folder `{run}`: {fault}");
+            }
+            Item::List => {
+                let _ = eprintln!(rt; "amo_worker: list `{file}`: {fault}");
+            }
+            Item::Sheet => {
+                let _ = eprintln!(rt; "amo_worker: answers `{file}`: {fault}");
+            }
+            Item::Boot => {
+                let _ = eprintln!(rt; "amo_worker: boot id `{boot}`: {fault}");
+            }
+            _ if item.is_in_run() => {
+                let _ = eprintln!(rt; "amo_worker: `{run}/{item}`: {fault}");
+            }
+            Item::Output => {
+                let _ = eprintln!(rt; "amo_worker: {item}: {fault}");
+            }
+            _ => {
+                let _ = eprintln!(rt; "amo_worker: `{item}`: {fault}");
+            }
+        },
+        _ => {
+            let _ = eprintln!(rt; "amo_worker: {fault}");
+        }
+    }
     fault.status()
 }
 
@@ -66,22 +102,35 @@ fn serve_words(rt: HostRuntime, words: &[String]) -> u8 {
         return tell_fault(rt, &Fault::Memory);
     };
     match asked(rt.alloc(), &texts) {
-        Ok((setting, request)) => match done(rt, &setting, request) {
-            Ok(()) => 0,
-            Err(fault) => tell_fault_of(rt, &setting, &fault),
-        },
-        Err(Misuse::Memory) => tell_fault(rt, &Fault::Memory),
-        Err(Misuse::Number(id)) => {
-            let _ = eprintln!(rt;
-                "amo_worker: {id} isn't what it may be; amo_worker --help says more"
-            );
-            64
+        Ok((setting, request)) => {
+            let file = file_of(&request);
+            match done(rt, &setting, request) {
+                Ok(()) => 0,
+                Err(fault) => tell_fault_of(rt, &setting, file, &fault),
+            }
         }
-        Err(Misuse::Words(error)) => tell_words(rt, &error),
+        Err(misuse) => tell_misuse(rt, &misuse),
     }
 }
 
-/// Shows the help that was asked for, all of it, or what is wrong with the words, and answers the status.
+/// Prints why a command line is no request, or the help that it asks for, and returns the status.
+fn tell_misuse(rt: HostRuntime, misuse: &Misuse) -> u8 {
+    match misuse {
+        Misuse::Memory => return tell_fault(rt, &Fault::Memory),
+        Misuse::Words(error) => return tell_words(rt, error),
+        Misuse::Number(name, low, high) => {
+            let _ = eprintln!(rt;
+                "amo_worker: `{name}`: it must be a whole number from {low} to {high}; see amo_worker --help"
+            );
+        }
+        Misuse::Word(name, what) => {
+            let _ = eprintln!(rt; "amo_worker: `{name}`: it must be {what}; see amo_worker --help");
+        }
+    }
+    64
+}
+
+/// Prints the whole help that was asked for, or what is wrong, and returns the status.
 fn tell_words(rt: HostRuntime, error: &Error) -> u8 {
     let mut shown = error.print(&rt);
     if error.exit_code() != 0 {
@@ -92,7 +141,10 @@ fn tell_words(rt: HostRuntime, error: &Error) -> u8 {
     }
     match written(Item::Output, shown) {
         Ok(()) => 0,
-        Err(fault) => tell_fault(rt, &fault),
+        Err(fault) => {
+            let _ = eprintln!(rt; "amo_worker: {}: {fault}", Item::Output);
+            fault.status()
+        }
     }
 }
 
@@ -128,7 +180,10 @@ fn done(rt: HostRuntime, setting: &Setting<'_>, request: Request<'_>) -> Result<
     }
 }
 
-/// The answer that the words of a command say.
+/// Returns the answer that a command line gives.
+///
+/// # Errors
+/// `NoAnswerOf` if it can't be read.
 fn said_by(
     rt: HostRuntime,
     intent: &str,
@@ -148,7 +203,7 @@ fn said_by(
     })
 }
 
-/// Tells on standard error that no line is open, with the line of the counts.
+/// Prints on standard error that no line is open, with the counts.
 fn tell_all_done(rt: HostRuntime, counts: &Counts) -> Result<(), Fault> {
     let text = status_text(rt.alloc(), counts, &[], &[], &[])?;
     let mut lines = text.as_slice().split(|b| *b == b'\n');

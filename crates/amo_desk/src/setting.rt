@@ -1,17 +1,18 @@
-//! What the words of a command say of a run.
+//! The arguments of a command about a run.
 ghost use Rattle.std.specs.Prelude.{◌≤◌};
 ghost use Rattle.amo_givens.specs.declared.limits.TheConstants.{MAX_WORKERS, MAX_BETA};
 
-/// A run's folder, and what is supposed of where it lies.
+/// A run's folder, and what is required of it.
 #[derive(Clone, Copy)]
 pub(crate) struct Setting<'a> {
     /// The path of the folder.
     pub(crate) run: &'a str,
     /// The id that the run must have, if one is named.
     pub(crate) id: Option<&'a str>,
-    /// A type of file system that is taken beside the known local ones, as /proc/self/mountinfo names it.
+    /// A type of file system that is accepted like the known local ones, as /proc/self/mountinfo
+    /// spells it.
     pub(crate) file_system: Option<&'a str>,
-    /// The path of the file with the id that the machine has since it was started.
+    /// The path of the file with the boot id.
     pub(crate) boot: &'a str,
 }
 
