@@ -21,8 +21,8 @@ pub enum Stop {
     /// There was no memory, and nothing was done.
     #[error("out of memory")]
     NoMemory,
-    /// This word was loaded with this value, which no worker can have stored there. Nothing was done
-    /// after it.
+    /// This word was loaded with this value, which no worker can have stored there. Nothing was
+    /// done after it.
     #[error("word {0}: the value {1} is impossible; stop all workers, and start a new round")]
     NoSuchNumber(u64, u64),
     /// The reply to the intent of this serial number is invalid. The intent stays pending.
@@ -32,7 +32,8 @@ pub enum Stop {
     /// stays pending.
     #[error("intent {0}: the runner replied to intent {1}; correct the runner, then start again")]
     OtherAnswer(u64, u64),
-    /// No serial number is left for another intent. A job was claimed, and nothing was done after it.
+    /// No serial number is left for another intent. A job was claimed, and nothing was done after
+    /// it.
     #[error("serial numbers: none is left; start a new run")]
     NoSerial,
     /// It had no end in 2^64 - 1 turns.

@@ -52,7 +52,8 @@ pub enum Later {
     /// This worker has no part in the round that is there.
     #[error("this worker has no seat in the current round; start again when that round is over")]
     NoSeat,
-    /// The worker has done its part of the round. The next is begun once nobody is at work in this one.
+    /// The worker has done its part of the round. The next round is begun once no worker is left in
+    /// this one.
     #[error("this round is over for this worker; start again to join the next one")]
     Over,
     /// Another process holds the lock of the answers.
@@ -81,7 +82,7 @@ pub enum Fault {
     /// There was no memory.
     #[error("out of memory; free some memory, then start again")]
     Memory,
-    /// The line of this number of the jobs' file can't be one of a run's, or is another than the run knows.
+    /// The line of this number of the list can't be one of a run's.
     #[error("line {0} {1}")]
     List(usize, Why),
     /// The line of this number is not what it was when the run first knew it.
@@ -147,7 +148,7 @@ pub enum Fault {
     /// A file can't be read.
     #[error("cannot be read: {1}; {remedy}", remedy = self.remedy())]
     Read(Item, io::Error),
-    /// The same command may succeed later.
+    /// The command may succeed later.
     #[error("{0}")]
     Later(Later),
     /// The runner said this, which is no reply to what it was asked.

@@ -22,8 +22,8 @@ pub(crate) enum Form {
 /// A command, apart from the run's folder.
 #[derive(Clone, Copy)]
 pub(crate) enum Request<'a> {
-    /// Checks that workers may begin, and makes the run's folder if it is missing. With `true` it is
-    /// made under its own name.
+    /// Checks that workers may begin, and makes the run's folder if it is missing. With `true` it
+    /// is made under its own name.
     Door(Jobs<'a>, bool),
     /// Runs this worker.
     Work(Jobs<'a>, u64),

@@ -25,8 +25,8 @@ pub(crate) struct Joined {
 /// Joins the current round. The lock is taken before record and words are read.
 ///
 /// # Errors
-/// `Later` if a round is being begun for two seconds, if the current one can't be joined, or if this
-/// worker has no seat in it.
+/// `Later` if a round is being begun for two seconds, if the current one can't be joined, or if
+/// this worker has no seat in it.
 pub(crate) fn join(
     rt: HostRuntime,
     setting: &Setting<'_>,
@@ -39,8 +39,8 @@ pub(crate) fn join(
     }
 }
 
-/// Reads the round under its lock. The folder is synced, since the process that made these files may
-/// have been killed before it did that.
+/// Reads the round under its lock. The folder is synced, since the process that made these files
+/// may have been killed before it did that.
 fn read(
     rt: HostRuntime,
     setting: &Setting<'_>,

@@ -18,7 +18,8 @@ use std::process::ExitCode;
 use std::rt::HostRuntime;
 
 /// Carries out a command line, the program's name first. The status is 0 if it was done, 64 for a
-/// usage error, else that of the fault. A fault is a line on standard error: object, problem, remedy.
+/// usage error, else that of the fault. A fault is a line on standard error, with object, problem
+/// and remedy.
 pub fn serve(rt: HostRuntime, words: io::Result<Args>) -> ExitCode {
     let status = match words {
         Ok(words) => match listed(rt, words) {
