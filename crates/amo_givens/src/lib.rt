@@ -6,5 +6,5 @@ mod limits;
 mod moves;
 
 pub use givens::{Givens, GivensFault};
-pub use limits::{MAX_BETA, MAX_JOBS, MAX_STEPS, MAX_WORKERS};
+pub use limits::{MAX_BETA, MAX_JOBS, MAX_STEPS, MAX_TEXT, MAX_WORKERS};
 pub use moves::Move;

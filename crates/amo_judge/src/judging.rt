@@ -11,13 +11,13 @@ use crate::reading::read_history;
 use crate::reasons::why_of;
 use crate::refusal::{Refusal, Wrong};
 use crate::telling::{event_text, lawful_text, worker_of};
-use amo_givens::{GivensFault, MAX_BETA, MAX_JOBS, MAX_WORKERS};
+use amo_givens::{GivensFault, MAX_BETA, MAX_JOBS, MAX_TEXT, MAX_WORKERS};
 use amo_kk::Event;
 use amo_world::{Verdict, judge};
 use std::alloc::{AllocError, Global};
 
-/// A text with more bytes is refused.
-const MOST_BYTES: usize = 1_048_576;
+/// The most bytes of a history.
+const MOST_BYTES: usize = MAX_TEXT;
 
 /// What is wrong with a line.
 #[tactic(auto, unfolding(crate::specs::Judgement::wrong_text))]

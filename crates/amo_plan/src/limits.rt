@@ -6,14 +6,14 @@ ghost use Rattle.amo_plan.specs.Limits.{is_small, budgets_within};
 ghost use Rattle.amo_plan.specs.declared.limits.TheConstants.{MOST_ROUNDS};
 
 use crate::fault::PlanFault;
-use amo_givens::MAX_STEPS;
+use amo_givens::{MAX_STEPS, MAX_TEXT};
 use std::alloc::Global;
 
 /// The newest version of the format.
 pub const NEWEST_VERSION: u64 = 2;
 
 /// The most bytes of a plan.
-pub const MOST_BYTES: usize = 1_048_576;
+pub const MOST_BYTES: usize = MAX_TEXT;
 
 /// The most moves of a schedule.
 pub const MOST_MOVES: u64 = 100_000;

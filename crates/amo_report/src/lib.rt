@@ -13,10 +13,8 @@ mod summary;
 mod wanted;
 
 pub use amo_plan::{MOST_COUNT, MOST_FIRST, MOST_TURNS};
-pub use amo_streams::{
-    Bytes, Failed, MOST_READ, ReadFault, Room, Sink, Source, Streamed, read_all, write_all,
-};
-pub use amo_texts::{ReplayFault, fault_text};
+pub use amo_streams::{Bytes, Failed, ReadFault, Room, Sink, Source, Streamed, write_all};
+pub use amo_texts::{MOST_READ, ReplayFault, fault_text, read_all};
 pub use checking::check_text;
 pub use explorer::explore;
 pub use replaying::replay;

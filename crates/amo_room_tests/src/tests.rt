@@ -1,12 +1,12 @@
 //! A room for a text, out of memory, and its calls that take none.
-use amo_streams::{Bytes, Failed, ReadFault, Room, Sink, Source, read_all};
+use amo_streams::{Bytes, Failed, ReadFault, Room, Sink, Source, read_at_most};
 use std::alloc::Global;
 use std::process::Abort;
 
 /// All bytes, or out of memory.
 #[test]
-fn refused_read_all(rt: HostRuntime) {
-    match read_all(rt.alloc(), &mut Bytes::new(b"some bytes")) {
+fn refused_read_at_most(rt: HostRuntime) {
+    match read_at_most(rt.alloc(), &mut Bytes::new(b"some bytes"), 11) {
         Ok(bytes) => assert!(rt; bytes.as_slice() == b"some bytes".as_slice()),
         Err(fault) => assert!(rt; fault == ReadFault::NoMemory),
     }

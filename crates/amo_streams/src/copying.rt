@@ -1,38 +1,42 @@
-//! All of a source, and all of a text.
+//! Reading of a source to its end, and writing of a whole text.
 ghost use Rattle.std.specs.Prelude.{◌≡◌, ◌<◌, ◌≤◌, ◌||◌, IfOk, IfErr, OnOk, OnErr, is_err, false, vec_len, length};
 ghost use Rattle.std.specs.Io.KnownBytes.{Appends, Consumes, IsAtEnd};
 ghost use Rattle.amo_streams.specs.Streams.{AppendsFront};
 ghost use Rattle.amo_streams.specs.ReadFaults.{is_failure};
-ghost use Rattle.amo_streams.specs.declared.copying.TheConstants.{MOST_READ};
 
 use crate::streams::{Failed, Sink, Source};
 use std::alloc::{AllocError, Global};
 
-/// Why a source was not read.
+/// Why a source can't be read.
 #[derive(Clone, Copy, Debug, PartialEq, Eq)]
 pub enum ReadFault {
     /// The source failed.
     Failed,
-    /// Memory for what it gave was refused.
+    /// Memory for its bytes was refused.
     NoMemory,
 }
 
-/// The most bytes that are read: one more than a plan may have.
-pub const MOST_READ: usize = 1_048_577;
-
-/// Reads to the end of the source, or `MOST_READ` bytes where it has so many. After a fault some bytes may be
-/// taken from what remains.
-pub fn read_all<R: Source>(alloc: Global, reader: &mut R) -> Result<Vec<u8>, ReadFault>
+/// Reads to the end of the source, or `limit` bytes if it has so many. The source may be longer if
+/// so many bytes are returned.
+///
+/// # Errors
+/// `Failed` if the source failed, `NoMemory` if memory was refused. Some bytes may be taken from the
+/// source then.
+pub fn read_at_most<R: Source>(
+    alloc: Global,
+    reader: &mut R,
+    limit: usize,
+) -> Result<Vec<u8>, ReadFault>
     ensures ok { IfOk result (λ v. Consumes (R.remaining reader.old) (R.remaining reader.new) v.items) }
-    ensures most { IfOk result (λ v. vec_len v ≤ MOST_READ) }
-    ensures end { IfOk result (λ v. vec_len v < MOST_READ → IsAtEnd (R.remaining reader.new)) }
+    ensures most { IfOk result (λ v. vec_len v ≤ limit) }
+    ensures end { IfOk result (λ v. vec_len v < limit → IsAtEnd (R.remaining reader.new)) }
     ensures calm { OnOk result (R.failed reader.new ≡ R.failed reader.old) }
     ensures fails { IfErr result (λ e. R.failed reader.new ≡ (R.failed reader.old || is_failure e)) }
 {
     let mut bytes = Vec::new(alloc);
     let mut buf = [0u8; 4096];
-    'reading: while bytes.len() < MOST_READ {
-        let room = buf.len().min(MOST_READ - bytes.len());
+    'reading: while bytes.len() < limit {
+        let room = buf.len().min(limit - bytes.len());
         let front = &mut buf[..room];
         let count = match reader.read(front) {
             Ok(count) => count,
@@ -49,8 +53,10 @@ pub fn read_all<R: Source>(alloc: Global, reader: &mut R) -> Result<Vec<u8>, Rea
     Ok(bytes)
 }
 
-/// Writes all of the bytes and flushes the sink. `Failed` where a write or the flush fails: then a beginning of
-/// the bytes was taken.
+/// Writes all of the bytes and flushes the sink.
+///
+/// # Errors
+/// `Failed` if a write or the flush fails: then a beginning of the bytes was taken.
 pub fn write_all<W: Sink>(writer: &mut W, bytes: &[u8]) -> Result<(), Failed>
     ensures ok { OnOk result (Appends (W.contents writer.old) (W.contents writer.new) bytes.now) }
     ensures passed { OnOk result (W.waiting writer.new ≡ false) }

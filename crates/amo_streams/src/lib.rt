@@ -9,7 +9,7 @@ mod streamed;
 mod streams;
 
 pub use bytes::Bytes;
-pub use copying::{MOST_READ, ReadFault, read_all, write_all};
+pub use copying::{ReadFault, read_at_most, write_all};
 pub use room::Room;
 pub use streamed::Streamed;
 pub use streams::{Failed, Sink, Source};

@@ -4,7 +4,7 @@ use Rattle.std.specs.Prelude.{IfSome}
 use Rattle.std.specs.Io.KnownBytes.{Appends, Consumes, IsAtEnd, Keeps}
 use Rattle.std.proofs.lemmas.List.{append-nil}
 use Rattle.amo_streams.specs.Streams.{AppendsFront}
-use Rattle.amo_streams.specs.declared.copying.TheConstants.{MOST_READ}
+use Rattle.amo_texts.specs.declared.reading.TheConstants.{MOST_READ}
 use Rattle.amo_plan.specs.declared.fault.PlanFault.{PlanFault}
 use Rattle.amo_plan.specs.declared.limits.TheConstants.{MOST_BYTES}
 use Rattle.amo_texts.specs.declared.writing.ReplayFault.{ReplayFault}

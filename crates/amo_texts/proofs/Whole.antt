@@ -11,7 +11,7 @@ use Rattle.amo_plan.specs.Plan.{PlanSeen, plan_of}
 use Rattle.amo_texts.specs.declared.writing.ReplayFault.{ReplayFault}
 use Rattle.amo_texts.specs.declared.writing.ReplayFault.TheVariants.{Plan, Read, Write, NoMemory}
 use Rattle.amo_texts.specs.Written.{IsNotMade, IsNoPlan}
-use Rattle.amo_streams.specs.declared.copying.TheConstants.{MOST_READ}
+use Rattle.amo_texts.specs.declared.reading.TheConstants.{MOST_READ}
 
 -- a text above the limit is too long, whatever it holds
 too_long : (bytes : List ℕ) → MOST_READ ≤ length bytes → plan_of bytes ≡ Err TooLong

@@ -5,9 +5,10 @@ ghost use Rattle.amo_plan.specs.declared.fault.PlanFault.{PlanFault};
 ghost use Rattle.amo_texts.specs.OfBytes.{RefusesOf, WritesOf};
 ghost use Rattle.amo_texts.specs.Written.{IsNoText, is_failed_read, is_failed_write};
 
+use crate::reading::{MOST_READ, read_all};
 use crate::writing::{ReplayFault, write_text};
 use amo_plan::PlanFault;
-use amo_streams::{MOST_READ, ReadFault, Sink, Source, read_all};
+use amo_streams::{ReadFault, Sink, Source};
 use std::alloc::Global;
 
 /// A text that is made of bytes.

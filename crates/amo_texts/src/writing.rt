@@ -8,10 +8,11 @@ ghost use Rattle.amo_streams.specs.Streams.{AppendsFront};
 ghost use Rattle.amo_texts.specs.Written.{IsNoPlan, IsNotMade, Refuses, Writes, is_failed_read, is_failed_write};
 ghost use Rattle.amo_texts.specs.declared.writing.ReplayFault.TheVariants.{Write, NoMemory};
 
+use crate::reading::read_all;
 use crate::text::PlanText;
 use amo_plan::laws::plans_keep_their_rules;
 use amo_plan::{Plan, PlanFault, read_plan};
-use amo_streams::{Failed, ReadFault, Sink, Source, read_all, write_all};
+use amo_streams::{Failed, ReadFault, Sink, Source, write_all};
 use std::alloc::{AllocError, Global};
 
 /// Why the text of a plan was not written, or not all of it.
