@@ -1,5 +1,6 @@
-"""What the modules of amo_jobs and amo_share stand on:
-statuses, messages, files, locks, amo_worker."""
+"""What the modules of amo_jobs and amo_share share: statuses, messages, files, locks, amo_worker.
+
+A message is `object: problem; remedy`. The operator reads it at night, and decides by it."""
 
 from __future__ import annotations
 
@@ -36,12 +37,12 @@ REMEDIES = {
 
 
 class End(Exception):
-    """Its status, and what is told of it, if anything."""
+    """The end of a program: its status, and its message, or None."""
 
 
 class Screen:
-    """Standard error, and on a terminal a last line that shows how far it is.
-    One that is gone ends nothing."""
+    """Standard error, and on a terminal a last line that shows how far the run is. If the terminal
+    is gone, the program goes on."""
     clear, shown = "\r\033[K" if os.isatty(2) else "", ""
 
     @classmethod
@@ -58,7 +59,7 @@ class Screen:
 
 
 def visible(text):
-    """A text as it may be written to a terminal."""
+    """Returns a text as it may be written to a terminal."""
     return "".join(it if it.isprintable() else it.encode("unicode_escape", "replace").decode()
                    for it in text)
 
@@ -66,8 +67,8 @@ def visible(text):
 def boot_id_warning() -> str:
     """Returns the warning that the boot id is a test's; an empty text if it is the system's."""
     path = os.environ.get(TEST_BOOT_ID, "")
-    return path and (f"{TEST_BOOT_ID} is set; the boot id comes from `{visible(path)}`."
-                     " This is for tests only")
+    return path and (f"{TEST_BOOT_ID}: it is set for a test, so the boot id comes from"
+                     f" `{visible(path)}`, and a line may run twice; unset it for real jobs")
 
 
 class Program:
@@ -80,28 +81,29 @@ class Program:
 
     @staticmethod
     def own() -> str:
-        """Returns the path of the program that belongs to this file:
-        in a release it lies beside."""
+        """Returns the path of the program that belongs to this file. A release has it in the same
+        folder."""
         in_clone = os.path.isdir(f"{HERE}/crates")
         return f"{HERE}/crates/amo_worker/out/amo_worker" if in_clone else f"{HERE}/amo_worker"
 
     @staticmethod
     def built():
-        """The program beside this file, made first where it isn't built,
-        or where its sources have changed."""
+        """Returns the program that belongs to this file. Builds it first if it is missing, or if
+        its sources have changed."""
         front, program = f"{HERE}/amo_worker", Program.own()
         if front == program:
             return front
         if not os.path.exists(program):
-            Screen.tell("amo_worker isn't built yet: it is proved and built now, once; that takes 7"
-                        " to 15 minutes on 4 processors")
+            Screen.tell("amo_worker: it isn't built yet, so it is proved and built now, once; wait"
+                        " 7 to 15 minutes on 4 processors")
         if subprocess.run([front, "--help"], stdin=subprocess.DEVNULL,
                           stdout=subprocess.DEVNULL).returncode:
-            raise End(BUILD, "amo_worker could not be built")
+            raise End(BUILD, "amo_worker: it could not be built; correct what the lines above"
+                             " report, then try: ./amo_worker --help")
         return program
 
     def call(self, *words):
-        """What it writes; where it isn't done, the end with its status. It has told why."""
+        """Returns what the program writes. If it fails, raises its status; it has reported why."""
         words = [self.path, *words, *self.more]
         ended = subprocess.run(words, stdin=subprocess.DEVNULL, stdout=subprocess.PIPE,
                                start_new_session=True)
@@ -110,29 +112,30 @@ class Program:
         return ended.stdout
 
     def told(self, *words: str):
-        """Returns what the program says in JSON."""
+        """Returns what the program prints as JSON."""
         try:
             return json.loads(self.call(*words, "--json"))
         except ValueError:
-            raise End(BUILD, f"`{visible(self.path)}`: it is no amo_worker of this version; give it"
-                             " by --worker-program, or leave that out") from None
+            raise End(BUILD, f"`{visible(self.path)}`: it isn't the amo_worker of this version;"
+                             " give that one by --worker-program, or leave out the"
+                             " option") from None
 
     def status(self, run):
         return self.told("status", run)
 
 
 def content(path, is_json=False):
-    """What a file that `place` made says; None where there is none."""
+    """Returns what a file holds that `place` made; None if it is missing."""
     with suppress(FileNotFoundError), open(path, errors="surrogateescape") as file:
         try:
             return json.load(file) if is_json else file.read().rstrip("\n")
         except ValueError:
-            raise End(REFUSED, f"`{visible(path)}`: it is damaged; restore it from a copy, or move"
-                               " it away if you know what it said") from None
+            raise End(REFUSED, f"`{visible(path)}`: it is damaged; restore this file from a copy,"
+                               " or move it away if you know what it held") from None
 
 
 def place(path, text):
-    """Makes a file with this text whole beside, and gives it its name, on the disk."""
+    """Writes a text to a new file, and gives the file this name, on the disk."""
     with open(f"{path}.new", "w", errors="surrogateescape") as file:
         file.write(f"{text}\n")
         file.flush()
@@ -142,7 +145,7 @@ def place(path, text):
 
 
 def sync_folder(path: str) -> None:
-    """Has the disk keep which names stand in a folder."""
+    """Syncs which names stand in a folder."""
     folder = os.open(path, os.O_RDONLY | os.O_DIRECTORY)
     os.fsync(folder)
     os.close(folder)
@@ -169,9 +172,9 @@ def close_all(files: list[int]) -> None:
 
 
 def locked(path, makes):
-    """A handle with the exclusive lock on this file; None where another has it, or the name has
-    gone to another file. Nothing is synced: a lock doesn't outlive the machine, so its file needn't
-    either."""
+    """Returns a handle with the exclusive lock on this file; None if another process has the lock,
+    or if the name has gone to another file. Nothing is synced: a lock doesn't outlive the machine,
+    so its file needn't either."""
     file = os.open(path, os.O_RDONLY | (os.O_CREAT if makes else 0), 0o600)
     got = None
     try:
@@ -197,20 +200,26 @@ def refused(text: str) -> End:
     return End(REFUSED, visible(text))
 
 
+def lowered(error: OSError) -> str:
+    """Returns the text of an error of the system, for the middle of a message."""
+    text = error.strerror or (os.strerror(error.errno) if error.errno else str(error))
+    return f"{text[:1].lower()}{text[1:]}"
+
+
 def reason(error: Exception) -> str:
-    """Returns what a failed call of the system says: on which object, what, and what to do."""
+    """Returns the message of a failed call of the system: the object, the problem, the remedy."""
     if not isinstance(error, OSError) or error.errno is None:
         return visible(str(error)) or type(error).__name__
-    path, problem = error.filename, error.strerror or os.strerror(error.errno)
-    named = "standard output" if error.errno == errno.EPIPE else "the system"
+    path = error.filename
+    named = "standard output" if error.errno == errno.EPIPE else "a call of the system"
     if isinstance(path, (str, bytes, os.PathLike)):
         named = f"`{visible(os.fsdecode(path))}`"
-    remedy = REMEDIES.get(error.errno, "mend that, then start again")
-    return f"{named}: {problem[:1].lower()}{problem[1:]}; {remedy}"
+    remedy = REMEDIES.get(error.errno, "correct that, then start again")
+    return f"{named}: {lowered(error)}; {remedy}"
 
 
 def give_up_output() -> None:
-    """Sends what standard output has not taken nowhere; else Python tells of it at its end."""
+    """Discards what standard output has not taken; else Python reports it at its end."""
     with suppress(OSError):
         os.dup2(os.open(os.devnull, os.O_WRONLY), 1)
 
@@ -239,5 +248,6 @@ def within(kind, low, high):
             if low <= kind(word) <= high:
                 return kind(word)
         what = "whole number" if kind is int else "number"
-        raise argparse.ArgumentTypeError(f"`{visible(word)}` is no {what} from {low} to {high:.0f}")
+        raise argparse.ArgumentTypeError(
+            f"`{visible(word)}` isn't valid; give a {what} from {low} to {high:.0f}")
     return number

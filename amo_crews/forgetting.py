@@ -1,4 +1,4 @@
-"""Puts a run away: its list, its folder and its mark get other names."""
+"""Puts a run away: renames its list, its folder and its mark."""
 
 from __future__ import annotations
 
@@ -14,19 +14,21 @@ from amo_crews.identity import FORGOTTEN, ID, id_of, is_gone, is_same, Mark, ref
 
 
 class Forgetting:
-    """Puts a run away, so that nobody goes on with it, and its list isn't left to begin anew.
+    """Puts a run away, so that no crew goes on with it, and its list isn't left to begin anew.
 
-    The steps, each on the disk before the next one: a file `forgotten` in the folder, with which no
-    crew takes it; then the list, the folder and the mark get other names. Begun again, it goes on
-    with the step before which it was cut off. A new list under the old name isn't touched.
+    Each step is on the disk before the next one. The first writes a file `forgotten` into the
+    folder, so that no crew takes it. The others rename the list, the folder and the mark. If
+    `forget` is started again, it goes on with the step before which it was cut off. A new list
+    under the old name isn't touched.
     """
 
     def __init__(self, given, program: Program):
         self.given, self.program, self.held = given, program, []
         self.mark = Mark.read(given.mark)
         if self.mark and not ID.fullmatch(self.mark.id):
-            raise refused(f"list `{given.asked}`: `{given.mark}` is no mark of this version;"
-                          " nothing is put away")
+            raise refused(f"list `{given.asked}`: its mark `{given.mark}` isn't of this version, so"
+                          " nothing is put away; leave the list of a chunk to amo_share, and a run"
+                          " of amo 0.1.0 where it is")
         own = self.mark.folder if self.mark and not given.has_folder else given.run
         self.folder = os.path.realpath(own)
         self.run = self.mark.id if self.mark else id_of(self.folder)
@@ -36,7 +38,7 @@ class Forgetting:
         self.list, self.old_mark = f"{self.away}/{name}", f"{self.away}/{name}.run-is"
 
     def take(self) -> None:
-        """Does what is left of it, and prints where everything is."""
+        """Does the steps that are left, and prints where everything is."""
         if self.run is None:
             return self.take_nothing()
         if os.path.lexists(self.given.jobs):
@@ -45,8 +47,8 @@ class Forgetting:
             self.take_folder()
         elif id_of(self.moved) != self.run:
             raise refused(f"list `{self.given.asked}`: its run {self.run} is neither in"
-                          f" `{self.folder}` nor in `{self.moved}`; a file system may not be"
-                          " mounted. Mount it, or name the folder: --run DIR")
+                          f" `{self.folder}` nor in `{self.moved}`; mount its file system if that"
+                          " isn't mounted, or name the folder: --run DIR")
         if self.mark and Mark.read(self.given.mark) == self.mark:
             make_folder(self.away)
             rename(self.given.mark, self.old_mark)
@@ -61,8 +63,9 @@ class Forgetting:
         above, name = os.path.split(self.given.jobs)
         found = [it for it in sorted(os.listdir(above)) if it.startswith(f"{name}.forgotten-")]
         if not found:
-            raise refused(f"list `{self.given.asked}`: it has no mark, and `{self.folder}` is no"
-                          " folder of a run; nothing is put away")
+            raise refused(f"list `{self.given.asked}`: it has no mark, and `{self.folder}` isn't"
+                          " the folder of a run, so nothing is put away; check the path, or name"
+                          " the folder: --run DIR")
         print("".join(f"put away before: {visible(above)}/{visible(it)}\n" for it in found), end="")
 
     def lock(self, path: str, makes: bool = False, end: float | None = None) -> None:
@@ -70,11 +73,12 @@ class Forgetting:
         lock = locked_soon(path, makes, end)
         if lock is None:
             raise End(LATER, visible(f"list `{self.given.asked}`: `{path}` is locked, so its run is"
-                                     " at work; wait for its end, or stop its crew"))
+                                     " at work; wait until its crew has ended, or stop it"))
         self.held.append(lock)
 
     def take_folder(self) -> None:
-        """Under all locks of the run: the file `forgotten`, then the list, then the folder."""
+        """Takes all locks of the run. Then writes the file `forgotten`, and renames the list and
+        the folder."""
         mark, end = self.mark, time.monotonic() + PATIENCE
         if mark and not is_same(self.folder, mark.folder) and not is_gone(mark.folder):
             raise refusal(Row.COPY, mark, self.given)
@@ -83,7 +87,7 @@ class Forgetting:
                 try:
                     self.lock(f"{self.folder}/{name}", name.startswith("runner"), end)
                 except FileNotFoundError:
-                    self.refuse(f"`{self.folder}/{name}` is missing")
+                    self.refuse(f"`{self.folder}/{name}` is missing; put that very file back")
         if not self.given.force:
             self.check_closed()
         place(f"{self.folder}/{FORGOTTEN}", self.given.jobs)
@@ -102,29 +106,29 @@ class Forgetting:
         found, known = self.program.status(self.folder), bytes_of(f"{self.folder}/jobs") or b""
         jobs = None if os.path.lexists(self.list) else bytes_of(self.given.jobs)
         if jobs is not None and not jobs.startswith(known):
-            self.refuse("it isn't the list that was run, and would be put away too. Move it to"
-                        " another name")
+            self.refuse("it isn't the list that was run, and would be put away too; give it another"
+                        " name")
         more = jobs[len(known):].count(b"\n") if jobs else 0
         left = found["open"] + more, found["running"] + found["doubt"]
         if any(left):
-            self.refuse(f"lines that are open: {left[0]}; running or in doubt: {left[1]}. Have them"
-                        " finished, or answered")
+            self.refuse(f"lines still open: {left[0]}, running or in doubt: {left[1]}; finish the"
+                        " open ones with a crew, and answer the doubts")
 
     def refuse(self, text: str) -> None:
         if not self.given.force:
-            raise refused(f"list `{self.given.asked}`: {text}; or, to put the run away as it is:"
+            raise refused(f"list `{self.given.asked}`: {text}. To put the run away as it is:"
                           " --force")
 
 
 def make_folder(path: str) -> None:
-    """Makes a folder, unless it is there, on the disk."""
+    """Makes a folder on the disk, unless it exists."""
     with suppress(FileExistsError):
         os.mkdir(path)
     sync_folder(os.path.dirname(path))
 
 
 def rename(old: str, new: str) -> None:
-    """Gives a file or a folder a new name, on the disk."""
+    """Renames a file or a folder, on the disk."""
     os.rename(old, new)
     for folder in {os.path.dirname(old), os.path.dirname(new)}:
         sync_folder(folder)

@@ -1,4 +1,4 @@
-"""Which folder a list is run in: the mark beside the list, the id of the run, the worker's door."""
+"""Decides which folder a list is run in: by the mark beside the list, and the id of the run."""
 
 from __future__ import annotations
 
@@ -14,8 +14,8 @@ from contextlib import suppress
 from typing import NamedTuple
 
 from amo_crews.common import (
-    bytes_of, content, End, locked_soon, place, Program, READ, refused, sync_folder, visible,
-    without_end
+    bytes_of, content, End, locked_soon, lowered, place, Program, READ, refused, sync_folder,
+    visible, without_end
 )
 
 ID, FIRST_VERSION, FORGOTTEN = re.compile("[0-9a-f]{32}"), "1", "forgotten"
@@ -65,8 +65,8 @@ class Mark(NamedTuple):
         except FileExistsError:
             return False
         except OSError as error:
-            raise refused(f"mark `{path}`: it can't be made by a hard link: {error.strerror}; copy"
-                          " the list to a file system that has them, and run the copy") from error
+            raise refused(f"mark `{path}`: it can't be made by a hard link: {lowered(error)}; copy"
+                          " the list to a file system with hard links, and run the copy") from error
         finally:
             os.unlink(new)
         sync_folder(os.path.dirname(path))
@@ -84,13 +84,13 @@ def name_beside(path: str) -> str:
 
 
 def id_of(folder: str) -> str | None:
-    """Returns what the file `id` of a run's folder says; None if it is missing."""
+    """Returns what the file `id` of a run's folder holds; None if it is missing."""
     data = bytes_of(f"{folder}/id")
     return None if data is None else without_end(os.fsdecode(data), "\n")
 
 
 def has_id(folder: str, run: str) -> bool:
-    """Returns whether this folder can be seen to be this run's."""
+    """Returns whether this folder is visibly the run's."""
     with suppress(OSError):
         return id_of(folder) == run
     return False
@@ -115,7 +115,7 @@ def is_gone(path: str) -> bool:
 
 
 class Row(enum.Enum):
-    """How the mark of a list, and the folder that a crew was given, stand to each other."""
+    """How the mark of a list relates to the folder that a crew was given."""
     NO_MARK, GOES_ON, MOVED, COPY = "no mark", "the run's own", "moved", "copy"
     MISSING, NO_ID, OTHER_ID = "is missing", "has no id", "has another id"
     OLD_MARK, NO_RUN = "a mark of amo 0.1.0", "no mark of a run"
@@ -138,60 +138,61 @@ def row_of(mark: Mark | None, folder: str) -> Row:
 def refusal(row: Row, mark: Mark, given) -> End:
     """Returns the end of a crew that finds this row, with what to do about it."""
     run, program, jobs = f"its run {mark.id}", sys.argv[0], shlex.quote(given.asked)
-    anew = f"to give that run up and run every line again: --new-run {mark.id}"
+    anew = f"To give that run up and run every line again: --new-run {mark.id}"
     if given.new_run and given.new_run != mark.id:
         anew += f" (it is --new-run {given.new_run} now, which names another run)"
     if row is Row.NO_RUN:
-        text = f"`{given.mark}` names no run; no crew takes this list"
+        text = (f"its mark `{given.mark}` names no run, so no crew takes this list; leave the list"
+                " of a chunk to amo_share, and restore a mark that was damaged")
     elif row is Row.OLD_MARK:
-        text = (f"`{given.mark}` is a mark of amo 0.1.0, of the folder `{mark.folder}`, which this"
-                f" version doesn't go on with. Make a list of the lines that {program} status"
-                f" --lines open --run {shlex.quote(mark.folder)} prints, and run it in a new"
-                f" folder; or, {anew}")
+        text = (f"`{given.mark}` is a mark of amo 0.1.0, and this version can't go on in its folder"
+                f" `{mark.folder}`; make a list of the lines that {program} status --lines open"
+                f" --run {shlex.quote(mark.folder)} prints, and run that list in a new folder."
+                f" {anew}")
     elif row is Row.COPY:
-        text = (f"{run} is in `{mark.folder}`, and `{given.run}` has the same id; one of them may"
-                f" be a copy, which would run lines again. Go on in the other: --run"
-                f" {shlex.quote(mark.folder)}; or, if you are sure that `{given.run}` is the one"
-                f" that ran last: --new-run {mark.id}")
+        text = (f"{run} is in `{mark.folder}`, and `{given.run}` has the same id, so one of them"
+                f" may be a copy, which would run lines again; go on in the other: --run"
+                f" {shlex.quote(mark.folder)}. If you are sure that `{given.run}` is the one that"
+                f" ran last: --new-run {mark.id}")
     elif has_id(mark.folder, mark.id):
-        text = (f"{run} is in `{mark.folder}`, and `{given.run}` {row.value}. Go on there: --run"
-                f" {shlex.quote(mark.folder)}; or, {anew}")
+        text = (f"{run} is in `{mark.folder}`, and `{given.run}` {row.value}; go on there: --run"
+                f" {shlex.quote(mark.folder)}. {anew}")
     else:
         where = ("" if mark.folder == os.path.realpath(given.run)
                  else f", and was in `{mark.folder}`")
-        text = (f"{run} isn't in `{given.run}`, which {row.value}{where}; a file system may not be"
-                f" mounted, or a `forget` was cut off. Mount it, or go on with {program} forget"
-                f" {jobs}; or, {anew}")
+        text = (f"{run} isn't in `{given.run}`, which {row.value}{where}; mount its file system if"
+                " that isn't mounted, or go on with a `forget` that was cut off:"
+                f" {program} forget {jobs}. {anew}")
     return refused(f"list `{given.asked}`: {text}")
 
 
 def check_list(given) -> None:
-    """Refuses a list that can't be read again, as one from a pipe."""
+    """Refuses a list that can't be read again, such as a pipe."""
     for path in (given.asked, given.jobs):
         try:
             is_file = stat.S_ISREG(os.stat(path).st_mode)
         except FileNotFoundError:
-            raise End(READ, visible(f"list `{given.asked}`: it is missing")) from None
+            missing = f"list `{given.asked}`: it is missing; check the path"
+            raise End(READ, visible(missing)) from None
         if not is_file:
-            raise refused(f"list `{given.asked}`: it is no regular file; write the lines to a file,"
-                          " and give that")
+            raise refused(f"list `{given.asked}`: it isn't a regular file; write the lines to a"
+                          " file, and give that file")
 
 
-def check_beside(given) -> None:
-    """Refuses a list beside which no mark can be made, before anything is made."""
+def check_beside(given, remedy: str) -> None:
+    """Refuses a list if no mark can be made in its folder, before anything is made."""
     new = name_beside(given.mark)
     try:
         os.close(os.open(new, os.O_WRONLY | os.O_CREAT | os.O_EXCL, 0o600))
         os.unlink(new)
     except OSError as error:
         raise refused(f"list `{given.asked}`: its mark `{given.mark}` can't be made:"
-                      f" {error.strerror}; copy the list to a folder where you may make files, and"
-                      " run the copy") from error
+                      f" {lowered(error)}; {remedy}") from error
 
 
 def check_not_renamed(given) -> None:
-    """Refuses a list without a mark that begins with the lines of a run whose list is missing: its
-    name was changed, and its mark's wasn't."""
+    """Refuses a list without a mark that begins with the lines of a run whose list is missing: the
+    list was renamed, and its mark wasn't."""
     above, jobs = os.path.dirname(given.jobs), bytes_of(given.jobs) or b""
     for name in sorted(os.listdir(above)):
         old = f"{above}/{without_end(name, '.run-is')}"
@@ -202,16 +203,16 @@ def check_not_renamed(given) -> None:
         if known and jobs.startswith(known):
             words = shlex.join(["mv", f"{old}.run-is", given.mark])
             raise refused(f"list `{given.asked}`: it has the lines of the missing list `{old}`,"
-                          f" whose run is in `{mark.folder}`. If the list was renamed, rename the"
-                          f" mark too: {words}, and give --run {shlex.quote(mark.folder)}; else"
-                          f" put that run away: {sys.argv[0]} forget {shlex.quote(old)}")
+                          f" whose run is in `{mark.folder}`; if the list was renamed, rename its"
+                          f" mark too: {words}, and give --run {shlex.quote(mark.folder)}. Else put"
+                          f" that run away: {sys.argv[0]} forget {shlex.quote(old)}")
 
 
 def enter(given, program: Program, run: str | None = None) -> str:
     """Has the worker's door check the list and the folder; returns the id of the folder. The door
     makes the folder if it is missing, unless `run` is an id, which it must have."""
     if os.path.lexists(f"{given.run}/{FORGOTTEN}"):
-        raise refused(f"folder `{given.run}`: its run is put away, or a `forget` was cut off. Go on"
+        raise refused(f"folder `{given.run}`: its run is put away, or a `forget` was cut off; go on"
                       f" with {sys.argv[0]} forget {shlex.quote(given.asked)}, or begin a new run"
                       " in another folder: --run DIR")
     refuse_other_command(given)
@@ -219,8 +220,9 @@ def enter(given, program: Program, run: str | None = None) -> str:
     program.call("door", given.run, *workers, *(["--id", run] if run else []), given.jobs)
     found = run or id_of(given.run)
     if not found or not ID.fullmatch(found):
-        raise refused(f"folder `{given.run}`: it has no id; `{program.path}` is of another version,"
-                      " or the folder was removed meanwhile")
+        raise refused(f"folder `{given.run}`: it has no id, since `{program.path}` is of another"
+                      " version, or the folder was removed meanwhile; use the amo_worker of this"
+                      " version, and start again")
     return found
 
 
@@ -228,7 +230,7 @@ def joined(given, program: Program) -> str:
     """Returns the id of the run in which the list is run, once mark and folder agree about it.
 
     The mark is made or written before any line is performed. If another crew makes one meanwhile,
-    all is looked at anew.
+    mark and folder are compared again.
     """
     while True:
         mark = Mark.read(given.mark)
@@ -238,7 +240,8 @@ def joined(given, program: Program) -> str:
             sync_folder(os.path.dirname(given.mark))  # its maker may have died before it did so
             return run
         if row is Row.NO_MARK:
-            check_beside(given)
+            check_beside(given, "copy the list to a folder where you may make files, and run the"
+                                " copy")
             check_not_renamed(given)
             run = enter(given, program)
             if Mark(run, os.path.realpath(given.run)).make(given.mark):
@@ -254,13 +257,16 @@ def joined(given, program: Program) -> str:
 def rejoined(given, program: Program, mark: Mark, row: Row) -> str | None:
     """Writes another mark in place of this one, under the list's lock; returns the run's id, or
     None if the lock shows another mark or another row."""
-    check_beside(given)
+    check_beside(given, "allow files to be made in that folder, then start again; don't run a copy"
+                        " of the list, which is another list")
     try:
         lock = locked_soon(given.jobs)
     except OSError as error:
-        raise refused(f"list `{given.asked}`: it can't be locked: {error.strerror}") from error
+        raise refused(f"list `{given.asked}`: it can't be locked: {lowered(error)}; put the list on"
+                      " a file system with locks, then start again") from error
     if lock is None:
-        raise refused(f"list `{given.asked}`: another process keeps its lock; wait for its end")
+        raise refused(f"list `{given.asked}`: another process keeps its lock; wait until that"
+                      " process has ended, then start again")
     try:
         if Mark.read(given.mark) != mark or row_of(mark, given.run) is not row:
             return None
@@ -272,26 +278,26 @@ def rejoined(given, program: Program, mark: Mark, row: Row) -> str | None:
 
 
 def name_run(given, program: Program) -> None:
-    """Hands the run's id to each start of the worker: that of the list's mark, or of the folder."""
+    """Passes the run's id, that of the list's mark or of the folder, to each start of a worker."""
     mark = Mark.read(given.mark) if given.mark else None
     run = mark.id if mark and ID.fullmatch(mark.id) else id_of(given.run)
     program.more += ["--id", run] if run and ID.fullmatch(run) else []
 
 
 def refuse_other_command(given):
-    """A test run closes lines; so a folder that was used with another command is refused."""
+    """Refuses a folder that was used with another command, since a test run closes lines too."""
     used = content(f"{given.run}/command", True)
     if used and used["command"] != given.command and not given.command_changed:
         raise refused(f"folder `{given.run}`: it was used with another command,"
-                      f" `{shlex.join(used['command'])}`; what that one performed stays performed."
-                      " To go on with this one: --command-changed")
+                      f" `{shlex.join(used['command'])}`, and the lines that this one performed"
+                      " stay performed; to go on with the new command: --command-changed")
 
 
 def note_command(given):
-    """Notes the command before a line is performed.
-    Of two that come at once the later is refused."""
+    """Records the command before a line is performed. Of two crews that start together the later
+    one is refused."""
     with open(given.jobs, "rb") as file:
-        with suppress(OSError):  # on a file system over a network there may be no locks
+        with suppress(OSError):  # a file system over a network may have no locks
             fcntl.flock(file, fcntl.LOCK_EX)
         refuse_other_command(given)
         place(f"{given.run}/command",

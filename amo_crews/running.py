@@ -1,4 +1,5 @@
-"""Runs the commands of a crew: one command, the runner of one worker, the crew of all runners."""
+"""Runs the commands of a crew. A `Command` is one command, a `Runner` runs those of one worker, and
+a `Crew` is all runners."""
 
 from __future__ import annotations
 
@@ -14,24 +15,25 @@ import time
 from contextlib import suppress
 
 from amo_crews.common import (
-    close_all, DONE, DOUBTFUL, FAILED, KINDS, LATER, LEFT, locked, MEMORY, next_command, PATIENCE,
-    READ, reason, Screen, visible
+    close_all, DONE, DOUBTFUL, FAILED, KINDS, LATER, LEFT, locked, lowered, MEMORY, next_command,
+    PATIENCE, READ, reason, Screen, visible
 )
 
 PIPES = dict.fromkeys(("stdin", "stdout", "stderr"), subprocess.PIPE)
 OUTPUTS = ("out", "err")
 SHORTEST, LONGEST, FAR, MOST_FIRST_FAILURES = 0.1, 4.0, float("inf"), 10
+NO_PROCESS = "its worker is alive, or a process of another user"
 INTERPRETER = re.compile(r"(?:|ba|da|k|z)sh|(?:python|perl|ruby|php|lua|node)[\d.]*")
 
 
 class NotStarted(Exception):
-    """States why a command was not begun, and what to do. No process of it was made, or none is
+    """States why a command was not started, and what to do. No process of it was made, or none is
     left."""
 
 
 def is_free(path):
-    """Whether nothing of a command is left: its lock is got by a handle opened anew. The file is
-    removed then; a missing one says the same, to who holds the runner's lock."""
+    """Returns whether nothing of a command is left: a handle that is opened anew gets its lock. The
+    file is removed then. If the caller holds the runner's lock, a missing file means the same."""
     try:
         lock = locked(path, False)
     except OSError as error:
@@ -55,8 +57,8 @@ def words_that_tell(words: list) -> str:
 
 
 def holders(run, names):
-    """Of the commands of these intents the processes that hold the lock, but runners;
-    the system tells only of one's own."""
+    """Returns for each of these attempts the processes that hold the lock of its command, without
+    runners. The system shows only the user's own processes."""
     found = {f"{os.path.realpath(run)}/command.{name}": [] for name in names}
     for process in filter(str.isdecimal, os.listdir("/proc") if found else []):
         with suppress(OSError):
@@ -71,7 +73,7 @@ def holders(run, names):
 
 
 class Command:
-    """The command of one intent, and its lock."""
+    """The command of one attempt, and its lock."""
 
     def __init__(self, given, worker, serial, line):
         self.given, self.name, self.serial, self.line, self.process = (
@@ -104,7 +106,7 @@ class Command:
         except OSError as error:
             close_all(files)
             self.drop_lock()
-            raise NotStarted(f"{reason(error)}; no line was lost") from None
+            raise NotStarted(f"{reason(error)} (no line was lost)") from None
         if process == 0:
             try:
                 self.become(words, surroundings, *files)
@@ -117,7 +119,7 @@ class Command:
         close_all(files)
         if why and self.is_reaped():
             self.drop_lock()
-            raise NotStarted(f"{why}; no line was lost. Correct the command and start again with"
+            raise NotStarted(f"{why} (no line was lost); correct the command, and start again with"
                              " --command-changed")
 
     def take_lock(self) -> None:
@@ -151,7 +153,7 @@ class Command:
                 signal.signal(number, signal.SIG_DFL)
             os.execvpe(words[0], words, surroundings)
         except Exception as error:
-            why = os.strerror(error.errno) if isinstance(error, OSError) else reason(error)
+            why = lowered(error) if isinstance(error, OSError) else reason(error)
             os.write(report, why.encode("utf-8", "replace")[:1000])
 
     @staticmethod
@@ -167,37 +169,36 @@ class Command:
         return ""
 
     def is_reaped(self) -> bool:
-        """Waits for the end of a child that reported,
-        and returns whether it is known to be gone."""
+        """Waits for the end of a child that reported, and returns whether it is surely gone."""
         with suppress(OSError):
             return os.waitpid(self.process, 0)[0] == self.process
         return False
 
     def set_timer(self):
-        """In the child, before it becomes the command: the kernel's timer, which exec keeps, ends
-        it where no runner is left to do so. (There are no threads here, so a child may run
-        this.)"""
+        """Sets the kernel's timer, in the child, before it becomes the command. Exec keeps the
+        timer, which ends the command if no runner is left to do so. (There are no threads here, so
+        a child may run this.)"""
         signal.signal(signal.SIGALRM, signal.SIG_DFL)
         signal.pthread_sigmask(signal.SIG_UNBLOCK, [signal.SIGALRM])
         signal.setitimer(signal.ITIMER_REAL, self.given.timeout + self.given.grace + 1)
 
     def let_go(self):
-        """Closes the own handles of the lock."""
+        """Closes this process's handles of the lock."""
         close_all(self.locks)
 
     def has_ended(self):
-        """Whether the command itself has ended.
-        It isn't waited for: so its number stays its own, and that of its group."""
+        """Returns whether the command itself has ended. It isn't reaped, so that its number and
+        the number of its group stay its own."""
         return os.waitid(os.P_PID, self.process, os.WEXITED | os.WNOHANG | os.WNOWAIT) is not None
 
     def signal(self, number):
-        """To all of the command's group."""
+        """Sends a signal to the whole group of the command."""
         with suppress(OSError):
             os.killpg(self.process, number)
 
     def press(self):
-        """Sends TERM when its time is over, and KILL once the grace is over too.
-        Answers when that is to be looked at again."""
+        """Sends TERM when the command's time is over, and KILL once the grace is over too. Returns
+        when to call this again."""
         due = self.begun + (self.given.timeout or 0) + (self.given.grace if self.is_late else 0)
         if not self.given.timeout or self.is_killed:
             return FAR
@@ -223,8 +224,8 @@ class Command:
 
 
 def next_line(worker, rest):
-    """The next whole line that a worker says, and the rest; None at the end.
-    A line without its end counts for nothing."""
+    """Returns the next whole line of a worker, and the rest; None at the end. A line without its
+    end counts for nothing."""
     while b"\n" not in rest:
         yield worker.stdout.fileno(), FAR
         part = worker.stdout.read(1 << 16)
@@ -235,24 +236,24 @@ def next_line(worker, rest):
 
 
 class Runner:
-    """The runner of one worker. `run` is its life, which yields what it waits for, a file that can
-    be read, or None, and a time. It may be resumed sooner, so each place looks again at what it
-    waits for."""
+    """The runner of one worker. `run` is its life. It yields what it waits for: a file to be read,
+    or None, and a time. It may be resumed sooner, so each place checks again what it waits for."""
 
     def __init__(self, crew, number):
         self.crew, self.given, self.number, self.steps = crew, crew.given, number, self.run()
         self.seen, self.left, self.command, self.lock, self.ends = {}, {}, None, None, 0
-        self.status, self.told, self.warned, self.wait = None, "", None, (None, 0.0)
+        self.status, self.message, self.warned, self.wait = None, "", None, (None, 0.0)
 
     def run(self):
-        """Takes the lock of its number before any worker is begun, and keeps it as long as it
-        lives. (Who asks for doubts has it for a moment, so it is tried for some seconds.) A worker
-        that dies, or has to come back later, is begun again after a pause that differs each time:
-        two that try in step might else go round for ever."""
+        """Takes the lock of its number before it starts a worker, and keeps it as long as it lives.
+        (`doubts` holds that lock for a moment, so the runner tries for some seconds.) A worker that
+        dies, or that has to come back later, is started again after a pause. The pause differs each
+        time, since two that try in step might go round for ever."""
         end, pause = time.monotonic() + PATIENCE, SHORTEST
         while (lock := locked(f"{self.given.run}/runner.{self.number}", True)) is None:
             if time.monotonic() > end or self.crew.is_stopping:
-                self.status, self.told = LATER, "it has another runner"
+                self.status, self.message = LATER, ("another runner has its number; wait until that"
+                                                 " crew has ended, or stop it")
                 return
             yield None, time.monotonic() + 0.05
         self.lock = lock
@@ -265,11 +266,13 @@ class Runner:
                 yield None, end
 
     def live(self):
-        """One life of the worker; whether it said anything. All that it says is read, to the end of
-        its pipe, before the next one is begun, and once it is dead nothing is carried out. (Carried
-        out after the next one was told of a doubt, it would do what a person may have done by
-        hand.) A worker is told to leave after a stop, once no other end waits to be noted, and
-        where what a command left behind has ended, so that the next one asks for it."""
+        """Runs one life of the worker, and returns whether the worker wrote a line.
+
+        Its pipe is read to the end before the next worker starts, and once a worker is dead none of
+        its lines is carried out. (The next worker may have reported a doubt by then, and the
+        operator may have done by hand what the line asks for.) A worker is told to leave after a
+        stop, once no other end waits to be recorded. It is also told to leave if what a command
+        left behind has ended, so that the next worker asks for that end."""
         given, program, has_got, last, rest = self.given, self.crew.program, False, None, b""
         words = ["work", given.run, str(self.number), "--workers", str(given.workers),
                  "--beta", str(given.beta), given.jobs]
@@ -277,7 +280,7 @@ class Runner:
             worker = subprocess.Popen([program.path, *words, *program.more], bufsize=0,
                                       start_new_session=True, **PIPES)
         except OSError as error:
-            self.status, self.told = (
+            self.status, self.message = (
                 MEMORY if isinstance(error, BlockingIOError) else READ, reason(error))
             return False
         os.set_blocking(worker.stdout.fileno(), False)
@@ -292,12 +295,12 @@ class Runner:
                 last = serial if worker.poll() is None else None
                 if last is not None:
                     answer = ((yield from self.perform(serial, int(number), text)) if is_perform
-                              else self.was(serial))
+                              else self.was(serial, int(number)))
                     is_over = self.crew.is_stopping and not set(self.seen) - {serial}
                     leaves = is_over or any(is_free(it.path) for it in self.left.values())
                     try:
                         worker.stdin.write(f"{answer} {'leave' if leaves else 'go'}\n".encode())
-                    except (OSError, ValueError):  # it is dead, or leaves now; the next one asks
+                    except (OSError, ValueError):  # it is dead, or leaves; the next worker asks
                         last = None
                         with suppress(OSError):
                             worker.stdin.close()
@@ -305,27 +308,27 @@ class Runner:
                     self.saw(serial, "unbegun")
             while worker.poll() is None:
                 yield None, FAR
-            self.status, self.told = (
+            self.status, self.message = (
                 worker.returncode, worker.stderr.read().decode("utf-8", "replace").strip())
         if self.status in (DONE, LEFT, LATER):
             self.is_noted(last, self.status == DONE)
         return has_got
 
     def is_noted(self, last, is_past):
-        """What a worker goes on after is on the disk: its last answer, and once it is past asking
-        whatever it didn't ask for."""
+        """Forgets the ends that are on the disk: the last answer that a worker got, once it goes
+        on; and all others, once it performs lines."""
         self.seen.pop(last, None)
         if is_past:
             self.seen.clear()
 
     def saw(self, serial, word, code=None):
-        """Keeps what came of an intent until it is noted, and puts it as the answer."""
+        """Keeps what came of an attempt until that is recorded, and returns it as the answer."""
         self.seen[serial] = f"{word} {serial}" + ("" if code is None else f" {code}")
         return self.seen[serial]
 
     def perform(self, serial, line, text):
-        """Performs a line, if no stop was asked for.
-        What a command leaves behind when it ends is waited for, for a while."""
+        """Performs a line, unless a stop was asked for. Waits for a while for what the command
+        leaves behind when it ends."""
         if self.crew.is_stopping:
             return self.saw(serial, "unbegun")
         command = Command(self.given, self.number, serial, line)
@@ -334,7 +337,7 @@ class Runner:
         except NotStarted as why:
             if not self.crew.is_stopping:
                 Screen.tell(f"line {line}: cannot start `{visible(self.given.command[0])}`: {why}")
-            self.crew.stop("a line cannot be started")
+            self.crew.stop("crew: a line cannot be started")
             return self.saw(serial, "unbegun")
         self.command = command
         while not command.has_ended():
@@ -346,15 +349,16 @@ class Runner:
                 command.press()
             if time.monotonic() > end and command.is_killed >= command.is_late:
                 self.command, self.left[serial] = None, command
-                Screen.tell(f"line {line}: {command.name} has ended, and something that it began"
-                            " runs on")
+                Screen.tell(f"line {line}: attempt {command.name} has ended, and something that it"
+                            " started still runs; wait for it, or end it ("
+                            f"{next_command(self.given, 'status')} names the process)")
                 return f"running {serial}"
             yield None, time.monotonic() + 0.02
         self.command = None
         return self.ended(command)
 
     def ended(self, command):
-        """An end is seen, since nothing of the command is left."""
+        """Records the end of a command, of which nothing is left."""
         word, code = command.answer()
         self.ends += 1
         with suppress(OSError), open(f"{self.given.run}/pace.{self.number}", "w") as file:
@@ -362,28 +366,29 @@ class Runner:
         self.crew.count(word, code, command)
         return self.saw(command.serial, word, code)
 
-    def was(self, serial):
-        """What became of an earlier intent: what this runner saw;
-        else something of it still runs, or it is a doubt for ever."""
+    def was(self, serial, line):
+        """Returns what became of an earlier attempt: what this runner saw. If it saw no end,
+        something of the attempt still runs, or the attempt is in doubt for good."""
         if serial in self.seen:
             return self.seen[serial]
         if not is_free(f"{self.given.run}/command.{self.number}.{serial}"):
             return f"running {serial}"
         if serial in self.left:
             return self.ended(self.left.pop(serial))
-        Screen.tell(f"{self.number}.{serial} is in doubt: its runner was gone before its end was"
-                    " noted")
+        Screen.tell(f"line {line}: attempt {self.number}.{serial} is in doubt, since its runner was"
+                    " gone before the end was recorded; find out whether it took effect")
         return self.saw(serial, "doubt")
 
     def is_over(self):
-        """Whether this runner may end: only where each end that it saw is noted, else the worker is
-        begun once more, whatever its last status was. So no end that was seen becomes a doubt."""
+        """Returns whether this runner may end. It may not while an end that it saw isn't recorded:
+        then the worker is started once more, whatever its last status was. So no end that was seen
+        becomes a doubt."""
         for serial in [it for it, command in self.left.items() if is_free(command.path)]:
             self.ended(self.left.pop(serial))
         if self.seen and self.status not in (DONE, LEFT, LATER, self.warned) and self.status >= 0:
             self.warned = self.status
-            Screen.tell(f"worker {self.number}: {self.told}; it goes on trying, since"
-                        f" {len(self.seen)} ends are not noted yet")
+            Screen.tell(f"worker {self.number}: {self.message}. It goes on trying, since"
+                        f" {len(self.seen)} ends are not recorded yet")
         return not self.seen and (
             self.crew.is_stopping or self.status not in (LATER, MEMORY) and self.status >= 0)
 
@@ -402,8 +407,8 @@ class Crew:
         self.runners = [Runner(self, number) for number in numbers]
 
     def run(self):
-        """Signals are taken in the loop.
-        One that was ignored at the start, as by nohup, stays so."""
+        """Runs all runners to their end, and returns the crew's status. The loop takes signals. A
+        signal that was ignored at the start, as under nohup, stays ignored."""
         signal.set_wakeup_fd(self.bell, warn_on_full_buffer=False)
         signal.signal(signal.SIGCHLD, lambda *_: None)
         for number in (signal.SIGINT, signal.SIGTERM, signal.SIGHUP):
@@ -414,7 +419,7 @@ class Crew:
         return self.end()
 
     def turn(self):
-        """Waits until something may have changed, and resumes whoever waits for it."""
+        """Waits until something may have changed, and resumes the runners that wait for it."""
         living = [it for it in self.runners if it.wait]
         files, due = ([it.wait[0] for it in living if it.wait[0]],
                       min([self.due] + [it.wait[1] for it in living]))
@@ -434,12 +439,12 @@ class Crew:
             self.show()
 
     def has_ended(self, runner):
-        """A status with which no worker is begun again wants a person.
-        Where all is done the others needn't wait."""
+        """Takes the end of a runner. If its worker isn't started again, the crew stops, and the
+        operator has to look."""
         if runner.status not in (DONE, LEFT, LATER) or runner.lock is None:
-            Screen.tell(f"worker {runner.number}: {runner.told} (status {runner.status})")
+            Screen.tell(f"worker {runner.number}: {runner.message} (status {runner.status})")
         if runner.status not in (DONE, LEFT, LATER):
-            self.stop(f"worker {runner.number} isn't begun again")
+            self.stop(f"worker {runner.number}: it isn't started again")
         self.ring()
 
     def ring(self):
@@ -448,47 +453,51 @@ class Crew:
         with suppress(OSError):
             os.write(self.bell, b"\0")
 
-    def stop(self, why):
-        """No further job. Those that run go on to their end."""
+    def stop(self, why, remedy=""):
+        """Starts no further command. Those that run go on to their end."""
         if not self.is_stopping:
             running = sum(it.command is not None for it in self.runners)
-            Screen.tell(f"{why}; no further job is begun"
-                        + (f", {running} go on to their end" if running else ""))
+            Screen.tell(f"{why}, so no further job is started"
+                        + (f" (commands that go on to their end: {running})" if running else "")
+                        + remedy)
             self.is_stopping = True
             self.ring()
 
     def take(self, number):
-        """A signal: the first one stops in order,
-        and each further one is handed on to the commands that run."""
+        """Takes a signal. The first one stops the crew in order, and each further one is passed on
+        to the commands that run."""
         self.asked += 1
         name, running = (
             signal.Signals(number).name, [it.command for it in self.runners if it.command])
         if self.asked == 1:
-            return self.stop(f"{name} (once more hands it on to the commands)")
-        Screen.tell(f"{name} is handed on to"
+            return self.stop(f"crew: it got {name}",
+                             "; to pass a signal on to the commands: send one more")
+        Screen.tell(f"crew: it got {name} again, and passes it on to"
                     f" {', '.join(it.name for it in running) or 'no command, since none runs'}")
         for command in running:
             command.signal(number)
 
     def count(self, word, code, command):
-        """Counts an end. Failures in a row stop the crew, few where none was good before: a
-        misspelt command burns no list."""
+        """Counts an end. Failures in a row stop the crew, and a few are enough if no line was done
+        before: so a misspelt command uses up no list."""
         self.ended += 1
         if word == "done" and code == 0:
             self.good, self.row = self.good + 1, 0
             return
         self.row += word != "untouched"
-        how = (f"ended by {'the timeout' if command.is_late else 'a signal'}" if word == "doubt"
-               else f"status {code}")
-        Screen.tell(f"line {command.line} {word.replace('done', 'failed')}: {how}"
-                    f" (intent {command.name})")
+        ended_by = "the timeout" if command.is_late else "a signal"
+        how = {"doubt": f"is in doubt, since {ended_by} ended it; find out whether it took effect",
+               "untouched": f"did nothing (status {code})", "done": f"failed with status {code}"}
+        Screen.tell(f"line {command.line}: attempt {command.name} {how[word]}")
         most = (self.given.halt if self.good or self.given.halt == 0
                 else min(self.given.halt or FAR, MOST_FIRST_FAILURES))
         if most and self.row >= most:
-            self.stop(f"{self.row} failures in a row"
-                      + ("" if self.good else ", and none was good before"))
+            self.stop(f"crew: {self.row} failures in a row"
+                      + ("" if self.good else ", and no line was done before"),
+                      f"; see the files err.P.S in `{visible(self.given.results)}` for the cause")
 
     def show(self):
+        """Shows how far the crew is."""
         closed = min(sum(self.before[it] for it in KINDS[:5]) + self.ended, self.lines)
         running = sum(it.command is not None for it in self.runners)
         pace = self.ended / max(time.monotonic() - self.begun, 1)
@@ -496,43 +505,44 @@ class Crew:
                     f"{outlook(pace, self.lines - closed)}")
 
     def end(self):
-        """Tells how all lines stand. The status is that of a worker that was refused,
-        else what the counts say."""
+        """Prints how all lines stand. Returns the status of a worker that was refused; if none was,
+        the status by the counts."""
         refused = [it.status for it in self.runners
                    if it.status not in (DONE, LEFT, LATER, MEMORY) and it.status > 0]
         taken = [LATER] if all(it.lock is None for it in self.runners) else []
-        # no worker is begun any more
+        # no worker is started any more
         close_all([it.lock for it in self.runners if it.lock is not None])
         found = self.program.status(self.given.run)
-        more = f"; look: {next_command(self.given, 'doubts')}" if found["doubt"] else ""
+        more = f"; see the doubts: {next_command(self.given, 'doubts')}" if found["doubt"] else ""
         Screen.tell("\n".join([counted(found) + more, *listed(self.given.run, found, ["running"])]))
         return (refused + taken + [status_of(found, LEFT)])[0]
 
 
 def status_of(found, if_open):
-    """The status by the counts of all lines."""
+    """Returns the status by the counts of all lines."""
     if found["doubt"] or found["running"]:
         return DOUBTFUL
     return if_open if found["open"] else FAILED if found["failed"] or found["untouched"] else DONE
 
 
 def counted(found):
+    """Returns the counts of all lines, as a sentence."""
     return f"{found['lines']} lines: " + ", ".join(
         f"{found[it]} {'in doubt' if it == 'doubt' else it}" for it in KINDS)
 
 
 def listed(run, found, states):
-    """A text for each line in one of these states, with the processes that hold it."""
+    """Yields a text for each line in one of these states, with the processes that hold it."""
     rows = [it for it in found["intents"] if it["state"] in states]
     held = holders(run, [it["intent"] for it in rows if it["state"] == "running"])
     for it in rows:
-        more = (f" -- {', '.join(held[it['intent']]) or 'its worker is at it'}"
+        more = (f" -- {', '.join(held[it['intent']]) or NO_PROCESS}"
                 if it["intent"] in held else "")
         yield f"{it['state']} {it['intent']}, line {it['line']}: {visible(it['text'])}{more}"
 
 
 def outlook(pace, count):
-    """How fast it goes, and when it is over, as the end of a sentence."""
+    """Returns the pace and the expected end of a run, as the end of a sentence."""
     if not pace or count <= 0:
         return ""
     return (f", {pace:.3g} a second, over at"

@@ -25,7 +25,7 @@ def befall(bench, number, who, kinds, workers):
     # (who is killed as it hears of an end may have put its next intent before it dies, of which its runner hears nothing)
     unseen = {f"{worker}.{int(serial) + 1}" for worker, serial in re.findall(r"(\d+)\.(\d+) of line \d+ answered", told)}
     # (and of what a command left behind no runner sees the end that has nothing else to do until then)
-    unseen.update(re.findall(r"line \d+: (\d+\.\d+) has ended, and something that it began runs on", scene.tale()))
+    unseen.update(re.findall(r"line \d+: attempt (\d+\.\d+) has ended, and something that it started still runs", scene.tale()))
     may_leave = who not in LEAVE_NO_DOUBT or "unsaid" in told or unseen.issuperset(scene.listed)
     want(may_leave or not scene.listed, f"a doubt though no runner or command was killed: {told.strip()}, {scene.listed}")
 

@@ -163,22 +163,22 @@ write screen 1 2           | EIO EPIPE         | 0     |  | 0 | 0
 # Before a command is begun. Only these failures, and an exec that fails, lead to `unbegun`. The
 # lines are open, and no line is lost.
 UNBEGUN = """
-open run/command.N.N 1     | EIO EMFILE ENOSPC | 69    | NOT *; no line was lost | 0 | 3
-flock run/command.N.N 1    | ENOLCK EAGAIN     | 69    | NOT *; no line was lost | 0 | 3
-stat run/command.N.N 1     | EIO ENOENT        | 69    | NOT *; no line was lost | 0 | 3
-fstat run/command.N.N 1    | EIO               | 69    | NOT *; no line was lost | 0 | 3
-fcntl run/command.N.N 1    | EMFILE            | 69    | NOT *; no line was lost | 0 | 3
+open run/command.N.N 1     | EIO EMFILE ENOSPC | 69    | NOT * (no line was lost) | 0 | 3
+flock run/command.N.N 1    | ENOLCK EAGAIN     | 69    | NOT * (no line was lost) | 0 | 3
+stat run/command.N.N 1     | EIO ENOENT        | 69    | NOT * (no line was lost) | 0 | 3
+fstat run/command.N.N 1    | EIO               | 69    | NOT * (no line was lost) | 0 | 3
+fcntl run/command.N.N 1    | EMFILE            | 69    | NOT * (no line was lost) | 0 | 3
 open run/out.N.N 1         | EIO EACCES EMFILE ENOSPC | 69    | NOT *: % | 0 | 3
 open run/err.N.N 1         | EIO EACCES EMFILE ENOSPC | 69    | NOT *: % | 0 | 3
 pipe2 later.1 1            | EMFILE            | 69    | NOT *: % | 0 | 3
 fork command 1             | EAGAIN ENOMEM     | 69    | NOT *: % | 0 | 3
-setsid child:command 1     | EPERM             | 69    | NOT %; no line was lost. | 0 | 3
-dup2 child:command 1 2 3   | EMFILE            | 69    | NOT %; no line was lost. | 0 | 3
-ioctl child:command 1      | EIO               | 69    | NOT %; no line was lost. | 0 | 3
-setitimer child:command 1  | EINVAL            | 69    | NOT %; no line was lost. | 0 | 3
-execve child:command 1     | ENOENT EACCES     | 69    | NOT %; no line was lost. | 0 | 3
-execve child:command 1     | ENOEXEC ETXTBSY   | 69    | NOT %; no line was lost. | 0 | 3
-execve child:command 1     | ENOMEM E2BIG      | 69    | NOT %; no line was lost. | 0 | 3
+setsid child:command 1     | EPERM             | 69    | NOT % (no line was lost); correct the command | 0 | 3
+dup2 child:command 1 2 3   | EMFILE            | 69    | NOT % (no line was lost); correct the command | 0 | 3
+ioctl child:command 1      | EIO               | 69    | NOT % (no line was lost); correct the command | 0 | 3
+setitimer child:command 1  | EINVAL            | 69    | NOT % (no line was lost); correct the command | 0 | 3
+execve child:command 1     | ENOENT EACCES     | 69    | NOT % (no line was lost); correct the command | 0 | 3
+execve child:command 1     | ENOEXEC ETXTBSY   | 69    | NOT % (no line was lost); correct the command | 0 | 3
+execve child:command 1     | ENOMEM E2BIG      | 69    | NOT % (no line was lost); correct the command | 0 | 3
 """
 
 # After a command is begun. None of these failures opens its line again. Most don't matter; those
@@ -248,7 +248,7 @@ MISSING = """
 write child:command 1      | EIO EPIPE         | 2     | 1 in doubt | 1 | 3
 read report 1              | EIO               | 2     | 1 in doubt | 1 | 3
 waitpid command 1          | ECHILD            | 2     | 1 in doubt | 1 | 3
-kill child:command 1       | EPERM             | 69    | NOT No such file or directory; no line was lost. | 0 | 3
+kill child:command 1       | EPERM             | 69    | NOT No such file or directory (no line was lost) | 0 | 3
 close report 1 2           | EIO               | 69    | --command-changed | 0 | 3
 close run/out.N.N 1        | EIO               | 69    | --command-changed | 0 | 3
 close run/err.N.N 1        | EIO               | 69    | --command-changed | 0 | 3
@@ -258,7 +258,7 @@ unlink run/command.N.N 1   | EIO               | 69    | --command-changed | 0 |
 
 # The command takes too long. If TERM can't be sent, KILL follows.
 LATE = """
-kill command 1             | EPERM ESRCH       | 2     | line 1 doubt: ended by the timeout | 3 | 3
+kill command 1             | EPERM ESRCH       | 2     | line 1: attempt * is in doubt, since the timeout ended it | 3 | 3
 """
 
 # The crew finds a mark, and the folder that the mark names.

@@ -228,7 +228,7 @@ def try_missing(bench):
         run = id_in(scene.run)
         change(scene)
         told = is_refused(scene, why)
-        for words in ("file system may not be mounted", "`forget` was cut off", f"--new-run {run}"):
+        for words in ("mount its file system", "`forget` that was cut off", f"--new-run {run}"):
             want(words in told, f"{words} isn't said: {told}")
         is_refused(scene, f"it is --new-run {OTHER} now", "--new-run", OTHER)
     shutil.rmtree(scene.run)
@@ -241,7 +241,7 @@ def try_moved(bench):
     scene = begun(bench)
     os.rename(scene.run, f"{scene.room}/moved")
     told = is_refused(scene, "is missing")
-    want("may not be mounted" in told, told)
+    want("mount its file system" in told, told)
     scene.run = f"{scene.room}/moved"
     goes_on(scene)
     want(mark_of(scene) == f"{id_in(scene.run)}\n{scene.run}\n", f"the mark is {mark_of(scene)}")
@@ -346,7 +346,7 @@ def try_lists_that_are_none(bench):
     os.symlink("jobs", f"{scene.room}/link")
     for name, status in (("fifo", REFUSED), ("effects", REFUSED), ("missing", READ)):
         jobs, scene.jobs = scene.jobs, f"{scene.room}/{name}"
-        is_refused(scene, "missing" if name == "missing" else "no regular file", status=status)
+        is_refused(scene, "missing" if name == "missing" else "isn't a regular file", status=status)
         scene.jobs = jobs
     words = [it if it != scene.jobs else "/dev/stdin" for it in words_of(scene, "crew")]
     how = dict(env=scene.environment(), stdout=subprocess.PIPE, stderr=subprocess.STDOUT,

@@ -150,7 +150,7 @@ def try_kept(bench):
         scene = bench.scene(["slow", "quick"])
         scene.see_out(scene.start(plan=f"{moment}:worker"))
         scene.audit()
-        is_kept = not scene.listed and "in doubt: its runner" not in scene.tale()
+        is_kept = not scene.listed and "in doubt, since its runner" not in scene.tale()
         want(is_kept, f"an end that was seen is a doubt: {scene.tale()[-300:]}")
 
 

@@ -154,14 +154,14 @@ def try_look(bench):
         words = ["./amo_jobs", "crew", *run, "--worker-program", "./worker", "--workers", "1", jobs]
         crew = subprocess.run([*words, "--", "sh", "-c", "kill -9 $$", "sh"], **how)
         wanted = f"./amo_jobs doubts --worker-program ./worker {names}"
-        line = crew.stderr.rpartition("; look: ")[2].splitlines()[:1]
+        line = crew.stderr.rpartition("; see the doubts: ")[2].splitlines()[:1]
         want(line == [wanted] and crew.returncode == DOUBTFUL, f"{line} in place of {wanted}")
         told = subprocess.run(["sh", "-c", wanted], **how).stdout
         answers = re.findall(r"^  (.* answer .*) done\|not-done$", told, re.M)
         want(len(answers) == 2, f"two doubts have two answers: {told}")
         for it in answers:
             ran = subprocess.run(["sh", "-c", f"{it} done"], **how)
-            want((ran.stdout, ran.returncode) == ("taken\n", DONE), f"{it}: {ran.stderr}")
+            want((ran.stdout, ran.returncode) == ("recorded\n", DONE), f"{it}: {ran.stderr}")
 
 
 # A row has the words of a call that fails, with ROOM for the scene's folder, its status, and the
@@ -172,12 +172,29 @@ MESSAGES = [
     ("status --worker-program ROOM/text", WRITE,
      "`ROOM/text`: exec format error; give it a first line like #!/bin/sh"),
     ("status --worker-program /bin/true", BUILD,
-     "`/bin/true`: it is no amo_worker of this version; *"),
+     "`/bin/true`: it isn't the amo_worker of this version; *"),
     ("doubts --worker-program /bin/true", BUILD,
-     "`/bin/true`: it is no amo_worker of this version; *"),
+     "`/bin/true`: it isn't the amo_worker of this version; *"),
     ("crew --workers 1 --results ROOM/text/results", WRITE,
      "`ROOM/text/results`: not a directory; check the path"),
     ("crew --workers 1 --damaged", REFUSED, "`ROOM/run/command`: it is damaged; *"),
+]
+# The arguments of a call that is refused for them, and the message.
+USAGE = [
+    (["crew", "--workers", "2"], "`crew`: the list is missing; give it, as in: *"),
+    (["crew", "--workers", "2", "list"], "`crew`: the command is missing; give it after --, *"),
+    (["crew", "--workers", "2", "list", "pay"], "argument `pay`: `crew` doesn't take it; give the *"),
+    (["crew", "--workers", "2", "list", "--", "{}"], "command `{}`: a job can't be the program *"),
+    (["crew", "--workers", "2", "list", "--", "sh", "pay {}"],
+     "argument `pay {}`: it has {} in it, and a shell would read the job's text as commands; make *"),
+    (["work", "--worker", "3", "--workers", "2", "list", "--", "pay"],
+     "argument --worker: `3` is more than --workers 2; give the number of one of these workers"),
+    (["status"], "`status`: an argument is missing; give JOBS or --run DIR, *"),
+    (["status", "one", "two"], "argument `two`: `status` doesn't take it; see amo_jobs status *"),
+    (["answer", "1.1", "1", "text"], "`answer`: an argument is missing; give JOBS or --run DIR, *"),
+    (["answer", "--run", "x", "1.1", "1"], "`answer`: an argument is missing; give P.S LINE TEXT *"),
+    (["answer", "list", "1.1", "1", "a\nb", "done"], "text `a\\nb`: no line holds a line feed; *"),
+    (["forget"], "`forget`: the list is missing; give it, as in: amo_jobs forget tonight.txt"),
 ]
 OPTIONS = [
     ("--workers", "17", "whole number from 1 to 16"),
@@ -204,15 +221,22 @@ def try_messages(bench):
         more += [scene.jobs, "--", *scene.command] if command == "crew" else []
         wanted = re.escape(message.replace("ROOM", scene.room)).replace(r"\*", ".*")
         said(scene, [command, *more], status, wanted)
+    for words, message in USAGE:
+        ran = subprocess.run([sys.executable, "-I", bench.program, *words], timeout=240, text=True,
+                             stdin=subprocess.DEVNULL, capture_output=True, cwd=scene.room)
+        told = ran.stderr.splitlines()[-1]
+        wanted = re.escape(message).replace(r"\*", ".*")
+        is_so = ran.returncode == WORDS and re.fullmatch(f"amo_jobs: {wanted}", told)
+        want(is_so and not os.path.exists(f"{scene.room}/list.run"), f"{words}: {ran}")
     for option, word, what in OPTIONS:
         more = ["--workers", "1", option, word, scene.jobs, "--", *scene.command]
         said(scene, ["crew", *more], WORDS,
-             rf".*: argument {option}: `{word.split(',')[-1]}` is no {what}")
+             rf".*: argument {option}: `{word.split(',')[-1]}` isn't valid; give a {what}")
     shell = ["sh", "-c", '"$@" | true', "sh", *scene.words("status")]
     ran = subprocess.run(shell, env=scene.environment(), timeout=240, capture_output=True,
                          text=True)
     told = ran.stderr.splitlines()[1:]
-    want(set(told) <= {"amo_jobs: standard output: broken pipe; mend that, then start again"},
+    want(set(told) <= {"amo_jobs: standard output: broken pipe; correct that, then start again"},
          f"{told}")
 
 
@@ -228,8 +252,8 @@ def said(scene, words, status, wanted):
 def try_boot_id(bench):
     """only the tests' variable names a file with the boot id, and each command warns of it once"""
     scene, name = bench.scene(["quick"]), "AMO_TEST_BOOT_ID"
-    warning = (f"amo_jobs: {name} is set; the boot id comes from `{scene.boot}`."
-               " This is for tests only\n")
+    warning = (f"amo_jobs: {name}: it is set for a test, so the boot id comes from"
+               f" `{scene.boot}`, and a line may run twice; unset it for real jobs\n")
     scene.ends(scene.start(), DONE)
     want(scene.tale().startswith(warning) and scene.tale().count(name) == 1, scene.tale())
     boot = folder.read(scene.boot).decode().strip()
@@ -282,7 +306,7 @@ def try_leftovers(bench):
                         ["--linger", "0.05"])
     crew = scene.start()
     until(lambda: [it for it in scene.tales(5) if it[0] == "did"], "it goes on to the last line")
-    want(scene.tale().count("something that it began runs on") == 3,
+    want(scene.tale().count("something that it started still runs") == 3,
          f"what is left behind isn't told: {scene.tale()}")
     locks = [f"{scene.run}/command.{scene.tales(line)[0][1]}" for line in (1, 2, 3)]
     scene.let("go")
