@@ -123,7 +123,7 @@ def try_other_list(bench):
     with open(second.jobs, "w") as file:
         file.write("pay 1\npay 5\n")
     second.start().ends(REFUSED)
-    want("is another list there" in second.tale(), f"it says {second.tale()}")
+    want("it is another list in the store" in second.tale(), f"it says {second.tale()}")
     with open(scene.jobs, "a") as file:
         file.write("pay 5\n")
     first.start().ends(REFUSED)
@@ -248,7 +248,7 @@ def try_lost_folder(bench):
     scene.audit()
     for machine in scene.machines:
         lines, _ = machine.status()
-        want(", not here; if that is gone for good, nobody works it" in lines[0], f"the status is {lines}")
+        want(", not here; if that machine is lost for good" in lines[0], f"the status is {lines}")
 
 
 def try_answer_lost(bench):
@@ -263,7 +263,7 @@ def try_stopped_in_order(bench):
     """TERM is handed to the crew, whose commands end, and no further chunk is begun"""
     scene, first = waiting(bench, 2, 1, 1)
     first.process.send_signal(signal.SIGTERM)
-    until(lambda: "no further job is begun" in first.tale(), "the crew hears of it")
+    until(lambda: "no further job is started" in first.tale(), "the crew hears of it")
     scene.take_back("waits")
     want(first.ends() in (LEFT, DONE) and len(scene.tales()) == 1, f"{first.statuses}: {scene.tales()}")
     lines, status = first.status()

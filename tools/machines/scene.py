@@ -233,8 +233,8 @@ class Machine:
         ran = subprocess.run(words, stdin=subprocess.DEVNULL, capture_output=True, timeout=300,
                              env=self.environment())
         told = ran.stderr.decode()
-        warning = (f"amo_share: AMO_TEST_BOOT_ID is set; the boot id comes from `{self.boot}`."
-                   " This is for tests only\n")
+        warning = ("amo_share: AMO_TEST_BOOT_ID: it is set for a test, so the boot id comes from"
+                   f" `{self.boot}`, and a line may run twice; unset it for real jobs\n")
         want(told == warning, f"status says {told[-300:]}")
         return ran.stdout.decode().splitlines(), ran.returncode
 
