@@ -7,7 +7,8 @@ import shutil
 import subprocess
 
 PARTS = ("src", "specs", "proofs")
-NO_KIT = "`rt` is not on the path; README.md says under 'Build and run' what has to be installed"
+NO_KIT = ("`rt`: it is not on the path; install the toolchain, see 'Build and run' in"
+          " README.md")
 
 
 def kit():

@@ -34,7 +34,7 @@ show_help() {
     done
   done
   expect './amo check on a terminal' 0 \
-    "$(lines 'amo: ./amo_show explain tells what is wrong with a plan' "$(cat examples/three_jobs.check)")" /dev/null \
+    "$(lines 'amo: to see what is wrong with a plan: ./amo_show explain < PLAN' "$(cat examples/three_jobs.check)")" /dev/null \
     on_terminal sh -c './amo check <examples/three_jobs.toml'
   expect './amo replay on a terminal' 0 examples/three_jobs.report /dev/null on_terminal sh -c './amo replay <examples/three_jobs.toml'
 }
@@ -59,7 +59,7 @@ embed() {
 
 # Two looks with the toolchain itself, and that page. Each takes a minute or two, so they run beside all else, and are compared last.
 # RT_SECONDS gives a program more than the minute that `rt try` gives it, for a loaded machine.
-looks='look: running the program with nothing proved, in a minute or two; ./amo with the same words proves it first'
+looks='look: the program runs with nothing proved, in a minute or two; to prove it first, use ./amo'
 begin_looks() {
   local -x RT_SECONDS=900
   look_aside ended replay <examples/three_jobs.toml &
@@ -124,7 +124,7 @@ with_script() { PATH=$script:$PATH "$@"; }
 
 # Without the toolchain, what has to be built and what has to be proved says so in one line; what is built runs.
 do_without() {
-  local name missing="\`rt\` is not on the path; README.md says under 'Build and run' what has to be installed"
+  local name missing="\`rt\`: it is not on the path; install the toolchain, see 'Build and run' in README.md"
   expect './look without the toolchain' 125 /dev/null "$(lines "look: $missing")" \
     without_rt ./look replay <examples/three_jobs.toml
   expect './test without the toolchain' 125 /dev/null "$(lines "test: $missing")" without_rt ./test
@@ -149,9 +149,10 @@ build_copy() {
 
 # ./amo and ./amo_show prove the libraries below them and then their own crate; where either fails the status is 125.
 build_copies() {
-  local begun='proving and building the program' unbuilt='the program could not be built'
+  local begun='the program is proved and built first; that takes some minutes'
+  local unbuilt='the program could not be built; correct what the lines above report'
   UNPROVED=amo_work expect './amo, a library not proved' 125 /dev/null "$(lines "amo: $begun" 'amo: some are proved' \
-    'not proved' 'amo: amo_work could not be proved' "amo: $unbuilt")" build_copy amo check <examples
+    'not proved' 'amo: crate amo_work: it could not be proved; correct what the lines above report' "amo: $unbuilt")" build_copy amo check <examples
   UNPROVED=amo expect './amo, its own crate not proved' 125 /dev/null "$(lines "amo: $begun" 'amo: all are proved' \
     'not proved' "amo: $unbuilt")" build_copy amo check <&-
   expect './amo, built now' 0 "$(lines '<check><><a b>')" "$(lines "amo: $begun")" build_copy amo check '' 'a b' <examples
@@ -191,29 +192,29 @@ translate_ends() {
       "run=ended status=$status runners=1 races=unchecked proved=no"
     expect "./look, status $status" $status $report "$(lines "$looks" "fault of $status")" with_script ./look replay <$plan
   done
-  expect './look, its output not taken' 125 /dev/null "$(lines "$looks" "look: standard output didn't take the text")" \
+  expect './look, its output not taken' 125 /dev/null "$(lines "$looks" "look: standard output: the text can't be written; check where it goes")" \
     look_unread replay <$plan
   expect './look, its error stream closed' 4 $report /dev/null look_unheard replay <$plan
   for why in 'the program did not end within the time limit' 'the program wrote more than 1048576 bytes'; do
     tried /dev/null "the end of the program's standard output:" '| unclaimed' 'interpreter: no-answer: it lacks a call' \
       "checked: no-answer: $why" 'run=no-answer proved=no'
-    expect "./look, $why" 125 /dev/null "$(lines "$looks" "look: \`rt try\` reached a limit: $why; ./amo has no such limit")" \
+    expect "./look, $why" 125 /dev/null "$(lines "$looks" "look: \`rt try\`: it reached a limit, since $why; use ./amo, which has none")" \
       with_script ./look replay <$plan
   done
   tried /dev/null 'checked: fault kind=overflow in=amo::work' 'run=fault proved=no'
   expect './look, a fault' 125 /dev/null "$(lines "$looks" "$(cat "$script/err")" \
-    'look: the program did what its proof has to rule out')" with_script ./look replay <$plan
+    'look: the program: it did what its proof must rule out; report the lines above')" with_script ./look replay <$plan
   tried /dev/null 'src/main.rt:12:45: error[mismatched-types]: expected `&str`, found an integer' 'run=none proved=no'
   expect './look, not compiled' 125 /dev/null "$(lines "$looks" "$(cat "$script/err")" \
-    "look: the program could not be built and run by \`rt try\`")" with_script ./look replay <$plan
+    "look: \`rt try\`: it could not build and run the program; correct what the lines above report")" with_script ./look replay <$plan
   : >"$script/err"
-  expect './look, nothing said' 125 /dev/null "$(lines "$looks" "look: the program could not be built and run by \`rt try\`")" \
+  expect './look, nothing said' 125 /dev/null "$(lines "$looks" "look: \`rt try\`: it could not build and run the program; correct what the lines above report")" \
     with_script ./look replay <$plan
 }
 
 # ./look hands on its words and its plan, as much of it as the program would read.
 hand_on() {
-  local none='look: no plan could be read from standard input'
+  local none='look: standard input: no plan can be read from it; give one, as in: ./look replay < PLAN'
   expect './look, its input not given' 125 /dev/null "$(lines "$none")" with_script ./look replay <examples
   expect './look, its input closed' 125 /dev/null "$(lines "$none")" with_script ./look replay <&-
   tried examples/three_jobs.check 'checked: ended status=0' 'run=ended status=0 runners=1 proved=no'
