@@ -127,7 +127,8 @@ pub fn is_undone(findings: &[Finding], worker: u64, serial: u64) -> bool
     findings.iter().any(|f| is_not_done(f.verdict) && (f.worker == worker && f.serial == serial))
 }
 
-fn is_not_done(verdict: Verdict) -> bool
+/// Returns whether the verdict is that the line was not done.
+pub fn is_not_done(verdict: Verdict) -> bool
     ensures { result ≡ is_not_done verdict }
 {
     match verdict {
@@ -170,8 +171,9 @@ fn is_intent(journals: &[Vec<Attempt>], worker: u64, serial: u64) -> bool
     1 <= serial && serial <= journals[(worker - 1) as usize].len() as u64
 }
 
-/// Whether one of the findings is of the intent of this worker and serial number.
-fn has_finding(findings: &[Finding], worker: u64, serial: u64) -> bool
+/// Returns whether one of the findings is of the intent of this worker and serial number, whatever
+/// its verdict.
+pub fn has_finding(findings: &[Finding], worker: u64, serial: u64) -> bool
     ensures { result ≡ list_any (is_of worker serial) findings.now }
 {
     findings

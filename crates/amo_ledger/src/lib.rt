@@ -16,10 +16,12 @@ mod round;
 
 pub use entry::{Answer, Entry, code_of};
 pub use fault::Fault;
-pub use finding::{Finding, Verdict, first_misplaced, is_undone, read_findings};
+pub use finding::{
+    Finding, Verdict, first_misplaced, has_finding, is_not_done, is_undone, read_findings,
+};
 pub use journal::{Attempt, journal_of, note, pending, read_entries};
 pub use numbers::{number, number_of_bytes, three, two};
-pub use open::{open_lines, opens};
+pub use open::{open_lines, opens, reopens};
 pub use put::{put_entry, put_finding};
 pub use record::Record;
 pub use round::{Givens, givens_of, seat_of};

@@ -66,8 +66,9 @@ fn mark_one(closed: &mut [bool], findings: &[Finding], worker: u64, serial: u64,
     closed[(attempt.line - 1) as usize] = true;
 }
 
-/// Whether what is known of an intent opens its line again.
-fn reopens(answer: Option<Answer>) -> bool
+/// Returns whether what is known of an intent opens its line again: only the answer that it was not
+/// begun. An intent with no answer closes its line.
+pub fn reopens(answer: Option<Answer>) -> bool
     ensures { result ≡ reopens answer }
 {
     match answer {

@@ -4,12 +4,11 @@ ghost use Rattle.std.specs.BTreeSet.{contains};
 ghost use Rattle.std.specs.Ordering.{nat_cmp};
 ghost use Rattle.amo_ledger.specs.declared.journal.Attempt.{Attempt as AttemptView};
 ghost use Rattle.amo_ledger.specs.Journals.{noted};
-ghost use Rattle.amo_ledger.specs.Open.{reopens};
 ghost use Rattle.amo_payday.specs.declared.day.payment.Payment.{Payment as PaymentView};
 ghost use Rattle.amo_payday.specs.Restarts.{has_intent, has_receipt, is_made, is_receipt, stands, IsParted};
 
 use crate::day::Payment;
-use amo_ledger::{Answer, Attempt, Entry, opens};
+use amo_ledger::{Answer, Attempt, Entry, opens, reopens};
 use std::alloc::{AllocError, Global};
 use std::collections::BTreeSet;
 
@@ -22,16 +21,6 @@ pub(crate) struct Restart {
     pub(crate) in_doubt: Vec<Payment>,
     /// Those of which the journal says nothing. They were not made, since an intent is written first.
     pub(crate) untried: Vec<Payment>,
-}
-
-/// Whether it is known that a payment was not begun.
-fn reopens(answer: Option<Answer>) -> bool
-    ensures { result ≡ reopens answer }
-{
-    match answer {
-        Some(answer) => opens(answer),
-        None => false,
-    }
 }
 
 /// Whether it is known that a payment was made.

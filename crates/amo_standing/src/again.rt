@@ -1,11 +1,9 @@
 //! The intents that did nothing, to be tried again.
-ghost use Rattle.std.specs.List.{list_any};
 ghost use Rattle.std.specs.Prelude.{◌≡◌, ◌++◌, map, IfOk, OnOk};
-ghost use Rattle.amo_ledger.specs.Findings.{is_of};
 ghost use Rattle.amo_standing.specs.Answers.{is_idle, untouched_in, untouched_of};
 
 use crate::state::Intent;
-use amo_ledger::{Answer, Attempt, Finding};
+use amo_ledger::{Answer, Attempt, Finding, has_finding};
 use std::alloc::{AllocError, Global};
 
 /// The intents that are answered untouched and that no person answered, in the order of the journals: who wants their lines tried
@@ -50,13 +48,4 @@ fn is_idle(answer: Option<Answer>) -> bool
         Some(Answer::Untouched { .. }) => true,
         Some(Answer::Done { .. } | Answer::Doubt | Answer::Unbegun) | None => false,
     }
-}
-
-/// Whether one of the findings is of the intent of this worker and serial number.
-fn has_finding(findings: &[Finding], worker: u64, serial: u64) -> bool
-    ensures { result ≡ list_any (is_of worker serial) findings.now }
-{
-    findings
-        .iter()
-        .any(|f| f.worker == worker && f.serial == serial)
 }

@@ -1,10 +1,8 @@
 //! How an intent stands.
 ghost use Rattle.std.specs.Prelude.{◌≡◌};
-ghost use Rattle.amo_ledger.specs.Findings.{is_not_done};
-ghost use Rattle.amo_ledger.specs.Open.{reopens};
 ghost use Rattle.amo_standing.specs.States.{is, is_among, is_found_done, number_of, state_by, state_in, state_of};
 
-use amo_ledger::{Answer, Finding, Verdict, is_undone, opens};
+use amo_ledger::{Answer, Finding, is_not_done, is_undone, reopens};
 
 /// How a line stands, or an intent.
 #[derive(Clone, Copy, Debug, PartialEq, Eq)]
@@ -72,30 +70,11 @@ fn state_in(answer: Answer) -> State
     }
 }
 
-/// Whether what is known of an intent opens its line again.
-fn reopens(answer: Option<Answer>) -> bool
-    ensures { result ≡ reopens answer }
-{
-    match answer {
-        Some(answer) => opens(answer),
-        None => false,
-    }
-}
-
 /// Whether a person found that what was intended was done.
 pub(crate) fn is_found_done(findings: &[Finding], worker: u64, serial: u64) -> bool
     ensures { result ≡ is_found_done findings.now worker serial }
 {
     findings.iter().any(|f| !is_not_done(f.verdict) && (f.worker == worker && f.serial == serial))
-}
-
-fn is_not_done(verdict: Verdict) -> bool
-    ensures { result ≡ is_not_done verdict }
-{
-    match verdict {
-        Verdict::Done => false,
-        Verdict::NotDone => true,
-    }
 }
 
 /// Whether the intent of this worker and serial number is among these.
