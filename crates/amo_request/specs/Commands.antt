@@ -1,12 +1,14 @@
 -- Which words are a command, and what it asks for.
-use Rattle.std.specs.Prelude.{ℕ, ◌≤◌, List, [], ◌∷◌, Option, Some, None, true, option_and_then, codes, drop, if◌then◌else◌}
+use Rattle.std.specs.Prelude.{ℕ, List, [], ◌∷◌, Option, Some, None, true, option_and_then, codes, drop, if◌then◌else◌}
 use Rattle.std.specs.Str.{bytes_eq}
 use Rattle.clap.specs.Words.{App, Row, Rule, Text, new_app, new_rule, with_rule, with_subcommand, subcommand_of, fault_of, first_of}
 use Rattle.amo_givens.specs.declared.limits.TheConstants.{MAX_WORKERS}
 use Rattle.amo_plan.specs.Digits.{number_in, within}
 use Rattle.amo_plan.specs.declared.limits.TheConstants.{MOST_FIRST, MOST_COUNT, MOST_TURNS}
+use Rattle.amo_report.specs.Wanted as texts
+use Rattle.amo_report.specs.declared.wanted.Wanted.TheVariants.{Report, Check, Explored, Stops}
 use Rattle.amo_request.specs.declared.request.Request.{Request}
-use Rattle.amo_request.specs.declared.request.Request.TheVariants.{Replay, Check, Run, Explore, Stops}
+use Rattle.amo_request.specs.declared.request.Request.TheVariants.{Write, Run}
 
 -- the subcommand `replay`, which takes nothing
 abbrev pub replay_app : App
@@ -46,7 +48,7 @@ number_at low high id rows = within low high (option_and_then number_in (first_o
 
 -- `explore` with these numbers
 abbrev pub explore_with : Option ℕ → Option ℕ → Option ℕ → Option Request
-explore_with (Some from) (Some count) (Some turns) = Some (Explore from count turns)
+explore_with (Some from) (Some count) (Some turns) = Some (Write (Explored from count turns))
 explore_with _ _ _ = None
 
 -- what the texts of `explore` ask for
@@ -55,13 +57,13 @@ explore_of_rows rows = explore_with (number_at 0 MOST_FIRST (codes "FROM") rows)
 
 -- what the text of `stops` asks for
 abbrev pub stops_of_rows : List Row → Option Request
-stops_of_rows rows = option_and_then (λ worker. Some (Stops worker)) (number_at 1 MAX_WORKERS (codes "WORKER") rows)
+stops_of_rows rows = option_and_then (λ worker. Some (Write (Stops worker))) (number_at 1 MAX_WORKERS (codes "WORKER") rows)
 
 -- what a subcommand of this name with these texts asks for
 unfoldable pub request_of_row : Text → List Row → Option Request
 request_of_row name rows =
-    if bytes_eq name (codes "replay") then Some Replay
-    else (if bytes_eq name (codes "check") then Some Check
+    if bytes_eq name (codes "replay") then Some (Write Report)
+    else (if bytes_eq name (codes "check") then Some (Write Check)
     else (if bytes_eq name (codes "run") then Some Run
     else (if bytes_eq name (codes "explore") then explore_of_rows rows
     else (if bytes_eq name (codes "stops") then stops_of_rows rows
@@ -87,6 +89,5 @@ asked_after_name words = asked (drop 1 words)
 
 -- the numbers of a request are within their ranges
 abbrev pub IsWithinRanges : Request → Type 0
-IsWithinRanges (Explore from count turns) = (from ≤ MOST_FIRST) × (1 ≤ count) × (count ≤ MOST_COUNT) × (turns ≤ MOST_TURNS)
-IsWithinRanges (Stops worker) = 1 ≤ worker
-IsWithinRanges request = Unit {0}
+IsWithinRanges (Write text) = texts.IsWithinRanges text
+IsWithinRanges Run = Unit {0}

@@ -10,6 +10,7 @@ use crate::request::Request;
 use amo_givens::MAX_WORKERS;
 use amo_plan::{MOST_COUNT, MOST_FIRST, MOST_TURNS, number_within};
 use amo_program::Fault;
+use amo_report::Wanted;
 use clap::error::ErrorKind;
 use clap::{Arg, ArgMatches, Command};
 use std::alloc::{AllocError, Global};
@@ -91,7 +92,7 @@ fn explore_of_matches(matches: &ArgMatches<'_>) -> Option<Request>
     let from = number_at(0, MOST_FIRST, "FROM", matches)?;
     let count = number_at(1, MOST_COUNT as u64, "COUNT", matches)? as u32;
     let turns = number_at(0, MOST_TURNS as u64, "LENGTH", matches)? as u32;
-    Some(Request::Explore { from, count, turns })
+    Some(Request::Write(Wanted::Explored { from, count, turns }))
 }
 
 /// What the text of `stops` asks for.
@@ -100,7 +101,7 @@ fn stops_of_matches(matches: &ArgMatches<'_>) -> Option<Request>
     ensures ranges { IfSome result IsWithinRanges }
 {
     let worker = number_at(1, MAX_WORKERS as u64, "WORKER", matches)? as u32;
-    Some(Request::Stops { worker })
+    Some(Request::Write(Wanted::Stops { worker }))
 }
 
 /// What the subcommand of this name asks for.
@@ -110,8 +111,8 @@ fn request_of_row(name: &str, matches: &ArgMatches<'_>) -> Option<Request>
     ensures ranges { IfSome result IsWithinRanges }
 {
     match name {
-        "replay" => Some(Request::Replay),
-        "check" => Some(Request::Check),
+        "replay" => Some(Request::Write(Wanted::Report)),
+        "check" => Some(Request::Write(Wanted::Check)),
         "run" => Some(Request::Run),
         "explore" => explore_of_matches(matches),
         "stops" => stops_of_matches(matches),

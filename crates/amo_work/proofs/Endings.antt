@@ -3,17 +3,20 @@ use Rattle.std.proofs.Common.{◌≡◌, ◌∙◌, sym, ap, subst, ℕ, List, O
 use Rattle.std.specs.Io.KnownBytes.{Keeps}
 use Rattle.amo_texts.specs.declared.writing.ReplayFault.TheVariants as replay
 use Rattle.amo_request.specs.declared.request.Request.{Request}
+use Rattle.amo_request.specs.declared.request.Request.TheVariants.{Write, Run}
 use Rattle.amo_program.specs.Endings.{Change}
 use Rattle.amo_program.specs.Statuses.{IsFault}
 use Rattle.amo_program.specs.declared.fault.Fault.{Fault}
-use Rattle.amo_work.specs.Requests.{command_of, refuses, others}
+use Rattle.amo_work.specs.Requests.{command_of, left_for, refuses, others}
 use Rattle.amo_work.specs.declared.working.AmoCommand.{AmoCommand}
-use Rattle.amo_work.specs.declared.working.AmoCommand.TheVariants.{Text, Run}
+
+kept_for : (request : Request) (known old new : Option (List ℕ)) → left_for request replay.NoMemory known old new → Keeps old new
+kept_for (Write text) known old new h = h
+kept_for Run known old new h = h
 
 -- where memory was refused nothing was written, whatever was wanted
 pub memory_keeps : (command : AmoCommand) (known old new : Option (List ℕ)) → refuses command replay.NoMemory known old new → Keeps old new
-memory_keeps (Text text) known old new h = h
-memory_keeps Run known old new h = h
+memory_keeps command = kept_for command.request
 
 -- a request comes to a fault where what is done for it does
 pub fault_too : (asked : Option Request) (request : Request) (command : AmoCommand) (fault : Fault) (reader out : Change)

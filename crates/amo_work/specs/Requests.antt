@@ -2,9 +2,7 @@
 use Rattle.std.specs.Prelude.{ℕ, List, Option, option_map, Bool}
 use Rattle.std.specs.Io.KnownBytes.{Keeps}
 use Rattle.amo_plan.specs.declared.fault.PlanFault.{PlanFault}
-use Rattle.amo_report.specs.Wanted as wanted
 use Rattle.amo_report.specs.Wanted.{text_of}
-use Rattle.amo_report.specs.declared.wanted.Wanted.TheVariants as wants
 use Rattle.amo_texts.specs.declared.writing.ReplayFault.{ReplayFault}
 use Rattle.amo_texts.specs.declared.writing.ReplayFault.TheVariants as replay
 use Rattle.amo_texts.specs.Written.{Writes, Refuses}
@@ -13,49 +11,60 @@ use Rattle.amo_outcome.specs.Runs.{WritesRun, RefusesRun}
 use Rattle.amo_program.specs.Endings.{Change}
 use Rattle.amo_program.specs.Statuses as statuses
 use Rattle.amo_program.specs.Statuses.{Left}
+use Rattle.amo_request.specs.Commands as requests
 use Rattle.amo_request.specs.Commands.{asked_after_name}
 use Rattle.amo_request.specs.declared.request.Request.{Request}
-use Rattle.amo_request.specs.declared.request.Request.TheVariants as requests
+use Rattle.amo_request.specs.declared.request.Request.TheVariants.{Write, Run}
 use Rattle.amo_work.specs.declared.working.AmoCommand.{AmoCommand}
-use Rattle.amo_work.specs.declared.working.AmoCommand.TheVariants.{Text, Run}
 
--- what is done for a request: a text of the plan is written, or its jobs are executed
+-- the command that does what is asked for
 abbrev pub command_of : Request → AmoCommand
-command_of requests.Replay = Text wants.Report
-command_of requests.Check = Text wants.Check
-command_of requests.Run = Run
-command_of (requests.Explore from count turns) = Text (wants.Explored from count turns)
-command_of (requests.Stops worker) = Text (wants.Stops worker)
+command_of request = record { request = request }
 
--- what all words that the program is given ask for, its own name first, as what is done for it
+-- what all words that the program is given ask for, its own name first, as the command that does it
 abbrev pub asked_command : List (List ℕ) → Option AmoCommand
 asked_command words = option_map command_of (asked_after_name words)
 
 -- the numbers of the text that is wanted are within their ranges
 abbrev pub IsWithinRanges : AmoCommand → Type 0
-IsWithinRanges (Text text) = wanted.IsWithinRanges text
-IsWithinRanges Run = Unit {0}
+IsWithinRanges command = requests.IsWithinRanges command.request
 
--- What is written of the plan of a source with these bytes, and nothing else: the text that is wanted; or that of a run whose
--- threads were all started, of which there is not one alone.
+-- A request writes this of the plan of a source with these bytes, and nothing else: the text that is wanted; or the text of
+-- a run whose threads were all started. A plan has more than one such text.
+abbrev pub written_for : Request → Left
+written_for (Write text) = Writes (text_of text)
+written_for Run = WritesRun All
+
+-- what a request leaves if its text was not written whole
+abbrev pub left_for : Request → ReplayFault → Left
+left_for (Write text) fault = Refuses (text_of text) fault
+left_for Run fault = RefusesRun fault
+
+-- what a request writes if some thread could not be started: the text of what came of the others; texts start none
+abbrev pub others_for : Request → Left
+others_for (Write text) known old new = ⊥
+others_for Run known old new = WritesRun NotAll known old new
+
+-- what a command writes
 abbrev pub writes : AmoCommand → Left
-writes (Text text) = Writes (text_of text)
-writes Run = WritesRun All
+writes command = written_for command.request
 
--- what is left where it was not written whole
+-- what a command leaves if its text was not written whole
 abbrev pub refuses : AmoCommand → ReplayFault → Left
-refuses (Text text) fault = Refuses (text_of text) fault
-refuses Run fault = RefusesRun fault
+refuses command = left_for command.request
 
--- what is written where some thread could not be started: the text of what came of the others; texts start none
+-- what a command writes if some thread could not be started
 abbrev pub others : AmoCommand → Left
-others (Text text) known old new = ⊥
-others Run known old new = WritesRun NotAll known old new
+others command = others_for command.request
 
--- where the plan was refused nothing was written
+-- if the plan was refused, a request wrote nothing
+pub kept_for : (request : Request) (f : PlanFault) (known old new : Option (List ℕ)) → left_for request (replay.Plan f) known old new → Keeps old new
+kept_for (Write text) f known old new h = h.2
+kept_for Run f known old new h = h.2
+
+-- if the plan was refused, a command wrote nothing
 pub plan_keeps : (command : AmoCommand) (f : PlanFault) (known old new : Option (List ℕ)) → refuses command (replay.Plan f) known old new → Keeps old new
-plan_keeps (Text text) f known old new h = h.2
-plan_keeps Run f known old new h = h.2
+plan_keeps command = kept_for command.request
 
 -- what an exit status says of a request
 abbrev pub Ends : Option Request → Change → Change → Bool → Change → ℕ → Type 0

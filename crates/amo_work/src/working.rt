@@ -8,7 +8,6 @@ ghost use Rattle.amo_work.specs.Requests as commands;
 
 use amo_outcome::{Started, run_plan};
 use amo_program::{Command, Fault, refuse};
-use amo_report::Wanted;
 use amo_request::{Request, asked};
 use amo_streams::{Sink, Source};
 use amo_texts::write_of;
@@ -27,31 +26,22 @@ fn texts_of<'a>(alloc: Global, words: &'a [String]) -> Result<Vec<&'a str>, Allo
     Ok(texts)
 }
 
-/// What is done for a request.
+/// A command of `amo`: it does what a request asks for. The implementation of `Command` must stand
+/// in the crate of this type, and it needs the executor, which `Request` does without.
 #[derive(Clone, Copy, Debug, PartialEq, Eq)]
-pub enum AmoCommand {
-    /// This text of the plan that is read is written.
-    Text(Wanted),
-    /// The jobs of the plan that is read are executed in threads, and what came of it is written.
-    Run,
+pub struct AmoCommand {
+    /// The request that it fulfils.
+    pub request: Request,
 }
 
 impl AmoCommand {
-    /// What is done for this request.
+    /// Returns the command that does what is asked for.
     pub fn of(request: Request) -> AmoCommand
         requires { requests.IsWithinRanges request }
         ensures command { result ≡ command_of request }
         ensures ranges { commands.IsWithinRanges result }
     {
-        match request {
-            Request::Replay => AmoCommand::Text(Wanted::Report),
-            Request::Check => AmoCommand::Text(Wanted::Check),
-            Request::Run => AmoCommand::Run,
-            Request::Explore { from, count, turns } => {
-                AmoCommand::Text(Wanted::Explored { from, count, turns })
-            }
-            Request::Stops { worker } => AmoCommand::Text(Wanted::Stops { worker }),
-        }
+        AmoCommand { request }
     }
 }
 
@@ -83,9 +73,9 @@ impl<R: Threads + Wait + Sync> Command<R> for AmoCommand {
         reader: &mut S,
         out: &mut W,
     ) -> Result<(), Fault> {
-        match *self {
-            AmoCommand::Text(wanted) => Ok(write_of(alloc, &wanted, reader, out)?),
-            AmoCommand::Run => match run_plan(rt, alloc, reader, out)? {
+        match self.request {
+            Request::Write(wanted) => Ok(write_of(alloc, &wanted, reader, out)?),
+            Request::Run => match run_plan(rt, alloc, reader, out)? {
                 Started::All => Ok(()),
                 Started::NotAll => Err(Fault::Thread),
             },
