@@ -1,5 +1,5 @@
 -- What is done for a request: what it writes, and what it leaves.
-use Rattle.std.specs.Prelude.{ℕ, List, Option, option_map, Bool}
+use Rattle.std.specs.Prelude.{ℕ, List, Option, option_map}
 use Rattle.std.specs.Io.KnownBytes.{Keeps}
 use Rattle.amo_plan.specs.declared.fault.PlanFault.{PlanFault}
 use Rattle.amo_report.specs.Wanted.{text_of}
@@ -8,8 +8,6 @@ use Rattle.amo_texts.specs.declared.writing.ReplayFault.TheVariants as replay
 use Rattle.amo_texts.specs.Written.{Writes, Refuses}
 use Rattle.amo_outcome.specs.declared.started.Started.TheVariants.{All, NotAll}
 use Rattle.amo_outcome.specs.Runs.{WritesRun, RefusesRun}
-use Rattle.amo_program.specs.Endings.{Change}
-use Rattle.amo_program.specs.Statuses as statuses
 use Rattle.amo_program.specs.Statuses.{Left}
 use Rattle.amo_request.specs.Commands as requests
 use Rattle.amo_request.specs.Commands.{asked_after_name}
@@ -65,7 +63,3 @@ kept_for Run f known old new h = h.2
 -- if the plan was refused, a command wrote nothing
 pub plan_keeps : (command : AmoCommand) (f : PlanFault) (known old new : Option (List ℕ)) → refuses command (replay.Plan f) known old new → Keeps old new
 plan_keeps command = kept_for command.request
-
--- what an exit status says of a request
-abbrev pub Ends : Option Request → Change → Change → Bool → Change → ℕ → Type 0
-Ends request reader out waits err status = statuses.Ends writes refuses others (option_map command_of request) reader out waits err status

@@ -4,4 +4,4 @@
 
 mod working;
 
-pub use working::{AmoCommand, work};
+pub use working::AmoCommand;
