@@ -122,15 +122,8 @@ fn checked(rt: HostRuntime, seen: &Seen, said: &Said, number: usize) -> Result<O
         return Err(Fault::NoAnswerOf(number));
     }
     let (worker, serial, verdict) = (said.worker, said.serial, said.verdict);
-    let may = may_answer(
-        &books.findings,
-        &books.journals,
-        &seen.finals,
-        worker,
-        serial,
-        said.line,
-        verdict,
-    );
+    let log = books.log(&seen.finals);
+    let may = may_answer(&log, worker, serial, said.line, verdict);
     match may {
         Ok(()) => Ok(Outcome::New(Finding {
             verdict,

@@ -117,7 +117,7 @@ fn open_of(alloc: Global, books: &Books) -> Result<Vec<u64>, Fault>
 /// How many lines stand where. Nobody holds an intent that is pending here, but its command may run.
 fn counted(alloc: Global, books: &Books) -> Result<Counts, Fault> {
     let count = books.jobs.count() as usize;
-    let all = standings(alloc, &books.findings, &books.journals, &[], count)?;
+    let all = standings(alloc, &books.log(&[]), count)?;
     Ok(counts(&all))
 }
 

@@ -9,6 +9,7 @@ use amo_ledger::{
     Attempt, Fault as Misread, Finding, first_misplaced, journal_of, read_entries, read_findings,
 };
 use amo_round::{Jobs, JobsFault};
+use amo_standing::{Intent, RunLog};
 use std::alloc::Global;
 use std::rt::HostRuntime;
 
@@ -81,6 +82,15 @@ impl Books {
             journals,
             findings,
         })
+    }
+
+    /// What the run has written down of its intents, of which the caller has settled these.
+    pub(crate) fn log<'a>(&'a self, finals: &'a [Intent]) -> RunLog<'a> {
+        RunLog {
+            findings: self.findings.as_slice(),
+            journals: self.journals.as_slice(),
+            finals,
+        }
     }
 }
 

@@ -120,9 +120,8 @@ fn look_through(
 impl Seen {
     /// How each line stands.
     pub(crate) fn standings(&self, alloc: Global) -> Result<Vec<Standing>, AllocError> {
-        let books = &self.books;
-        let count = books.jobs.count() as usize;
-        standings(alloc, &books.findings, &books.journals, &self.finals, count)
+        let count = self.books.jobs.count() as usize;
+        standings(alloc, &self.books.log(&self.finals), count)
     }
 }
 

@@ -5,6 +5,7 @@ ghost use Rattle.amo_standing.specs.Answers.{contrary, is_closed_by, is_said, re
 ghost use Rattle.amo_standing.specs.Standings.{attempt_of};
 
 use crate::refusal::Refusal;
+use crate::run_log::RunLog;
 use crate::standing::standing_of;
 use crate::state::{Intent, State, is_found_done, state_of};
 use amo_ledger::{Attempt, Finding, Verdict, is_undone};
@@ -15,49 +16,40 @@ use amo_ledger::{Attempt, Finding, Verdict, is_undone};
 /// it are told in this order: there is no such intent, it is of another line, it was answered, nobody is asked, it runs, another
 /// intent closes the line.
 pub fn may_answer(
-    findings: &[Finding],
-    journals: &[Vec<Attempt>],
-    finals: &[Intent],
+    log: &RunLog<'_>,
     worker: u64,
     serial: u64,
     line: u64,
     verdict: Verdict,
 ) -> Result<(), Refusal>
-    ensures exact { result_err result ≡ refusal_of findings.now (map (λ journal. journal.items) journals.now) finals.now worker serial line verdict }
-    ensures taken { IsOk result ↔ MayBeTaken findings.now (map (λ journal. journal.items) journals.now) finals.now worker serial line }
+    ensures exact { result_err result ≡ refusal_of log.now.findings.now (map (λ journal. journal.items) log.now.journals.now) log.now.finals.now worker serial line verdict }
+    ensures taken { IsOk result ↔ MayBeTaken log.now.findings.now (map (λ journal. journal.items) log.now.journals.now) log.now.finals.now worker serial line }
 {
     let intent = Intent { worker, serial };
-    checked(findings, journals, finals, intent, line, verdict)
+    checked(log, intent, line, verdict)
 }
 
-fn checked(
-    findings: &[Finding],
-    journals: &[Vec<Attempt>],
-    finals: &[Intent],
-    intent: Intent,
-    line: u64,
-    verdict: Verdict,
-) -> Result<(), Refusal>
-    ensures { result_err result ≡ refusal_of findings.now (map (λ journal. journal.items) journals.now) finals.now intent.worker intent.serial line verdict }
+fn checked(log: &RunLog<'_>, intent: Intent, line: u64, verdict: Verdict) -> Result<(), Refusal>
+    ensures { result_err result ≡ refusal_of log.now.findings.now (map (λ journal. journal.items) log.now.journals.now) log.now.finals.now intent.worker intent.serial line verdict }
 {
     let Intent { worker, serial } = intent;
-    let Some(attempt) = attempt_of(journals, worker, serial) else {
+    let Some(attempt) = attempt_of(log.journals, worker, serial) else {
         return Err(Refusal::NoIntent);
     };
     if attempt.line != line {
         return Err(Refusal::OtherLine);
     }
-    if is_said(findings, worker, serial, contrary(verdict)) {
+    if is_said(log.findings, worker, serial, contrary(verdict)) {
         return Err(Refusal::AnsweredOtherwise);
     }
-    if is_said(findings, worker, serial, verdict) {
+    if is_said(log.findings, worker, serial, verdict) {
         return Err(Refusal::AnsweredSo);
     }
-    match state_of(findings, finals, worker, serial, attempt.answer) {
+    match state_of(log, worker, serial, attempt.answer) {
         State::Open | State::Done => Err(Refusal::NotAsked),
         State::Running => Err(Refusal::Running),
         State::Failed | State::Doubt | State::Untouched => {
-            if is_closed_by(findings, journals, finals, intent, line) {
+            if is_closed_by(log, intent, line) {
                 Ok(())
             } else {
                 Err(Refusal::NotClosing)
@@ -100,15 +92,9 @@ fn contrary(verdict: Verdict) -> Verdict
 }
 
 /// Whether it is by this intent that the line is closed now.
-fn is_closed_by(
-    findings: &[Finding],
-    journals: &[Vec<Attempt>],
-    finals: &[Intent],
-    intent: Intent,
-    line: u64,
-) -> bool
-    ensures { result ≡ is_closed_by findings.now (map (λ journal. journal.items) journals.now) finals.now intent.worker intent.serial line }
+fn is_closed_by(log: &RunLog<'_>, intent: Intent, line: u64) -> bool
+    ensures { result ≡ is_closed_by log.now.findings.now (map (λ journal. journal.items) log.now.journals.now) log.now.finals.now intent.worker intent.serial line }
 {
-    let standing = standing_of(findings, journals, finals, line);
+    let standing = standing_of(log, line);
     standing.worker == intent.worker && standing.serial == intent.serial
 }

@@ -6,8 +6,9 @@ ghost use Rattle.amo_standing.specs.Deciding.{decided_from, decided_of};
 ghost use Rattle.amo_standing.specs.Standings.{closing, closing_in, if_closing, open_standing, standing_of, standings_of};
 ghost use Rattle.amo_standing.specs.States.{is};
 
-use crate::state::{Intent, State, is, state_of};
-use amo_ledger::{Attempt, Finding};
+use crate::run_log::RunLog;
+use crate::state::{State, is, state_of};
+use amo_ledger::Attempt;
 use std::alloc::{AllocError, Global};
 
 /// How a line stands now.
@@ -29,68 +30,44 @@ const OPEN: Standing = Standing {
     time: 0,
 };
 
-/// How each of the lines 1..count stands, in order. The journals are those of the workers 1, 2 and so on; the finals are intents
-/// whose locks are held by whoever asks, so that without an answer they get none any more. Where several intents close a line,
-/// one that is running decides, else the first in the order of the journals.
-pub fn standings(
-    alloc: Global,
-    findings: &[Finding],
-    journals: &[Vec<Attempt>],
-    finals: &[Intent],
-    count: usize,
-) -> Result<Vec<Standing>, AllocError>
-    ensures exact { IfOk result (λ found. found.items ≡ standings_of findings.now (map (λ journal. journal.items) journals.now) finals.now count) }
+/// Returns how each of the lines 1..count stands, in order. If several intents close a line, one that
+/// is running decides, else the first in the order of the journals.
+pub fn standings(alloc: Global, log: &RunLog<'_>, count: usize) -> Result<Vec<Standing>, AllocError>
+    ensures exact { IfOk result (λ found. found.items ≡ standings_of log.now.findings.now (map (λ journal. journal.items) log.now.journals.now) log.now.finals.now count) }
     // A line stands open just where it is open.
-    ensures just_open { IfOk result (λ found. map (λ s. is Open s.state) found.items ≡ map (is_open findings.now (map (λ journal. journal.items) journals.now)) (numbers count)) }
+    ensures just_open { IfOk result (λ found. map (λ s. is Open s.state) found.items ≡ map (is_open log.now.findings.now (map (λ journal. journal.items) log.now.journals.now)) (numbers count)) }
 {
     let mut found = vec![in alloc; OPEN; count]?;
-    note_all(&mut found, findings, journals, finals);
+    note_all(&mut found, log);
     Ok(found)
 }
 
 /// Notes the intents of these journals at their lines: the line k + 1 at k.
-fn note_all(
-    found: &mut [Standing],
-    findings: &[Finding],
-    journals: &[Vec<Attempt>],
-    finals: &[Intent],
-)
+fn note_all(found: &mut [Standing], log: &RunLog<'_>)
     ensures { (k : ℕ) → k < length found.old → slice_index_or found.new k open_standing
-        ≡ decided_from (slice_index_or found.old k open_standing) (closing findings.now finals.now 1 (map (λ journal. journal.items) journals.now) (k + 1)) }
+        ≡ decided_from (slice_index_or found.old k open_standing) (closing log.now.findings.now log.now.finals.now 1 (map (λ journal. journal.items) log.now.journals.now) (k + 1)) }
 {
+    let journals = log.journals;
     for (p, journal) in journals.iter().enumerate() {
-        note(found, findings, finals, p as u64 + 1, journal);
+        note(found, log, p as u64 + 1, journal);
     }
 }
 
 /// Notes the intents of this journal.
-fn note(
-    found: &mut [Standing],
-    findings: &[Finding],
-    finals: &[Intent],
-    worker: u64,
-    attempts: &[Attempt],
-)
+fn note(found: &mut [Standing], log: &RunLog<'_>, worker: u64, attempts: &[Attempt])
     ensures { (k : ℕ) → k < length found.old → slice_index_or found.new k open_standing
-        ≡ decided_from (slice_index_or found.old k open_standing) (closing_in findings.now finals.now worker 1 attempts.now (k + 1)) }
+        ≡ decided_from (slice_index_or found.old k open_standing) (closing_in log.now.findings.now log.now.finals.now worker 1 attempts.now (k + 1)) }
 {
     for (i, attempt) in attempts.iter().enumerate() {
-        note_one(found, findings, finals, worker, i as u64 + 1, attempt);
+        note_one(found, log, worker, i as u64 + 1, attempt);
     }
 }
 
 /// Notes this intent.
 #[tactic(auto, using(crate::proofs::Noting::of_another, crate::proofs::Noting::at_its_place))]
-fn note_one(
-    found: &mut [Standing],
-    findings: &[Finding],
-    finals: &[Intent],
-    worker: u64,
-    serial: u64,
-    attempt: &Attempt,
-)
+fn note_one(found: &mut [Standing], log: &RunLog<'_>, worker: u64, serial: u64, attempt: &Attempt)
     ensures { (k : ℕ) → k < length found.old → slice_index_or found.new k open_standing
-        ≡ decided_from (slice_index_or found.old k open_standing) (if_closing findings.now finals.now worker serial attempt.now (k + 1)) }
+        ≡ decided_from (slice_index_or found.old k open_standing) (if_closing log.now.findings.now log.now.finals.now worker serial attempt.now (k + 1)) }
 {
     if attempt.line == 0 || attempt.line > found.len() as u64 {
         return;
@@ -98,25 +75,24 @@ fn note_one(
     let line = attempt.line;
     let at = (line - 1) as usize;
     let before = found[at];
-    found[at] = decided_with(before, findings, finals, worker, serial, attempt, line);
+    found[at] = decided_with(before, log, worker, serial, attempt, line);
 }
 
 /// What decides on the line after this intent, before which it stood so.
 fn decided_with(
     before: Standing,
-    findings: &[Finding],
-    finals: &[Intent],
+    log: &RunLog<'_>,
     worker: u64,
     serial: u64,
     attempt: &Attempt,
     line: u64,
 ) -> Standing
-    ensures { result ≡ decided_from before (if_closing findings.now finals.now worker serial attempt.now line) }
+    ensures { result ≡ decided_from before (if_closing log.now.findings.now log.now.finals.now worker serial attempt.now line) }
 {
     if attempt.line != line {
         return before;
     }
-    let state = state_of(findings, finals, worker, serial, attempt.answer);
+    let state = state_of(log, worker, serial, attempt.answer);
     if is(State::Open, state) {
         return before;
     }
@@ -143,29 +119,20 @@ fn decided_of(old: Standing, new: Standing) -> Standing
 }
 
 /// How this line stands.
-pub(crate) fn standing_of(
-    findings: &[Finding],
-    journals: &[Vec<Attempt>],
-    finals: &[Intent],
-    line: u64,
-) -> Standing
-    ensures { result ≡ standing_of findings.now (map (λ journal. journal.items) journals.now) finals.now line }
+pub(crate) fn standing_of(log: &RunLog<'_>, line: u64) -> Standing
+    ensures { result ≡ standing_of log.now.findings.now (map (λ journal. journal.items) log.now.journals.now) log.now.finals.now line }
 {
-    decided_by_all(findings, journals, finals, line)
+    decided_by_all(log, line)
 }
 
 /// What decides on this line.
-fn decided_by_all(
-    findings: &[Finding],
-    journals: &[Vec<Attempt>],
-    finals: &[Intent],
-    line: u64,
-) -> Standing
-    ensures { result ≡ decided_from open_standing (closing findings.now finals.now 1 (map (λ journal. journal.items) journals.now) line) }
+fn decided_by_all(log: &RunLog<'_>, line: u64) -> Standing
+    ensures { result ≡ decided_from open_standing (closing log.now.findings.now log.now.finals.now 1 (map (λ journal. journal.items) log.now.journals.now) line) }
 {
     let mut standing = OPEN;
+    let journals = log.journals;
     for (p, journal) in journals.iter().enumerate() {
-        standing = decided_by(standing, findings, finals, p as u64 + 1, journal, line);
+        standing = decided_by(standing, log, p as u64 + 1, journal, line);
     }
     standing
 }
@@ -173,18 +140,17 @@ fn decided_by_all(
 /// What decides on this line after this journal, before which it stood so.
 fn decided_by(
     before: Standing,
-    findings: &[Finding],
-    finals: &[Intent],
+    log: &RunLog<'_>,
     worker: u64,
     attempts: &[Attempt],
     line: u64,
 ) -> Standing
-    ensures { result ≡ decided_from before (closing_in findings.now finals.now worker 1 attempts.now line) }
+    ensures { result ≡ decided_from before (closing_in log.now.findings.now log.now.finals.now worker 1 attempts.now line) }
 {
     let mut standing = before;
     for (i, attempt) in attempts.iter().enumerate() {
         let serial = i as u64 + 1;
-        standing = decided_with(standing, findings, finals, worker, serial, attempt, line);
+        standing = decided_with(standing, log, worker, serial, attempt, line);
     }
     standing
 }

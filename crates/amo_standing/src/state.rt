@@ -2,6 +2,7 @@
 ghost use Rattle.std.specs.Prelude.{◌≡◌};
 ghost use Rattle.amo_standing.specs.States.{is, is_among, is_found_done, number_of, state_by, state_in, state_of};
 
+use crate::run_log::RunLog;
 use amo_ledger::{Answer, Finding, is_not_done, is_undone, reopens};
 
 /// How a line stands, or an intent.
@@ -29,22 +30,16 @@ pub struct Intent {
 }
 
 /// How the intent of this worker and serial number stands, of which this answer is known.
-pub(crate) fn state_of(
-    findings: &[Finding],
-    finals: &[Intent],
-    worker: u64,
-    serial: u64,
-    answer: Option<Answer>,
-) -> State
-    ensures { result ≡ state_of findings.now finals.now worker serial answer }
+pub(crate) fn state_of(log: &RunLog<'_>, worker: u64, serial: u64, answer: Option<Answer>) -> State
+    ensures { result ≡ state_of log.now.findings.now log.now.finals.now worker serial answer }
 {
-    if reopens(answer) || is_undone(findings, worker, serial) {
+    if reopens(answer) || is_undone(log.findings, worker, serial) {
         return State::Open;
     }
-    if is_found_done(findings, worker, serial) {
+    if is_found_done(log.findings, worker, serial) {
         return State::Done;
     }
-    state_by(is_among(finals, worker, serial), answer)
+    state_by(is_among(log.finals, worker, serial), answer)
 }
 
 /// How an intent stands by what is known of it.

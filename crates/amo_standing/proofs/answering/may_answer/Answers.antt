@@ -5,4 +5,4 @@ use Rattle.amo_standing.proofs.answering.may_answer.Goals as goal
 
 pub returns-clause-taken : goal.returns-clause-taken
 returns-clause-taken c =
-    taken c.args.findings.now (map (λ (v : Vec Attempt Global). v.items) c.args.journals.now) c.args.finals.now c.args.worker c.args.serial c.args.line c.args.verdict c.checked.result c.checked.ensures
+    taken c.args.log.now.findings.now (map (λ (v : Vec Attempt Global). v.items) c.args.log.now.journals.now) c.args.log.now.finals.now c.args.worker c.args.serial c.args.line c.args.verdict c.checked.result c.checked.ensures

@@ -5,4 +5,4 @@ use Rattle.amo_standing.proofs.standing.note_all.Given as goal
 
 abbrev pub invariant-loop-p : goal.invariant-loop-p
 invariant-loop-p l = (k : ℕ) → k < length l.fn.found
-    → decided_from (get_or l.found k open_standing) (closing l.findings l.finals (l.p + 1) (map (λ journal. journal.items) (drop l.p l.journals)) (k + 1)) ≡ decided_from (get_or l.fn.found k open_standing) (closing l.findings l.finals 1 (map (λ journal. journal.items) l.journals) (k + 1))
+    → decided_from (get_or l.found k open_standing) (closing l.log.findings.now l.log.finals.now (l.p + 1) (map (λ journal. journal.items) (drop l.p l.log.journals.now)) (k + 1)) ≡ decided_from (get_or l.fn.found k open_standing) (closing l.log.findings.now l.log.finals.now 1 (map (λ journal. journal.items) l.log.journals.now) (k + 1))
