@@ -4,7 +4,7 @@ use Rattle.std.specs.Option.{is_some, ok_or}
 use Rattle.amo_givens.specs.Givens.{givens_of, bound}
 use Rattle.amo_givens.specs.declared.givens.Givens.{Givens}
 use Rattle.amo_givens.specs.declared.givens.GivensFault.{GivensFault}
-use Rattle.amo_ledger.specs.Numbers.{number_in}
+use Rattle.amo_decimal.specs.Numbers.{number_in}
 use Rattle.amo_judge.specs.Lines.{word_at, says_at}
 use Rattle.amo_judge.specs.Results.{next}
 use Rattle.amo_judge.specs.declared.first_line.Opening.{Opening}

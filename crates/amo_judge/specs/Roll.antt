@@ -4,7 +4,7 @@ use Rattle.std.specs.Fmt.{decimal}
 use Rattle.std.specs.List.{position_or_len}
 use Rattle.std.specs.Option.{ok_or}
 use Rattle.std.specs.Str.{bytes_eq, is_utf8}
-use Rattle.amo_ledger.specs.Numbers.{number_in}
+use Rattle.amo_decimal.specs.Numbers.{number_in}
 use Rattle.amo_judge.specs.Results.{next, found_or}
 use Rattle.amo_judge.specs.declared.refusal.Wrong.{Wrong}
 use Rattle.amo_judge.specs.declared.roll.TheConstants.{LONGEST_NAME}

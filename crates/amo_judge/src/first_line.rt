@@ -1,13 +1,13 @@
 //! The first line of a history: its givens, and whether workers and jobs have names.
 ghost use Rattle.std.specs.Prelude.{◌≡◌, true, length, map};
 ghost use Rattle.std.specs.Option.{is_some};
-ghost use Rattle.amo_ledger.specs.Numbers.{number_in};
+ghost use Rattle.amo_decimal.specs.Numbers.{number_in};
 ghost use Rattle.amo_judge.specs.FirstLine.{numbers_of, with_bound, ending_of, has_givens, opening_of, has_blocks, opening_of_blocks, opening_in};
 
 use crate::lines::says_at;
 use crate::refusal::Wrong;
+use amo_decimal::number_of_bytes;
 use amo_givens::Givens;
-use amo_ledger::number_of_bytes;
 
 /// What a first line says.
 #[derive(Clone, Copy, Debug, PartialEq, Eq)]

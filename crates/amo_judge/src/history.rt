@@ -7,9 +7,9 @@ use crate::first_line::Opening;
 use crate::lines::{says_at, words_of};
 use crate::refusal::Wrong;
 use crate::roll::Roll;
+use amo_decimal::number_of_bytes;
 use amo_givens::Givens;
 use amo_kk::Event;
-use amo_ledger::number_of_bytes;
 use std::alloc::{AllocError, Global};
 use std::marker::Model;
 

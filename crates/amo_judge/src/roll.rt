@@ -3,7 +3,7 @@ ghost use Rattle.std.specs.Prelude.{◌≡◌, IfOk, OnOk, string_bytes, map, op
 ghost use Rattle.amo_judge.specs.Roll.{empty_roll, small_number_in, text_in, name_in, place_in, number_on, with_word, called};
 
 use crate::refusal::Wrong;
-use amo_ledger::number_of_bytes;
+use amo_decimal::number_of_bytes;
 use std::alloc::{AllocError, Global};
 use std::marker::Model;
 use std::str;

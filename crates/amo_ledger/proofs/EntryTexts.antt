@@ -11,9 +11,10 @@ use Rattle.amo_ledger.specs.declared.entry.Answer.{Answer}
 use Rattle.amo_ledger.specs.declared.entry.Answer.TheVariants.{Done, Doubt, Unbegun, Untouched}
 use Rattle.amo_ledger.specs.declared.entry.Entry.{Entry}
 use Rattle.amo_ledger.specs.declared.entry.Entry.TheVariants.{Intent, Answer as Answered}
-use Rattle.amo_ledger.specs.Numbers.{number_in, two_in, three_in}
+use Rattle.amo_decimal.specs.Numbers.{number_in}
+use Rattle.amo_ledger.specs.Numbers.{two_in, three_in}
 use Rattle.amo_ledger.specs.Entries.{text_of, text_of_answer, Fits, FitsAnswer, code_in, answer_of_word, entry_of_word, entry_in}
-use Rattle.amo_ledger.proofs.NumberTexts.{reads_printed, printed_of_read}
+use Rattle.amo_decimal.proofs.NumberTexts.{reads_printed, printed_of_read}
 use Rattle.amo_ledger.proofs.Readings.{no_text_by}
 use Rattle.amo_ledger.proofs.Words.{word_reads, printed_by, two_reads, three_reads, and_then_some, two_printed, three_printed, either_way, ascii_by_test, two_ascii, three_ascii}
 

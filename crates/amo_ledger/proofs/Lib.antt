@@ -4,7 +4,6 @@ pub mod EntryTexts
 pub mod FindingLaws
 pub mod FindingTexts
 pub mod GrammarLaws
-pub mod NumberTexts
 pub mod OpenLaws
 pub mod OpenLines
 pub mod OpenMeaning

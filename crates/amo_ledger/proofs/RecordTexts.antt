@@ -11,9 +11,10 @@ use Rattle.std.proofs.lemmas.Slice.Eq.{bytes_eq-Decides}
 use Rattle.amo_givens.specs.declared.limits.TheConstants.{MAX_JOBS, MAX_WORKERS, MAX_BETA}
 use Rattle.amo_ledger.specs.declared.record.Record.{Record}
 use Rattle.amo_ledger.specs.declared.round.Givens.{Givens}
-use Rattle.amo_ledger.specs.Numbers.{number_in, two_in, three_in, read_all}
+use Rattle.amo_decimal.specs.Numbers.{number_in}
+use Rattle.amo_ledger.specs.Numbers.{two_in, three_in, read_all}
 use Rattle.amo_ledger.specs.Records.{RecordView, said_by, ended, texts_of, text_of_record, ascends_from, is_sound, IsRecord, texts_from, labelled, head_in, if_sound, record_behind, record_of, record_in}
-use Rattle.amo_ledger.proofs.NumberTexts.{reads_printed, printed_of_read}
+use Rattle.amo_decimal.proofs.NumberTexts.{reads_printed, printed_of_read}
 use Rattle.amo_ledger.proofs.TextLists.{reads_back, was_printed}
 use Rattle.amo_ledger.proofs.Words.{Lacks, lacks_append, lacks_by_test, decimal_lacks, equal, not_equal, two_reads, three_reads, and_then_some, blank_and, two_printed, three_printed}
 

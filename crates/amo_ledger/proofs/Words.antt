@@ -14,8 +14,9 @@ use Rattle.std.proofs.lemmas.List.Sums.{split_at_first, passes_at_first}
 use Rattle.std.proofs.lemmas.Slice.Eq.{bytes_eq-Decides}
 use Rattle.std.proofs.lemmas.Str.{IsAscii-append}
 use Rattle.std.proofs.lemmas.Str.Ascii.{IsAscii-nil, IsAscii-cons}
-use Rattle.amo_ledger.specs.Numbers.{number_in, has_blank, first_word, other_words, two_in, three_in}
-use Rattle.amo_ledger.proofs.NumberTexts.{reads_printed, printed_of_read}
+use Rattle.amo_decimal.specs.Numbers.{number_in}
+use Rattle.amo_decimal.proofs.NumberTexts.{reads_printed, printed_of_read}
+use Rattle.amo_ledger.specs.Numbers.{has_blank, first_word, other_words, two_in, three_in}
 use Rattle.amo_ledger.proofs.Readings.{no_text_by, none_some, some_is}
 
 pub equal : (a b : ℕ) → a ≡ b → (a == b) ≡ true
@@ -190,10 +191,7 @@ two_ascii a b fa fb = IsAscii-append (decimal a) (32 ∷ decimal b) (IsAscii-dec
 pub three_ascii : (a b c : ℕ) → a < 2 ^ 64 → b < 2 ^ 64 → c < 2 ^ 64 → IsAscii (decimal a ++ 32 ∷ (decimal b ++ 32 ∷ decimal c))
 three_ascii a b c fa fb fc = IsAscii-append (decimal a) (32 ∷ (decimal b ++ 32 ∷ decimal c)) (IsAscii-decimal a fa) (IsAscii-cons 32 (decimal b ++ 32 ∷ decimal c) (omega arith) (two_ascii b c fb fc))
 
--- what is no text says no number
-pub number_no_text : (bytes : List ℕ) → ¬ (IsUtf8 bytes) → None ≡ number_in bytes
-number_no_text = no_text_by decimal (λ n. n < 2 ^ 64) number_in printed_of_read IsAscii-decimal
-
+-- what is no text says no two numbers, and no three
 pub two_no_text : (bytes : List ℕ) → ¬ (IsUtf8 bytes) → None ≡ two_in bytes
 two_no_text = no_text_by (λ (n : ℕ × ℕ). decimal n.0 ++ 32 ∷ decimal n.1) (λ n. (n.0 < 2 ^ 64) × (n.1 < 2 ^ 64)) two_in (λ text n is. let p = two_printed text n is in (p.0, (p.1, p.2)))
     (λ n fits. two_ascii n.0 n.1 fits.0 fits.1)

@@ -2,7 +2,8 @@
 use Rattle.std.specs.Prelude.{ℕ, ◌<◌, ◌^◌, nat_lt, List, ◌++◌, codes, Option, Some, None, option_and_then, if◌then◌else◌}
 use Rattle.std.specs.Fmt.{decimal}
 use Rattle.std.specs.Str.{bytes_eq}
-use Rattle.amo_ledger.specs.Numbers.{by_word, number_in, two_in, three_in, read_all}
+use Rattle.amo_decimal.specs.Numbers.{number_in}
+use Rattle.amo_ledger.specs.Numbers.{by_word, two_in, three_in, read_all}
 use Rattle.amo_ledger.specs.declared.entry.Answer.{Answer}
 use Rattle.amo_ledger.specs.declared.entry.Answer.TheVariants.{Done, Doubt, Unbegun, Untouched}
 use Rattle.amo_ledger.specs.declared.entry.Entry.{Entry}

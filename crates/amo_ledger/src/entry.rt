@@ -3,8 +3,9 @@ ghost use Rattle.std.specs.Prelude.{◌≡◌, IfOk, IfSome, IfNone, string_byte
 ghost use Rattle.amo_ledger.specs.Entries.{text_of, text_of_answer, Fits, FitsAnswer, code_in, answer_of_word, entry_of_word, entry_in};
 ghost use Rattle.amo_ledger.specs.declared.entry.Entry.{Entry as EntryView};
 
-use crate::numbers::{number, three, two};
+use crate::numbers::{three, two};
 use crate::reading::FromText;
+use amo_decimal::number;
 use std::alloc::{AllocError, Global};
 use std::str;
 

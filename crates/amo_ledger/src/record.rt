@@ -2,11 +2,13 @@
 ghost use Rattle.std.specs.Prelude.{◌≡◌, ◌+◌, ◌++◌, ◌∷◌, [], codes, ◌<◌, ◌≤◌, ◌-◌, length, map, slice_index_or, Option, Some, None, option_map, IfOk, IfSome, IfNone, OnOk};
 ghost use Rattle.std.specs.Fmt.{decimal};
 ghost use Rattle.std.specs.Str.{bytes_eq};
-ghost use Rattle.amo_ledger.specs.Numbers.{number_in, read_all};
+ghost use Rattle.amo_decimal.specs.Numbers.{number_in};
+ghost use Rattle.amo_ledger.specs.Numbers.{read_all};
 ghost use Rattle.amo_ledger.specs.Records.{RecordView, said_by, ended, texts_of, text_of_record, ascends_from, is_sound, IsRecord, texts_from, labelled, head_in, record_behind, record_of, record_in};
 
-use crate::numbers::{number_of_bytes, three_of_bytes, two_of_bytes};
+use crate::numbers::{three_of_bytes, two_of_bytes};
 use crate::round::Givens;
+use amo_decimal::number_of_bytes;
 use amo_givens::{MAX_BETA, MAX_JOBS, MAX_WORKERS};
 use std::alloc::{AllocError, Global};
 use std::mem;

@@ -2,7 +2,7 @@
 use Rattle.std.specs.Prelude.{ℕ, List, ◌++◌, codes, Bool, false, Option, Some, None, if◌then◌else◌}
 use Rattle.std.specs.Fmt.{decimal}
 use Rattle.std.specs.Str.{bytes_eq}
-use Rattle.amo_ledger.specs.Numbers.{number_in}
+use Rattle.amo_decimal.specs.Numbers.{number_in}
 use Rattle.amo_course.specs.declared.answer.Answer.{Answer}
 use Rattle.amo_course.specs.declared.answer.Answer.TheVariants.{Done, Doubt, Unbegun, Untouched}
 use Rattle.amo_course.specs.declared.answer.Reply.{Reply}

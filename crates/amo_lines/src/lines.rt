@@ -4,7 +4,7 @@ ghost use Rattle.amo_lines.specs.Lines.{is_agreed};
 
 use crate::wire::Wire;
 use amo_course::{Answer, Failed, Outside, Reply, Try};
-use amo_ledger::number_of_bytes;
+use amo_decimal::number_of_bytes;
 use amo_talk::reply_in;
 
 /// The words, the journal and the partner of a worker, all behind a wire.

@@ -14,7 +14,7 @@ use Rattle.amo_plan.specs.declared.fault.PlanFault.TheVariants.{TooLong, BadSche
 use Rattle.amo_plan.specs.declared.limits.TheConstants.{HIGHEST_IN_WORD, MOST_MOVES}
 use Rattle.amo_plan.specs.declared.schedule_word.ScheduleWord.{ScheduleWord}
 use Rattle.amo_plan.specs.declared.schedule_word.ScheduleWord.TheVariants.{Turns, Stop, Departure}
-use Rattle.amo_plan.specs.Digits.{number_in}
+use Rattle.amo_decimal.specs.Numbers.{number_in}
 use Rattle.amo_plan.specs.Schedule.{is_x, is_l, is_asterisk, number_of, turns_of, turns_at, turns_word, word_of, worker_of, word_at, words_of, read_words, moves_of_word, moves_of, short_moves_of, read_schedule}
 use Rattle.amo_plan.specs.Passing.{◌>>=◌, or_fault, unless, each, capped}
 use Rattle.amo_plan.proofs.DigitsLemmas.{within_some}

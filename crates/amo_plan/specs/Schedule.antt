@@ -8,7 +8,8 @@ use Rattle.amo_plan.specs.declared.fault.PlanFault.TheVariants.{BadScheduleWord,
 use Rattle.amo_plan.specs.declared.limits.TheConstants.{HIGHEST_IN_WORD, MOST_MOVES}
 use Rattle.amo_plan.specs.declared.schedule_word.ScheduleWord.{ScheduleWord}
 use Rattle.amo_plan.specs.declared.schedule_word.ScheduleWord.TheVariants.{Turns, Stop, Departure}
-use Rattle.amo_plan.specs.Digits.{number_in, within}
+use Rattle.amo_decimal.specs.Numbers.{number_in}
+use Rattle.amo_plan.specs.Digits.{within}
 use Rattle.amo_plan.specs.Passing.{◌>>=◌, or_fault, unless, each}
 
 -- space, tab, LF, CR

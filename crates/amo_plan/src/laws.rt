@@ -2,7 +2,8 @@
 //! the crates above stand on.
 ghost use Rattle.std.specs.Prelude.{◌≡◌, ◌<◌, ◌≤◌, ◌↔◌, ◌^◌, ℕ, List, Some, Ok};
 ghost use Rattle.std.specs.Fmt.{decimal};
-ghost use Rattle.amo_plan.specs.Digits.{number_in, within};
+ghost use Rattle.amo_decimal.specs.Numbers.{number_in};
+ghost use Rattle.amo_plan.specs.Digits.{within};
 ghost use Rattle.amo_plan.specs.Keeps.{Keeps};
 ghost use Rattle.amo_plan.specs.declared.limits.TheConstants.{HIGHEST_IN_WORD};
 ghost use Rattle.amo_plan.specs.Plan.{PlanSeen, plan_of};

@@ -3,7 +3,8 @@ use Rattle.std.proofs.Common.{◌≡◌, ◌≤◌, ◌↔◌, ℕ, List, Option
 use Rattle.std.specs.Prelude.{option_and_then}
 use Rattle.std.specs.Fmt.{decimal}
 use Rattle.amo_plan.specs.declared.limits.TheConstants.{HIGHEST_NUMBER}
-use Rattle.amo_plan.specs.Digits.{number_in, within}
+use Rattle.amo_decimal.specs.Numbers.{number_in}
+use Rattle.amo_plan.specs.Digits.{within}
 use Rattle.amo_plan.proofs.DigitsLemmas.{within_is_decimal}
 
 -- the law of the numbers of a range, of a text that may be absent

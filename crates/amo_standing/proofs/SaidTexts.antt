@@ -11,9 +11,9 @@ use Rattle.std.proofs.lemmas.Slice.Eq.{bytes_eq-Decides}
 use Rattle.amo_ledger.specs.declared.finding.Verdict.{Verdict}
 use Rattle.amo_ledger.specs.declared.finding.Verdict.TheVariants.{Done, NotDone}
 use Rattle.amo_ledger.specs.Findings.{verdict_in, word_of}
-use Rattle.amo_ledger.specs.Numbers.{number_in}
+use Rattle.amo_decimal.specs.Numbers.{number_in}
 use Rattle.amo_ledger.specs.Records.{ended}
-use Rattle.amo_ledger.proofs.NumberTexts.{printed_of_read, reads_printed}
+use Rattle.amo_decimal.proofs.NumberTexts.{printed_of_read, reads_printed}
 use Rattle.amo_ledger.proofs.Words.{Lacks, and_then_some, blank_and, decimal_lacks, either_way, equal, lacks_append, lacks_by_test, not_equal}
 use Rattle.amo_standing.specs.declared.state.Intent.{Intent}
 use Rattle.amo_standing.specs.declared.standing.Standing.{Standing}

@@ -9,7 +9,8 @@ use Rattle.amo_ledger.specs.declared.fault.Fault.TheVariants.{Memory, Refused}
 use Rattle.amo_ledger.specs.declared.finding.Verdict.{Verdict}
 use Rattle.amo_ledger.specs.declared.finding.Verdict.TheVariants.{Done, NotDone}
 use Rattle.amo_ledger.specs.Findings.{verdict_in, word_of}
-use Rattle.amo_ledger.specs.Numbers.{number_in, read_all}
+use Rattle.amo_decimal.specs.Numbers.{number_in}
+use Rattle.amo_ledger.specs.Numbers.{read_all}
 use Rattle.amo_standing.specs.declared.said.Said.{Said}
 use Rattle.amo_standing.specs.declared.state.Intent.{Intent}
 use Rattle.amo_standing.specs.Rows.{tab}

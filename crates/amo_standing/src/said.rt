@@ -7,7 +7,8 @@ ghost use Rattle.amo_ledger.specs.Numbers.{read_all};
 ghost use Rattle.amo_standing.specs.Said.{IsRefused, before_end, intent_in, intent_text, lines_in, place_in, said_by, said_in, split_at, verdict_behind, words_in};
 
 use crate::state::Intent;
-use amo_ledger::{Fault, Verdict, number_of_bytes};
+use amo_decimal::number_of_bytes;
+use amo_ledger::{Fault, Verdict};
 use std::alloc::{AllocError, Global};
 use std::mem;
 

@@ -13,10 +13,11 @@ use Rattle.amo_course.specs.declared.answer.Reply.{Reply}
 use Rattle.amo_course.specs.declared.answer.Reply.TheVariants.{Answered, Running, Garbled, Closed}
 use Rattle.amo_course.specs.declared.answer.Way.{Way}
 use Rattle.amo_course.specs.declared.answer.Way.TheVariants.{Go, Leave}
-use Rattle.amo_ledger.specs.Numbers.{number_in, has_blank, first_word, other_words}
+use Rattle.amo_decimal.specs.Numbers.{number_in}
+use Rattle.amo_ledger.specs.Numbers.{has_blank, first_word, other_words}
 use Rattle.amo_ledger.specs.Entries.{code_in}
 use Rattle.amo_ledger.proofs.EntryTexts.{code_reads, code_printed}
-use Rattle.amo_ledger.proofs.NumberTexts.{reads_printed, printed_of_read}
+use Rattle.amo_decimal.proofs.NumberTexts.{reads_printed, printed_of_read}
 use Rattle.amo_ledger.proofs.Readings.{none_some, some_is}
 use Rattle.amo_ledger.proofs.Words.{word_reads, either_word, decimal_lacks, AreWords, words, split, and_then_some, blank_and, either_way, ascii_by_test}
 use Rattle.amo_talk.specs.Replies.{word_of, text_of_answer, text_of, FitsAnswer, Fits, way_in, number_and_way_in, code_and_way_in, reply_of_word, said_in, reply_in}

@@ -3,8 +3,9 @@ use Rattle.std.proofs.Common.{◌≡◌, ◌≢◌, ℕ, ◌^◌, ◌<◌, List,
 use Rattle.std.specs.Fmt.{decimal}
 use Rattle.std.proofs.lemmas.List.{append_cancel_left, append_cancel_right}
 use Rattle.amo_journal.specs.Texts.{IsOneLine}
-use Rattle.amo_ledger.specs.Numbers.{number_in, first_word, other_words}
-use Rattle.amo_ledger.proofs.NumberTexts.{reads_printed}
+use Rattle.amo_decimal.specs.Numbers.{number_in}
+use Rattle.amo_ledger.specs.Numbers.{first_word, other_words}
+use Rattle.amo_decimal.proofs.NumberTexts.{reads_printed}
 use Rattle.amo_ledger.proofs.Words.{Lacks, lacks_append, decimal_lacks, AreWords, words}
 use Rattle.amo_talk.specs.Sayings.{job_line, perform_text, was_text, IsOneEndedLine}
 

@@ -2,7 +2,8 @@
 use Rattle.std.specs.Prelude.{ℕ, ◌<◌, ◌^◌, List, ◌++◌, codes, Option, Some, None, option_and_then, unwrap_or, if◌then◌else◌}
 use Rattle.std.specs.Fmt.{decimal}
 use Rattle.std.specs.Str.{bytes_eq}
-use Rattle.amo_ledger.specs.Numbers.{both_in, by_word, has_blank, first_word, other_words, number_in}
+use Rattle.amo_decimal.specs.Numbers.{number_in}
+use Rattle.amo_ledger.specs.Numbers.{both_in, by_word, has_blank, first_word, other_words}
 use Rattle.amo_ledger.specs.Entries.{code_in}
 use Rattle.amo_course.specs.declared.answer.Answer.{Answer}
 use Rattle.amo_course.specs.declared.answer.Answer.TheVariants.{Done, Doubt, Unbegun, Untouched}

@@ -4,7 +4,8 @@ ghost use Rattle.amo_course.specs.declared.answer.Reply.{Reply as ReplyView};
 ghost use Rattle.amo_talk.specs.Replies.{text_of, Fits, way_in, number_and_way_in, code_and_way_in, reply_of_word, said_in, reply_in};
 
 use amo_course::{Answer, Reply, Way};
-use amo_ledger::{code_of, number};
+use amo_decimal::number;
+use amo_ledger::code_of;
 use std::str;
 
 /// What a line says in answer; it is given without its end. What is no answer is garbled.

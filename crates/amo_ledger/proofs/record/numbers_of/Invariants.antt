@@ -1,6 +1,7 @@
 use Rattle.std.proofs.Common.{◌≡◌, ◌++◌, drop, map}
 use Rattle.std.specs.Prelude.{option_map}
-use Rattle.amo_ledger.specs.Numbers.{number_in, read_all}
+use Rattle.amo_decimal.specs.Numbers.{number_in}
+use Rattle.amo_ledger.specs.Numbers.{read_all}
 use Rattle.amo_ledger.proofs.record.numbers_of.Given as goal
 
 abbrev pub invariant-loop-text : goal.invariant-loop-text

@@ -1,15 +1,16 @@
 -- What std reads as a number, and what is printed of one.
-use Rattle.std.proofs.Common.{◌≡◌, ◌≢◌, ◌⊎◌, inl, ⊎_elim, ℕ, zero, suc, ◌^◌, ◌<◌, Bool, true, false, cond, ◌&&◌, List, [], ◌∷◌, length, get_or, Some, None, Result, Ok, Err, refl, sym, ap, subst, ◌∙◌, arith}
+use Rattle.std.proofs.Common.{◌≡◌, ◌≢◌, ◌↔◌, ◌⊎◌, inl, ⊎_elim, ℕ, zero, suc, ◌^◌, ◌<◌, Bool, true, false, cond, ◌&&◌, List, [], ◌∷◌, length, get_or, Option, Some, None, Result, Ok, Err, refl, sym, ap, subst, ◌∙◌, arith}
 use Rattle.std.specs.Prelude.{nat_lt, ◌||◌, ◌==◌}
 use Rattle.std.specs.Result.{result_ok}
 use Rattle.std.specs.Fmt.{decimal}
-use Rattle.std.specs.Str.{all_ascii_digits}
+use Rattle.std.specs.Str.{all_ascii_digits, IsAscii, IsUtf8}
 use Rattle.std.specs.Str.Parse.{digits_value, ParsesUnsigned}
 use Rattle.std.proofs.lemmas.Bool.{and_from, and_parts}
 use Rattle.std.proofs.lemmas.Bool.Decides.{nat_tests}
 use Rattle.std.proofs.lemmas.Str.Parse.{IsNumeralModel, numerals_by_value, tells_all_ascii_digits, parse_plain}
-use Rattle.std.proofs.lemmas.Fmt.{decimal_digit, first_decimal, digits_decimal, digits_value-decimal, decimal-digits_value}
-use Rattle.amo_ledger.specs.Numbers.{begins_strictly, is_number, number_in}
+use Rattle.std.proofs.lemmas.Fmt.{decimal_digit, first_decimal, digits_decimal, digits_value-decimal, decimal-digits_value, IsAscii-decimal}
+use Rattle.std.proofs.lemmas.Str.{IsUtf8-from_ascii}
+use Rattle.amo_decimal.specs.Numbers.{begins_strictly, is_number, number_in}
 
 pub own : IsNumeralModel (λ ds. all_ascii_digits ds ≡ true) (digits_value 10)
 own = numerals_by_value (λ ds. all_ascii_digits ds ≡ true) tells_all_ascii_digits
@@ -79,3 +80,18 @@ printed_of_read text n h = by_test _ refl h
         let front = front_of (get_or text 0 0) (length text) parts.0 in
         let one : get_or text 0 0 ≡ 48 → length text ≡ 1 = λ zero_first. ⊎_elim (λ more. absurd (omega (arith, more, zero_first))) (λ same. same.1) front in
         (ap decimal (sym is) ∙ decimal-digits_value own text both.0 (not_empty text parts.0) one small, subst (λ v. v < 2 ^ 64) is small)
+
+-- a text says a number just if it is that number in decimal digits
+pub number_is_decimal : (text : List ℕ) (k : ℕ) → number_in text ≡ Some k ↔ (text ≡ decimal k) × (k < 2 ^ 64)
+number_is_decimal text k = (
+  λ e. let p = printed_of_read text k e in (sym p.0, p.1),
+  λ h. ap number_in h.0 ∙ reads_printed k h.1,
+)
+
+-- what is no text says no number
+pub number_no_text : (bytes : List ℕ) → ¬ (IsUtf8 bytes) → None ≡ number_in bytes
+number_no_text bytes never = by_case (number_in bytes) refl
+  where
+    by_case : (o : Option ℕ) → number_in bytes ≡ o → None ≡ o
+    by_case None is = refl
+    by_case (Some n) is = let p = printed_of_read bytes n is in absurd (never (IsUtf8-from_ascii bytes (subst IsAscii p.0 (IsAscii-decimal n p.1))))

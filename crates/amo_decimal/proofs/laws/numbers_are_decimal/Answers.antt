@@ -1,0 +1,5 @@
+use Rattle.amo_decimal.proofs.NumberTexts.{number_is_decimal}
+use Rattle.amo_decimal.proofs.laws.numbers_are_decimal.Goals as goal
+
+pub returns : goal.returns
+returns c = number_is_decimal
