@@ -3,7 +3,6 @@ pub mod Sorts
 pub mod Stops
 pub mod RoundLemmas
 pub mod Numbers
-pub mod NumberTexts
 pub mod Seconds
 pub mod Fronts
 pub mod Ledgers

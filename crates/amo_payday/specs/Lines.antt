@@ -1,10 +1,8 @@
 -- The lines of the input, and those that are written.
-use Rattle.std.specs.Prelude.{ℕ, ◌^◌, Bool, ◌&&◌, nat_lt, List, [], ◌∷◌, ◌++◌, length, codes, Option, Some, None, option_and_then, if◌then◌else◌}
-use Rattle.std.specs.Char.{digit_value}
-use Rattle.std.specs.List.{list_all}
+use Rattle.std.specs.Prelude.{ℕ, List, [], ◌∷◌, ◌++◌, codes, Option, Some, None, option_and_then, if◌then◌else◌}
 use Rattle.std.specs.Fmt.{decimal}
 use Rattle.std.specs.Str.{bytes_eq}
-use Rattle.std.specs.Str.Parse.{digits_value, without_leading_plus}
+use Rattle.amo_decimal.specs.Numbers.{number_in}
 use Rattle.amo_ledger.specs.Numbers.{has_blank, first_word, other_words}
 use Rattle.amo_payday.specs.declared.line.Line.{Line}
 use Rattle.amo_payday.specs.declared.line.Line.TheVariants.{Workers, Steps, Limit, Pay}
@@ -12,18 +10,6 @@ use Rattle.amo_payday.specs.declared.line.Line.TheVariants.{Workers, Steps, Limi
 -- the line of a word and a number
 abbrev pub line : List ℕ → ℕ → List ℕ
 line word id = (word ++ 32 ∷ decimal id) ++ 10 ∷ []
-
--- one digit or more, and nothing else
-abbrev pub are_digits : List ℕ → Bool
-are_digits text = nat_lt 0 (length text) && list_all (λ c. nat_lt (digit_value c) 10) text
-
--- the number that these digits say, where it is below 2 ^ 64
-abbrev pub number_of_digits : List ℕ → Option ℕ
-number_of_digits digits = if are_digits digits && nat_lt (digits_value 10 digits) (2 ^ 64) then Some (digits_value 10 digits) else None
-
--- the number that a text says: its digits, before which a plus may stand
-abbrev pub number_in : List ℕ → Option ℕ
-number_in text = number_of_digits (without_leading_plus text)
 
 -- the line of this kind with the number that the text says
 abbrev pub with_number : (ℕ → Line) → List ℕ → Option Line

@@ -1,6 +1,8 @@
 //! The lines of the input.
 ghost use Rattle.std.specs.Prelude.{◌≡◌};
-ghost use Rattle.amo_payday.specs.Lines.{number_in, payment_in, line_of_word, line_in};
+ghost use Rattle.amo_payday.specs.Lines.{payment_in, line_of_word, line_in};
+
+use amo_decimal::number;
 
 /// A line of the input.
 #[derive(Clone, Copy, Debug, PartialEq, Eq)]
@@ -13,14 +15,6 @@ pub(crate) enum Line {
     Limit(u64),
     /// An account, and the amount that it gets.
     Pay(u64, u64),
-}
-
-/// The number that the text says, which may have a plus before its digits.
-#[tactic(auto, using(crate::proofs::NumberTexts::number_is))]
-fn number(text: &str) -> Option<u64>
-    ensures { result ≡ number_in text.now }
-{
-    text.parse::<u64>().ok()
 }
 
 /// Two numbers, with a blank between them.
