@@ -20,7 +20,6 @@ pub use finding::{
     Finding, Verdict, first_misplaced, has_finding, is_not_done, is_undone, read_findings,
 };
 pub use journal::{Attempt, journal_of, note, pending, read_entries};
-pub use numbers::{three, two};
 pub use open::{open_lines, opens, reopens};
 pub use put::{put_entry, put_finding};
 pub use record::Record;

@@ -6,7 +6,7 @@ use amo_decimal::number;
 use std::str;
 
 /// The three numbers that a text says, one blank between each two and nothing else. Each is read as by `number`.
-pub fn three(text: &str) -> Option<(u64, u64, u64)>
+pub(crate) fn three(text: &str) -> Option<(u64, u64, u64)>
     ensures { result ≡ three_in text.now }
 {
     let (a, rest) = text.split_once(' ')?;
@@ -16,7 +16,7 @@ pub fn three(text: &str) -> Option<(u64, u64, u64)>
 }
 
 /// The two numbers that a text says, one blank between them and nothing else. Each is read as by `number`.
-pub fn two(text: &str) -> Option<(u64, u64)>
+pub(crate) fn two(text: &str) -> Option<(u64, u64)>
     ensures { result ≡ two_in text.now }
 {
     let (a, b) = text.split_once(' ')?;
