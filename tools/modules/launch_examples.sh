@@ -151,8 +151,8 @@ build_copy() {
 build_copies() {
   local begun='the program is proved and built first; that takes some minutes'
   local unbuilt='the program could not be built; correct what the lines above report'
-  UNPROVED=amo_work expect './amo, a library not proved' 125 /dev/null "$(lines "amo: $begun" 'amo: some are proved' \
-    'not proved' 'amo: crate amo_work: it could not be proved; correct what the lines above report' "amo: $unbuilt")" build_copy amo check <examples
+  UNPROVED=amo_commands expect './amo, a library not proved' 125 /dev/null "$(lines "amo: $begun" 'amo: some are proved' \
+    'not proved' 'amo: crate amo_commands: it could not be proved; correct what the lines above report' "amo: $unbuilt")" build_copy amo check <examples
   UNPROVED=amo expect './amo, its own crate not proved' 125 /dev/null "$(lines "amo: $begun" 'amo: all are proved' \
     'not proved' "amo: $unbuilt")" build_copy amo check <&-
   expect './amo, built now' 0 "$(lines '<check><><a b>')" "$(lines "amo: $begun")" build_copy amo check '' 'a b' <examples

@@ -4,9 +4,9 @@
 //! each of its first moves.
 #![tactic(auto)]
 
-use amo_program::serve_words;
-use amo_streams::Streamed;
-use amo_work::AmoCommand;
+use amo_cli::serve_words;
+use amo_commands::AmoCommand;
+use amo_io::Streamed;
 use std::process::ExitCode;
 
 fn main(rt: HostRuntime) -> ExitCode {

@@ -2,7 +2,7 @@
 use Rattle.std.specs.Prelude.{◌≡◌, ℕ, List, ◌++◌, Result, Ok, Err, codes}
 use Rattle.amo_plan.specs.declared.fault.PlanFault.{PlanFault}
 use Rattle.amo_plan.specs.Plan.{PlanSeen}
-use Rattle.amo_texts.specs.FaultTexts.{fault_line}
+use Rattle.amo_render.specs.FaultTexts.{fault_line}
 
 -- `taken`, or the line of the fault
 abbrev pub explanation_head : Result PlanSeen PlanFault → List ℕ

@@ -1,13 +1,13 @@
 //! The explanation of a text: its first line, and sentences below it.
 ghost use Rattle.std.specs.Prelude.{IfOk, codes, string_bytes};
 ghost use Rattle.amo_plan.specs.Plan.{plan_of};
-ghost use Rattle.amo_texts.specs.FaultTexts.{fault_line};
+ghost use Rattle.amo_render.specs.FaultTexts.{fault_line};
 ghost use Rattle.amo_explain.specs.Heading.{BeginsWith, explanation_head};
 
 use crate::asked::asked_of;
 use crate::reasons::reason_of;
 use amo_plan::{Plan, PlanFault, read_plan};
-use amo_texts::fault_text;
+use amo_render::fault_text;
 use std::alloc::{AllocError, Global};
 
 /// The line `taken`, and what the plan asks for.

@@ -7,7 +7,7 @@ use Rattle.std.proofs.lemmas.List.Elements.{filter_agree}
 use Rattle.amo_sets.specs.Lists.{numbered}
 use Rattle.amo_sets.specs.Sets.{has}
 use Rattle.amo_outcome.specs.declared.block_done.BlockDone.{BlockDone}
-use Rattle.amo_texts.specs.Least.{least_of}
+use Rattle.amo_render.specs.Least.{least_of}
 use Rattle.amo_outcome.specs.Became.{Handed, listed, lists_block, doer_of}
 use Rattle.amo_outcome.specs.Noted.{IsSetOf, is_in, IsNoted}
 

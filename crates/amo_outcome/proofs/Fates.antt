@@ -11,8 +11,8 @@ use Rattle.amo_plan.specs.Passing.{is_between}
 use Rattle.amo_plan.specs.declared.plan.Heads.{Heads}
 use Rattle.amo_crew.specs.declared.outcome.End.{End}
 use Rattle.amo_outcome.specs.declared.block_done.BlockDone.{BlockDone}
-use Rattle.amo_texts.specs.Numbers.{first_line}
-use Rattle.amo_texts.specs.Tallies.{performed_line}
+use Rattle.amo_render.specs.Numbers.{first_line}
+use Rattle.amo_render.specs.Tallies.{performed_line}
 use Rattle.amo_outcome.specs.Became.{Handed, Fate, fate_of, claimer_of, lists_block, first_output, done_blocks}
 use Rattle.amo_outcome.specs.Noted.{IsNoted, fate_in}
 use Rattle.amo_outcome.specs.OutcomeLines.{fate_line, block_of, place_of, job_line, job_lines, end_lines}

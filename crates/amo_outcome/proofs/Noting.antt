@@ -9,10 +9,10 @@ use Rattle.std.proofs.lemmas.List.Folds.{find-append}
 use Rattle.amo_sets.specs.Lists.{numbered, put}
 use Rattle.amo_sets.proofs.Numbers.{numbered-put_same, numbered-put_other}
 use Rattle.amo_outcome.specs.declared.block_done.BlockDone.{BlockDone}
-use Rattle.amo_texts.specs.Least.{lesser, least_of}
+use Rattle.amo_render.specs.Least.{lesser, least_of}
 use Rattle.amo_outcome.specs.Became.{Handed, doer_of, output_of}
 use Rattle.amo_outcome.specs.Noted.{kept, noted_with, IsNoted}
-use Rattle.amo_texts.proofs.Least.{least_last}
+use Rattle.amo_render.proofs.Least.{least_last}
 
 -- a place of a list, once the list grew
 get_first : (xs zs : List Handed) (i : ℕ) (y : Handed) → slice_get xs i ≡ Some y → slice_get (xs ++ zs) i ≡ Some y

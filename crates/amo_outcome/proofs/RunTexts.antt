@@ -5,7 +5,7 @@ use Rattle.std.specs.Result.{IsOkAnd}
 use Rattle.std.specs.Io.KnownBytes.{Appends}
 use Rattle.amo_plan.specs.declared.fault.PlanFault.{PlanFault}
 use Rattle.amo_plan.specs.Plan.{PlanSeen, plan_of}
-use Rattle.amo_streams.specs.Streams.{AppendsFront}
+use Rattle.amo_io.specs.Streams.{AppendsFront}
 use Rattle.amo_outcome.specs.declared.started.Started.{Started}
 use Rattle.amo_outcome.specs.Runs.{IsRunText, WritesRun, WritesRunFront}
 

@@ -5,7 +5,7 @@ use Rattle.amo_sets.specs.Lists.{numbered}
 use Rattle.amo_sets.specs.Sets.{has, members}
 use Rattle.amo_mailbox.specs.declared.output.Output.{Output}
 use Rattle.amo_plan.specs.declared.answer.Answer.{Answer}
-use Rattle.amo_texts.specs.Least.{least_of}
+use Rattle.amo_render.specs.Least.{least_of}
 
 -- an output: its worker, its block and the answers of the block's jobs
 abbrev pub Handed : Type 0

@@ -5,7 +5,7 @@ use Rattle.amo_plan.specs.declared.answer.Answer.{Answer}
 use Rattle.amo_plan.specs.declared.answer.Answer.TheVariants.{Text, Number}
 use Rattle.amo_crew.specs.declared.outcome.End.{End}
 use Rattle.amo_crew.specs.declared.outcome.End.TheVariants.{Ended, Halted, NotStarted}
-use Rattle.amo_texts.specs.Escaped.{escaped}
+use Rattle.amo_render.specs.Escaped.{escaped}
 use Rattle.amo_outcome.specs.Became.{Handed, Fate}
 
 -- how a worker went, in one word

@@ -8,8 +8,8 @@ use Rattle.amo_plan.specs.declared.plan.Heads.{Heads}
 use Rattle.amo_plan.specs.declared.task.Task.{Task}
 use Rattle.amo_crew.specs.declared.outcome.End.{End}
 use Rattle.amo_crew.specs.declared.outcome.Outcome.{Outcome}
-use Rattle.amo_texts.specs.Numbers.{first_line}
-use Rattle.amo_texts.specs.Tallies.{performed_line}
+use Rattle.amo_render.specs.Numbers.{first_line}
+use Rattle.amo_render.specs.Tallies.{performed_line}
 use Rattle.amo_outcome.specs.Became.{Fate, listed, fate_of, done_blocks}
 use Rattle.amo_outcome.specs.OutcomeLines.{end_lines, job_lines}
 

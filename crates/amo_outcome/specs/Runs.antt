@@ -14,10 +14,10 @@ use Rattle.amo_plan.specs.Results.{capped_answer}
 use Rattle.amo_crew.specs.declared.outcome.End.{End}
 use Rattle.amo_crew.specs.declared.outcome.Outcome.{Outcome}
 use Rattle.amo_crew.specs.Outcomes.{IsOutcome, AllStarted, SomeRefused}
-use Rattle.amo_texts.specs.declared.writing.ReplayFault.{ReplayFault}
-use Rattle.amo_texts.specs.declared.writing.ReplayFault.TheVariants as replay
+use Rattle.amo_render.specs.declared.writing.ReplayFault.{ReplayFault}
+use Rattle.amo_render.specs.declared.writing.ReplayFault.TheVariants as replay
 use Rattle.amo_outcome.specs.OutcomeTexts.{outcome_of}
-use Rattle.amo_streams.specs.Streams.{AppendsFront}
+use Rattle.amo_io.specs.Streams.{AppendsFront}
 use Rattle.amo_outcome.specs.declared.started.Started.{Started}
 use Rattle.amo_outcome.specs.declared.started.Started.TheVariants.{All, NotAll}
 

@@ -4,13 +4,13 @@ ghost use Rattle.std.proofs.Common.{Vec, Global};
 ghost use Rattle.std.specs.List.{AllZip};
 ghost use Rattle.amo_sets.specs.Lists.{numbered, put};
 ghost use Rattle.amo_outcome.specs.Became.{listed, lists_block};
-ghost use Rattle.amo_texts.specs.Results.{jobs_in_block};
+ghost use Rattle.amo_render.specs.Results.{jobs_in_block};
 ghost use Rattle.amo_outcome.specs.Noted.{IsSetOf, is_in, kept, noted_with, IsNoted, filed_blocks};
 
 use amo_crew::Output;
 use amo_plan::Answer;
+use amo_render::jobs_in_block;
 use amo_sets::JobSet;
-use amo_texts::jobs_in_block;
 use std::alloc::{AllocError, Global};
 
 /// An output that says of its block that it is done: its worker, and its place among all outputs.
@@ -30,7 +30,7 @@ fn add(set: &mut JobSet, job: u32)
 }
 
 /// The numbers of `1..=jobs` that a list has, as a set.
-#[tactic(auto, using(amo_texts::proofs::Marks::marked_more))]
+#[tactic(auto, using(amo_render::proofs::Marks::marked_more))]
 fn set_of(alloc: Global, jobs: u32, list: &[u32]) -> Result<JobSet, AllocError>
     ensures { IfOk result (IsSetOf jobs list.now) }
 {

@@ -10,7 +10,7 @@ use crate::outcome_lines::{Notes, push_ends, push_jobs};
 use amo_crew::Outcome;
 use amo_givens::Givens;
 use amo_plan::{Answer, Block, Heads};
-use amo_texts::{push_first_line, push_tally};
+use amo_render::{push_first_line, push_tally};
 use std::alloc::{AllocError, Global};
 
 /// Notes what became of each block.

@@ -1,14 +1,14 @@
 //! Writes how each worker of a run went, and what became of each job.
 ghost use Rattle.std.specs.Prelude.{◌≡◌, ◌++◌, ◌+◌, ◌<◌, ◌≤◌, ◌^◌, None, OnOk, string_bytes, length, slice_get, get_or};
 ghost use Rattle.amo_outcome.specs.Became.{listed, Fate};
-ghost use Rattle.amo_texts.specs.Escaped.{escaped};
+ghost use Rattle.amo_render.specs.Escaped.{escaped};
 ghost use Rattle.amo_outcome.specs.OutcomeLines.{end_word, end_steps, end_line, end_lines, answer_text, text_in, done_line, claimed_line, free_line, fate_line, job_line, job_lines};
 ghost use Rattle.amo_outcome.specs.Noted.{noted_fate};
 
 use crate::block_done::BlockDone;
 use amo_crew::{End, Output};
 use amo_plan::{Answer, Text};
-use amo_texts::push_escaped;
+use amo_render::push_escaped;
 use std::alloc::{AllocError, Global};
 
 /// How a worker went, in one word.

@@ -1,17 +1,17 @@
 //! Makes the payments of a day, each at most once: `amo_payments JOURNAL BANK < DAY` reads them from standard input, keeps their
 //! journal in the file JOURNAL, and writes to standard output what became of each. BANK is a file that stands for a bank: each
-//! payment that is given adds a line to it. All that it does with them stands in `amo_payday`.
+//! payment that is given adds a line to it. All that it does with them stands in `amo_example_payments`.
 #![tactic(auto)]
 
 ghost use Rattle.std.specs.Prelude.{◌≡◌, ◌≤◌};
 ghost use Rattle.std.specs.Io.KnownBytes.{Keeps};
 ghost use Rattle.std.specs.Process.{exit_status};
 ghost use Rattle.amo_journal.specs.Journal.{MaySettle};
-ghost use Rattle.amo_payday.specs.Reports.{IsServed, IsBegun};
+ghost use Rattle.amo_example_payments.specs.Reports.{IsServed, IsBegun};
 
-use amo_file::{FileDevice, create_private, sync_folder, try_exclusive};
+use amo_example_payments::serve;
+use amo_fs::{FileDevice, create_private, sync_folder, try_exclusive};
 use amo_journal::Device;
-use amo_payday::serve;
 use std::alloc::Global;
 use std::fs::{File, OpenOptions};
 use std::io::{Read, Write};

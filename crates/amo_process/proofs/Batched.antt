@@ -10,9 +10,9 @@ use Rattle.amo_kk.specs.Words.{next_word}
 use Rattle.amo_sets.proofs.Tables.{numbered-table}
 use Rattle.amo_kk.specs.World.{process}
 use Rattle.amo_givens.specs.declared.givens.Givens.{Givens}
-use Rattle.amo_return.specs.declared.model.Tale.{Tale}
-use Rattle.amo_return.specs.Return.{world_of_tale, tale_after_all, opening_tale}
-use Rattle.amo_return.proofs.Tales.{IsTold, acts_told, opening_told}
+use Rattle.amo_restart.specs.declared.model.Tale.{Tale}
+use Rattle.amo_restart.specs.Return.{world_of_tale, tale_after_all, opening_tale}
+use Rattle.amo_restart.proofs.Tales.{IsTold, acts_told, opening_told}
 use Rattle.amo_process.specs.declared.model.Happening.{Happening}
 use Rattle.amo_process.specs.declared.model.Happening.TheVariants.{Steps, Begins, Leaves}
 use Rattle.amo_process.specs.declared.standing.Standing.{Standing}

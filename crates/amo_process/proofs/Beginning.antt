@@ -19,8 +19,8 @@ use Rattle.amo_kk.proofs.Again.{has-set_of}
 use Rattle.amo_kk.proofs.Kept.{row_room, numbered_next, not_both}
 use Rattle.amo_kk.proofs.RowSums.{front_distinct}
 use Rattle.amo_kk.proofs.Words.{AreEven, read_next, read_claim, read_done}
-use Rattle.amo_return.specs.Return.{process_after_return}
-use Rattle.amo_return.proofs.Kept.{entries, hand_cases, counts_empty, announced_held}
+use Rattle.amo_restart.specs.Return.{process_after_return}
+use Rattle.amo_restart.proofs.Kept.{entries, hand_cases, counts_empty, announced_held}
 use Rattle.amo_process.specs.declared.standing.Standing.TheVariants.{Beginning, Going}
 use Rattle.amo_process.specs.Heard.{rest_of, standing_in, standing_of}
 use Rattle.amo_process.specs.Shared.{own_words}

@@ -14,10 +14,10 @@ use Rattle.amo_givens.specs.declared.givens.Givens.{Givens}
 use Rattle.amo_kk.specs.declared.event.Event.{Event}
 use Rattle.amo_kk.specs.declared.event.Event.TheVariants.{Ended}
 use Rattle.amo_kk.specs.declared.model.Process.{Process}
-use Rattle.amo_return.specs.Return.{process_after_return, world_of_tale, entries_for, opening_tale}
-use Rattle.amo_return.specs.Story.{may_perform}
-use Rattle.amo_return.specs.declared.model.Entry.TheVariants.{Shown as ShownEntry}
-use Rattle.amo_return.proofs.Once.{may-append}
+use Rattle.amo_restart.specs.Return.{process_after_return, world_of_tale, entries_for, opening_tale}
+use Rattle.amo_restart.specs.Story.{may_perform}
+use Rattle.amo_restart.specs.declared.model.Entry.TheVariants.{Shown as ShownEntry}
+use Rattle.amo_restart.proofs.Once.{may-append}
 use Rattle.amo_process.specs.Shared.{first_shared, IsBeginning, ShowsWorker, Shows}
 
 no_entries : (k : ℕ) → entries_of (replicate k 0) ≡ []

@@ -12,8 +12,8 @@ use Rattle.amo_kk.specs.declared.event.Event.TheVariants.{Ended as EndedEvent}
 use Rattle.amo_kk.specs.declared.event.Shown.{Shown}
 use Rattle.amo_kk.specs.declared.event.Shown.TheVariants.{Quiet, Claimed, Done, DoneEnded, Ended, Left as LeftShown}
 use Rattle.amo_kk.proofs.Runs.{HasDone, has_done}
-use Rattle.amo_return.specs.Return.{entries_for}
-use Rattle.amo_return.specs.Story.{may_perform}
+use Rattle.amo_restart.specs.Return.{entries_for}
+use Rattle.amo_restart.specs.Story.{may_perform}
 
 -- what another worker shows changes nothing
 pub other_may : (p q h : ℕ) (s : Shown) → p ≢ q → may_perform q h (entries_for (events_of p s)) ≡ h

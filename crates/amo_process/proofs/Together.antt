@@ -25,13 +25,13 @@ use Rattle.amo_givens.specs.declared.moves.Move.TheVariants.{Turn, Leave}
 use Rattle.amo_kk.proofs.Worlds.{put_here}
 use Rattle.amo_kk.proofs.Runs.{stored_local, stored_gone}
 use Rattle.amo_kk.proofs.Words.{turn_loads, turn_stores, leave_stores, keep_words}
-use Rattle.amo_return.specs.declared.model.Act.TheVariants.{Moves, Returns}
-use Rattle.amo_return.specs.declared.model.Entry.TheVariants.{Returned}
-use Rattle.amo_return.specs.declared.model.Tale.{Tale}
-use Rattle.amo_return.specs.Return.{process_after_return, world_of_tale, entries_for, tale_after_move, tale_with_return, tale_after_return, tale_after_all}
-use Rattle.amo_return.specs.Story.{may_perform}
-use Rattle.amo_return.proofs.Once.{may-append}
-use Rattle.amo_return.proofs.Tales.{IsTold, act_told}
+use Rattle.amo_restart.specs.declared.model.Act.TheVariants.{Moves, Returns}
+use Rattle.amo_restart.specs.declared.model.Entry.TheVariants.{Returned}
+use Rattle.amo_restart.specs.declared.model.Tale.{Tale}
+use Rattle.amo_restart.specs.Return.{process_after_return, world_of_tale, entries_for, tale_after_move, tale_with_return, tale_after_return, tale_after_all}
+use Rattle.amo_restart.specs.Story.{may_perform}
+use Rattle.amo_restart.proofs.Once.{may-append}
+use Rattle.amo_restart.proofs.Tales.{IsTold, act_told}
 use Rattle.amo_process.specs.declared.model.Happening.{Happening}
 use Rattle.amo_process.specs.declared.model.Happening.TheVariants.{Steps, Begins, Leaves}
 use Rattle.amo_process.specs.declared.standing.Standing.TheVariants.{Beginning, Going}

@@ -19,16 +19,16 @@ use Rattle.amo_kk.specs.declared.event.Event.TheVariants.{Claimed, Done, Ended, 
 use Rattle.amo_givens.specs.declared.moves.Move.TheVariants.{Turn}
 use Rattle.amo_kk.proofs.Runs.{HasDone, has_done}
 use Rattle.amo_kk.proofs.Ends.{enough_done}
-use Rattle.amo_return.specs.declared.model.Act.{Act}
-use Rattle.amo_return.specs.declared.model.Act.TheVariants.{Moves, Returns}
-use Rattle.amo_return.specs.declared.model.Entry.{Entry}
-use Rattle.amo_return.specs.declared.model.Entry.TheVariants.{Shown, Returned}
-use Rattle.amo_return.specs.declared.model.Tale.{Tale}
-use Rattle.amo_return.specs.Return.{filed_in, world_of_tale, tale_after_move, tale_with_return, tale_after, tale_after_all, opening_tale, tale_of}
-use Rattle.amo_return.specs.Story.{IsStory, may_perform, HasNoDeed}
-use Rattle.amo_return.proofs.Once.{may-append, one_stretch}
-use Rattle.amo_return.proofs.Tales.{IsTold, act_told, acts_told, opening_told}
-use Rattle.amo_return.proofs.Filed.{filed_is}
+use Rattle.amo_restart.specs.declared.model.Act.{Act}
+use Rattle.amo_restart.specs.declared.model.Act.TheVariants.{Moves, Returns}
+use Rattle.amo_restart.specs.declared.model.Entry.{Entry}
+use Rattle.amo_restart.specs.declared.model.Entry.TheVariants.{Shown, Returned}
+use Rattle.amo_restart.specs.declared.model.Tale.{Tale}
+use Rattle.amo_restart.specs.Return.{filed_in, world_of_tale, tale_after_move, tale_with_return, tale_after, tale_after_all, opening_tale, tale_of}
+use Rattle.amo_restart.specs.Story.{IsStory, may_perform, HasNoDeed}
+use Rattle.amo_restart.proofs.Once.{may-append, one_stretch}
+use Rattle.amo_restart.proofs.Tales.{IsTold, act_told, acts_told, opening_told}
+use Rattle.amo_restart.proofs.Filed.{filed_is}
 use Rattle.amo_process.specs.declared.model.Happening.{Happening}
 use Rattle.amo_process.specs.declared.model.Happening.TheVariants.{Steps, Begins, Leaves}
 use Rattle.amo_process.specs.declared.standing.Standing.TheVariants.{Going}

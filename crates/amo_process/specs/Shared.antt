@@ -11,11 +11,11 @@ use Rattle.amo_givens.specs.declared.givens.Givens.{Givens}
 use Rattle.amo_kk.specs.declared.phase.Want.{Want}
 use Rattle.amo_kk.specs.declared.model.Process.{Process}
 use Rattle.amo_givens.specs.declared.moves.Move.TheVariants.{Turn, Leave}
-use Rattle.amo_return.specs.declared.model.Act.{Act}
-use Rattle.amo_return.specs.declared.model.Act.TheVariants.{Moves, Returns}
-use Rattle.amo_return.specs.declared.model.Tale.{Tale}
-use Rattle.amo_return.specs.Return.{process_after_return, world_of_tale}
-use Rattle.amo_return.specs.Story.{may_perform}
+use Rattle.amo_restart.specs.declared.model.Act.{Act}
+use Rattle.amo_restart.specs.declared.model.Act.TheVariants.{Moves, Returns}
+use Rattle.amo_restart.specs.declared.model.Tale.{Tale}
+use Rattle.amo_restart.specs.Return.{process_after_return, world_of_tale}
+use Rattle.amo_restart.specs.Story.{may_perform}
 use Rattle.amo_process.specs.declared.model.Happening.{Happening}
 use Rattle.amo_process.specs.declared.model.Happening.TheVariants.{Steps, Begins, Leaves}
 use Rattle.amo_process.specs.declared.access.Access.{Access}

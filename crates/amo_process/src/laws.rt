@@ -4,7 +4,7 @@ ghost use Rattle.amo_givens.specs.Givens.{bound, IsWorker};
 ghost use Rattle.amo_kk.specs.Record.{is_over};
 ghost use Rattle.amo_kk.specs.Machine.{LocalView};
 ghost use Rattle.amo_givens.specs.declared.givens.Givens.{Givens};
-ghost use Rattle.amo_return.specs.Return.{tale_of, filed_in};
+ghost use Rattle.amo_restart.specs.Return.{tale_of, filed_in};
 ghost use Rattle.amo_process.specs.declared.model.Happening.{Happening};
 ghost use Rattle.amo_process.specs.declared.standing.Standing.TheVariants.{Going};
 ghost use Rattle.amo_process.specs.Heard.{standing_of};

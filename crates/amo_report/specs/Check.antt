@@ -3,7 +3,7 @@ use Rattle.std.specs.Prelude.{ℕ, List, ◌++◌, length, codes}
 use Rattle.std.specs.Fmt.{decimal}
 use Rattle.amo_givens.specs.declared.givens.Givens.{Givens}
 use Rattle.amo_plan.specs.Plan.{PlanSeen}
-use Rattle.amo_texts.specs.Numbers.{numbers_part}
+use Rattle.amo_render.specs.Numbers.{numbers_part}
 
 -- `ok`, the numbers, ` moves K rounds R`
 unfoldable pub check_line : ℕ → ℕ → ℕ → Givens → ℕ → ℕ → List ℕ

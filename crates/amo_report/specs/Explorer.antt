@@ -11,8 +11,8 @@ use Rattle.amo_kk.specs.declared.model.World.{World}
 use Rattle.amo_world.specs.Answer.{verdict}
 use Rattle.amo_world.specs.declared.answer.Verdict.{Verdict}
 use Rattle.amo_plan.specs.Plan.{PlanSeen}
-use Rattle.amo_texts.specs.Happened.{is_end}
-use Rattle.amo_texts.specs.Least.{numbers_from, least_of}
+use Rattle.amo_render.specs.Happened.{is_end}
+use Rattle.amo_render.specs.Least.{numbers_from, least_of}
 use Rattle.amo_report.specs.Summary.{counts_part, verdict_part, least_line}
 
 -- the worker of turn i, from 0, of schedule s: digit i of s, the lowest being digit 0, in the base of m workers

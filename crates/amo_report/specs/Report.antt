@@ -3,10 +3,10 @@ use Rattle.std.specs.Prelude.{ℕ, List, ◌++◌, length}
 use Rattle.amo_kk.specs.Run.{done_jobs}
 use Rattle.amo_kk.specs.declared.event.Event.{Event}
 use Rattle.amo_plan.specs.Plan.{PlanSeen}
-use Rattle.amo_texts.specs.Numbers.{first_line}
-use Rattle.amo_texts.specs.EventLines.{event_lines, worker_lines}
-use Rattle.amo_texts.specs.Results.{done_results}
-use Rattle.amo_texts.specs.Tallies.{performed_line, unclaimed_line}
+use Rattle.amo_render.specs.Numbers.{first_line}
+use Rattle.amo_render.specs.EventLines.{event_lines, worker_lines}
+use Rattle.amo_render.specs.Results.{done_results}
+use Rattle.amo_render.specs.Tallies.{performed_line, unclaimed_line}
 
 -- what happened: a line for each event and one for each worker
 unfoldable pub happened_lines : List Event → List ℕ → List ℕ

@@ -15,7 +15,7 @@ use Rattle.amo_plan.specs.declared.fault.PlanFault.{PlanFault}
 use Rattle.amo_plan.specs.declared.fault.PlanFault.TheVariants.{NoSuchWorker, TooLong}
 use Rattle.amo_plan.specs.Passing.{unless}
 use Rattle.amo_plan.specs.Plan.{PlanSeen}
-use Rattle.amo_texts.specs.Least.{numbers_from, least_of}
+use Rattle.amo_render.specs.Least.{numbers_from, least_of}
 use Rattle.amo_report.specs.declared.stops.TheConstants.{MOST_STOPS}
 use Rattle.amo_report.specs.Summary.{counts_part, verdict_part, least_line}
 

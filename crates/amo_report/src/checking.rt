@@ -4,7 +4,7 @@ ghost use Rattle.amo_plan.specs.PlanSeen.{plan_seen};
 ghost use Rattle.amo_report.specs.Check.{check_line, check_of};
 
 use amo_plan::Plan;
-use amo_texts::push_numbers;
+use amo_render::push_numbers;
 use std::alloc::{AllocError, Global};
 
 /// Appends how many moves and rounds there are, and ends the line.

@@ -11,7 +11,7 @@ use crate::running::run_rounds;
 use crate::summary::{lesser, push_counts, push_least, push_verdict};
 use amo_kk::Event;
 use amo_plan::Plan;
-use amo_texts::{count_ends, count_performances};
+use amo_render::{count_ends, count_performances};
 use amo_world::{Verdict, World, judge};
 use std::alloc::{AllocError, Global};
 
@@ -81,7 +81,7 @@ fn push_explored(
 /// s / workers ^ i % workers + 1. The last line has the least number of performances. The plan's own schedule isn't
 /// used. `from` is at most `MOST_FIRST`, `count` 1 to `MOST_COUNT`, `length` at most `MOST_TURNS`. The only error is
 /// want of memory.
-#[tactic(auto, using(amo_texts::proofs::Least::pieces_more, amo_texts::proofs::Least::least_more))]
+#[tactic(auto, using(amo_render::proofs::Least::pieces_more, amo_render::proofs::Least::least_more))]
 pub fn explore(
     alloc: Global,
     plan: &Plan,

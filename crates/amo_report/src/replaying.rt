@@ -1,12 +1,12 @@
 //! From the bytes of a plan to the bytes of its report.
 ghost use Rattle.std.specs.Prelude.{◌≡◌, false, Ok, OnOk, IfErr};
 ghost use Rattle.std.specs.Io.KnownBytes.{IsAtEnd};
-ghost use Rattle.amo_texts.specs.Written.{Refuses, Writes, is_failed_read, is_failed_write};
+ghost use Rattle.amo_render.specs.Written.{Refuses, Writes, is_failed_read, is_failed_write};
 ghost use Rattle.amo_report.specs.Texts.{report_of};
 
 use crate::wanted::Wanted;
-use amo_streams::{Sink, Source};
-use amo_texts::{ReplayFault, write_of};
+use amo_io::{Sink, Source};
+use amo_render::{ReplayFault, write_of};
 use std::alloc::Global;
 
 /// Reads a plan to the end of the reader, runs its schedule and its rounds in the opening world, and writes the report

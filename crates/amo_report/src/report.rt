@@ -8,7 +8,7 @@ use crate::running::all_turns;
 use amo_kk::Event;
 use amo_kk::laws::runs_are_short;
 use amo_plan::Plan;
-use amo_texts::{
+use amo_render::{
     push_events, push_first_line, push_performed, push_results, push_unclaimed, push_workers,
 };
 use amo_world::World;

@@ -13,7 +13,7 @@ use crate::laws::stops_run_out;
 use crate::summary::{lesser, push_counts, push_least, push_verdict};
 use amo_kk::Event;
 use amo_plan::Plan;
-use amo_texts::count_performances;
+use amo_render::count_performances;
 use amo_world::{Verdict, World, judge};
 use std::alloc::{AllocError, Global};
 
@@ -124,7 +124,7 @@ fn push_stopped(
 /// is at most 6 * workers + jobs, and what the judge says, which is always `lawful`. The last line has the least
 /// number of performances. The plan's rounds aren't used. p is in 1..=workers, and there are at most `MOST_STOPS` moves. The
 /// only error is out of memory.
-#[tactic(auto, using(amo_texts::proofs::Least::pieces_more, amo_texts::proofs::Least::least_more))]
+#[tactic(auto, using(amo_render::proofs::Least::pieces_more, amo_render::proofs::Least::least_more))]
 pub fn stops_text(alloc: Global, plan: &Plan, p: u32) -> Result<String, AllocError>
     requires low { 1 ≤ p }
     requires high { p ≤ plan.now.heads.givens.workers }

@@ -1,10 +1,10 @@
 //! What a line says of a whole run, and what is the least over many runs.
 ghost use Rattle.std.specs.Prelude.{◌≡◌, ◌++◌, OnOk, string_bytes};
-ghost use Rattle.amo_texts.specs.Least.{lesser};
+ghost use Rattle.amo_render.specs.Least.{lesser};
 ghost use Rattle.amo_report.specs.Summary.{counts_part, verdict_part, least_line};
 
 use amo_kk::Event;
-use amo_texts::{count_claims, count_performances};
+use amo_render::{count_claims, count_performances};
 use amo_world::Verdict;
 use std::alloc::AllocError;
 

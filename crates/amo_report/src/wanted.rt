@@ -1,7 +1,7 @@
 //! Which text of a plan is wanted, and the text.
 ghost use Rattle.std.specs.Prelude.{◌≡◌, ◌≤◌, Ok, IfOk, IfErr, string_bytes};
 ghost use Rattle.amo_plan.specs.PlanSeen.{plan_seen};
-ghost use Rattle.amo_texts.specs.Written.{IsNotMade};
+ghost use Rattle.amo_render.specs.Written.{IsNotMade};
 ghost use Rattle.amo_report.specs.Stops.{stops_in};
 ghost use Rattle.amo_report.specs.Texts.{report_of};
 
@@ -11,7 +11,7 @@ use crate::report::report_text;
 use crate::running::simulate;
 use crate::stops::{MOST_STOPS, stops_text};
 use amo_plan::{Plan, PlanFault};
-use amo_texts::{PlanText, ReplayFault};
+use amo_render::{PlanText, ReplayFault};
 use std::alloc::{AllocError, Global};
 
 /// Which text of a plan is wanted.

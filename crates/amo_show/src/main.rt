@@ -4,9 +4,9 @@
 //! writes whether it is a run.
 #![tactic(auto)]
 
-use amo_program::serve_words;
-use amo_show_work::Show;
-use amo_streams::Streamed;
+use amo_cli::serve_words;
+use amo_io::Streamed;
+use amo_show_commands::Show;
 use std::process::ExitCode;
 
 fn main(rt: HostRuntime) -> ExitCode {

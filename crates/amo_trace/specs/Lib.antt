@@ -1,15 +1,3 @@
 pub mod Transitions
 pub mod Trace
 pub mod Attempts
-pub mod Elements
-pub mod Wording
-pub mod Marks
-pub mod Rows
-pub mod Frame
-pub mod Feet
-pub mod Scale
-pub mod Pieces
-pub mod Band
-pub mod Jobs
-pub mod Picture
-pub mod Shown

@@ -10,7 +10,7 @@ use Rattle.amo_kk.specs.declared.phase.Phase.TheVariants.{Announcing, Trying, Re
 use Rattle.amo_kk.specs.declared.phase.Want.{Want}
 use Rattle.amo_kk.specs.declared.phase.Want.TheVariants.{StoreNext, LoadNext, LoadDone, StoreClaim, StoreDone, Nothing}
 use Rattle.amo_plan.specs.Plan.{PlanSeen}
-use Rattle.amo_texts.specs.Numbers.{first_line}
+use Rattle.amo_render.specs.Numbers.{first_line}
 use Rattle.amo_trace.specs.declared.transition.Act.{Act}
 use Rattle.amo_trace.specs.declared.transition.Act.TheVariants.{Turned, Leaves, Stops, Stays, Idles}
 use Rattle.amo_trace.specs.declared.transition.Fact.{Fact}

@@ -1,29 +1,14 @@
-//! How the run of a plan is shown, by what each of its moves does: as lines, the trace, or drawn, the picture. The module `laws` has
-//! the theorem over these transitions: when an attempt fails.
+//! What each move of a plan's run does, and the text that prints the moves, the trace. Start with `transitions_of`. The module
+//! `laws` has the theorem over these transitions: when an attempt fails.
 #![tactic(auto)]
 
-mod band;
-mod elements;
-mod feet;
-mod frame;
-mod jobs;
 pub mod laws;
 mod lines;
-mod marks;
-mod picturing;
-mod pieces;
-mod rows;
-mod scale;
-mod scene;
-mod shown;
 mod tracing;
 mod transition;
 mod transitions;
-mod unclaimed;
-mod wording;
 
-pub use picturing::picture_text;
-pub use shown::Shown;
+pub use lines::{push_done, push_equals, push_next, push_transition};
 pub use tracing::trace_text;
-pub use transition::{Act, Fact, Transition};
-pub use transitions::transitions_of;
+pub use transition::{Act, Fact, Transition, job_of, transition_at};
+pub use transitions::{TracedRun, run_of, transitions_of};

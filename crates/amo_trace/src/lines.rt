@@ -11,7 +11,7 @@ use std::alloc::AllocError;
 
 /// Appends the name of a worker's announcement.
 #[tactic(auto, unfolding(crate::specs::Trace::next_word))]
-pub(crate) fn push_next(out: &mut String, worker: u32) -> Result<(), AllocError>
+pub fn push_next(out: &mut String, worker: u32) -> Result<(), AllocError>
     ensures { OnOk result (string_bytes out.new ≡ string_bytes out.old ++ next_word worker) }
 {
     write!(out, "next[{worker}]")
@@ -27,7 +27,7 @@ fn push_claim(out: &mut String, worker: u32) -> Result<(), AllocError>
 
 /// Appends the name of a place in a worker's row.
 #[tactic(auto, unfolding(crate::specs::Trace::done_word))]
-pub(crate) fn push_done(out: &mut String, worker: u32, place: u32) -> Result<(), AllocError>
+pub fn push_done(out: &mut String, worker: u32, place: u32) -> Result<(), AllocError>
     ensures { OnOk result (string_bytes out.new ≡ string_bytes out.old ++ done_word worker place) }
 {
     write!(out, "done[{worker}][{place}]")
@@ -35,7 +35,7 @@ pub(crate) fn push_done(out: &mut String, worker: u32, place: u32) -> Result<(),
 
 /// Appends what a word has.
 #[tactic(auto, unfolding(crate::specs::Trace::equals))]
-pub(crate) fn push_equals(out: &mut String, value: u32) -> Result<(), AllocError>
+pub fn push_equals(out: &mut String, value: u32) -> Result<(), AllocError>
     ensures { OnOk result (string_bytes out.new ≡ string_bytes out.old ++ equals value) }
 {
     write!(out, " = {value}")
@@ -142,7 +142,7 @@ fn push_opening(out: &mut String, world: &World, worker: u32) -> Result<(), Allo
 }
 
 /// Appends such a line for each worker.
-pub(crate) fn push_openings(out: &mut String, world: &World) -> Result<(), AllocError>
+pub fn push_openings(out: &mut String, world: &World) -> Result<(), AllocError>
     ensures { OnOk result (string_bytes out.new ≡ string_bytes out.old ++ opening_lines world.now.world world.now.givens.workers) }
 {
     for before in 0..world.givens().workers {
@@ -153,7 +153,7 @@ pub(crate) fn push_openings(out: &mut String, world: &World) -> Result<(), Alloc
 
 /// Appends the line of a transition, without its end.
 #[tactic(auto, unfolding(crate::specs::Trace::transition_words))]
-pub(crate) fn push_transition(out: &mut String, transition: &Transition) -> Result<(), AllocError>
+pub fn push_transition(out: &mut String, transition: &Transition) -> Result<(), AllocError>
     ensures { OnOk result (string_bytes out.new ≡ string_bytes out.old ++ transition_words transition.now) }
 {
     let number = transition.number;
@@ -166,7 +166,7 @@ pub(crate) fn push_transition(out: &mut String, transition: &Transition) -> Resu
 }
 
 /// Appends a line for each transition.
-pub(crate) fn push_transitions(
+pub fn push_transitions(
     out: &mut String,
     transitions: &[Transition],
 ) -> Result<(), AllocError>

@@ -6,7 +6,7 @@ ghost use Rattle.amo_trace.specs.Trace.{trace_of};
 use crate::lines::{push_openings, push_transitions};
 use crate::transitions::transitions_of;
 use amo_plan::Plan;
-use amo_texts::push_first_line;
+use amo_render::push_first_line;
 use amo_world::World;
 use std::alloc::{AllocError, Global};
 

@@ -54,7 +54,7 @@ pub enum Fact {
 }
 
 /// The job of an attempt, or in a worker's hand; 0 where it has none.
-pub(crate) fn job_of(phase: Phase) -> u32
+pub fn job_of(phase: Phase) -> u32
     ensures { result ≡ job_of phase }
 {
     match phase {
@@ -103,7 +103,7 @@ fn fact_of_act(act: Act) -> Fact
 }
 
 /// The transition at a place.
-pub(crate) fn transition_at(transitions: &[Transition], place: usize) -> Option<Transition>
+pub fn transition_at(transitions: &[Transition], place: usize) -> Option<Transition>
     ensures { result ≡ slice_get transitions.now place }
 {
     match transitions.get(place) {

@@ -117,15 +117,15 @@ fn moves_of(alloc: Global, plan: &Plan) -> Result<Vec<Move>, AllocError>
 
 /// The run of a plan.
 #[derive(Drop)]
-pub(crate) struct TracedRun {
+pub struct TracedRun {
     /// Its transitions.
-    pub(crate) transitions: Vec<Transition>,
+    pub transitions: Vec<Transition>,
     /// The world to which its moves lead.
-    pub(crate) world: World,
+    pub world: World,
 }
 
 /// Makes the moves of a plan, until all workers are gone. The only error is out of memory.
-pub(crate) fn run_of(alloc: Global, plan: &Plan) -> Result<TracedRun, AllocError>
+pub fn run_of(alloc: Global, plan: &Plan) -> Result<TracedRun, AllocError>
     ensures transitions { IfOk result (λ r. r.transitions.items ≡ transitions_of (plan_seen plan.now)) }
     ensures world { IfOk result (λ r. r.world ≡ record { givens = (plan_seen plan.now).givens; world = plan_world (plan_seen plan.now) }) }
 {

@@ -3,7 +3,7 @@
 //! `answer` and `again` are for persons.
 #![tactic(auto)]
 
-use amo_desk::serve;
+use amo_worker_app::serve;
 use std::process::ExitCode;
 
 fn main(rt: HostRuntime) -> ExitCode {

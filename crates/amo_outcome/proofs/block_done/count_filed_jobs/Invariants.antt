@@ -1,5 +1,5 @@
 use Rattle.std.proofs.Common.{◌≡◌, ◌≤◌, ◌*◌, sum_by}
-use Rattle.amo_texts.specs.Results.{jobs_in_block}
+use Rattle.amo_render.specs.Results.{jobs_in_block}
 use Rattle.amo_outcome.specs.Noted.{filed_blocks}
 use Rattle.amo_outcome.proofs.block_done.count_filed_jobs.Given as goal
 

@@ -4,11 +4,11 @@ use Rattle.amo_outcome.specs.declared.block_done.BlockDone.{BlockDone}
 use Rattle.std.specs.Prelude.{Option}
 use Rattle.amo_outcome.specs.Became.{listed}
 use Rattle.amo_outcome.specs.Noted.{noted_fate, filed_blocks}
-use Rattle.amo_texts.specs.Numbers.{first_line}
+use Rattle.amo_render.specs.Numbers.{first_line}
 use Rattle.amo_outcome.specs.OutcomeLines.{end_lines, job_lines}
 use Rattle.amo_outcome.specs.OutcomeTexts.{run_lines}
-use Rattle.amo_texts.specs.Results.{jobs_in_block}
-use Rattle.amo_texts.specs.Tallies.{tally_line, performed_line}
+use Rattle.amo_render.specs.Results.{jobs_in_block}
+use Rattle.amo_render.specs.Tallies.{tally_line, performed_line}
 use Rattle.amo_outcome.proofs.Fates.{four_parts}
 use Rattle.amo_outcome.proofs.outcome.push_run.Goals as goal
 

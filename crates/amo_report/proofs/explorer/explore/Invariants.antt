@@ -1,7 +1,7 @@
 use Rattle.std.proofs.Common.{◌≡◌, map, string_bytes}
 use Rattle.std.specs.List.{flat_map}
 use Rattle.amo_plan.specs.PlanSeen.{plan_seen}
-use Rattle.amo_texts.specs.Least.{numbers_from, least_of}
+use Rattle.amo_render.specs.Least.{numbers_from, least_of}
 use Rattle.amo_report.specs.Explorer.{explored_line, explored_dones}
 use Rattle.amo_report.proofs.explorer.explore.Given as goal
 

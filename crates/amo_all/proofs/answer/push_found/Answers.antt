@@ -1,6 +1,0 @@
-use Rattle.amo_all.specs.Answer.{found_text}
-use Rattle.amo_all.proofs.answer.push_found.Goals as goal
-
-pub returns : goal.returns
-unfolding found_text
-returns c = rw (c.in_ok-worst.ensures, c.in_ok-words.ensures, c.as_slice-turns.ensures.value, c.fewest-least.ensures) at c.writeln.ensures.bytes

@@ -1,6 +1,0 @@
-use Rattle.std.proofs.Common.{◌≡◌, drop}
-use Rattle.amo_desk.specs.Names.{first_refused}
-use Rattle.amo_desk.proofs.names.first_refused.Given as goal
-
-abbrev pub invariant-loop-i : goal.invariant-loop-i
-invariant-loop-i l = first_refused (drop l.i l.found) ≡ first_refused l.found

@@ -1,6 +1,0 @@
-use Rattle.std.proofs.Common.{◌≡◌, drop, Some}
-use Rattle.amo_desk.specs.Names.{fits_rest}
-use Rattle.amo_desk.proofs.names.fits.Given as goal
-
-abbrev pub invariant-loop-i : goal.invariant-loop-i
-invariant-loop-i l = fits_rest (drop l.i l.pattern) (Some l.rest) ≡ fits_rest l.pattern (Some l.fn.name)

@@ -1,6 +1,0 @@
-use Rattle.std.proofs.Common.{◌≡◌, drop}
-use Rattle.amo_desk.specs.Names.{are_hex}
-use Rattle.amo_desk.proofs.names.is_id.Given as goal
-
-abbrev pub invariant-loop-i : goal.invariant-loop-i
-invariant-loop-i l = are_hex (drop l.i l.text) ≡ are_hex l.text

@@ -1,4 +1,0 @@
-pub mod Names
-pub mod Notes
-pub mod Rounds
-pub mod Statuses

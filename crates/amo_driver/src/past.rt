@@ -1,0 +1,120 @@
+//! What former processes of a worker have left: intents in its journal that have no answer.
+ghost use Rattle.std.specs.Prelude.{◌≡◌, ◌+◌, ◌<◌, ◌∷◌, List, Option, IfOk, IfErr, OnOk, OnErr, length, drop};
+ghost use Rattle.amo_driver.specs.declared.model.Deed.{Deed};
+ghost use Rattle.amo_driver.specs.declared.model.Deed.TheVariants.{Noted, Asked as AskedDeed, Fell};
+ghost use Rattle.amo_driver.specs.declared.model.Try.{Try};
+ghost use Rattle.amo_driver.specs.declared.model.Try.TheVariants.{Note, Ask};
+ghost use Rattle.amo_driver.specs.Stage.{Asking};
+ghost use Rattle.amo_driver.specs.Course.{with_deed, stage_asked, Stands, MayTry};
+ghost use Rattle.amo_driver.specs.Stops.{AsksTo, StopsAt};
+ghost use Rattle.amo_driver.specs.Life.{AsksOn, asked_after};
+
+use crate::answer::{Answer, Heard, Reply, Way};
+use crate::outside::Failed;
+use crate::stop::Stop;
+
+/// An intent of a journal: its serial number, and the number of the line that was to be performed.
+#[derive(Clone, Copy, Debug, PartialEq, Eq)]
+pub struct Intent {
+    pub serial: u64,
+    pub line: u64,
+}
+
+/// How the asking for intents has ended.
+#[derive(Clone, Copy, Debug, PartialEq, Eq)]
+pub enum Asked {
+    /// Each was asked for, and what became of it is noted, unless it still runs.
+    All,
+    /// The worker is to leave. What became of the last that was asked for is noted, unless it still runs.
+    Dismissed,
+    /// Nothing came in answer for the intent of this serial number, and nothing will. It stays pending.
+    Cut(u64),
+}
+
+/// A journal, and a partner who may know what became of its intents. After a call has failed no other is made.
+pub trait Past {
+    /// What was done, in its order, where that is known.
+    ghost deeds: { Self → Option (List Deed) };
+    /// What may be tried.
+    ghost may: { Self → Try → Type 0 };
+
+    /// Asks the partner what became of an intent, and waits for what comes in answer.
+    fn was(&mut self, serial: u64, line: u64) -> Result<Reply, Failed>
+        requires { may self.old (Ask serial line) }
+        ensures done { IfOk result (λ reply. deeds self.new ≡ with_deed (deeds self.old) (AskedDeed serial line reply)) }
+        ensures fails { OnErr result (deeds self.new ≡ with_deed (deeds self.old) (Fell (Ask serial line))) };
+
+    /// Puts into the journal what became of an intent, so that every crash from now on leaves it there.
+    fn note(&mut self, serial: u64, answer: Answer) -> Result<(), Failed>
+        requires { may self.old (Note serial answer) }
+        ensures done { OnOk result (deeds self.new ≡ with_deed (deeds self.old) (Noted serial answer)) }
+        ensures fails { OnErr result (deeds self.new ≡ with_deed (deeds self.old) (Fell (Note serial answer))) };
+}
+
+/// Asks for each of these intents, in their order, and notes what became of it before the next is asked for. Of one that still
+/// runs nothing is noted. After an answer that tells the worker to leave it is noted, and no other is asked for. After
+/// anything has failed, and after something else than the answer that was awaited, nothing is asked for or noted.
+pub fn ask_pending<P: Past>(pending: &[Intent], past: &mut P) -> Result<Asked, Stop>
+    requires begins { Stands (Asking pending.now) (P.deeds past.old) (Asking pending.now) }
+    requires served { (o : _) (t : Try) → MayTry (Asking pending.now) (P.deeds o) t → P.may o t }
+    ensures ends { IfOk result (λ asked. AsksTo (Asking pending.now) (P.deeds past.new) asked) }
+    ensures stops { IfErr result (λ e. StopsAt (Asking pending.now) (P.deeds past.new) e) }
+{
+    for k in 0..pending.len() {
+        if let Some(asked) = ask(pending, k, past)? {
+            return Ok(asked);
+        }
+    }
+    Ok(Asked::All)
+}
+
+/// Asks for the intent at place k.
+fn ask<P: Past>(pending: &[Intent], k: usize, past: &mut P) -> Result<Option<Asked>, Stop>
+    requires within { k < length pending.now }
+    requires stands { Stands (Asking pending.now) (P.deeds past.old) (Asking (drop k pending.now)) }
+    requires served { (o : _) (t : Try) → MayTry (Asking pending.now) (P.deeds o) t → P.may o t }
+    ensures turns { IfOk result (λ asked. AsksOn (Asking pending.now) (P.deeds past.new) (drop (k + 1) pending.now) asked) }
+    ensures stops { IfErr result (λ e. StopsAt (Asking pending.now) (P.deeds past.new) e) }
+{
+    let intent = pending[k];
+    let Ok(reply) = past.was(intent.serial, intent.line) else {
+        return Err(Stop::Failed);
+    };
+    hear(pending, k, intent, reply, past)
+}
+
+/// Hears what came in answer for this intent, the one at place k.
+fn hear<P: Past>(
+    pending: &[Intent],
+    k: usize,
+    intent: Intent,
+    reply: Reply,
+    past: &mut P,
+) -> Result<Option<Asked>, Stop>
+    requires asked { Stands (Asking pending.now) (P.deeds past.old) (stage_asked (intent ∷ drop (k + 1) pending.now) reply) }
+    requires served { (o : _) (t : Try) → MayTry (Asking pending.now) (P.deeds o) t → P.may o t }
+    ensures turns { IfOk result (λ asked. AsksOn (Asking pending.now) (P.deeds past.new) (drop (k + 1) pending.now) asked) }
+    ensures stops { IfErr result (λ e. StopsAt (Asking pending.now) (P.deeds past.new) e) }
+{
+    let heard = reply.heard_of(intent.serial)?;
+    match heard {
+        Heard::Ended(answer, way) => {
+            let Ok(()) = past.note(intent.serial, answer) else {
+                return Err(Stop::Failed);
+            };
+            Ok(asked_after(way))
+        }
+        Heard::Runs(way) => Ok(asked_after(way)),
+        Heard::Silence => Ok(Some(Asked::Cut(intent.serial))),
+    }
+}
+
+/// Whether the asking ends with an answer that says this.
+fn asked_after(way: Way) -> Option<Asked>
+    ensures { result ≡ asked_after way }
+{
+    match way {
+        Way::Go => None,
+        Way::Leave => Some(Asked::Dismissed),
+    }
+}

@@ -1,0 +1,35 @@
+//! The work of a process, from its beginning on.
+ghost use Rattle.std.specs.Prelude.{IfOk, IfErr};
+ghost use Rattle.amo_givens.specs.Givens.{IsWorker};
+ghost use Rattle.amo_driver.specs.declared.model.Try.{Try};
+ghost use Rattle.amo_driver.specs.Course.{first_stage, Stands, MayTry};
+ghost use Rattle.amo_driver.specs.Stops.{EndsAt, StopsAt};
+
+use crate::life::Life;
+use crate::outside::Outside;
+use crate::stop::{LifeEnd, Stop};
+use amo_givens::Givens;
+use std::alloc::Global;
+
+/// The whole work of a process that begins as worker p, in whose journal the next intent has this serial number: its own words,
+/// and then what they lead to, to its end. Each call outside is the one that is due by what the calls before it have given; a
+/// job is performed only where the process is told to, once, right after its claim was stored and its intent put, and is filed
+/// after the answer was noted. After anything has failed, and after a number that can't be, no call is made.
+pub fn work<O: Outside>(
+    alloc: Global,
+    givens: Givens,
+    p: u32,
+    serial: u64,
+    outside: &mut O,
+) -> Result<LifeEnd, Stop>
+    requires worker { IsWorker givens p }
+    requires begins { Stands (first_stage givens p serial) (O.deeds outside.old) (first_stage givens p serial) }
+    requires served { (o : _) (t : Try) → MayTry (first_stage givens p serial) (O.deeds o) t → O.may o t }
+    ensures ends { IfOk result (λ end. EndsAt (first_stage givens p serial) (O.deeds outside.new) end) }
+    ensures stops { IfErr result (λ e. StopsAt (first_stage givens p serial) (O.deeds outside.new) e) }
+{
+    let Ok(mut life) = Life::new(alloc, givens, p, serial) else {
+        return Err(Stop::NoMemory);
+    };
+    life.go_on(outside)
+}

@@ -1,0 +1,5 @@
+use Rattle.amo_driver_safety.proofs.Once.{handed_once}
+use Rattle.amo_driver_safety.proofs.laws.jobs_are_performed_once.Goals as goal
+
+pub returns : goal.returns
+returns c = handed_once

@@ -1,0 +1,5 @@
+use Rattle.amo_driver_safety.proofs.Farewell.{takes_leave}
+use Rattle.amo_driver_safety.proofs.laws.who_is_told_to_leave_leaves.Goals as goal
+
+pub returns : goal.returns
+returns c = takes_leave

@@ -1,0 +1,97 @@
+-- What a course hands to the partner, what comes before that, and what after it.
+use Rattle.std.specs.Prelude.{◌≡◌, ⊤, ℕ, Bool, true, false, List, [], ◌∷◌, ◌++◌, Some}
+use Rattle.std.specs.List.{flat_map}
+use Rattle.amo_kk.specs.Machine.{LocalView}
+use Rattle.amo_kk.specs.Step.{want}
+use Rattle.amo_kk.specs.Words.{next_word, claim_word, done_word}
+use Rattle.amo_givens.specs.declared.givens.Givens.{Givens}
+use Rattle.amo_kk.specs.declared.phase.Want.TheVariants.{StoreClaim, StoreDone}
+use Rattle.amo_process.specs.Heard.{told_by}
+use Rattle.amo_process.specs.Stepped.{ProcessView, process_after}
+use Rattle.amo_process.specs.declared.standing.Standing.TheVariants.{Going as GoingOn}
+use Rattle.amo_driver.specs.declared.answer.Answer.{Answer}
+use Rattle.amo_driver.specs.declared.answer.Reply.{Reply}
+use Rattle.amo_driver.specs.declared.answer.Reply.TheVariants.{Answered, Running, Garbled, Closed}
+use Rattle.amo_driver.specs.declared.answer.Way.{Way}
+use Rattle.amo_driver.specs.declared.answer.Way.TheVariants.{Go, Leave}
+use Rattle.amo_driver.specs.declared.model.Deed.{Deed}
+use Rattle.amo_driver.specs.declared.model.Deed.TheVariants.{Stored, Intended, Performed}
+use Rattle.amo_driver.specs.declared.model.Try.{Try}
+use Rattle.amo_driver.specs.declared.model.Try.TheVariants.{Store, Note}
+use Rattle.amo_driver.specs.Stage.{Stage, Going, Performing}
+use Rattle.amo_driver.specs.Course.{try_of, stage_after_all}
+use Rattle.amo_driver_safety.specs.Scene.{handed_by_try}
+
+-- the jobs that these deeds have handed to the partner, whether it has answered or the call has failed, in their order
+abbrev pub handed_by_deeds : List Deed → List ℕ
+handed_by_deeds ds = flat_map (λ (d : Deed). handed_by_try (try_of d)) ds
+
+-- The last of these deeds is the store of worker p's count of claims by which it claims job j: before it the machine wanted
+-- just that store. The process that has stored it is told to perform j; its next intent is intent n.
+pub record HasJustClaimed (g : Givens) (p : ℕ) (first : Stage) (deeds : List Deed) (n j : ℕ) (process : ProcessView) : Type 0 where
+  pub earlier : List Deed
+  pub count : ℕ
+  pub is : deeds ≡ earlier ++ Stored (claim_word g p) count ∷ []
+  -- where the process stood before that store, and what its machine wanted
+  pub before : ProcessView
+  pub way : Way
+  pub stood : stage_after_all first earlier ≡ Going n before way
+  pub machine : LocalView
+  pub fresh : Bool
+  pub standing : before.standing ≡ Some (GoingOn machine fresh)
+  pub wanted : want machine.state ≡ StoreClaim count j
+  -- the process after it, and the job that it is told to perform
+  pub after : process ≡ process_after before 0
+  pub job : told_by process.standing ≡ j
+
+-- The last of these deeds is intent n of job j, put into the journal, and the one right before it is the store by which
+-- worker p claims j. With them the process stands where the performance of j is due.
+pub record HasJustIntended (g : Givens) (p : ℕ) (first : Stage) (deeds : List Deed) (n j : ℕ) : Type 0 where
+  pub earlier : List Deed
+  pub process : ProcessView
+  pub is : deeds ≡ earlier ++ Intended n j ∷ []
+  pub claimed : HasJustClaimed g p first earlier n j process
+  pub stands : stage_after_all first deeds ≡ Performing n process j
+
+-- The last of these deeds is the performance of a job by intent n, and this was answered to it.
+pub record HasJustAnswered (deeds : List Deed) (n : ℕ) (answer : Answer) : Type 0 where
+  pub earlier : List Deed
+  pub job : ℕ
+  pub way : Way
+  pub is : deeds ≡ earlier ++ Performed n job (Answered n answer way) ∷ []
+
+-- whether this tells the worker to leave
+abbrev pub tells_to_leave : Reply → Bool
+tells_to_leave (Answered n answer Go) = false
+tells_to_leave (Answered n answer Leave) = true
+tells_to_leave (Running n Go) = false
+tells_to_leave (Running n Leave) = true
+tells_to_leave Garbled = false
+tells_to_leave Closed = false
+
+-- the note of what came in answer to intent n, as a list of one try or none: while its job runs nothing is noted
+abbrev pub note_of : ℕ → Reply → List Try
+note_of n (Answered m answer way) = Note n answer ∷ []
+note_of n (Running m way) = []
+note_of n Garbled = []
+note_of n Closed = []
+
+-- These deeds try what stands in the list, from its first on and in its order; they needn't come to its end.
+abbrev pub AreInTurn : List Try → List Deed → Type 0
+AreInTurn ts [] = ⊤
+AreInTurn [] (d ∷ ds) = ⊥
+AreInTurn (t ∷ ts) (d ∷ ds) = (try_of d ≡ t) × AreInTurn ts ds
+
+-- After the deeds of `before` worker p has handed job j to its partner by intent n, and this came in answer. In those of `after`
+-- it notes the answer, then files the job, where the machine that has it in its hand wants that, and then takes its
+-- announcement back: in this order, as far as it comes, and nothing else.
+pub record TakesLeave (g : Givens) (p : ℕ) (first : Stage) (before : List Deed) (n j : ℕ) (reply : Reply) (after : List Deed) : Type 0 where
+  -- where the process stood that has handed it over, and what its machine wanted
+  pub process : ProcessView
+  pub stood : stage_after_all first before ≡ Performing n process j
+  pub machine : LocalView
+  pub standing : process.standing ≡ Some (GoingOn machine false)
+  pub place : ℕ
+  pub wanted : want machine.state ≡ StoreDone place j
+  -- what follows
+  pub farewell : AreInTurn (note_of n reply ++ Store (done_word g p place) j ∷ Store (next_word p) 0 ∷ []) after

@@ -1,0 +1,4 @@
+mod Kept
+pub mod First
+pub mod Lines
+pub mod Refused

@@ -1,0 +1,24 @@
+//! Files, locks, atomic replacement, and which file systems keep what is synced. Start with `replace_file`
+//! and `FileDevice`; `mount_of_id` finds the mount of an open handle. What a file holds, and what a crash leaves of it, no
+//! contract can state. Therefore each call on files is a few lines, does one thing, and is tested by failing each system call.
+#![tactic(auto)]
+
+mod device;
+mod files;
+mod handle;
+mod local;
+mod locks;
+mod mount;
+mod option;
+mod parts;
+
+pub use device::FileDevice;
+pub use files::{
+    create_private, is_mine, make_file, make_folder, make_if_missing, names_in, open_private,
+    read_file, replace_file, sync_folder,
+};
+pub use handle::mnt_id_in;
+pub use local::is_local;
+pub use locks::{is_at, try_exclusive, try_shared};
+pub use mount::{Mount, mount_of_id};
+pub use option::{refused_default, refused_option};

@@ -1,7 +1,0 @@
-use Rattle.amo_course.specs.Course.{first_stage}
-use Rattle.std.proofs.Common.{refl, []}
-use Rattle.amo_history.proofs.Handed.{each_once}
-use Rattle.amo_history.proofs.laws.courses_perform_once.Goals as goal
-
-pub returns : goal.returns
-returns c = λ g p s deeds o h. each_once g p o [] (first_stage g p s) deeds refl h

@@ -1,5 +1,0 @@
-use Rattle.amo_history.proofs.Once.{handed_once}
-use Rattle.amo_history.proofs.laws.jobs_are_performed_once.Goals as goal
-
-pub returns : goal.returns
-returns c = handed_once

@@ -1,5 +1,0 @@
-use Rattle.amo_history.proofs.Courses.{just_answered}
-use Rattle.amo_history.proofs.laws.notes_say_what_was_answered.Goals as goal
-
-pub returns : goal.returns
-returns c = λ g p s n a before after d is h. just_answered g p s before after d n a is h

@@ -1,5 +1,0 @@
-use Rattle.amo_history.proofs.Courses.{just_intended}
-use Rattle.amo_history.proofs.laws.performances_follow_intents.Goals as goal
-
-pub returns : goal.returns
-returns c = λ g p s n j before after d is h. just_intended g p s before after d n j is h

@@ -1,5 +1,0 @@
-use Rattle.amo_history.proofs.Logs.{stands_by_log}
-use Rattle.amo_history.proofs.laws.stages_are_courses.Goals as goal
-
-pub returns : goal.returns
-returns c = λ g ms p h o. stands_by_log g p o ms h

@@ -1,5 +1,0 @@
-use Rattle.amo_history.proofs.Farewell.{takes_leave}
-use Rattle.amo_history.proofs.laws.who_is_told_to_leave_leaves.Goals as goal
-
-pub returns : goal.returns
-returns c = takes_leave

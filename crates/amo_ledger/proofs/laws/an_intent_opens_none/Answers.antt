@@ -1,5 +1,0 @@
-use Rattle.amo_ledger.proofs.ClosingWins.{law_intent}
-use Rattle.amo_ledger.proofs.laws.an_intent_opens_none.Goals as goal
-
-pub returns : goal.returns
-returns c count findings before after attempts next line entry opens is h = law_intent count findings line before after attempts next entry opens is h

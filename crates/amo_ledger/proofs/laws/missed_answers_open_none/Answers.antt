@@ -1,5 +1,0 @@
-use Rattle.amo_ledger.proofs.ClosingWins.{law_missed}
-use Rattle.amo_ledger.proofs.laws.missed_answers_open_none.Goals as goal
-
-pub returns : goal.returns
-returns c count findings before after attempts next line answers all is h = law_missed count findings line before after attempts next answers all is h

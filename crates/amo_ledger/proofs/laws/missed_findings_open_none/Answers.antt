@@ -1,5 +1,0 @@
-use Rattle.amo_ledger.proofs.FindingLaws.{law_findings}
-use Rattle.amo_ledger.proofs.laws.missed_findings_open_none.Goals as goal
-
-pub returns : goal.returns
-returns c findings more journals line h = law_findings findings more line journals h

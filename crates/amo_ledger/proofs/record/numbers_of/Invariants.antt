@@ -1,8 +1,0 @@
-use Rattle.std.proofs.Common.{◌≡◌, ◌++◌, drop, map}
-use Rattle.std.specs.Prelude.{option_map}
-use Rattle.amo_decimal.specs.Numbers.{number_in}
-use Rattle.amo_ledger.specs.Numbers.{read_all}
-use Rattle.amo_ledger.proofs.record.numbers_of.Given as goal
-
-abbrev pub invariant-loop-text : goal.invariant-loop-text
-invariant-loop-text l = option_map (λ more. l.numbers.items ++ more) (read_all number_in (map (λ text. text.items) (drop l.text-index l.texts))) ≡ read_all number_in (map (λ text. text.items) l.texts)

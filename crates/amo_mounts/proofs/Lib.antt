@@ -1,3 +1,0 @@
-pub mod First
-pub mod Lines
-pub mod Refused

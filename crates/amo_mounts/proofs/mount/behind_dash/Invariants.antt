@@ -1,6 +1,0 @@
-use Rattle.std.proofs.Common.{◌≡◌, map, drop}
-use Rattle.amo_mounts.specs.Mounts.{behind_dash}
-use Rattle.amo_mounts.proofs.mount.behind_dash.Given as goal
-
-abbrev pub invariant-loop-i : goal.invariant-loop-i
-invariant-loop-i l = behind_dash (map (λ field. field.now) (drop l.i l.fields)) ≡ behind_dash (map (λ field. field.now) l.fields)

@@ -1,6 +1,0 @@
-use Rattle.std.proofs.Common.{◌≡◌, map, drop}
-use Rattle.amo_mounts.specs.Mounts.{first_mount}
-use Rattle.amo_mounts.proofs.mount.first_mount.Given as goal
-
-abbrev pub invariant-loop-line : goal.invariant-loop-line
-invariant-loop-line l = first_mount l.id (map (λ line. line.now) (drop l.line-index l.lines)) ≡ first_mount l.id (map (λ line. line.now) l.lines)

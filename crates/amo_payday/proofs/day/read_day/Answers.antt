@@ -1,8 +1,0 @@
-use Rattle.std.proofs.Common.{rules}
-use Rattle.std.proofs.lemmas.Option.{IfSome_then}
-use Rattle.amo_payday.specs.Days.{IsDayOf}
-use Rattle.amo_payday.proofs.day.read_day.Goals as goal
-
-pub returns-then-not-is_fit-clause-crew : goal.returns-then-not-is_fit-clause-crew
-returns-then-not-is_fit-clause-crew g c _ =
-    IfSome_then (g.B.Read.remaining c.args.input.now) {P = λ text. IsDayOf text c.in_ok-day.day} (search rules) (λ text is. (c.in_ok-day.day, is, search rules))

@@ -1,4 +1,0 @@
-use Rattle.amo_payday.proofs.rounds.settle_again.Goals as goal
-
-pub returns-in-Ok-clause-outcome : goal.returns-in-Ok-clause-outcome
-returns-in-Ok-clause-outcome g c = λ gg payloads budgets is. c.settled_later.ensures gg payloads budgets c.args.rest c.in-Ok.outcome is c.in-Ok.ensures.settled

@@ -1,6 +1,0 @@
-use Rattle.std.proofs.Common.{rules}
-use Rattle.amo_payday.proofs.Sorts.{sorted}
-use Rattle.amo_payday.proofs.sorting.sort_out.Goals as goal
-
-pub returns-clause-sorted : goal.returns-clause-sorted
-returns-clause-sorted c givens payloads budgets is named = sorted givens payloads _ budgets _ _ is named (search rules) (search rules) (search rules)

@@ -1,5 +1,0 @@
-use Rattle.amo_payday.proofs.Fronts.{wrote}
-use Rattle.amo_payday.proofs.telling.tell_each.Goals as goal
-
-pub returns-clause-memory : goal.returns-clause-memory
-returns-clause-memory g c = wrote _ _ c.write_out.result c.write_out.ensures.fault

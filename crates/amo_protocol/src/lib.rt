@@ -1,0 +1,17 @@
+//! The wire format between a worker and its runner, one line a message, and the driver's world over such lines alone. Start
+//! with `perform_text` and `reply_in`; `Lines` is for a runner that keeps registers and journal too. The theorems stand in
+//! `laws`: a message is one line, and different messages are different lines.
+#![tactic(auto)]
+
+pub mod laws;
+mod remote;
+mod remote_texts;
+mod replies;
+mod requests;
+mod wire;
+
+pub use remote::Lines;
+pub use remote_texts::text_of;
+pub use replies::reply_in;
+pub use requests::{perform_text, was_text};
+pub use wire::{Wire, whole_line};

@@ -1,0 +1,99 @@
+//! What a worker hears from its partner.
+ghost use Rattle.std.specs.Prelude.{◌≡◌, ◌≢◌, Some, IfSome};
+ghost use Rattle.amo_driver.specs.declared.answer.Reply.{Reply as ReplyView};
+ghost use Rattle.amo_protocol.specs.Replies.{text_of, Fits, way_in, number_and_way_in, code_and_way_in, reply_of_word, said_in, reply_in};
+
+use amo_decimal::number;
+use amo_driver::{Answer, Reply, Way};
+use amo_run_log::code_of;
+use std::str;
+
+/// What a line says in answer; it is given without its end. What is no answer is garbled.
+pub fn reply_in(said: &[u8]) -> Reply
+    ensures exact { result ≡ reply_in said.now }
+    // What is heard was said so.
+    ensures heard { IfSome (text_of result) (λ text. text ≡ said.now) }
+    // What was said is heard.
+    ensures was_said { (reply : ReplyView) → Fits reply → text_of reply ≡ Some said.now → result ≡ reply }
+    // No line says that there is nobody any more.
+    ensures somebody { result ≢ Reply.Closed }
+{
+    reply_of_bytes(said)
+}
+
+/// What the bytes say. What is no text is no answer.
+#[tactic(auto, using(crate::proofs::ReplyTexts::no_text))]
+fn reply_of_bytes(said: &[u8]) -> Reply
+    ensures { result ≡ reply_in said.now }
+{
+    match str::from_utf8(said) {
+        Ok(text) => reply_of(text).unwrap_or(Reply::Garbled),
+        Err(_) => Reply::Garbled,
+    }
+}
+
+fn reply_of(text: &str) -> Option<Reply>
+    ensures { result ≡ said_in text.now }
+{
+    let (word, rest) = text.split_once(' ')?;
+    reply_of_word(word, rest)
+}
+
+fn reply_of_word(word: &str, rest: &str) -> Option<Reply>
+    ensures { result ≡ reply_of_word word.now rest.now }
+{
+    match word {
+        "done" => {
+            let (serial, code, way) = code_and_way(rest)?;
+            Some(Reply::Answered(serial, Answer::Done(code), way))
+        }
+        "doubt" => {
+            let (serial, way) = number_and_way(rest)?;
+            Some(Reply::Answered(serial, Answer::Doubt, way))
+        }
+        "unbegun" => {
+            let (serial, way) = number_and_way(rest)?;
+            Some(Reply::Answered(serial, Answer::Unbegun, way))
+        }
+        "untouched" => {
+            let (serial, code, way) = code_and_way(rest)?;
+            Some(Reply::Answered(serial, Answer::Untouched(code), way))
+        }
+        "running" => {
+            let (serial, way) = number_and_way(rest)?;
+            Some(Reply::Running(serial, way))
+        }
+        _ => None,
+    }
+}
+
+/// The number, the code and the way that the text says.
+fn code_and_way(text: &str) -> Option<(u64, u8, Way)>
+    ensures { result ≡ code_and_way_in text.now }
+{
+    let (serial, rest) = text.split_once(' ')?;
+    let serial = number(serial)?;
+    let (code, way) = number_and_way(rest)?;
+    let code = code_of(code)?;
+    Some((serial, code, way))
+}
+
+/// The number and the way that the text says.
+fn number_and_way(text: &str) -> Option<(u64, Way)>
+    ensures { result ≡ number_and_way_in text.now }
+{
+    let (serial, way) = text.split_once(' ')?;
+    let serial = number(serial)?;
+    let way = way_of(way)?;
+    Some((serial, way))
+}
+
+fn way_of(word: &str) -> Option<Way>
+    ensures { result ≡ way_in word.now }
+{
+    match word {
+        "go" => Some(Way::Go),
+        "leave" => Some(Way::Leave),
+        _ => None,
+    }
+}

@@ -1,0 +1,42 @@
+//! What a worker says to its partner.
+ghost use Rattle.std.specs.Prelude.{◌≡◌, IfOk};
+ghost use Rattle.amo_protocol.specs.Sayings.{job_line, perform_text, was_text};
+
+use std::alloc::{AllocError, Global};
+
+/// The line that tells the partner to perform a job, its end with it. The serial number is that of the intent, the number that
+/// of its line in the jobs' file, and the text that line, without its end.
+pub fn perform_text(
+    alloc: Global,
+    serial: u64,
+    line: u64,
+    text: &[u8],
+) -> Result<Vec<u8>, AllocError>
+    ensures { IfOk result (λ said. said.items ≡ perform_text serial line text.now) }
+{
+    job_line(alloc, "perform", serial, line, text)
+}
+
+/// The line that asks the partner what became of a job which a former process of the worker has begun, its end with it.
+pub fn was_text(alloc: Global, serial: u64, line: u64, text: &[u8]) -> Result<Vec<u8>, AllocError>
+    ensures { IfOk result (λ said. said.items ≡ was_text serial line text.now) }
+{
+    job_line(alloc, "was", serial, line, text)
+}
+
+/// A line that begins with this word.
+fn job_line(
+    alloc: Global,
+    word: &str,
+    serial: u64,
+    line: u64,
+    text: &[u8],
+) -> Result<Vec<u8>, AllocError>
+    ensures { IfOk result (λ said. said.items ≡ job_line word.now serial line text.now) }
+{
+    let head = format!(in alloc; "{word} {serial} {line} ")?;
+    let mut said = head.into_bytes();
+    said.extend_from_slice(text)?;
+    said.push(b'\n')?;
+    Ok(said)
+}

@@ -1,9 +1,0 @@
-pub mod Counts
-pub mod Cuts
-pub mod Differences
-pub mod Ends
-pub mod HeadLaws
-pub mod Heads
-pub mod KeptJobs
-pub mod KnownLines
-pub mod Refusals

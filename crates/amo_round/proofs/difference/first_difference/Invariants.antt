@@ -1,6 +1,0 @@
-use Rattle.std.proofs.Common.{◌≡◌, ◌+◌, take}
-use Rattle.amo_round.proofs.Differences.{line_feeds}
-use Rattle.amo_round.proofs.difference.first_difference.Given as goal
-
-abbrev pub invariant-loop-i : goal.invariant-loop-i
-invariant-loop-i l = (take l.i l.known ≡ take l.i l.file) × (l.line ≡ line_feeds (take l.i l.known) + 1)

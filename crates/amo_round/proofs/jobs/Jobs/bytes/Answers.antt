@@ -1,7 +1,0 @@
-use Rattle.std.proofs.Common.{ap, ◌∙◌}
-use Rattle.amo_ledger.specs.Records.{ended}
-use Rattle.amo_round.proofs.KeptJobs.{bytes_are}
-use Rattle.amo_round.proofs.jobs.Jobs.bytes.Goals as goal
-
-pub returns : goal.returns
-returns c = c.deref.ensures.value ∙ bytes_are c.self.inside.bytes.items c.self.invariant.whole ∙ ap ended c.self.view_is

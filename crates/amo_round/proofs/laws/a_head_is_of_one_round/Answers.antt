@@ -1,5 +1,0 @@
-use Rattle.amo_round.proofs.HeadLaws.{one_round}
-use Rattle.amo_round.proofs.laws.a_head_is_of_one_round.Goals as goal
-
-pub returns : goal.returns
-returns c one other head is_one is_other h k = one_round one other head is_one is_other h k

@@ -1,6 +1,0 @@
-use Rattle.std.proofs.Common.{ℕ, ◌+◌, ◌*◌, ap, ◌∙◌}
-use Rattle.amo_round.proofs.Counts.{many}
-use Rattle.amo_round.proofs.laws.words_fill_their_file.Goals as goal
-
-pub returns-clause-many : goal.returns-clause-many
-returns-clause-many c givens workers are each = many givens.jobs workers each ∙ ap (λ (m : ℕ). m * (givens.jobs + 3) + 1) are

@@ -1,5 +1,0 @@
-use Rattle.amo_rounds.proofs.Exact.{handed_or_opened}
-use Rattle.amo_rounds.proofs.laws.a_line_is_handed_over_once_more_than_opened.Goals as goal
-
-pub returns : goal.returns
-returns c = handed_or_opened

@@ -1,5 +1,0 @@
-use Rattle.amo_rounds.proofs.Commanded.{actions, are_actions, is_truthful, begun_names, performed_names}
-use Rattle.amo_rounds.proofs.laws.commands_there_are.Goals as goal
-
-pub returns : goal.returns
-returns c = (actions, are_actions, is_truthful, begun_names, performed_names)

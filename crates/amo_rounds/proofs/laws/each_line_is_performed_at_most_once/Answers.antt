@@ -1,5 +1,0 @@
-use Rattle.amo_rounds.proofs.Once.{performed_once}
-use Rattle.amo_rounds.proofs.laws.each_line_is_performed_at_most_once.Goals as goal
-
-pub returns : goal.returns
-returns c = performed_once

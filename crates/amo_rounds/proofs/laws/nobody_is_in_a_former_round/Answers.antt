@@ -1,5 +1,0 @@
-use Rattle.amo_rounds.proofs.Once.{in_last}
-use Rattle.amo_rounds.proofs.laws.nobody_is_in_a_former_round.Goals as goal
-
-pub returns : goal.returns
-returns c = λ es p k q run at. in_last es run p k q at

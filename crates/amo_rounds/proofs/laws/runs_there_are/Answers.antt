@@ -1,5 +1,0 @@
-use Rattle.amo_rounds.proofs.Example.{events, truly, is_run, names, lines, unperformed}
-use Rattle.amo_rounds.proofs.laws.runs_there_are.Goals as goal
-
-pub returns : goal.returns
-returns c = (truly, events, is_run, unperformed, names, lines)

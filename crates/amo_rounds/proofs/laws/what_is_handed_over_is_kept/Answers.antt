@@ -1,5 +1,0 @@
-use Rattle.amo_rounds.proofs.Once.{kept_for_ever}
-use Rattle.amo_rounds.proofs.laws.what_is_handed_over_is_kept.Goals as goal
-
-pub returns : goal.returns
-returns c = kept_for_ever

@@ -1,0 +1,150 @@
+//! What is looked at before anything is made or written in a run's folder.
+use crate::creation::{make_beside, make_within};
+use crate::disk::check_file_system;
+use crate::error::{Door, Fault, had, written};
+use crate::files::bytes_of;
+use crate::identity::{Age, check_id, check_kept, check_whole, has_id};
+use crate::layout::Item;
+use crate::new_round::grown;
+use crate::settings::{Jobs, Setting};
+use crate::state::known;
+use amo_fs::{is_mine, make_folder, sync_folder};
+use std::fs;
+use std::io::ErrorKind;
+use std::rt::HostRuntime;
+
+/// Checks that workers may begin in this folder. Makes it if it is missing, once it is known that
+/// the jobs' file can be that of a run; with `into` under its own name. The folder above is synced,
+/// made or found: whoever made this one may have been killed before that.
+///
+/// # Errors
+/// Those by which a folder is refused, and `Write` for what can't be made.
+pub fn open(
+    rt: HostRuntime,
+    setting: &Setting<'_>,
+    jobs: &Jobs<'_>,
+    into: bool,
+) -> Result<(), Fault> {
+    if !is_there(rt, setting)? {
+        make(rt, setting, jobs, into)?;
+    } else if into && has_id(rt, setting)? {
+        return Err(Fault::HasId);
+    }
+    look_at(rt, setting)?;
+    if !has_id(rt, setting)? {
+        if setting.id.is_some() {
+            return Err(Fault::NoId);
+        }
+        make_within(rt, setting, jobs)?;
+    }
+    enter(rt, setting)?;
+    check_jobs(rt, setting, jobs)
+}
+
+/// Makes the folder, which isn't there: whole, or with `into` without its files.
+fn make(rt: HostRuntime, setting: &Setting<'_>, jobs: &Jobs<'_>, into: bool) -> Result<(), Fault> {
+    if setting.id.is_some() {
+        return Err(Fault::NoRun);
+    }
+    check_file_system(rt, setting, parent_of(setting.run))?;
+    check_jobs(rt, setting, jobs)?;
+    if !into {
+        return make_beside(rt, setting);
+    }
+    match make_folder(&rt, setting.run) {
+        Err(error) if error.kind() == ErrorKind::AlreadyExists => Ok(()),
+        made => written(Item::Run, made),
+    }
+}
+
+/// Checks that a worker may begin in this folder, and makes nothing. The folder above is synced.
+///
+/// # Errors
+/// Those by which a folder is refused.
+pub fn enter(rt: HostRuntime, setting: &Setting<'_>) -> Result<(), Fault> {
+    look_at(rt, setting)?;
+    check_kept(rt, setting)?;
+    check_whole(rt, setting)?;
+    written(Item::Run, sync_folder(&rt, parent_of(setting.run)))
+}
+
+/// Checks that the folder is a run's, so that answers may be written there.
+///
+/// # Errors
+/// Those by which a folder is refused.
+pub fn look_to_write(rt: HostRuntime, setting: &Setting<'_>) -> Result<(), Fault> {
+    look_at(rt, setting)?;
+    check_id(rt, setting)?;
+    check_whole(rt, setting)
+}
+
+/// Checks that the folder can be read as a run's, and returns how it was made.
+///
+/// # Errors
+/// Those by which a folder is refused.
+pub fn look_to_read(rt: HostRuntime, setting: &Setting<'_>) -> Result<Age, Fault> {
+    look_at(rt, setting)?;
+    if has_id(rt, setting)? {
+        check_whole(rt, setting)?;
+        return Ok(Age::Now);
+    }
+    match setting.id {
+        Some(_) => Err(Fault::NoId),
+        None => Ok(Age::Old),
+    }
+}
+
+/// Whether the folder that is there is a run's, and one's own.
+fn look_at(rt: HostRuntime, setting: &Setting<'_>) -> Result<(), Fault> {
+    let found = had(Item::Run, fs::symlink_metadata(&rt, setting.run))?;
+    if !found.is_dir() {
+        return Err(Fault::Door(Door::NoFolder));
+    }
+    if !had(Item::Run, is_mine(&rt, setting.run))? {
+        return Err(Fault::Door(Door::Foreign));
+    }
+    check_file_system(rt, setting, setting.run)?;
+    check_version(rt, setting)
+}
+
+/// Whether the jobs' file can be that of this run.
+pub fn check_jobs(
+    rt: HostRuntime,
+    setting: &Setting<'_>,
+    jobs: &Jobs<'_>,
+) -> Result<(), Fault> {
+    let list = had(Item::List, fs::read(&rt, jobs.list))?;
+    let begun = bytes_of(rt, setting, Item::Record)?.is_some();
+    let known = known(rt, setting)?;
+    grown(rt.alloc(), &known, &list, begun)?;
+    Ok(())
+}
+
+/// Whether something has the folder's name, a link that leads nowhere too.
+pub fn is_there(rt: HostRuntime, setting: &Setting<'_>) -> Result<bool, Fault> {
+    match fs::symlink_metadata(&rt, setting.run) {
+        Ok(_) => Ok(true),
+        Err(error) if error.kind() == ErrorKind::NotFound => Ok(false),
+        Err(error) => Err(Fault::Read(Item::Run, error)),
+    }
+}
+
+/// A record that another version has written is not touched.
+fn check_version(rt: HostRuntime, setting: &Setting<'_>) -> Result<(), Fault> {
+    let Some(bytes) = bytes_of(rt, setting, Item::Record)? else {
+        return Ok(());
+    };
+    if bytes.starts_with(b"amo-run ") && !bytes.starts_with(b"amo-run 1\n") {
+        return Err(Fault::Door(Door::Version));
+    }
+    Ok(())
+}
+
+/// The folder that holds what has this path.
+fn parent_of(path: &str) -> &str {
+    match path.rsplit_once('/') {
+        Some(("", _)) => "/",
+        Some((above, _)) => above,
+        None => ".",
+    }
+}

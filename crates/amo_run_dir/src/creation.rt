@@ -1,0 +1,174 @@
+//! To make a run's folder: all of its first files, and its id last.
+use crate::admission::{check_jobs, is_there};
+use crate::error::{Fault, Later, had, written};
+use crate::files::{path_of, sync};
+use crate::identity::{has_id, len_of};
+use crate::layout::Item;
+use crate::locks::lock_within;
+use crate::names::{Kind, Named, first_refused, is_id, kind_of};
+use crate::settings::{Jobs, Setting};
+use amo_fs::{make_file, make_folder, make_if_missing, names_in, sync_folder};
+use amo_givens::MAX_WORKERS;
+use std::fs;
+use std::rt::HostRuntime;
+
+/// What a journal without texts holds: a closed gate.
+const NO_TEXTS: &[u8] = b"-";
+
+/// Makes a run's folder that isn't there: whole under another name, and then renamed, so that
+/// nobody finds a part of it. If another process makes one meanwhile, that one stays.
+///
+/// # Errors
+/// `Write` for what can't be made. Nothing is left, unless that can't be removed either.
+pub fn make_beside(rt: HostRuntime, setting: &Setting<'_>) -> Result<(), Fault> {
+    let random = random(rt)?;
+    let beside = format!(in rt.alloc(); "{}.new-{random}", setting.run)?;
+    let made = make_as(rt, setting, beside.as_str());
+    if made.is_err() {
+        let _ = fs::remove_dir_all(&rt, beside.as_str());
+        if is_there(rt, setting)? {
+            return Ok(());
+        }
+    }
+    made
+}
+
+/// Makes the folder under this name, syncs it, and renames it.
+fn make_as(rt: HostRuntime, setting: &Setting<'_>, beside: &str) -> Result<(), Fault> {
+    written(Item::Run, make_folder(&rt, beside))?;
+    make_first(rt, beside, Item::Round, b"")?;
+    make_first(rt, beside, Item::Answers, NO_TEXTS)?;
+    for worker in 1..=MAX_WORKERS as u64 {
+        make_first(rt, beside, Item::Journal(worker), NO_TEXTS)?;
+    }
+    let id = format!(in rt.alloc(); "{}\n", random(rt)?)?;
+    make_first(rt, beside, Item::Id, id.as_str().as_bytes())?;
+    written(Item::Run, sync_folder(&rt, beside))?;
+    written(Item::Run, fs::rename(&rt, beside, setting.run))
+}
+
+fn make_first(rt: HostRuntime, folder: &str, item: Item, bytes: &[u8]) -> Result<(), Fault> {
+    let path = format!(in rt.alloc(); "{folder}/{item}")?;
+    written(item, make_file(&rt, path.as_str(), bytes))
+}
+
+/// Makes a run's files in a folder that is there and has no id, or goes on with a door that was cut
+/// off. Each file is made whole under another name, and the id last. Another process that does the
+/// same is kept out by the lock of the round.
+///
+/// # Errors
+/// `NotNew` if the folder has files that no door leaves, then those of the jobs' file; nothing was
+/// made then. `Later` if another process makes the files for too long, `Write` for what can't be
+/// made.
+pub fn make_within(
+    rt: HostRuntime,
+    setting: &Setting<'_>,
+    jobs: &Jobs<'_>,
+) -> Result<(), Fault> {
+    check_new(rt, setting)?;
+    check_jobs(rt, setting, jobs)?;
+    let beside = format!(in rt.alloc(); "{}/door.{}.new", setting.run, random(rt)?)?;
+    put(rt, setting, Item::Round, beside.as_str(), b"")?;
+    let Some(_lock) = lock_within(rt, setting, Item::Round)? else {
+        return Err(Fault::Later(Later::Making));
+    };
+    if has_id(rt, setting)? {
+        return Ok(());
+    }
+    check_new(rt, setting)?;
+    put_empty(rt, setting, Item::Answers, beside.as_str())?;
+    for worker in 1..=MAX_WORKERS as u64 {
+        put_empty(rt, setting, Item::Journal(worker), beside.as_str())?;
+    }
+    put_id(rt, setting, beside.as_str())
+}
+
+/// Makes the id, once the other files are on the disk.
+fn put_id(rt: HostRuntime, setting: &Setting<'_>, beside: &str) -> Result<(), Fault> {
+    sync(rt, setting)?;
+    let id = format!(in rt.alloc(); "{}\n", random(rt)?)?;
+    put(rt, setting, Item::Id, beside, id.as_str().as_bytes())?;
+    sync(rt, setting)
+}
+
+/// Makes a journal without texts, if there is none, or one without a byte.
+fn put_empty(
+    rt: HostRuntime,
+    setting: &Setting<'_>,
+    item: Item,
+    beside: &str,
+) -> Result<(), Fault> {
+    match len_of(rt, setting, item)? {
+        None => put(rt, setting, item, beside, NO_TEXTS),
+        Some(0) => {
+            let path = path_of(rt, setting, item)?;
+            written(item, make_file(&rt, beside, NO_TEXTS))?;
+            written(item, fs::rename(&rt, beside, path.as_str()))
+        }
+        Some(_) => Ok(()),
+    }
+}
+
+/// Makes a file of the run, if there is none.
+fn put(
+    rt: HostRuntime,
+    setting: &Setting<'_>,
+    item: Item,
+    beside: &str,
+    bytes: &[u8],
+) -> Result<(), Fault> {
+    let path = path_of(rt, setting, item)?;
+    written(item, make_if_missing(&rt, path.as_str(), beside, bytes))
+}
+
+/// Refuses a folder that can't be that of a new run.
+fn check_new(rt: HostRuntime, setting: &Setting<'_>) -> Result<(), Fault> {
+    if len_of(rt, setting, Item::Record)?.is_some() {
+        return Err(Fault::OldRun);
+    }
+    let mut found = Vec::new(rt.alloc());
+    for name in had(Item::Run, names_in(&rt, setting.run))? {
+        found.push(named(rt, setting, name)?)?;
+    }
+    match first_refused(&found) {
+        Some(file) => Err(Fault::NotNew(file.name.clone()?)),
+        None => Ok(()),
+    }
+}
+
+/// Looks at a file in the folder.
+fn named(rt: HostRuntime, setting: &Setting<'_>, name: String) -> Result<Named, Fault> {
+    let kind = kind_of(name.as_str().as_bytes());
+    if kind != Kind::First {
+        return Ok(Named {
+            name,
+            kind,
+            len: None,
+        });
+    }
+    let path = format!(in rt.alloc(); "{}/{name}", setting.run)?;
+    let found = had(Item::Run, fs::symlink_metadata(&rt, path.as_str()))?;
+    let len = if found.is_file() {
+        Some(found.len())
+    } else {
+        None
+    };
+    Ok(Named { name, kind, len })
+}
+
+/// Returns 32 hexadecimal digits that nobody else has.
+fn random(rt: HostRuntime) -> Result<String, Fault> {
+    let given = had(
+        Item::Random,
+        fs::read_to_string(&rt, "/proc/sys/kernel/random/uuid"),
+    )?;
+    let mut digits = String::new(rt.alloc());
+    for part in given.as_str().trim_end().split('-') {
+        digits.push_str(part)?;
+    }
+    if is_id(digits.as_str().as_bytes()) {
+        Ok(digits)
+    } else {
+        Err(Fault::Refused(Item::Random))
+    }
+}

@@ -1,0 +1,83 @@
+//! The run's folder: its files, each opened, read and made by its name.
+use crate::error::{Fault, had, written};
+use crate::layout::Item;
+use crate::settings::Setting;
+use amo_fs::{create_private, open_private, read_file, replace_file, sync_folder};
+use std::fs;
+use std::fs::File;
+use std::io::ErrorKind;
+use std::rt::HostRuntime;
+
+/// The path of a file of the run.
+pub fn path_of(rt: HostRuntime, setting: &Setting<'_>, item: Item) -> Result<String, Fault> {
+    let run = setting.run;
+    Ok(format!(in rt.alloc(); "{run}/{item}")?)
+}
+
+/// What a file of the run holds, if there is one.
+pub fn bytes_of(
+    rt: HostRuntime,
+    setting: &Setting<'_>,
+    item: Item,
+) -> Result<Option<Vec<u8>>, Fault> {
+    let path = path_of(rt, setting, item)?;
+    had(item, read_file(&rt, path.as_str()))
+}
+
+/// Opens a file of the run to read and write. The lock of a runner is made if there is none; every
+/// other file was made with the run's id, and is never made again.
+///
+/// # Errors
+/// `Missing` if it isn't there, else `Write`.
+pub fn opened(rt: HostRuntime, setting: &Setting<'_>, item: Item) -> Result<File, Fault> {
+    let path = path_of(rt, setting, item)?;
+    if let Item::Runner(_) = item {
+        return written(item, create_private(&rt, path.as_str()));
+    }
+    match open_private(&rt, path.as_str()) {
+        Err(error) if error.kind() == ErrorKind::NotFound => Err(Fault::Missing(item)),
+        file => written(item, file),
+    }
+}
+
+/// Opens a file of the run to read, if there is one.
+///
+/// # Errors
+/// `Read` for the system's.
+pub fn opened_to_read(
+    rt: HostRuntime,
+    setting: &Setting<'_>,
+    item: Item,
+) -> Result<Option<File>, Fault> {
+    let path = path_of(rt, setting, item)?;
+    match fs::open(&rt, path.as_str()) {
+        Err(error) if error.kind() == ErrorKind::NotFound => Ok(None),
+        file => Ok(Some(had(item, file)?)),
+    }
+}
+
+/// Syncs the folder, made or found: whoever made a file in it may have been killed before that.
+pub fn sync(rt: HostRuntime, setting: &Setting<'_>) -> Result<(), Fault> {
+    written(Item::Run, sync_folder(&rt, setting.run))
+}
+
+/// Puts a file with these bytes in the place of one of the run. With `synced` they are on the disk when this answers.
+pub fn replaced(
+    rt: HostRuntime,
+    setting: &Setting<'_>,
+    item: Item,
+    bytes: &[u8],
+    synced: bool,
+) -> Result<(), Fault> {
+    let path = path_of(rt, setting, item)?;
+    let beside = format!(in rt.alloc(); "{path}.new")?;
+    let made = replace_file(
+        &rt,
+        setting.run,
+        path.as_str(),
+        beside.as_str(),
+        bytes,
+        synced,
+    );
+    written(item, made)
+}

@@ -1,0 +1,105 @@
+//! Which run a folder is: its id, and the files that were made with it.
+use crate::error::{Fault, had};
+use crate::files::{bytes_of, path_of};
+use crate::layout::Item;
+use crate::names::is_id;
+use crate::settings::Setting;
+use amo_givens::MAX_WORKERS;
+use std::fs;
+use std::io::ErrorKind;
+use std::rt::HostRuntime;
+
+/// How a run's folder was made.
+#[derive(Clone, Copy, PartialEq, Eq)]
+pub enum Age {
+    /// With an id and all journals: a file that is missing is refused.
+    Now,
+    /// By version 0.1.0: a journal that is missing is empty, and nothing is written there.
+    Old,
+}
+
+/// Returns whether the folder has an id.
+///
+/// # Errors
+/// `Refused` if it is malformed, `OtherId` if another run was asked for.
+pub fn has_id(rt: HostRuntime, setting: &Setting<'_>) -> Result<bool, Fault> {
+    let Some(bytes) = bytes_of(rt, setting, Item::Id)? else {
+        return Ok(false);
+    };
+    let [text @ .., b'\n'] = bytes.as_slice() else {
+        return Err(Fault::Refused(Item::Id));
+    };
+    if !is_id(text) {
+        return Err(Fault::Refused(Item::Id));
+    }
+    match setting.id {
+        Some(asked) if asked.as_bytes() != text => Err(Fault::OtherId),
+        _ => Ok(true),
+    }
+}
+
+/// Refuses a folder that has no id, or another than was asked for.
+///
+/// # Errors
+/// As [`has_id`], and `OldRun` or `NoId` if it has none.
+pub fn check_id(rt: HostRuntime, setting: &Setting<'_>) -> Result<(), Fault> {
+    if has_id(rt, setting)? {
+        return Ok(());
+    }
+    match bytes_of(rt, setting, Item::Record)? {
+        Some(_) => Err(Fault::OldRun),
+        None => Err(Fault::NoId),
+    }
+}
+
+/// Refuses a folder that isn't the run's, or whose run was given up.
+///
+/// # Errors
+/// As [`check_id`], and `Forgotten`.
+pub fn check_kept(rt: HostRuntime, setting: &Setting<'_>) -> Result<(), Fault> {
+    check_id(rt, setting)?;
+    match len_of(rt, setting, Item::Forgotten)? {
+        Some(_) => Err(Fault::Forgotten),
+        None => Ok(()),
+    }
+}
+
+/// Refuses a folder in which a file is missing that was made with the id, or has lost all its bytes.
+///
+/// # Errors
+/// `Missing` or `Empty`, by the file's name.
+pub fn check_whole(rt: HostRuntime, setting: &Setting<'_>) -> Result<(), Fault> {
+    if len_of(rt, setting, Item::Round)?.is_none() {
+        return Err(Fault::Missing(Item::Round));
+    }
+    check_bytes(rt, setting, Item::Answers)?;
+    for worker in 1..=MAX_WORKERS as u64 {
+        check_bytes(rt, setting, Item::Journal(worker))?;
+    }
+    Ok(())
+}
+
+fn check_bytes(rt: HostRuntime, setting: &Setting<'_>, item: Item) -> Result<(), Fault> {
+    match len_of(rt, setting, item)? {
+        None => Err(Fault::Missing(item)),
+        Some(0) => Err(Fault::Empty(item)),
+        Some(_) => Ok(()),
+    }
+}
+
+/// Returns how many bytes a file of the run has, if there is one.
+///
+/// # Errors
+/// `Read` for the system's.
+pub fn len_of(
+    rt: HostRuntime,
+    setting: &Setting<'_>,
+    item: Item,
+) -> Result<Option<u64>, Fault> {
+    let path = path_of(rt, setting, item)?;
+    match fs::metadata(&rt, path.as_str()) {
+        Ok(found) => Ok(Some(found.len())),
+        Err(error) if error.kind() == ErrorKind::NotFound => Ok(None),
+        given => Ok(Some(had(item, given)?.len())),
+    }
+}

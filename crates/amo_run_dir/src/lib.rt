@@ -1,0 +1,35 @@
+//! The folder of a run: its files by name, its identity, how it is made and admitted, its locks, its journals and registers,
+//! and how a round is begun and joined. Start with `admission`. What is decided is decided by the crates below; this one opens,
+//! locks, reads and writes the files in the order that the promises rest on.
+#![tactic(auto)]
+
+mod admission;
+mod creation;
+mod disk;
+mod error;
+mod files;
+mod identity;
+mod join;
+mod journal;
+mod layout;
+mod locks;
+mod names;
+mod new_round;
+mod registers;
+mod settings;
+mod state;
+
+pub use admission::{enter, look_to_read, look_to_write, open};
+pub use disk::Disk;
+pub use error::{Door, Fault, Later, had, written};
+pub use files::{bytes_of, path_of};
+pub use identity::{Age, check_id, check_kept};
+pub use join::{Joined, join};
+pub use journal::Settled;
+pub use layout::Item;
+pub use locks::{Guarded, Tried, lock_of, lock_within, settled, take_number, try_lock_of};
+pub use names::is_id;
+pub use new_round::begin;
+pub use registers::Words;
+pub use settings::{Jobs, Setting};
+pub use state::{Books, Pages, attempts_of, known, texts_of};

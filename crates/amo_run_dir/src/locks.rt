@@ -1,0 +1,222 @@
+//! The locks of a run, and the guard of a worker's number.
+use crate::error::{Fault, Later, had, written};
+use crate::files::{opened, opened_to_read, path_of, sync};
+use crate::identity::check_kept;
+use crate::journal::Settled;
+use crate::layout::Item;
+use crate::settings::Setting;
+use amo_fs::{FileDevice, is_at, try_exclusive, try_shared};
+use amo_journal::DeviceError;
+use std::fs::File;
+use std::os::unix::fs::MetadataExt;
+use std::rt::HostRuntime;
+use std::thread;
+use std::time::Duration;
+
+/// How often a lock is tried, since readers hold locks for a moment: for two seconds in all.
+const TRIES: u32 = 100;
+
+/// The pause between two tries, in milliseconds.
+const PAUSE: u64 = 20;
+
+/// A journal whose lock this process has. The lock is kept as long as the value is.
+#[derive(Drop)]
+pub struct Guarded {
+    pub journal: Settled<FileDevice>,
+    pub texts: Vec<Vec<u8>>,
+    /// The handle that has the lock.
+    pub lock: File,
+}
+
+/// Takes the exclusive lock on a file of the run. Returns `None` if another process has a lock.
+pub fn lock_of(
+    rt: HostRuntime,
+    setting: &Setting<'_>,
+    item: Item,
+) -> Result<Option<File>, Fault> {
+    let file = opened(rt, setting, item)?;
+    if !written(item, try_exclusive(&file))? {
+        return Ok(None);
+    }
+    still_there(rt, setting, item, file)
+}
+
+/// Takes the exclusive lock on a file of the run, and tries for two seconds. Returns `None` if
+/// another process has a lock for all of them.
+pub fn lock_within(
+    rt: HostRuntime,
+    setting: &Setting<'_>,
+    item: Item,
+) -> Result<Option<File>, Fault> {
+    for _try in 0..TRIES {
+        if let Some(lock) = lock_of(rt, setting, item)? {
+            return Ok(Some(lock));
+        }
+        thread::sleep(&rt, Duration::from_millis(PAUSE));
+    }
+    Ok(None)
+}
+
+/// Takes a shared lock on a file of the run, and tries for two seconds. Returns `None` if another
+/// process has the exclusive lock for all of them.
+pub fn shared_lock_within(
+    rt: HostRuntime,
+    setting: &Setting<'_>,
+    item: Item,
+) -> Result<Option<File>, Fault> {
+    for _try in 0..TRIES {
+        if let Some(lock) = shared_lock_of(rt, setting, item)? {
+            return Ok(Some(lock));
+        }
+        thread::sleep(&rt, Duration::from_millis(PAUSE));
+    }
+    Ok(None)
+}
+
+/// Takes a shared lock on a file of the run, by a new handle. Returns `None` if another process has
+/// the exclusive lock.
+fn shared_lock_of(
+    rt: HostRuntime,
+    setting: &Setting<'_>,
+    item: Item,
+) -> Result<Option<File>, Fault> {
+    let file = opened(rt, setting, item)?;
+    if !written(item, try_shared(&file))? {
+        return Ok(None);
+    }
+    still_there(rt, setting, item, file)
+}
+
+/// Returns the handle if its file still has this name.
+///
+/// # Errors
+/// `Later` if the file was removed or replaced.
+fn still_there(
+    rt: HostRuntime,
+    setting: &Setting<'_>,
+    item: Item,
+    file: File,
+) -> Result<Option<File>, Fault> {
+    let path = path_of(rt, setting, item)?;
+    if !had(item, is_at(&rt, &file, path.as_str()))? {
+        return Err(Fault::Later(Later::Replaced));
+    }
+    Ok(Some(file))
+}
+
+/// Recovers the journal of a handle that has its lock, and syncs the folder.
+pub fn settled(
+    rt: HostRuntime,
+    setting: &Setting<'_>,
+    item: Item,
+    lock: File,
+) -> Result<Guarded, Fault> {
+    if had(item, lock.metadata())?.len() == 0 {
+        return Err(Fault::Empty(item));
+    }
+    let handle = written(item, lock.try_clone())?;
+    let device = had(item, FileDevice::open(rt.alloc(), handle))?;
+    let (journal, texts) = match Settled::settle(rt.alloc(), device) {
+        Ok(both) => both,
+        Err(DeviceError::Memory) => return Err(Fault::Memory),
+        Err(DeviceError::Failed) => return Err(Fault::Journal(item)),
+    };
+    sync(rt, setting)?;
+    Ok(Guarded {
+        journal,
+        texts,
+        lock,
+    })
+}
+
+/// Takes the number of a worker: the lock on its journal, which is then recovered. The folder is
+/// compared with the run once more under the lock: the run may have been given up, and another
+/// folder put in its place.
+pub fn take_number(
+    rt: HostRuntime,
+    setting: &Setting<'_>,
+    worker: u64,
+) -> Result<Guarded, Fault> {
+    let item = Item::Journal(worker);
+    match lock_within(rt, setting, item)? {
+        Some(lock) => {
+            check_kept(rt, setting)?;
+            settled(rt, setting, item, lock)
+        }
+        None => Err(Fault::Later(holder(rt, setting, item))),
+    }
+}
+
+/// The result of a try to lock a file that may be missing.
+#[derive(Drop)]
+pub enum Tried {
+    /// It is locked by this handle.
+    Got(File),
+    /// Another process has the lock.
+    Held,
+    /// There is no such file.
+    Missing,
+}
+
+/// Tries once to take the exclusive lock on a file of the run, by a handle that only reads. Makes
+/// nothing.
+///
+/// # Errors
+/// `Read` if it can't be opened, `Write` if it can't be locked.
+pub fn try_lock_of(
+    rt: HostRuntime,
+    setting: &Setting<'_>,
+    item: Item,
+) -> Result<Tried, Fault> {
+    let Some(file) = opened_to_read(rt, setting, item)? else {
+        return Ok(Tried::Missing);
+    };
+    if written(item, try_exclusive(&file))? {
+        Ok(Tried::Got(file))
+    } else {
+        Ok(Tried::Held)
+    }
+}
+
+/// Returns why a number can't be taken, with the process that has its lock if the system lists it.
+fn holder(rt: HostRuntime, setting: &Setting<'_>, item: Item) -> Later {
+    match holder_of(rt, setting, item) {
+        Ok(Some(process)) => Later::TakenBy(process),
+        _ => Later::Taken,
+    }
+}
+
+fn holder_of(rt: HostRuntime, setting: &Setting<'_>, item: Item) -> Result<Option<u64>, Fault> {
+    let path = path_of(rt, setting, item)?;
+    let found = had(item, std::fs::metadata(&rt, path.as_str()))?;
+    let locks = had(item, std::fs::read_to_string(&rt, "/proc/locks"))?;
+    let end = format!(in rt.alloc(); ":{}", found.ino())?;
+    Ok(holder_in(locks.as_str(), end.as_str()))
+}
+
+/// Returns the process that has a lock on a whole file whose device and inode number end so.
+fn holder_in(locks: &str, end: &str) -> Option<u64> {
+    for line in locks.lines() {
+        if let Some(process) = holder_by(line, end) {
+            return Some(process);
+        }
+    }
+    None
+}
+
+/// Returns the process of a line like `1: FLOCK ADVISORY WRITE 708 08:01:1234 0 EOF`, if that is a
+/// lock on such a file.
+fn holder_by(line: &str, end: &str) -> Option<u64> {
+    let mut words = line.split_whitespace();
+    let _number = words.next()?;
+    let kind = words.next()?;
+    let _advisory = words.next()?;
+    let _how = words.next()?;
+    let process = words.next()?;
+    let place = words.next()?;
+    if kind == "FLOCK" && place.ends_with(end) {
+        process.parse::<u64>().ok()
+    } else {
+        None
+    }
+}

@@ -1,0 +1,92 @@
+//! The words of a round, in a file: each is read and written whole, at its place.
+use crate::error::{Fault, had, written};
+use crate::files::path_of;
+use crate::layout::Item;
+use crate::settings::Setting;
+use amo_fs::open_private;
+use amo_givens::{MAX_JOBS, MAX_WORKERS};
+use amo_run_files::offset_of;
+use std::fs::File;
+use std::io;
+use std::io::ErrorKind;
+use std::os::unix::fs::FileExt;
+use std::rt::HostRuntime;
+
+/// No round has a word beyond this one: it has word 0, and of each worker an announcement, a claim, and a row with an entry more than
+/// it has jobs.
+const MOST_WORDS: u64 = MAX_WORKERS as u64 * (MAX_JOBS as u64 + 3) + 1;
+
+/// The words, by the file that has them.
+#[derive(Drop)]
+pub struct Words {
+    file: File,
+}
+
+impl Words {
+    /// Opens the words, if there are any.
+    pub fn open(rt: HostRuntime, setting: &Setting<'_>) -> Result<Option<Words>, Fault> {
+        let path = path_of(rt, setting, Item::Words)?;
+        match open_private(&rt, path.as_str()) {
+            Ok(file) => Ok(Some(Words { file })),
+            Err(error) if error.kind() == ErrorKind::NotFound => Ok(None),
+            Err(error) => Err(Fault::Read(Item::Words, error)),
+        }
+    }
+
+    /// The first bytes of the file, as many as `front` has, and how long it is; or nothing where it is shorter.
+    pub fn front(&self, front: &mut [u8]) -> Result<Option<u64>, Fault> {
+        let len = had(Item::Words, self.file.metadata())?.len();
+        if len < front.len() as u64 {
+            return Ok(None);
+        }
+        had(Item::Words, self.file.read_exact_at(front, 0))?;
+        Ok(Some(len))
+    }
+
+    /// The value of a word.
+    pub fn load(&self, word: u64) -> Result<u64, Fault> {
+        if word > MOST_WORDS {
+            return Err(Fault::NoWay);
+        }
+        let mut bytes = [0u8; 8];
+        had(Item::Words, self.read_whole(&mut bytes, offset_of(word)))?;
+        Ok(u64::from_le_bytes(bytes))
+    }
+
+    /// Gives a word a value.
+    pub fn store(&self, word: u64, value: u64) -> Result<(), Fault> {
+        if word > MOST_WORDS {
+            return Err(Fault::NoWay);
+        }
+        written(
+            Item::Words,
+            self.write_whole(&value.to_le_bytes(), offset_of(word)),
+        )
+    }
+
+    /// Reads eight bytes by one call, and none of them by a second.
+    fn read_whole(&self, bytes: &mut [u8], place: u64) -> io::Result<()> {
+        for _ in 0..u64::MAX {
+            match self.file.read_at(bytes, place) {
+                Ok(8) => return Ok(()),
+                Ok(_) => return Err(io::Error::from(ErrorKind::UnexpectedEof)),
+                Err(error) if error.kind() == ErrorKind::Interrupted => {}
+                Err(error) => return Err(error),
+            }
+        }
+        Err(io::Error::from(ErrorKind::Interrupted))
+    }
+
+    /// Writes eight bytes by one call, and none of them by a second.
+    fn write_whole(&self, bytes: &[u8], place: u64) -> io::Result<()> {
+        for _ in 0..u64::MAX {
+            match self.file.write_at(bytes, place) {
+                Ok(8) => return Ok(()),
+                Ok(_) => return Err(io::Error::from(ErrorKind::WriteZero)),
+                Err(error) if error.kind() == ErrorKind::Interrupted => {}
+                Err(error) => return Err(error),
+            }
+        }
+        Err(io::Error::from(ErrorKind::Interrupted))
+    }
+}

@@ -1,0 +1,12 @@
+pub mod Counts
+pub mod Cuts
+pub mod Differences
+pub mod Ends
+pub mod HeadLaws
+pub mod Heads
+pub mod KeptJobs
+pub mod KnownLines
+pub mod RecordTexts
+pub mod Records
+pub mod Refusals
+pub mod Seats

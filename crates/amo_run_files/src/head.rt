@@ -1,0 +1,53 @@
+//! The head of a round's words.
+ghost use Rattle.std.specs.Prelude.{◌≡◌, length, option_map, IfOk, IfSome};
+ghost use Rattle.amo_run_files.specs.Records.{said_by};
+ghost use Rattle.amo_run_files.specs.Heads.{head_text, filled_up, head_of};
+ghost use Rattle.amo_run_files.specs.declared.head.TheConstants.{HEAD_LEN};
+
+use crate::header::Record;
+use crate::seats::Givens;
+use std::alloc::{AllocError, Global};
+
+/// How many bytes stand before the first word.
+pub(crate) const HEAD_LEN: usize = 512;
+
+/// The `HEAD_LEN` bytes at the front of the words of the round that has this record: which round it is of, and behind it blanks and a
+/// line feed. `None` where the boot id is so long that it doesn't fit.
+pub fn head_of(alloc: Global, recorded: &Record) -> Result<Option<Vec<u8>>, AllocError>
+    ensures exact { IfOk result (λ head. option_map (λ bytes. bytes.items) head ≡ head_of (said_by recorded.now)) }
+    ensures size { IfOk result (λ head. IfSome head (λ bytes. length bytes.items ≡ HEAD_LEN)) }
+{
+    let text = head_text(alloc, recorded)?;
+    filled_up(text)
+}
+
+/// The lines at the front of the head.
+fn head_text(alloc: Global, recorded: &Record) -> Result<Vec<u8>, AllocError>
+    ensures { IfOk result (λ text. text.items ≡ head_text (said_by recorded.now)) }
+{
+    let Givens {
+        jobs,
+        workers,
+        beta,
+    } = recorded.givens;
+    let round = format!(in alloc; "amo-words 1\nround {}\nboot ", recorded.round)?;
+    let givens = format!(in alloc; "\ngivens {jobs} {workers} {beta}\n")?;
+    let mut text = Vec::new(alloc);
+    text.extend_from_slice(round.as_bytes())?;
+    text.extend_from_slice(&recorded.boot)?;
+    text.extend_from_slice(givens.as_bytes())?;
+    Ok(text)
+}
+
+/// The text, with blanks and a line feed behind it, if they have room.
+fn filled_up(mut text: Vec<u8>) -> Result<Option<Vec<u8>>, AllocError>
+    ensures exact { IfOk result (λ head. option_map (λ bytes. bytes.items) head ≡ filled_up text.items) }
+    ensures size { IfOk result (λ head. IfSome head (λ bytes. length bytes.items ≡ HEAD_LEN)) }
+{
+    if text.len() >= HEAD_LEN {
+        return Ok(None);
+    }
+    text.resize(HEAD_LEN - 1, b' ')?;
+    text.push(b'\n')?;
+    Ok(Some(text))
+}

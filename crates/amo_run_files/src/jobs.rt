@@ -1,0 +1,83 @@
+//! The jobs that a run knows: the lines of a jobs' file.
+ghost use Rattle.std.specs.Prelude.{◌≡◌, ◌++◌, ◌<◌, ℕ, List, false, length, option_map, IfOk, IfErr, OnOk, All, AllPairs, ◌≢◌};
+ghost use Rattle.amo_run_log.specs.Texts.{ended};
+ghost use Rattle.amo_run_files.specs.Jobs.{line_of, AreJobs};
+ghost use Rattle.amo_run_files.specs.Lines.{lines_in, remainder_in};
+ghost use Rattle.amo_run_files.specs.Refusals.{IsTaken, IsRefused};
+
+use crate::fault::JobsFault;
+use crate::known::check;
+use crate::lines::{ends_in, last_end, line_at};
+use std::alloc::Global;
+use std::marker::Model;
+
+/// The jobs that a run knows, a line each. A contract sees the list of the lines, without their ends.
+#[derive(Debug, Drop)]
+pub struct Jobs {
+    /// The lines, each with its line feed.
+    bytes: Vec<u8>,
+    /// Where each line ends, behind its line feed.
+    ends: Vec<usize>,
+}
+
+impl Model for Jobs {
+    ghost use Rattle.std.specs.Prelude.{ℕ, List};
+    ghost use Rattle.amo_run_files.specs.Lines.{lines_in};
+    ghost use Rattle.amo_run_files.specs.Jobs.{AreKept};
+
+    ghost Value = { List (List ℕ) };
+
+    ghost view = { λ a. lines_in a.bytes.items };
+
+    ghost invariant = { λ a. AreKept a.bytes.items a.ends.items };
+}
+
+impl Jobs {
+    /// The jobs of a jobs' file. Where `cut` is true, what stands behind its last line feed is left out, whatever it is; else the
+    /// file is refused if anything stands there.
+    pub fn read(alloc: Global, mut bytes: Vec<u8>, cut: bool) -> Result<Jobs, JobsFault>
+        // The file is taken just where no line is refused; else the first that is refused is told.
+        ensures taken { OnOk result (IsTaken bytes.items cut) }
+        ensures refused { IfErr result (IsRefused bytes.items cut) }
+
+        // The jobs are all its lines, and with their ends they are the file but for what was left out.
+        ensures lines { IfOk result (λ jobs. jobs ≡ lines_in bytes.items) }
+        ensures front { IfOk result (λ jobs. ended jobs ++ remainder_in bytes.items ≡ bytes.items) }
+        ensures whole { cut ≡ false → IfOk result (λ jobs. ended jobs ≡ bytes.items) }
+
+        // No two of them are equal, and none is empty.
+        ensures distinct { IfOk result (AllPairs (λ one other. one ≢ other)) }
+        ensures none_empty { IfOk result (All (λ line. 0 < length line)) }
+    {
+        let ends = ends_in(alloc, &bytes)?;
+        check(alloc, &bytes, &ends, cut)?;
+        bytes.truncate(last_end(&ends));
+        Ok(Jobs { bytes, ends })
+    }
+
+    /// How many there are.
+    pub fn count(&self) -> u64
+        ensures count { result ≡ length self.now }
+        // What holds of all jobs, wherever they were read.
+        ensures jobs { AreJobs self.now }
+    {
+        self.ends.len() as u64
+    }
+
+    /// The line of this number, from 1, without its end.
+    pub fn line(&self, number: u64) -> Option<&[u8]>
+        ensures { option_map (λ line. line.now) result ≡ line_of self.now number }
+    {
+        if number == 0 || number > self.ends.len() as u64 {
+            return None;
+        }
+        Some(line_at(&self.bytes, &self.ends, (number - 1) as usize))
+    }
+
+    /// The lines, each with its line feed behind it.
+    pub fn bytes(&self) -> &[u8]
+        ensures { result.now ≡ ended self.now }
+    {
+        &self.bytes
+    }
+}

@@ -1,0 +1,79 @@
+//! What follows for the files of a round, each as the contract of a function that does nothing.
+ghost use Rattle.std.specs.Prelude.{◌≡◌, ◌≢◌, ◌<◌, ◌≤◌, ◌+◌, ◌++◌, ℕ, Bool, List, None, Some, length, take, Contains, All};
+ghost use Rattle.std.specs.List.{AllByRecursion};
+ghost use Rattle.amo_kk.specs.Words.{words_of};
+ghost use Rattle.amo_kk.specs.declared.model.Process.{Process as Worker};
+ghost use Rattle.amo_run_log.specs.Texts.{ended};
+ghost use Rattle.amo_run_files.specs.Records.{RecordView, text_of_record, record_in, IsRecord};
+ghost use Rattle.amo_run_files.specs.Rounds.{seat_of};
+ghost use Rattle.amo_run_files.specs.declared.seats.Givens.{Givens as GivensView};
+ghost use Rattle.amo_run_files.specs.Heads.{head_of};
+ghost use Rattle.amo_run_files.specs.Lines.{lines_in, remainder_in, first_lines, BeginsWith};
+ghost use Rattle.amo_run_files.specs.Jobs.{IsLine, AreJobs};
+ghost use Rattle.amo_run_files.specs.Refusals.{IsTaken, why_not};
+ghost use Rattle.amo_run_files.specs.Words.{offset_of, word_count, words_len};
+
+/// A file is its lines, each with a line feed behind it, and what stands behind them. Neither they nor it have a line feed, and
+/// nothing else is a file's lines.
+pub fn a_file_is_its_lines()
+    ensures whole { (file : List ℕ) → ended (lines_in file) ++ remainder_in file ≡ file }
+    ensures lines { (file : List ℕ) → AllByRecursion (AllByRecursion (λ b. b ≢ 10)) (lines_in file) }
+    ensures rest { (file : List ℕ) → AllByRecursion (λ b. b ≢ 10) (remainder_in file) }
+    ensures only { (lines : List (List ℕ)) (rest : List ℕ) → AllByRecursion (AllByRecursion (λ b. b ≢ 10)) lines → AllByRecursion (λ b. b ≢ 10) rest
+        → (lines_in (ended lines ++ rest) ≡ lines) × (remainder_in (ended lines ++ rest) ≡ rest) }
+{}
+
+/// The first lines of a file, with their ends, up to all of them, and then the whole file.
+pub fn what_first_lines_are()
+    ensures ended { (count : ℕ) (file : List ℕ) → count ≤ length (lines_in file) → first_lines count file ≡ ended (take count (lines_in file)) }
+    ensures whole { (count : ℕ) (file : List ℕ) → length (lines_in file) < count → first_lines count file ≡ file }
+{}
+
+/// A line may stand behind others just where it is text of at most 100,000 bytes, at least one of them, without NUL and carriage
+/// return, and none of the others is equal to it.
+pub fn what_may_stand()
+    ensures is { (before : List (List ℕ)) (line : List ℕ) → why_not before line ≡ None → IsLine line × ¬ (Contains before line) }
+    ensures only { (before : List (List ℕ)) (line : List ℕ) → IsLine line → ¬ (Contains before line) → why_not before line ≡ None }
+{}
+
+/// Who reads the copy that was kept of jobs has these jobs again.
+pub fn jobs_are_read_back()
+    ensures { (jobs : List (List ℕ)) (cut : Bool) → AreJobs jobs → IsTaken (ended jobs) cut × (lines_in (ended jobs) ≡ jobs) }
+{}
+
+/// Where a file begins with what was known, the lines that were known keep their numbers.
+pub fn lines_keep_their_numbers()
+    ensures { (known file : List ℕ) → BeginsWith known file → take (length (lines_in known)) (lines_in file) ≡ lines_in known }
+{}
+
+/// A head is that of one round alone: of two records with the same head all is the same that the words rest on.
+pub fn a_head_is_of_one_round()
+    ensures { (one other : RecordView) (head : List ℕ) → IsRecord one → IsRecord other → head_of one ≡ Some head → head_of other ≡ Some head
+        → (one.round ≡ other.round) × (one.boot ≡ other.boot) × (one.givens ≡ other.givens) }
+{}
+
+/// The words are as many as a round's workers have, whose rows have an entry more than there are jobs; and they stand side by
+/// side up to the end of the file.
+pub fn words_fill_their_file()
+    ensures many { (givens : GivensView) (workers : List Worker) → length workers ≡ givens.workers → All (λ worker. length worker.row ≡ givens.jobs + 1) workers
+        → length (words_of workers) ≡ word_count givens }
+    ensures side_by_side { (word : ℕ) → offset_of (word + 1) ≡ offset_of word + 8 }
+    ensures within { (givens : GivensView) (word : ℕ) → word < word_count givens → offset_of word + 8 ≤ words_len givens }
+{}
+
+/// In a round no two workers act as one number, each number up to those that share is some worker's, and who began acts as 1.
+pub fn who_has_which_seat()
+    ensures one_each { (one other first workers shared seat : ℕ) → first ≤ workers
+        → seat_of one first workers shared ≡ Some seat → seat_of other first workers shared ≡ Some seat → one ≡ other }
+    ensures in_range { (worker first workers shared seat : ℕ) → first ≤ workers
+        → seat_of worker first workers shared ≡ Some seat → (1 ≤ seat) × (seat ≤ shared) × (worker ≤ workers) }
+    ensures first { (first workers shared : ℕ) → 1 ≤ first → first ≤ workers → 1 ≤ shared → seat_of first first workers shared ≡ Some 1 }
+    ensures taken { (first workers shared seat : ℕ) → 1 ≤ first → first ≤ workers → shared ≤ workers → 1 ≤ seat → seat ≤ shared
+        → (worker : ℕ) × (seat_of worker first workers shared ≡ Some seat) }
+{}
+
+/// Each record is read back as itself, and what is read was printed so.
+pub fn records_are_read_back()
+    ensures back { (r : RecordView) → IsRecord r → record_in (text_of_record r) ≡ Some r }
+    ensures printed { (file : List ℕ) (r : RecordView) → record_in file ≡ Some r → IsRecord r × (text_of_record r ≡ file) }
+{}

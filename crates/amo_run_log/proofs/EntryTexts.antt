@@ -1,0 +1,153 @@
+-- What is printed of an entry is read as it, and what is read was printed so.
+use Rattle.std.proofs.Common.{◌≡◌, inl, inr, ℕ, ◌^◌, ◌<◌, Bool, true, false, cond, List, ◌∷◌, ◌++◌, Option, Some, None, refl, sym, ap, subst, ◌∙◌, arith}
+use Rattle.std.specs.Prelude.{nat_lt, codes, option_and_then}
+use Rattle.std.specs.Fmt.{decimal}
+use Rattle.std.specs.Str.{bytes_eq, IsAscii, IsUtf8}
+use Rattle.std.proofs.lemmas.Bool.Decides.{nat_tests}
+use Rattle.std.proofs.lemmas.Fmt.{IsAscii-decimal}
+use Rattle.std.proofs.lemmas.Str.{IsAscii-append}
+use Rattle.std.proofs.lemmas.Slice.Eq.{bytes_eq-Decides}
+use Rattle.amo_run_log.specs.declared.entry.Answer.{Answer}
+use Rattle.amo_run_log.specs.declared.entry.Answer.TheVariants.{Done, Doubt, Unbegun, Untouched}
+use Rattle.amo_run_log.specs.declared.entry.Entry.{Entry}
+use Rattle.amo_run_log.specs.declared.entry.Entry.TheVariants.{Intent, Answer as Answered}
+use Rattle.amo_decimal.specs.Numbers.{number_in}
+use Rattle.amo_run_log.specs.Numbers.{two_in, three_in}
+use Rattle.amo_run_log.specs.Entries.{text_of, text_of_answer, Fits, FitsAnswer, code_in, answer_of_word, entry_of_word, entry_in}
+use Rattle.amo_decimal.proofs.NumberTexts.{reads_printed, printed_of_read}
+use Rattle.amo_run_log.proofs.Readings.{no_text_by}
+use Rattle.amo_run_log.proofs.Words.{word_reads, printed_by, two_reads, three_reads, and_then_some, two_printed, three_printed, either_way, ascii_by_test, two_ascii, three_ascii}
+
+-- codes
+
+pub code_reads : (n : ℕ) → n < 2 ^ 8 → code_in n ≡ Some n
+code_reads n fits = ap (λ b. cond b None (Some n)) (not_more n fits)
+  where
+    not_more : (k : ℕ) → k < 2 ^ 8 → nat_lt 255 k ≡ false
+    not_more k h = grind (arith, nat_tests)
+
+pub code_printed : (n c : ℕ) → code_in n ≡ Some c → (n ≡ c) × (c < 2 ^ 8)
+code_printed n c h = by_test (nat_lt 255 n) refl h
+  where
+    at_most : (k : ℕ) → nat_lt 255 k ≡ false → k < 2 ^ 8
+    at_most k t = grind (arith, nat_tests)
+
+    by_test : (b : Bool) → nat_lt 255 n ≡ b → cond b None (Some n) ≡ Some c → (n ≡ c) × (c < 2 ^ 8)
+    by_test true t e = absurd (cc)
+    by_test false t e = let is : n ≡ c = cc in (is, subst (λ k. k < 2 ^ 8) is (at_most n t))
+
+-- what is printed is read
+
+-- the parts of what is read, each by what it is read of
+abbrev done_of : ℕ × ℕ × ℕ → Option (ℕ × Answer)
+done_of n = option_and_then (λ code. Some (n.0, Done code n.2)) (code_in n.1)
+
+abbrev untouched_of : ℕ × ℕ → Option (ℕ × Answer)
+untouched_of n = option_and_then (λ code. Some (n.0, Untouched code)) (code_in n.1)
+
+abbrev entry_of : Option (ℕ × Answer) → Option Entry
+entry_of o = option_and_then (λ (n : ℕ × Answer). Some (Answered n.0 n.1)) o
+
+answer_reads : (s : ℕ) (a : Answer) → FitsAnswer s a → entry_in (text_of_answer s a) ≡ Some (Answered s a)
+answer_reads s (Done c t) f =
+    word_reads entry_of_word (codes "done") (decimal s ++ 32 ∷ (decimal c ++ 32 ∷ decimal t)) refl
+    ∙ ap (λ o. entry_of (option_and_then done_of o)) (three_reads s c t f.0 (omega (arith, f.1)) f.2)
+    ∙ ap (λ o. entry_of (option_and_then (λ (code : ℕ). Some (s, Done code t)) o)) (code_reads c f.1)
+answer_reads s Doubt f = word_reads entry_of_word (codes "doubt") (decimal s) refl ∙ ap (λ o. entry_of (option_and_then (λ (n : ℕ). Some (n, Doubt)) o)) (reads_printed s f)
+answer_reads s Unbegun f = word_reads entry_of_word (codes "unbegun") (decimal s) refl ∙ ap (λ o. entry_of (option_and_then (λ (n : ℕ). Some (n, Unbegun)) o)) (reads_printed s f)
+answer_reads s (Untouched c) f =
+    word_reads entry_of_word (codes "untouched") (decimal s ++ 32 ∷ decimal c) refl
+    ∙ ap (λ o. entry_of (option_and_then untouched_of o)) (two_reads s c f.0 (omega (arith, f.1)))
+    ∙ ap (λ o. entry_of (option_and_then (λ (code : ℕ). Some (s, Untouched code)) o)) (code_reads c f.1)
+
+pub entry_reads : (e : Entry) → Fits e → entry_in (text_of e) ≡ Some e
+entry_reads (Intent s l t) f = word_reads entry_of_word (codes "intent") (decimal s ++ 32 ∷ (decimal l ++ 32 ∷ decimal t)) refl ∙ ap (option_and_then (λ n. Some (Intent n.0 n.1 n.2))) (three_reads s l t f.0 f.1 f.2)
+entry_reads (Answered s a) f = answer_reads s a f
+
+-- what is read was printed so
+
+abbrev IsPrinted : List ℕ → Entry → Type 0
+IsPrinted text e = (text_of e ≡ text) × Fits e
+
+abbrev IsPrintedAnswer : List ℕ → ℕ × Answer → Type 0
+IsPrintedAnswer text n = (text_of_answer n.0 n.1 ≡ text) × FitsAnswer n.0 n.1
+
+-- the word is the one that was tested
+word_is : (w r word : List ℕ) (e : ℕ × Answer) → bytes_eq w word ≡ true → IsPrintedAnswer (word ++ 32 ∷ r) e → IsPrintedAnswer (w ++ 32 ∷ r) e
+word_is w r word e is printed =
+    let same : w ≡ word = (bytes_eq-Decides w word).0 is in
+    (printed.0 ∙ ap (λ v. v ++ 32 ∷ r) (sym same), printed.1)
+
+with_code : (r : List ℕ) (n : ℕ × ℕ × ℕ) (e : ℕ × Answer) → three_in r ≡ Some n → option_and_then (λ code. Some (n.0, Done code n.2)) (code_in n.1) ≡ Some e → IsPrintedAnswer (codes "done" ++ 32 ∷ r) e
+with_code r n e read more =
+    let (code, is_code, same) = and_then_some _ (code_in n.1) e more in
+    let (number_is, small) = code_printed n.1 code is_code in
+    let p = three_printed r n read in
+    let is : (n.0, Done code n.2) ≡ e = cc in
+    subst (λ (x : ℕ × Answer). IsPrintedAnswer (codes "done" ++ 32 ∷ r) x) is
+    (ap (λ c. codes "done" ++ 32 ∷ (decimal n.0 ++ 32 ∷ (decimal c ++ 32 ∷ decimal n.2))) (sym number_is) ∙ ap (λ x. codes "done" ++ 32 ∷ x) p.0, (p.1, small, p.3))
+
+with_untouched : (r : List ℕ) (n : ℕ × ℕ) (e : ℕ × Answer) → two_in r ≡ Some n → option_and_then (λ code. Some (n.0, Untouched code)) (code_in n.1) ≡ Some e → IsPrintedAnswer (codes "untouched" ++ 32 ∷ r) e
+with_untouched r n e read more =
+    let (code, is_code, same) = and_then_some _ (code_in n.1) e more in
+    let (number_is, small) = code_printed n.1 code is_code in
+    let p = two_printed r n read in
+    let is : (n.0, Untouched code) ≡ e = cc in
+    subst (λ (x : ℕ × Answer). IsPrintedAnswer (codes "untouched" ++ 32 ∷ r) x) is
+    (ap (λ c. codes "untouched" ++ 32 ∷ (decimal n.0 ++ 32 ∷ decimal c)) (sym number_is) ∙ ap (λ x. codes "untouched" ++ 32 ∷ x) p.0, (p.1, small))
+
+with_number : (r word : List ℕ) (a : Answer) (n : ℕ) (e : ℕ × Answer) → number_in r ≡ Some n → Some (n, a) ≡ Some e → ((s : ℕ) → s < 2 ^ 64 → IsPrintedAnswer (word ++ 32 ∷ decimal s) (s, a)) → IsPrintedAnswer (word ++ 32 ∷ r) e
+with_number r word a n e read same prints =
+    let p = printed_of_read r n read in
+    let is : (n, a) ≡ e = cc in
+    subst (λ (x : ℕ × Answer). IsPrintedAnswer (word ++ 32 ∷ r) x) is (subst (λ (x : List ℕ). IsPrintedAnswer (word ++ 32 ∷ x) (n, a)) p.0 (prints n p.1))
+
+answer_printed : (w r : List ℕ) (e : ℕ × Answer) → answer_of_word w r ≡ Some e → IsPrintedAnswer (w ++ 32 ∷ r) e
+answer_printed w r e h = elim (either_way (bytes_eq w (codes "done")) _ _ (Some e) h) [
+  | inl t ↦ let (n, read, more) = and_then_some _ (three_in r) e t.1 in word_is w r (codes "done") e t.0 (with_code r n e read more)
+  | inr f ↦ elim (either_way (bytes_eq w (codes "doubt")) _ _ (Some e) f.1) [
+    | inl t ↦ let (n, read, same) = and_then_some _ (number_in r) e t.1 in word_is w r (codes "doubt") e t.0 (with_number r (codes "doubt") Doubt n e read same (λ s fits. (refl, fits)))
+    | inr g ↦ elim (either_way (bytes_eq w (codes "unbegun")) _ _ (Some e) g.1) [
+      | inl t ↦ let (n, read, same) = and_then_some _ (number_in r) e t.1 in word_is w r (codes "unbegun") e t.0 (with_number r (codes "unbegun") Unbegun n e read same (λ s fits. (refl, fits)))
+      | inr k ↦ elim (either_way (bytes_eq w (codes "untouched")) _ _ (Some e) k.1) [
+        | inl t ↦ let (n, read, more) = and_then_some _ (two_in r) e t.1 in word_is w r (codes "untouched") e t.0 (with_untouched r n e read more)
+        | inr z ↦ absurd (none_some z.1)
+      ]
+    ]
+  ]
+]
+  where
+    none_some : None ≡ Some e → ⊥
+    none_some x = cc
+
+word_printed : (w r : List ℕ) (e : Entry) → entry_of_word w r ≡ Some e → IsPrinted (w ++ 32 ∷ r) e
+word_printed w r e h = elim (either_way (bytes_eq w (codes "intent")) _ _ (Some e) h) [
+  | inl t ↦
+      let (n, read, same) = and_then_some _ (three_in r) e t.1 in
+      let p = three_printed r n read in
+      let w_is : w ≡ codes "intent" = (bytes_eq-Decides w (codes "intent")).0 t.0 in
+      let is : Intent n.0 n.1 n.2 ≡ e = cc in
+      subst (λ (x : Entry). IsPrinted (w ++ 32 ∷ r) x) is (ap (λ x. codes "intent" ++ 32 ∷ x) p.0 ∙ ap (λ v. v ++ 32 ∷ r) (sym w_is), (p.1, p.2, p.3))
+  | inr f ↦
+      let (n, read, same) = and_then_some _ (answer_of_word w r) e f.1 in
+      let p = answer_printed w r n read in
+      let is : Answered n.0 n.1 ≡ e = cc in
+      subst (λ (x : Entry). IsPrinted (w ++ 32 ∷ r) x) is (p.0, p.1)
+]
+
+pub entry_printed : (text : List ℕ) (e : Entry) → entry_in text ≡ Some e → (text_of e ≡ text) × Fits e
+entry_printed = printed_by text_of Fits entry_of_word word_printed
+
+ascii_answer : (s : ℕ) (a : Answer) → FitsAnswer s a → IsAscii (text_of_answer s a)
+ascii_answer s (Done c t) f = IsAscii-append (codes "done ") (decimal s ++ 32 ∷ (decimal c ++ 32 ∷ decimal t)) (ascii_by_test (codes "done ") refl) (three_ascii s c t f.0 (omega (arith, f.1)) f.2)
+ascii_answer s Doubt f = IsAscii-append (codes "doubt ") (decimal s) (ascii_by_test (codes "doubt ") refl) (IsAscii-decimal s f)
+ascii_answer s Unbegun f = IsAscii-append (codes "unbegun ") (decimal s) (ascii_by_test (codes "unbegun ") refl) (IsAscii-decimal s f)
+ascii_answer s (Untouched c) f = IsAscii-append (codes "untouched ") (decimal s ++ 32 ∷ decimal c) (ascii_by_test (codes "untouched ") refl) (two_ascii s c f.0 (omega (arith, f.1)))
+
+ascii : (e : Entry) → Fits e → IsAscii (text_of e)
+ascii (Intent s l t) f = IsAscii-append (codes "intent ") (decimal s ++ 32 ∷ (decimal l ++ 32 ∷ decimal t)) (ascii_by_test (codes "intent ") refl) (three_ascii s l t f.0 f.1 f.2)
+ascii (Answered s a) f = ascii_answer s a f
+
+-- what is no text is no entry
+pub no_text : (bytes : List ℕ) → ¬ (IsUtf8 bytes) → None ≡ entry_in bytes
+no_text = no_text_by text_of Fits entry_in entry_printed ascii

@@ -1,0 +1,13 @@
+pub mod AttemptLemmas
+pub mod ClosingWins
+pub mod EntryTexts
+pub mod FindingLaws
+pub mod FindingTexts
+pub mod GrammarLaws
+pub mod OpenLaws
+pub mod OpenLines
+pub mod OpenMeaning
+pub mod Puts
+pub mod Readings
+pub mod TextLists
+pub mod Words

@@ -1,0 +1,117 @@
+-- What a file of the texts before a put, or after it, says, as entries or findings; and which lines its entries close.
+use Rattle.std.proofs.Common.{◌≡◌, ◌⊎◌, inl, inr, ⊎_elim, ℕ, ◌+◌, ◌^◌, ◌<◌, false, List, [], ◌∷◌, ◌++◌, length, Option, Some, Result, Ok, Err, refl, sym, ap, subst, ◌∙◌, arith}
+use Rattle.std.specs.Prelude.{codes, OnOk}
+use Rattle.std.specs.Fmt.{decimal}
+use Rattle.amo_journal.specs.Device.{LeavesOnly}
+use Rattle.amo_journal.specs.Journal.{IsBeforeOrAfter}
+use Rattle.amo_journal.specs.Texts.{texts_in}
+use Rattle.amo_run_log.specs.declared.entry.Answer.{Answer}
+use Rattle.amo_run_log.specs.declared.entry.Answer.TheVariants.{Done, Doubt, Unbegun, Untouched}
+use Rattle.amo_run_log.specs.declared.entry.Entry.{Entry}
+use Rattle.amo_run_log.specs.declared.entry.Entry.TheVariants.{Intent, Answer as Answered}
+use Rattle.amo_run_log.specs.declared.finding.Finding.{Finding}
+use Rattle.amo_run_log.specs.declared.finding.Verdict.{Verdict}
+use Rattle.amo_run_log.specs.declared.finding.Verdict.TheVariants.{Done as Found, NotDone}
+use Rattle.amo_run_log.specs.declared.journal.Attempt.{Attempt}
+use Rattle.amo_run_log.specs.Entries.{text_of, text_of_answer, Fits, FitsAnswer}
+use Rattle.amo_run_log.specs.Findings.{word_of, text_of_finding, FitsFinding, is_undone}
+use Rattle.amo_run_log.specs.Numbers.{read_all}
+use Rattle.amo_run_log.specs.Open.{HasIntent, OpensNot}
+use Rattle.amo_run_log.specs.Puts.{entries_of, StandsForOneMoreOrNot, IsClosedIn}
+use Rattle.amo_run_log.proofs.ClosingWins.{closed_with, has_more}
+use Rattle.amo_run_log.proofs.TextLists.{one_more}
+use Rattle.amo_run_log.proofs.Words.{Lacks, lacks_append, lacks_by_test, decimal_lacks}
+
+-- the text of an entry is one line, and so is that of a finding
+
+two_lack : (a b : ℕ) → a < 2 ^ 64 → b < 2 ^ 64 → Lacks 10 (decimal a ++ 32 ∷ decimal b)
+two_lack a b fa fb = lacks_append 10 (decimal a) (32 ∷ decimal b) (decimal_lacks 10 a (omega arith) fa) ((λ e. omega arith), decimal_lacks 10 b (omega arith) fb)
+
+three_lack : (a b c : ℕ) → a < 2 ^ 64 → b < 2 ^ 64 → c < 2 ^ 64 → Lacks 10 (decimal a ++ 32 ∷ (decimal b ++ 32 ∷ decimal c))
+three_lack a b c fa fb fc = lacks_append 10 (decimal a) (32 ∷ (decimal b ++ 32 ∷ decimal c)) (decimal_lacks 10 a (omega arith) fa) ((λ e. omega arith), two_lack b c fb fc)
+
+answer_lacks : (s : ℕ) (a : Answer) → FitsAnswer s a → Lacks 10 (text_of_answer s a)
+answer_lacks s (Done c t) f = lacks_append 10 (codes "done ") (decimal s ++ 32 ∷ (decimal c ++ 32 ∷ decimal t)) (lacks_by_test 10 (codes "done ") refl) (three_lack s c t f.0 (omega (arith, f.1)) f.2)
+answer_lacks s Doubt f = lacks_append 10 (codes "doubt ") (decimal s) (lacks_by_test 10 (codes "doubt ") refl) (decimal_lacks 10 s (omega arith) f)
+answer_lacks s Unbegun f = lacks_append 10 (codes "unbegun ") (decimal s) (lacks_by_test 10 (codes "unbegun ") refl) (decimal_lacks 10 s (omega arith) f)
+answer_lacks s (Untouched c) f = lacks_append 10 (codes "untouched ") (decimal s ++ 32 ∷ decimal c) (lacks_by_test 10 (codes "untouched ") refl) (two_lack s c f.0 (omega (arith, f.1)))
+
+pub one_line : (e : Entry) → Fits e → Lacks 10 (text_of e)
+one_line (Intent s l t) f = lacks_append 10 (codes "intent ") (decimal s ++ 32 ∷ (decimal l ++ 32 ∷ decimal t)) (lacks_by_test 10 (codes "intent ") refl) (three_lack s l t f.0 f.1 f.2)
+one_line (Answered s a) f = answer_lacks s a f
+
+word_lacks : (v : Verdict) → Lacks 10 (word_of v)
+word_lacks Found = lacks_by_test 10 (codes "done") refl
+word_lacks NotDone = lacks_by_test 10 (codes "not-done") refl
+
+pub one_line_of_finding : (f : Finding) → FitsFinding f → Lacks 10 (text_of_finding f)
+one_line_of_finding f fits =
+    lacks_append 10 (word_of f.verdict) (32 ∷ (decimal f.worker ++ 32 ∷ (decimal f.serial ++ 32 ∷ decimal f.time))) (word_lacks f.verdict)
+    ((λ e. omega arith), three_lack f.worker f.serial f.time fits.0 fits.1 fits.2)
+
+-- what a file says, whatever its texts are read as
+
+pub on_ok : {T E : Type 0} {P Q : Type 0} (r : Result T E) → OnOk r P → (P → Q) → OnOk r Q
+on_ok (Ok x) p follows = follows p
+on_ok (Err e) p follows = tt
+
+-- what a crash leaves has what follows from what it has
+pub leaves : {D : Type 0} (moment : D → ℕ) (left_since : D → ℕ → List ℕ → Type 0) (old new : D) (P Q : List ℕ → Type 0) → LeavesOnly moment left_since old new P → ((c : List ℕ) → P c → Q c) → LeavesOnly moment left_since old new Q
+leaves moment left_since old new P Q l follows = record {
+  later = l.later;
+  each = λ c left. follows c (l.each c left);
+  before = λ t c le left. ⊎_elim (λ past. inl past) (λ p. inr (follows c p)) (l.before t c le left);
+}
+
+says_one_more : {A : Type 0} (read : List ℕ → Option A) (old new text : List ℕ) (xs : List A) (x : A)
+    → read text ≡ Some x → read_all read (texts_in old) ≡ Some xs → texts_in new ≡ texts_in old ++ text ∷ [] → read_all read (texts_in new) ≡ Some (xs ++ x ∷ [])
+says_one_more read old new text xs x is are put = ap (read_all read) put ∙ one_more read (texts_in old) xs text x are is
+
+before_or_after : {A : Type 0} (read : List ℕ → Option A) (old text : List ℕ) (xs : List A) (x : A)
+    → read text ≡ Some x → read_all read (texts_in old) ≡ Some xs → (c : List ℕ) → IsBeforeOrAfter (texts_in old) text c
+    → (read_all read (texts_in c) ≡ Some xs) ⊎ (read_all read (texts_in c) ≡ Some (xs ++ x ∷ []))
+before_or_after read old text xs x is are c at =
+    ⊎_elim (λ before. inl (ap (read_all read) before ∙ are)) (λ after. inr (says_one_more read old c text xs x is are after)) at
+
+-- what a put of one text comes to, for who reads the texts so
+pub record PutsOne {A D T E : Type 0} (read_as : List ℕ → Option A) (moment : D → ℕ) (left_since : D → ℕ → List ℕ → Type 0) (seen : D → List ℕ) (old new : D) (result : Result T E) (x : A) : Type 0 where
+  pub acknowledged : (xs : List A) → read_all read_as (texts_in (seen old)) ≡ Some xs → OnOk result (read_all read_as (texts_in (seen new)) ≡ Some (xs ++ x ∷ []))
+  pub any_moment : (xs : List A) → read_all read_as (texts_in (seen old)) ≡ Some xs
+      → LeavesOnly moment left_since old new (λ c. (read_all read_as (texts_in c) ≡ Some xs) ⊎ (read_all read_as (texts_in c) ≡ Some (xs ++ x ∷ [])))
+  pub read : (xs : List A) → read_all read_as (texts_in (seen old)) ≡ Some xs
+      → (read_all read_as (texts_in (seen new)) ≡ Some xs) ⊎ (read_all read_as (texts_in (seen new)) ≡ Some (xs ++ x ∷ []))
+
+pub puts_one : {A D T E : Type 0} (read_as : List ℕ → Option A) (moment : D → ℕ) (left_since : D → ℕ → List ℕ → Type 0) (seen : D → List ℕ) (old new : D) (result : Result T E) (text : List ℕ) (x : A)
+    → read_as text ≡ Some x → OnOk result (texts_in (seen new) ≡ texts_in (seen old) ++ text ∷ []) → LeavesOnly moment left_since old new (IsBeforeOrAfter (texts_in (seen old)) text)
+    → IsBeforeOrAfter (texts_in (seen old)) text (seen new) → PutsOne read_as moment left_since seen old new result x
+puts_one read_as moment left_since seen old new result text x is put run now = record {
+  acknowledged = λ xs are. on_ok result put (says_one_more read_as (seen old) (seen new) text xs x is are);
+  any_moment = λ xs are. leaves moment left_since old new (IsBeforeOrAfter (texts_in (seen old)) text) _ run (before_or_after read_as (seen old) text xs x is are);
+  read = λ xs are. before_or_after read_as (seen old) text xs x is are (seen new) now;
+}
+
+-- where nothing was done, only what might have been left before
+pub started : {D : Type 0} (moment : D → ℕ) (left_since : D → ℕ → List ℕ → Type 0) (file : D) (P : List ℕ → Type 0) → ((c : List ℕ) → left_since file (moment file) c → P c) → LeavesOnly moment left_since file file P
+started moment left_since file P now = record { later = omega arith; each = now; before = λ t c le left. inl left }
+
+same_some : (xs ys : List Entry) → Some xs ≡ Some ys → xs ≡ ys
+same_some xs ys e = cc
+
+-- a file of the entries, or of one more, has the line closed
+pub law_crash : (count : ℕ) (findings : List Finding) (line : ℕ) (before after : List (List Attempt)) (s : ℕ) (entries : List Entry) (e : Entry)
+    → HasIntent s line entries → OpensNot s e → is_undone findings (length before + 1) s ≡ false → (c : List ℕ) → StandsForOneMoreOrNot entries e c → IsClosedIn count findings before after line c
+law_crash count findings line before after s entries e has opens f c stands read es reads h =
+    ⊎_elim
+    (λ same. closed_with count findings line before after s read (subst (λ (ls : List Entry). HasIntent s line ls) (same_some entries read (sym same ∙ reads)) has) f es h)
+    (λ more. closed_with count findings line before after s read (subst (λ (ls : List Entry). HasIntent s line ls) (same_some (entries ++ e ∷ []) read (sym more ∙ reads)) (has_more count findings line s entries e has opens)) f es h)
+    stands
+
+-- so has one of the entries and the intent
+pub law_put : (count : ℕ) (findings : List Finding) (line : ℕ) (before after : List (List Attempt)) (s t : ℕ) (entries : List Entry)
+    → is_undone findings (length before + 1) s ≡ false → (c : List ℕ) → entries_of c ≡ Some (entries ++ Intent s line t ∷ []) → IsClosedIn count findings before after line c
+law_put count findings line before after s t entries f c stands read es reads h =
+    closed_with count findings line before after s read (entries, t, [], same_some read (entries ++ Intent s line t ∷ []) (sym reads ∙ stands), tt) f es h
+
+pub on_ok_both : {T E : Type 0} {P Q R : Type 0} (r : Result T E) → OnOk r P → OnOk r Q → (P → Q → R) → OnOk r R
+on_ok_both (Ok x) p q follows = follows p q
+on_ok_both (Err e) p q follows = tt

@@ -1,0 +1,61 @@
+-- The entries of a journal, as texts.
+use Rattle.std.specs.Prelude.{ℕ, ◌<◌, ◌^◌, nat_lt, List, ◌++◌, codes, Option, Some, None, option_and_then, if◌then◌else◌}
+use Rattle.std.specs.Fmt.{decimal}
+use Rattle.std.specs.Str.{bytes_eq}
+use Rattle.amo_decimal.specs.Numbers.{number_in}
+use Rattle.amo_run_log.specs.Numbers.{by_word, two_in, three_in, read_all}
+use Rattle.amo_run_log.specs.declared.entry.Answer.{Answer}
+use Rattle.amo_run_log.specs.declared.entry.Answer.TheVariants.{Done, Doubt, Unbegun, Untouched}
+use Rattle.amo_run_log.specs.declared.entry.Entry.{Entry}
+use Rattle.amo_run_log.specs.declared.entry.Entry.TheVariants.{Intent, Answer as Answered}
+
+-- the text of the answer to the intent of this serial number
+abbrev pub text_of_answer : ℕ → Answer → List ℕ
+text_of_answer serial (Done code time) = codes "done " ++ (decimal serial ++ (codes " " ++ (decimal code ++ (codes " " ++ decimal time))))
+text_of_answer serial Doubt = codes "doubt " ++ decimal serial
+text_of_answer serial Unbegun = codes "unbegun " ++ decimal serial
+text_of_answer serial (Untouched code) = codes "untouched " ++ (decimal serial ++ (codes " " ++ decimal code))
+
+-- the text of an entry
+abbrev pub text_of : Entry → List ℕ
+text_of (Intent serial line time) = codes "intent " ++ (decimal serial ++ (codes " " ++ (decimal line ++ (codes " " ++ decimal time))))
+text_of (Answered serial answer) = text_of_answer serial answer
+
+-- its numbers have 64 bits, and its code is at most 255
+abbrev pub FitsAnswer : ℕ → Answer → Type 0
+FitsAnswer serial (Done code time) = (serial < 2 ^ 64) × (code < 2 ^ 8) × (time < 2 ^ 64)
+FitsAnswer serial Doubt = serial < 2 ^ 64
+FitsAnswer serial Unbegun = serial < 2 ^ 64
+FitsAnswer serial (Untouched code) = (serial < 2 ^ 64) × (code < 2 ^ 8)
+
+-- the same of an entry
+abbrev pub Fits : Entry → Type 0
+Fits (Intent serial line time) = (serial < 2 ^ 64) × (line < 2 ^ 64) × (time < 2 ^ 64)
+Fits (Answered serial answer) = FitsAnswer serial answer
+
+-- a number as the code of a command
+abbrev pub code_in : ℕ → Option ℕ
+code_in number = if nat_lt 255 number then None else Some number
+
+-- the answer of this word and these numbers, and the serial number of its intent
+abbrev pub answer_of_word : List ℕ → List ℕ → Option (ℕ × Answer)
+answer_of_word word rest =
+    if bytes_eq word (codes "done") then option_and_then (λ n. option_and_then (λ code. Some (n.0, Done code n.2)) (code_in n.1)) (three_in rest)
+    else (if bytes_eq word (codes "doubt") then option_and_then (λ n. Some (n, Doubt)) (number_in rest)
+    else (if bytes_eq word (codes "unbegun") then option_and_then (λ n. Some (n, Unbegun)) (number_in rest)
+    else (if bytes_eq word (codes "untouched") then option_and_then (λ n. option_and_then (λ code. Some (n.0, Untouched code)) (code_in n.1)) (two_in rest)
+    else None)))
+
+-- the entry of this word and these numbers
+abbrev pub entry_of_word : List ℕ → List ℕ → Option Entry
+entry_of_word word rest =
+    if bytes_eq word (codes "intent") then option_and_then (λ n. Some (Intent n.0 n.1 n.2)) (three_in rest)
+    else option_and_then (λ n. Some (Answered n.0 n.1)) (answer_of_word word rest)
+
+-- what a text says
+abbrev pub entry_in : List ℕ → Option Entry
+entry_in text = by_word entry_of_word text
+
+-- what texts say, each of them an entry
+abbrev pub entries_in : List (List ℕ) → Option (List Entry)
+entries_in texts = read_all entry_in texts

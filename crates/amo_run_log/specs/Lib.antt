@@ -1,0 +1,9 @@
+pub mod Entries
+pub mod Faults
+pub mod Findings
+pub mod Grammar
+pub mod Journals
+pub mod Numbers
+pub mod Open
+pub mod Puts
+pub mod Texts

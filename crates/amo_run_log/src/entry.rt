@@ -1,0 +1,137 @@
+//! The entries of a journal, as texts.
+ghost use Rattle.std.specs.Prelude.{◌≡◌, IfOk, IfSome, IfNone, string_bytes};
+ghost use Rattle.amo_run_log.specs.Entries.{text_of, text_of_answer, Fits, FitsAnswer, code_in, answer_of_word, entry_of_word, entry_in};
+ghost use Rattle.amo_run_log.specs.declared.entry.Entry.{Entry as EntryView};
+
+use crate::numbers::{three, two};
+use crate::reading::FromText;
+use amo_decimal::number;
+use std::alloc::{AllocError, Global};
+use std::str;
+
+/// What became of an intent.
+#[derive(Clone, Copy, Debug, PartialEq, Eq)]
+pub enum Answer {
+    /// The command ended with this code, at this time in seconds since 1970.
+    Done { code: u8, time: u64 },
+    /// Nobody can know.
+    Doubt,
+    /// It was not begun.
+    Unbegun,
+    /// It ended with this code, by which it says that it did nothing.
+    Untouched { code: u8 },
+}
+
+/// An entry of a journal: an intent, or the answer to one.
+#[derive(Clone, Copy, Debug, PartialEq, Eq)]
+pub enum Entry {
+    /// The line of this number is about to be performed. The time is in seconds since 1970.
+    Intent { serial: u64, line: u64, time: u64 },
+    /// What became of the intent of this serial number.
+    Answer { serial: u64, answer: Answer },
+}
+
+impl Entry {
+    /// The text of the entry, without an end.
+    pub fn print(&self, alloc: Global) -> Result<String, AllocError>
+        ensures text { IfOk result (λ text. string_bytes text ≡ text_of self.now) }
+        ensures fits { Fits self.now }
+    {
+        match *self {
+            Entry::Intent { serial, line, time } => format!(in alloc;
+                "intent {serial} {line} {time}"
+            ),
+            Entry::Answer { serial, answer } => print_answer(alloc, serial, answer),
+        }
+    }
+
+    /// The entry that these bytes say, if they say one.
+    pub fn read(bytes: &[u8]) -> Option<Entry>
+        ensures exact { result ≡ entry_in bytes.now }
+        // What is read was printed so.
+        ensures found { IfSome result (λ entry. text_of entry ≡ bytes.now) }
+        // What was printed is read.
+        ensures none { IfNone result ((entry : EntryView) → Fits entry → text_of entry ≡ bytes.now → ⊥) }
+    {
+        entry_of_bytes(bytes)
+    }
+}
+
+impl FromText for Entry {
+    ghost said = { entry_in };
+
+    fn from_text(text: &[u8]) -> Option<Entry> {
+        Entry::read(text)
+    }
+}
+
+fn print_answer(alloc: Global, serial: u64, answer: Answer) -> Result<String, AllocError>
+    ensures text { IfOk result (λ text. string_bytes text ≡ text_of_answer serial answer) }
+    ensures fits { FitsAnswer serial answer }
+{
+    match answer {
+        Answer::Done { code, time } => format!(in alloc; "done {serial} {code} {time}"),
+        Answer::Doubt => format!(in alloc; "doubt {serial}"),
+        Answer::Unbegun => format!(in alloc; "unbegun {serial}"),
+        Answer::Untouched { code } => format!(in alloc; "untouched {serial} {code}"),
+    }
+}
+
+/// What the bytes say. What is no text is no entry.
+#[tactic(auto, using(crate::proofs::EntryTexts::no_text))]
+fn entry_of_bytes(bytes: &[u8]) -> Option<Entry>
+    ensures { result ≡ entry_in bytes.now }
+{
+    match str::from_utf8(bytes) {
+        Ok(text) => entry_of(text),
+        Err(_) => None,
+    }
+}
+
+fn entry_of(text: &str) -> Option<Entry>
+    ensures { result ≡ entry_in text.now }
+{
+    let (word, rest) = text.split_once(' ')?;
+    entry_of_word(word, rest)
+}
+
+fn entry_of_word(word: &str, rest: &str) -> Option<Entry>
+    ensures { result ≡ entry_of_word word.now rest.now }
+{
+    if word == "intent" {
+        let (serial, line, time) = three(rest)?;
+        return Some(Entry::Intent { serial, line, time });
+    }
+    let (serial, answer) = answer_of_word(word, rest)?;
+    Some(Entry::Answer { serial, answer })
+}
+
+fn answer_of_word(word: &str, rest: &str) -> Option<(u64, Answer)>
+    ensures { result ≡ answer_of_word word.now rest.now }
+{
+    match word {
+        "done" => {
+            let (serial, code, time) = three(rest)?;
+            let code = code_of(code)?;
+            Some((serial, Answer::Done { code, time }))
+        }
+        "doubt" => Some((number(rest)?, Answer::Doubt)),
+        "unbegun" => Some((number(rest)?, Answer::Unbegun)),
+        "untouched" => {
+            let (serial, code) = two(rest)?;
+            let code = code_of(code)?;
+            Some((serial, Answer::Untouched { code }))
+        }
+        _ => None,
+    }
+}
+
+/// The number as the code of a command. None above 255 is one.
+pub fn code_of(number: u64) -> Option<u8>
+    ensures { result ≡ code_in number }
+{
+    if number > 255 {
+        return None;
+    }
+    Some(number as u8)
+}

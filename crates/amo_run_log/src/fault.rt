@@ -1,0 +1,30 @@
+//! Why what a file says is refused.
+ghost use Rattle.std.specs.Prelude.{◌≡◌};
+ghost use Rattle.amo_run_log.specs.declared.fault.Fault.TheVariants.{Memory};
+
+use std::alloc::{AllocError, AllocFailed};
+
+/// Why what a file says is refused.
+#[derive(Clone, Copy, Debug, PartialEq, Eq)]
+pub enum Fault {
+    /// There was no memory left: nothing is said of the file.
+    Memory,
+    /// The text of this number, from 1, says nothing that may stand there.
+    Refused(usize),
+}
+
+impl From<AllocError> for Fault {
+    ghost from_gives = { λ _ e. e ≡ Memory };
+
+    fn from(_: AllocError) -> Self {
+        Fault::Memory
+    }
+}
+
+impl<T: Drop> From<AllocFailed<T>> for Fault {
+    ghost from_gives = { λ _ e. e ≡ Memory };
+
+    fn from(_: AllocFailed<T>) -> Self {
+        Fault::Memory
+    }
+}

@@ -1,0 +1,23 @@
+//! What the lines in the journals of a run mean: which lines of the jobs' file are open, with what a round is begun, and who
+//! acts as which of its workers. The theorems stand in the module `laws`.
+#![tactic(auto)]
+
+mod entry;
+mod fault;
+mod finding;
+mod journal;
+pub mod laws;
+mod numbers;
+mod open;
+mod put;
+mod reading;
+
+pub use entry::{Answer, Entry, code_of};
+pub use fault::Fault;
+pub use finding::{
+    Finding, Verdict, first_misplaced, has_finding, is_not_done, is_undone, read_findings,
+};
+pub use journal::{Attempt, journal_of, note, pending, read_entries};
+pub use numbers::{three_of_bytes, two_of_bytes};
+pub use open::{open_lines, opens, reopens};
+pub use put::{put_entry, put_finding};

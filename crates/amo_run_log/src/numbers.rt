@@ -1,0 +1,46 @@
+//! Two and three numbers in a text.
+ghost use Rattle.std.specs.Prelude.{◌≡◌};
+ghost use Rattle.amo_run_log.specs.Numbers.{two_in, three_in};
+
+use amo_decimal::number;
+use std::str;
+
+/// The three numbers that a text says, one blank between each two and nothing else. Each is read as by `number`.
+pub(crate) fn three(text: &str) -> Option<(u64, u64, u64)>
+    ensures { result ≡ three_in text.now }
+{
+    let (a, rest) = text.split_once(' ')?;
+    let a = number(a)?;
+    let (b, c) = two(rest)?;
+    Some((a, b, c))
+}
+
+/// The two numbers that a text says, one blank between them and nothing else. Each is read as by `number`.
+pub(crate) fn two(text: &str) -> Option<(u64, u64)>
+    ensures { result ≡ two_in text.now }
+{
+    let (a, b) = text.split_once(' ')?;
+    Some((number(a)?, number(b)?))
+}
+
+/// The two numbers that the bytes say.
+#[tactic(auto, using(crate::proofs::Words::two_no_text))]
+pub fn two_of_bytes(bytes: &[u8]) -> Option<(u64, u64)>
+    ensures { result ≡ two_in bytes.now }
+{
+    match str::from_utf8(bytes) {
+        Ok(text) => two(text),
+        Err(_) => None,
+    }
+}
+
+/// The three numbers that the bytes say.
+#[tactic(auto, using(crate::proofs::Words::three_no_text))]
+pub fn three_of_bytes(bytes: &[u8]) -> Option<(u64, u64, u64)>
+    ensures { result ≡ three_in bytes.now }
+{
+    match str::from_utf8(bytes) {
+        Ok(text) => three(text),
+        Err(_) => None,
+    }
+}

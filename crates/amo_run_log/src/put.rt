@@ -1,0 +1,94 @@
+//! To put an entry, or what a person found out, in the journal of a file.
+ghost use Rattle.std.specs.Prelude.{◌≡◌, ◌+◌, ◌<◌, ◌≤◌, ◌^◌, ◌++◌, [], ◌∷◌, ℕ, false, List, Some, length, OnOk, OnErr, IsErrOf};
+ghost use Rattle.amo_journal.specs.Device.{LeavesOnly};
+ghost use Rattle.amo_journal.specs.Journal.{IsSettled, MaySettle};
+ghost use Rattle.amo_run_log.specs.declared.entry.Entry.{Entry as EntryView};
+ghost use Rattle.amo_run_log.specs.declared.entry.Entry.TheVariants.{Intent};
+ghost use Rattle.amo_run_log.specs.declared.finding.Finding.{Finding as FindingView};
+ghost use Rattle.amo_run_log.specs.declared.journal.Attempt.{Attempt as AttemptView};
+ghost use Rattle.amo_run_log.specs.Entries.{text_of};
+ghost use Rattle.amo_run_log.specs.Findings.{is_undone, text_of_finding};
+ghost use Rattle.amo_run_log.specs.Open.{HasIntent, OpensNot};
+ghost use Rattle.amo_run_log.specs.Puts.{entries_of, findings_of, StandsForOneMoreOrNot, SaysOneMoreOrNot, IsClosedIn};
+
+use crate::entry::Entry;
+use crate::finding::Finding;
+use amo_journal::{Device, DeviceError, Journal, PutError};
+use std::alloc::Global;
+
+/// Adds an entry to a journal that is settled. At `Ok` it is acknowledged: from then on each crash leaves a file that has it. At
+/// an error of the device, memory too, the journal has to be settled before anything else is put: until then the entry is there
+/// or not.
+pub fn put_entry<D: Device>(
+    journal: &mut Journal<D>,
+    alloc: Global,
+    entry: Entry,
+) -> Result<(), PutError>
+    requires { IsSettled D.seen D.may_leave D.stale journal.old }
+
+    ensures settled { OnOk result (IsSettled D.seen D.may_leave D.stale journal.new) }
+    ensures again { OnErr result (MaySettle D.seen D.may_leave D.stale journal.new.device) }
+    ensures acknowledged { (entries : List EntryView) → entries_of (D.seen journal.old.device) ≡ Some entries
+        → OnOk result (entries_of (D.seen journal.new.device) ≡ Some (entries ++ entry ∷ [])) }
+
+    // A crash at any moment of the call leaves the entries from before it, with the new one or without.
+    ensures any_moment { (entries : List EntryView) → entries_of (D.seen journal.old.device) ≡ Some entries
+        → LeavesOnly D.moment D.left_since journal.old.device journal.new.device (StandsForOneMoreOrNot entries entry) }
+
+    // So does a kill.
+    ensures read { (entries : List EntryView) → entries_of (D.seen journal.old.device) ≡ Some entries
+        → StandsForOneMoreOrNot entries entry (D.seen journal.new.device) }
+
+    // Once an intent is put, each crash leaves a journal by which its line is closed, whatever the other journals hold.
+    ensures closes { (count : ℕ) (findings : List FindingView) (before after : List (List AttemptView)) (serial line time : ℕ) (entries : List EntryView)
+        → entry ≡ Intent serial line time → entries_of (D.seen journal.old.device) ≡ Some entries → is_undone findings (length before + 1) serial ≡ false
+        → OnOk result ((c : List ℕ) → D.may_leave journal.new.device c → IsClosedIn count findings before after line c) }
+
+    // It stays closed at each crash during later calls, unless what is put opens it.
+    ensures keeps_closed { (count : ℕ) (findings : List FindingView) (before after : List (List AttemptView)) (serial line : ℕ) (entries : List EntryView)
+        → entries_of (D.seen journal.old.device) ≡ Some entries → HasIntent serial line entries → OpensNot serial entry
+        → is_undone findings (length before + 1) serial ≡ false
+        → LeavesOnly D.moment D.left_since journal.old.device journal.new.device (IsClosedIn count findings before after line) }
+
+    // It doesn't give up by itself.
+    ensures failed { IsErrOf result (PutError.Device DeviceError.Failed) → D.faults journal.old.device < D.faults journal.new.device }
+    ensures too_long { IsErrOf result PutError.TooLong → (2 ^ 60 ≤ journal.old.gate + length (text_of entry)) × (journal.new ≡ journal.old) }
+{
+    let Ok(text) = entry.print(alloc) else {
+        return Err(PutError::Device(DeviceError::Memory));
+    };
+    journal.put(alloc, text.as_bytes())
+}
+
+/// Adds what a person found out to a journal of findings that is settled. At `Ok` it is acknowledged: from then on each crash
+/// leaves a file that says it. At an error of the device, memory too, the journal has to be settled before anything else is put:
+/// until then the finding is there or not. Whether it may stand there (`first_misplaced`) is not asked.
+pub fn put_finding<D: Device>(
+    journal: &mut Journal<D>,
+    alloc: Global,
+    finding: Finding,
+) -> Result<(), PutError>
+    requires { IsSettled D.seen D.may_leave D.stale journal.old }
+
+    ensures settled { OnOk result (IsSettled D.seen D.may_leave D.stale journal.new) }
+    ensures again { OnErr result (MaySettle D.seen D.may_leave D.stale journal.new.device) }
+    ensures acknowledged { (findings : List FindingView) → findings_of (D.seen journal.old.device) ≡ Some findings
+        → OnOk result (findings_of (D.seen journal.new.device) ≡ Some (findings ++ finding ∷ [])) }
+
+    // A crash at any moment of the call leaves the findings from before it, with the new one or without.
+    ensures any_moment { (findings : List FindingView) → findings_of (D.seen journal.old.device) ≡ Some findings
+        → LeavesOnly D.moment D.left_since journal.old.device journal.new.device (SaysOneMoreOrNot findings finding) }
+
+    // So does a kill.
+    ensures read { (findings : List FindingView) → findings_of (D.seen journal.old.device) ≡ Some findings
+        → SaysOneMoreOrNot findings finding (D.seen journal.new.device) }
+
+    // It doesn't give up by itself.
+    ensures failed { IsErrOf result (PutError.Device DeviceError.Failed) → D.faults journal.old.device < D.faults journal.new.device }
+    ensures too_long { IsErrOf result PutError.TooLong → (2 ^ 60 ≤ journal.old.gate + length (text_of_finding finding)) × (journal.new ≡ journal.old) }
+{
+    let Ok(text) = finding.print(alloc) else {
+        return Err(PutError::Device(DeviceError::Memory));
+    };
+    journal.put(alloc, text.as_bytes())
+}

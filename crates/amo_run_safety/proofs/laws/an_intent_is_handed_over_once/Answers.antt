@@ -1,0 +1,5 @@
+use Rattle.amo_run_safety.proofs.Named.{handed_once}
+use Rattle.amo_run_safety.proofs.laws.an_intent_is_handed_over_once.Goals as goal
+
+pub returns : goal.returns
+returns c = handed_once

@@ -1,0 +1,64 @@
+-- What a command of `amo_show` writes, and what it leaves.
+use Rattle.std.specs.Prelude.{◌≡◌, ℕ, List, Option, Result, Ok}
+use Rattle.std.specs.Io.KnownBytes.{Keeps}
+use Rattle.amo_plan.specs.Plan.{PlanSeen, plan_of}
+use Rattle.amo_plan.specs.declared.fault.PlanFault.{PlanFault}
+use Rattle.amo_render.specs.declared.writing.ReplayFault.{ReplayFault}
+use Rattle.amo_render.specs.declared.writing.ReplayFault.TheVariants as replay
+use Rattle.amo_render.specs.Written.{Writes, Refuses}
+use Rattle.amo_render.specs.OfBytes.{WritesOf, RefusesOf}
+use Rattle.amo_explain.specs.Heading.{BeginsWith, explanation_head}
+use Rattle.amo_judge.specs.Judgement.{judgement}
+use Rattle.amo_show_commands.specs.Shown.{text_of}
+use Rattle.amo_worst_case.specs.Answer.{worst_of}
+use Rattle.amo_state_space.specs.Answer.{IsAllOfBytes, AreNoPlan}
+use Rattle.amo_cli.specs.Statuses.{Left}
+use Rattle.amo_show_commands.specs.declared.told.Told.{Told}
+use Rattle.amo_show_commands.specs.declared.told.Told.TheVariants.{Explanation, Judgement}
+use Rattle.amo_show_commands.specs.declared.show.Show.{Show}
+use Rattle.amo_show_commands.specs.declared.show.Show.TheVariants.{Run, Explain, Judge, Worst, All}
+
+-- the text begins with the line `taken` where the bytes are a plan, and with the line of their fault where they are none
+abbrev pub Explains : List ℕ → List ℕ → Type 0
+Explains bytes text = BeginsWith (explanation_head (plan_of bytes)) text
+
+-- the text is what the judge says of the history that the bytes are
+abbrev pub Judges : List ℕ → List ℕ → Type 0
+Judges bytes text = text ≡ judgement bytes
+
+-- the text is what is told of these bytes
+abbrev pub IsTold : Told → List ℕ → List ℕ → Type 0
+IsTold Explanation = Explains
+IsTold Judgement = Judges
+
+-- the text with the worst schedule; each plan has it, or the line that says why there is none
+abbrev pub worst_text_of : PlanSeen → Result (List ℕ) PlanFault
+worst_text_of plan = Ok (worst_of plan)
+
+-- the text that is wanted of a source with these bytes was written, and nothing else
+abbrev pub writes : Show → Left
+writes (Run shown) = Writes (text_of shown)
+writes Explain = WritesOf (IsTold Explanation)
+writes Judge = WritesOf (IsTold Judgement)
+writes Worst = Writes worst_text_of
+writes All = WritesOf IsAllOfBytes
+
+-- what is left where it was not written whole; to explain and to judge no bytes are a fault, but where they are too many
+abbrev pub refuses : Show → ReplayFault → Left
+refuses (Run shown) fault = Refuses (text_of shown) fault
+refuses Explain fault = RefusesOf (IsTold Explanation) (λ _ _. ⊥) fault
+refuses Judge fault = RefusesOf (IsTold Judgement) (λ _ _. ⊥) fault
+refuses Worst fault = Refuses worst_text_of fault
+refuses All fault = RefusesOf IsAllOfBytes AreNoPlan fault
+
+-- no thread is ever started
+abbrev pub others : Show → Left
+others show known old new = ⊥
+
+-- where the plan was refused nothing was written
+pub plan_keeps : (show : Show) (f : PlanFault) (known old new : Option (List ℕ)) → refuses show (replay.Plan f) known old new → Keeps old new
+plan_keeps (Run shown) f known old new h = h.2
+plan_keeps Explain f known old new h = h.1
+plan_keeps Judge f known old new h = h.1
+plan_keeps Worst f known old new h = h.2
+plan_keeps All f known old new h = h.1

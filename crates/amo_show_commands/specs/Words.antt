@@ -1,0 +1,25 @@
+-- Which words are a command.
+use Rattle.std.specs.Prelude.{ℕ, List, [], ◌∷◌, Option, Some, None, codes, drop, if◌then◌else◌}
+use Rattle.std.specs.Str.{bytes_eq}
+use Rattle.amo_show_commands.specs.declared.shown.Shown.TheVariants.{Trace, Picture}
+use Rattle.amo_show_commands.specs.declared.show.Show.{Show}
+use Rattle.amo_show_commands.specs.declared.show.Show.TheVariants.{Run, Explain, Judge, Worst, All}
+
+-- what one word asks for
+abbrev pub command_asked : List ℕ → Option Show
+command_asked word =
+    if bytes_eq word (codes "trace") then Some (Run Trace) else
+    if bytes_eq word (codes "picture") then Some (Run Picture) else
+    if bytes_eq word (codes "explain") then Some Explain else
+    if bytes_eq word (codes "judge") then Some Judge else
+    if bytes_eq word (codes "worst") then Some Worst else
+    if bytes_eq word (codes "all") then Some All else None
+
+-- what the words after the program's name ask for, or None where they are no command: it is just one word
+abbrev pub asked : List (List ℕ) → Option Show
+asked (word ∷ []) = command_asked word
+asked words = None
+
+-- what all words that the program is given ask for, its own name first
+abbrev pub asked_after_name : List (List ℕ) → Option Show
+asked_after_name words = asked (drop 1 words)

@@ -1,0 +1,28 @@
+//! The texts of whatever bytes are read.
+use amo_explain::explanation;
+use amo_judge::judgement;
+use amo_render::{BytesText, ReplayFault};
+use std::alloc::Global;
+
+/// What is told of bytes, whatever they are.
+pub(crate) enum Told {
+    /// What a plan asks for, or what is wrong with it.
+    Explanation,
+    /// What the judge says of a history.
+    Judgement,
+}
+
+impl BytesText for Told {
+    ghost use Rattle.amo_show_commands.specs.Shows.{IsTold};
+
+    ghost is_of = { IsTold };
+
+    ghost is_refused = { λ _ _ _. ⊥ };
+
+    fn make(&self, alloc: Global, bytes: &[u8]) -> Result<String, ReplayFault> {
+        match self {
+            Told::Explanation => Ok(explanation(alloc, bytes)?),
+            Told::Judgement => Ok(judgement(alloc, bytes)?),
+        }
+    }
+}

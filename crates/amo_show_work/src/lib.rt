@@ -1,8 +1,0 @@
-//! All that the program `amo_show` does, over any source and any two sinks: which words are a command, and what each command
-//! writes of the plan or the history that is read.
-#![tactic(auto)]
-
-mod show;
-mod told;
-
-pub use show::Show;

@@ -1,0 +1,82 @@
+//! What a crash may leave of an image, call by call.
+ghost use Rattle.std.specs.Prelude.{◌≡◌, ◌<◌, ℕ, Some, length, slice_get, IfOk};
+ghost use Rattle.amo_journal.specs.Device.{Cut, Torn};
+ghost use Rattle.amo_sim_disk.specs.Replay.{OutcomeIn, Story, noted, read_in};
+
+use crate::call::{Call, written_over};
+use std::alloc::{AllocError, Global};
+
+/// What a crash after the call may leave, where these bytes were read before it and a crash might have left this image.
+pub(crate) fn image_of(
+    alloc: Global,
+    call: &Call,
+    read: &[u8],
+    image: &[u8],
+    came: &[u8],
+) -> Result<Vec<u8>, AllocError>
+    ensures { IfOk result (λ after. (story : Story) → read_in story ≡ read.now → OutcomeIn story image.now
+        → OutcomeIn (noted call.now story) after.items) }
+{
+    let next = call.read_after(alloc, read)?;
+    match call {
+        Call::Write { at, bytes } => torn(alloc, *at, bytes.len(), &next, image, came),
+        Call::FailedWrite { at, bytes, .. } => torn(alloc, *at, bytes.len(), &next, image, came),
+        Call::Cut { len } => cut_short(alloc, *len, image, came.len()),
+        Call::FailedCut { len } => cut_short(alloc, *len, image, came.len()),
+        Call::Sync => Ok(next),
+        Call::Read | Call::FailedRead | Call::FailedSync => image.to_vec(alloc),
+    }
+}
+
+/// What a write of so many bytes may leave of an image, where this is read after it and these bytes came.
+fn torn(
+    alloc: Global,
+    at: usize,
+    len: usize,
+    read: &[u8],
+    image: &[u8],
+    came: &[u8],
+) -> Result<Vec<u8>, AllocError>
+    ensures { IfOk result (λ after. Torn at len read.now image.now after.items) }
+{
+    if at > image.len() {
+        return image.to_vec(alloc);
+    }
+    let came = &came[..came.len().min(len)];
+    let reads = &read[at.min(read.len())..];
+    let bytes = came_over(alloc, came, &image[at..], reads)?;
+    written_over(alloc, image, at, &bytes)
+}
+
+/// The bytes that came, save that one stays that stood there as it is read.
+fn came_over(alloc: Global, came: &[u8], stood: &[u8], reads: &[u8]) -> Result<Vec<u8>, AllocError>
+    ensures count { IfOk result (λ bytes. length bytes.items ≡ length came.now) }
+    ensures stays { IfOk result (λ bytes. (i b : ℕ) → i < length came.now → slice_get stood.now i ≡ Some b
+        → slice_get reads.now i ≡ Some b → slice_get bytes.items i ≡ Some b) }
+{
+    let mut bytes = Vec::new(alloc);
+    for (i, byte) in came.iter().enumerate() {
+        bytes.push(byte_over(*byte, stood.get(i).copied(), reads.get(i).copied()))?;
+    }
+    Ok(bytes)
+}
+
+/// The byte that came, or the one that stood there where it is read.
+fn byte_over(came: u8, stood: Option<u8>, read: Option<u8>) -> u8
+    ensures { (b : ℕ) → stood ≡ Some b → read ≡ Some b → result ≡ b }
+{
+    match (stood, read) {
+        (Some(stands), Some(reads)) if stands == reads => stands,
+        _ => came,
+    }
+}
+
+/// The image cut to a length, but for so many bytes behind it.
+fn cut_short(alloc: Global, len: usize, image: &[u8], behind: usize) -> Result<Vec<u8>, AllocError>
+    ensures { IfOk result (λ after. Cut len image.now after.items) }
+{
+    if image.len() <= len {
+        return image.to_vec(alloc);
+    }
+    image[..len + behind.min(image.len() - len)].to_vec(alloc)
+}

@@ -1,8 +1,0 @@
-use Rattle.std.proofs.Common.{Vec, Global, map}
-use Rattle.amo_ledger.specs.declared.journal.Attempt.{Attempt}
-use Rattle.amo_standing.proofs.Taken.{taken}
-use Rattle.amo_standing.proofs.answering.may_answer.Goals as goal
-
-pub returns-clause-taken : goal.returns-clause-taken
-returns-clause-taken c =
-    taken c.args.log.now.findings.now (map (λ (v : Vec Attempt Global). v.items) c.args.log.now.journals.now) c.args.log.now.finals.now c.args.worker c.args.serial c.args.line c.args.verdict c.checked.result c.checked.ensures

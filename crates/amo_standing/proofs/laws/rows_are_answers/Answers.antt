@@ -1,5 +1,0 @@
-use Rattle.amo_standing.proofs.SaidTexts.{row_is_answer}
-use Rattle.amo_standing.proofs.laws.rows_are_answers.Goals as goal
-
-pub returns : goal.returns
-returns c kind line s text v closed of_kind = row_is_answer kind line s text v closed of_kind

@@ -1,6 +1,0 @@
-use Rattle.std.proofs.Common.{◌≡◌, ◌++◌, false, drop}
-use Rattle.amo_standing.specs.Json.{json_numbers}
-use Rattle.amo_standing.proofs.objects.push_numbers.Given as goal
-
-abbrev pub invariant-loop-number : goal.invariant-loop-number
-invariant-loop-number l = l.text.items ++ json_numbers l.later (drop l.number-index l.numbers) ≡ l.fn.text.items ++ json_numbers false l.numbers

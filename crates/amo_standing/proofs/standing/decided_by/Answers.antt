@@ -1,6 +1,0 @@
-use Rattle.amo_standing.proofs.Noting.{noted}
-use Rattle.amo_standing.proofs.standing.decided_by.Goals as goal
-
-pub loop-i-preserved : goal.loop-i-preserved
-loop-i-preserved c =
-    noted c.args.log.now.findings.now c.args.log.now.finals.now c.args.worker c.args.attempts.now c.loop-i.i c.args.line _ c.loop-i.standing _ _ c.loop-i-test.true c.loop-i.invariant c.decided_with-standing.ensures

@@ -1,0 +1,9 @@
+use Rattle.std.proofs.Common.{◌++◌, ap, ◌∙◌}
+use Rattle.amo_status.proofs.RowSteps.{numbers_more}
+use Rattle.amo_status.proofs.objects.push_numbers.Goals as goal
+
+pub loop-number-preserved : goal.loop-number-preserved
+loop-number-preserved c =
+    numbers_more c.args.numbers.now c.loop-number.number-index _ c.loop-number.later c.loop-number.text.items c.push_comma.new.text.items c.extend_from_slice.new.self.items _
+    c.loop-number-test.true c.loop-number.invariant c.in_ok-push_comma.ensures
+    (c.in_ok-extend_from_slice.ensures.items ∙ ap (λ w. c.push_comma.new.text.items ++ w) (c.as_bytes.ensures.value ∙ c.in_ok-word.ensures.ok))

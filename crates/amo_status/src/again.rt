@@ -1,0 +1,51 @@
+//! The intents that did nothing, to be tried again.
+ghost use Rattle.std.specs.Prelude.{◌≡◌, ◌++◌, map, IfOk, OnOk};
+ghost use Rattle.amo_status.specs.Answers.{is_idle, untouched_in, untouched_of};
+
+use crate::state::Intent;
+use amo_run_log::{Answer, Attempt, Finding, has_finding};
+use std::alloc::{AllocError, Global};
+
+/// The intents that are answered untouched and that no person answered, in the order of the journals: who wants their lines tried
+/// again answers each of them not done.
+pub fn untouched(
+    alloc: Global,
+    findings: &[Finding],
+    journals: &[Vec<Attempt>],
+) -> Result<Vec<Intent>, AllocError>
+    ensures { IfOk result (λ found. found.items ≡ untouched_of findings.now 1 (map (λ journal. journal.items) journals.now)) }
+{
+    let mut found = Vec::new(alloc);
+    for (p, journal) in journals.iter().enumerate() {
+        push_untouched(&mut found, findings, p as u64 + 1, journal)?;
+    }
+    Ok(found)
+}
+
+/// Adds those of this journal.
+fn push_untouched(
+    found: &mut Vec<Intent>,
+    findings: &[Finding],
+    worker: u64,
+    attempts: &[Attempt],
+) -> Result<(), AllocError>
+    ensures { OnOk result (found.new.items ≡ found.old.items ++ untouched_in findings.now worker 1 attempts.now) }
+{
+    for (i, attempt) in attempts.iter().enumerate() {
+        let serial = i as u64 + 1;
+        if is_idle(attempt.answer) && !has_finding(findings, worker, serial) {
+            found.push(Intent { worker, serial })?;
+        }
+    }
+    Ok(())
+}
+
+/// Whether it did nothing.
+fn is_idle(answer: Option<Answer>) -> bool
+    ensures { result ≡ is_idle answer }
+{
+    match answer {
+        Some(Answer::Untouched { .. }) => true,
+        Some(Answer::Done { .. } | Answer::Doubt | Answer::Unbegun) | None => false,
+    }
+}

@@ -1,0 +1,11 @@
+pub mod Elements
+pub mod Wording
+pub mod Marks
+pub mod Rows
+pub mod Frame
+pub mod Feet
+pub mod Scale
+pub mod Pieces
+pub mod Band
+pub mod Jobs
+pub mod Picture

@@ -1,0 +1,17 @@
+//! What a picture is drawn of.
+use amo_plan::Plan;
+use amo_trace::Transition;
+use amo_world::World;
+
+/// What a picture is drawn of.
+#[derive(Clone, Copy)]
+pub(crate) struct Scene<'a> {
+    /// The plan.
+    pub(crate) plan: &'a Plan,
+    /// The world to which its moves lead.
+    pub(crate) world: &'a World,
+    /// The jobs that nobody has claimed in it.
+    pub(crate) unclaimed: &'a [u32],
+    /// The transitions that change something.
+    pub(crate) rows: &'a [Transition],
+}

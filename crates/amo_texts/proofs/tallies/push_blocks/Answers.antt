@@ -1,7 +1,0 @@
-use Rattle.std.proofs.Common.{append_assoc}
-use Rattle.amo_texts.specs.Tallies.{blocks_words}
-use Rattle.amo_texts.proofs.tallies.push_blocks.Goals as goal
-
-pub returns : goal.returns
-unfolding blocks_words
-returns c = simp append_assoc c.write.ensures.bytes

@@ -1,8 +1,0 @@
-use Rattle.std.proofs.Common.{◌≡◌, ◌++◌, drop}
-use Rattle.std.specs.List.{filter}
-use Rattle.amo_trace.specs.Rows.{acts}
-use Rattle.amo_trace.proofs.picturing.rows_of.Given as goal
-
--- the rows so far and those of the transitions to come are all rows
-abbrev pub invariant-loop-transition : goal.invariant-loop-transition
-invariant-loop-transition l = l.rows.items ++ filter (λ s. acts s.act) (drop l.transition-index l.transitions) ≡ filter (λ s. acts s.act) l.transitions

@@ -1,7 +1,0 @@
-use Rattle.std.proofs.Common.{◌≡◌, ◌++◌, string_bytes}
-use Rattle.amo_trace.specs.Rows.{lane_heads}
-use Rattle.amo_trace.proofs.rows.push_lane_heads.Given as goal
-
--- the heads of the workers so far
-abbrev pub invariant-loop-before : goal.invariant-loop-before
-invariant-loop-before l = string_bytes l.out ≡ string_bytes l.fn.out ++ lane_heads l.rows l.before

@@ -1,6 +1,0 @@
-use Rattle.std.proofs.Common.{sym, ◌∙◌}
-use Rattle.amo_kk.proofs.Counts.{unclaimed_is}
-use Rattle.amo_trace.proofs.unclaimed.is_unclaimed.Goals as goal
-
-pub returns : goal.returns
-returns c = c.is_unclaimed.ensures ∙ sym (unclaimed_is c.args.world.now.givens c.args.world.now.world.history c.args.job c.requires)

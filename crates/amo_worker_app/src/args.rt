@@ -1,0 +1,380 @@
+//! The command line: its commands, options and help.
+ghost use Rattle.std.specs.Prelude.{◌≤◌, IfOk};
+
+use crate::remote::ByLines;
+use amo_decimal::number;
+use amo_givens::{MAX_BETA, MAX_JOBS, MAX_WORKERS};
+use amo_run_dir::{Jobs, Setting, is_id};
+use amo_status::State;
+use clap::error::ErrorKind;
+use clap::{Arg, ArgAction, ArgMatches, Command, Error};
+use std::alloc::{AllocError, Global};
+
+/// How lines are printed.
+#[derive(Clone, Copy)]
+pub(crate) enum Form {
+    Text,
+    Json,
+    Lines(State),
+}
+
+/// A command, apart from the run's folder.
+#[derive(Clone, Copy)]
+pub(crate) enum Request<'a> {
+    /// Checks that workers may begin, and makes the run's folder if it is missing. With `true` it
+    /// is made under its own name.
+    Door(Jobs<'a>, bool),
+    /// Runs this worker.
+    Work(Jobs<'a>, u64),
+    /// Runs a worker whose runner keeps words and journal too.
+    Lines(ByLines),
+    /// Prints how all lines stand.
+    Status(Form),
+    /// Prints the doubts that are final.
+    Doubts(Form),
+    /// Takes an answer: attempt, line, text and verdict.
+    Answer(&'a str, &'a str, &'a str, &'a str),
+    /// Takes the answers of a file.
+    AnswerFrom(&'a str),
+    /// Opens untouched lines again.
+    Again,
+}
+
+/// Why a command line is no request.
+#[derive(Drop)]
+pub(crate) enum Misuse {
+    Memory,
+    /// The command line has no such command or option, or asks for help.
+    Words(Error),
+    /// The argument of this name must be a whole number from the first to the second.
+    Number(&'static str, u64, u64),
+    /// The argument of this name must be this.
+    Word(&'static str, &'static str),
+}
+
+impl From<AllocError> for Misuse {
+    fn from(_: AllocError) -> Self {
+        Misuse::Memory
+    }
+}
+
+impl From<Error> for Misuse {
+    fn from(error: Error) -> Self {
+        if error.kind() == ErrorKind::OutOfMemory {
+            Misuse::Memory
+        } else {
+            Misuse::Words(error)
+        }
+    }
+}
+
+const BOOT: &str = "/proc/sys/kernel/random/boot_id";
+
+const EXAMPLES: &str = "Examples:
+  amo_worker door tonight.run --workers 2 tonight.txt
+  amo_worker status tonight.run";
+
+/// Returns an argument that must be given.
+fn required<'a>(alloc: Global, id: &'a str, help: &'a str) -> Arg<'a> {
+    Arg::new(alloc, id).required(true).help(help)
+}
+
+/// Returns an option that takes a value.
+fn valued<'a>(alloc: Global, name: &'a str, value: &'a str, help: &'a str) -> Arg<'a> {
+    Arg::new(alloc, name)
+        .long(name)
+        .value_name(value)
+        .help(help)
+}
+
+/// Returns a subcommand over a run's folder.
+fn over_run<'a>(alloc: Global, name: &'a str, about: &'a str) -> Result<Command<'a>, AllocError> {
+    let kind = valued(
+        alloc,
+        "file-system",
+        "TYPE",
+        "also accept this file system type; a power cut empties tmpfs (default: ext2-4, xfs, btrfs, f2fs, zfs)",
+    );
+    let id = valued(
+        alloc,
+        "id",
+        "ID",
+        "refuse a folder whose id isn't this one, 32 hexadecimal digits (default: any id)",
+    );
+    let boot = valued(
+        alloc,
+        "boot-id",
+        "FILE",
+        "for tests: read the boot id from this file",
+    );
+    Command::new(alloc, name)
+        .about(about)
+        .arg(required(alloc, "RUN", "the folder of the run"))?
+        .arg(kind)?
+        .arg(id)?
+        .arg(boot.default_value(BOOT))
+}
+
+/// Adds the arguments of a subcommand over the run's jobs.
+fn over_jobs<'a>(alloc: Global, command: Command<'a>) -> Result<Command<'a>, AllocError> {
+    let workers = valued(
+        alloc,
+        "workers",
+        "M",
+        "the number of workers, 1 to 16 (must be given)",
+    );
+    let beta = valued(
+        alloc,
+        "beta",
+        "B",
+        "advanced, leave it: the threshold, 1 to 65535; at least the workers of a round",
+    );
+    command
+        .arg(workers.required(true))?
+        .arg(beta.default_value("1"))?
+        .arg(required(
+            alloc,
+            "JOBS",
+            "the list: a text file in which each line is a job",
+        ))
+}
+
+/// Returns an option that takes no value.
+fn flag<'a>(alloc: Global, name: &'a str, help: &'a str) -> Arg<'a> {
+    Arg::new(alloc, name)
+        .long(name)
+        .action(ArgAction::SetTrue)
+        .help(help)
+}
+
+fn door<'a>(alloc: Global) -> Result<Command<'a>, AllocError> {
+    let about = "Checks that workers may begin in RUN, and makes the run there if there is none";
+    let into = flag(
+        alloc,
+        "into",
+        "make RUN under its own name; refused if it has an id (default: make RUN.new-X, then rename that)",
+    );
+    over_jobs(alloc, over_run(alloc, "door", about)?.arg(into)?)
+}
+
+fn working<'a>(alloc: Global) -> Result<Command<'a>, AllocError> {
+    let about = "Runs worker P; its runner is on standard input and output";
+    let command = over_run(alloc, "work", about)?;
+    let worker = required(alloc, "P", "the number of the worker, 1 to M");
+    over_jobs(alloc, command.arg(worker)?)
+}
+
+fn speaking<'a>(alloc: Global) -> Result<Command<'a>, AllocError> {
+    let about =
+        "Runs worker P of a round of N jobs; its runner keeps the words and the journal too";
+    let command = Command::new(alloc, "lines").about(about);
+    let command = command.arg(required(alloc, "P", "the number of the worker, 1 to WORKERS"))?;
+    let command = command.arg(required(alloc, "WORKERS", "the number of workers, 1 to 16"))?;
+    let command = command.arg(required(alloc, "BETA", "the threshold, WORKERS to 65535"))?;
+    command.arg(required(alloc, "N", "the number of jobs, 0 to 4096"))
+}
+
+fn doubting<'a>(alloc: Global) -> Result<Command<'a>, AllocError> {
+    let command = over_run(alloc, "doubts", "Prints the doubts that are final")?;
+    command.arg(flag(alloc, "json", "print JSON (default: text)"))
+}
+
+fn trying_again<'a>(alloc: Global) -> Result<Command<'a>, AllocError> {
+    let about = "Opens each line again whose command reported that it did nothing";
+    over_run(alloc, "again", about)
+}
+
+fn showing<'a>(alloc: Global) -> Result<Command<'a>, AllocError> {
+    let lines = valued(
+        alloc,
+        "lines",
+        "KIND",
+        "print only failed, doubt, untouched, running or open lines, for `answer --from` (default: all)",
+    );
+    over_run(alloc, "status", "Prints how all lines stand")?
+        .arg(flag(alloc, "json", "print JSON (default: text)"))?
+        .arg(lines.conflicts_with("json")?)
+}
+
+fn answering<'a>(alloc: Global) -> Result<Command<'a>, AllocError> {
+    let about = "Records what you found out about an attempt";
+    let command = with_answer(alloc, over_run(alloc, "answer", about)?)?;
+    let sheet = valued(
+        alloc,
+        "from",
+        "FILE",
+        "take the answers of this file: P.S, LINE, TEXT and VERDICT a line, with tabs (default: the arguments)",
+    );
+    command.arg(sheet.conflicts_with("INTENT")?)
+}
+
+/// Adds the arguments of one answer.
+fn with_answer<'a>(alloc: Global, command: Command<'a>) -> Result<Command<'a>, AllocError> {
+    let intent = Arg::new(alloc, "INTENT").help("the attempt, P.S, as `doubts` prints it");
+    let line = Arg::new(alloc, "LINE").help("the number of its line");
+    let text = Arg::new(alloc, "TEXT").help("the text of that line");
+    let verdict = Arg::new(alloc, "VERDICT").help("done or not-done");
+    command.arg(intent)?.arg(line)?.arg(text)?.arg(verdict)
+}
+
+/// Returns the program's command.
+fn program<'a>(alloc: Global) -> Result<Command<'a>, AllocError> {
+    let command = Command::new(alloc, "amo_worker")
+        .about("A worker of a run: it hands each line of a list to a runner, at most once")
+        .after_help(EXAMPLES)
+        .subcommand_required(true);
+    let command = with_workers(alloc, command)?;
+    let command = with_looks(alloc, command)?;
+    with_answers(alloc, command)
+}
+
+fn with_workers<'a>(alloc: Global, command: Command<'a>) -> Result<Command<'a>, AllocError> {
+    let command = command.subcommand(door(alloc)?)?;
+    let command = command.subcommand(working(alloc)?)?;
+    command.subcommand(speaking(alloc)?)
+}
+
+fn with_looks<'a>(alloc: Global, command: Command<'a>) -> Result<Command<'a>, AllocError> {
+    let command = command.subcommand(showing(alloc)?)?;
+    command.subcommand(doubting(alloc)?)
+}
+
+fn with_answers<'a>(alloc: Global, command: Command<'a>) -> Result<Command<'a>, AllocError> {
+    let command = command.subcommand(answering(alloc)?)?;
+    command.subcommand(trying_again(alloc)?)
+}
+
+/// Returns the number of the argument with this id.
+///
+/// # Errors
+/// `Number` with the argument's name if it isn't a whole number from `low` to `high`.
+fn number_at(
+    matches: &ArgMatches<'_>,
+    id: &'static str,
+    name: &'static str,
+    low: u64,
+    high: u64,
+) -> Result<u64, Misuse>
+    ensures { IfOk result (λ n. (low ≤ n) × (n ≤ high)) }
+{
+    match number(matches.get_str(id).unwrap_or("")) {
+        Some(found) if low <= found && found <= high => Ok(found),
+        _ => Err(Misuse::Number(name, low, high)),
+    }
+}
+
+/// Returns the jobs that `door` and `work` name.
+fn jobs_of<'a>(matches: &ArgMatches<'a>) -> Result<Jobs<'a>, Misuse> {
+    let workers = number_at(matches, "workers", "--workers", 1, MAX_WORKERS as u64)?;
+    let beta = number_at(matches, "beta", "--beta", 1, MAX_BETA as u64)?;
+    Ok(Jobs {
+        list: matches.get_str("JOBS").unwrap_or(""),
+        workers,
+        beta,
+    })
+}
+
+fn kind_of(word: &str) -> Result<State, Misuse> {
+    match word {
+        "failed" => Ok(State::Failed),
+        "doubt" => Ok(State::Doubt),
+        "untouched" => Ok(State::Untouched),
+        "running" => Ok(State::Running),
+        "open" => Ok(State::Open),
+        _ => Err(Misuse::Word("--lines", "failed, doubt, untouched, running or open")),
+    }
+}
+
+fn form_of(matches: &ArgMatches<'_>) -> Result<Form, Misuse> {
+    if matches.get_flag("json") {
+        return Ok(Form::Json);
+    }
+    match matches.get_str("lines") {
+        Some(word) => Ok(Form::Lines(kind_of(word)?)),
+        None => Ok(Form::Text),
+    }
+}
+
+fn answer_of<'a>(matches: &ArgMatches<'a>) -> Result<Request<'a>, Misuse> {
+    if let Some(sheet) = matches.get_str("from") {
+        return Ok(Request::AnswerFrom(sheet));
+    }
+    let intent = matches.get_str("INTENT");
+    let line = matches.get_str("LINE");
+    let text = matches.get_str("TEXT");
+    let verdict = matches.get_str("VERDICT");
+    match (intent, line, text, verdict) {
+        (Some(intent), Some(line), Some(text), Some(verdict)) => {
+            Ok(Request::Answer(intent, line, text, verdict))
+        }
+        _ => Err(Misuse::Word("answer", "INTENT LINE TEXT done|not-done, or --from FILE")),
+    }
+}
+
+/// Returns the worker that `lines` names.
+fn by_lines_of(matches: &ArgMatches<'_>) -> Result<ByLines, Misuse> {
+    let workers = number_at(matches, "WORKERS", "WORKERS", 1, MAX_WORKERS as u64)?;
+    let worker = number_at(matches, "P", "P", 1, workers)?;
+    let beta = number_at(matches, "BETA", "BETA", workers, MAX_BETA as u64)?;
+    let jobs = number_at(matches, "N", "N", 0, MAX_JOBS as u64)?;
+    Ok(ByLines {
+        jobs,
+        workers,
+        beta,
+        worker,
+    })
+}
+
+fn request_of<'a>(name: &str, matches: &ArgMatches<'a>) -> Result<Request<'a>, Misuse> {
+    match name {
+        "door" => Ok(Request::Door(jobs_of(matches)?, matches.get_flag("into"))),
+        "work" => {
+            let jobs = jobs_of(matches)?;
+            let worker = number_at(matches, "P", "P", 1, jobs.workers)?;
+            Ok(Request::Work(jobs, worker))
+        }
+        "lines" => Ok(Request::Lines(by_lines_of(matches)?)),
+        "status" => Ok(Request::Status(form_of(matches)?)),
+        "doubts" => Ok(Request::Doubts(form_of(matches)?)),
+        "answer" => answer_of(matches),
+        _ => Ok(Request::Again),
+    }
+}
+
+/// Returns the id that is named, if one is.
+fn id_of<'a>(matches: &ArgMatches<'a>) -> Result<Option<&'a str>, Misuse> {
+    match matches.get_str("id") {
+        Some(id) if !is_id(id.as_bytes()) => Err(Misuse::Word(
+            "--id",
+            "32 hexadecimal digits, none of them a capital letter",
+        )),
+        id => Ok(id),
+    }
+}
+
+/// Returns the path without the slashes at its end.
+fn without_end(path: &str) -> &str {
+    let short = path.trim_end_matches('/');
+    if short.is_empty() { path } else { short }
+}
+
+/// Parses a command line, the program's name first: the run, and what is asked for.
+///
+/// # Errors
+/// `Misuse`, also if help is asked for.
+pub(crate) fn asked<'a>(
+    alloc: Global,
+    words: &'a [&'a str],
+) -> Result<(Setting<'a>, Request<'a>), Misuse> {
+    let matches = program(alloc)?.try_get_matches_from(words)?;
+    let Some((name, inner)) = matches.subcommand() else {
+        return Err(Misuse::Word("amo_worker", "followed by a command"));
+    };
+    let setting = Setting {
+        run: without_end(inner.get_str("RUN").unwrap_or("")),
+        id: id_of(inner)?,
+        file_system: inner.get_str("file-system"),
+        boot: inner.get_str("boot-id").unwrap_or(BOOT),
+    };
+    Ok((setting, request_of(name, inner)?))
+}

@@ -1,0 +1,211 @@
+//! The whole program: its commands, its messages, and the statuses with which it ends.
+use crate::args::{Misuse, Request, asked};
+use crate::print::{show_doubts, show_status};
+use crate::remote::work_by_lines;
+use crate::resolve::{answer, answer_from, once_more};
+use crate::worker::work;
+use amo_run_dir::{Fault, Item, Setting, look_to_read, look_to_write, open, written};
+use amo_status::{Counts, Said, read_one, status_text};
+use clap::Error;
+use std::alloc::AllocError;
+use std::env::Args;
+use std::io;
+use std::io::Write;
+use std::process::ExitCode;
+use std::rt::HostRuntime;
+
+/// Carries out a command line, the program's name first. The status is 0 if it was done, 64 for a
+/// usage error, else that of the fault. A fault is a line on standard error, with object, problem
+/// and remedy.
+pub fn serve(rt: HostRuntime, words: io::Result<Args>) -> ExitCode {
+    let status = match words {
+        Ok(words) => match listed(rt, words) {
+            Ok(words) => serve_words(rt, &words),
+            Err(AllocError) => tell_fault(rt, &Fault::Memory),
+        },
+        Err(_) => tell_fault(rt, &Fault::Memory),
+    };
+    ExitCode::from(status)
+}
+
+fn listed(rt: HostRuntime, words: Args) -> Result<Vec<String>, AllocError> {
+    let mut list = Vec::new(rt.alloc());
+    for word in words {
+        list.push(word)?;
+    }
+    Ok(list)
+}
+
+fn texts_of<'a>(rt: HostRuntime, words: &'a [String]) -> Result<Vec<&'a str>, AllocError> {
+    let mut texts = Vec::new(rt.alloc());
+    for word in words {
+        texts.push(word.as_str())?;
+    }
+    Ok(texts)
+}
+
+/// Prints a fault that is about no file, and returns its status.
+fn tell_fault(rt: HostRuntime, fault: &Fault) -> u8 {
+    let _ = eprintln!(rt; "amo_worker: {fault}");
+    fault.status()
+}
+
+/// Returns the file outside of the run's folder that a request names, if it names one: the list, or
+/// the file of answers.
+fn file_of<'a>(request: &Request<'a>) -> &'a str {
+    match request {
+        Request::Door(jobs, _) => jobs.list,
+        Request::Work(jobs, _) => jobs.list,
+        Request::AnswerFrom(sheet) => *sheet,
+        _ => "",
+    }
+}
+
+/// Prints a fault with the path that it is about, and returns its status.
+fn tell_fault_of(rt: HostRuntime, setting: &Setting<'_>, file: &str, fault: &Fault) -> u8 {
+    let (run, boot) = (setting.run, setting.boot);
+    match fault.item() {
+        Some(item) if !run.is_empty() => match item {
+            Item::Run => {
+                let _ = eprintln!(rt; "amo_worker: folder `{run}`: {fault}");
+            }
+            Item::List => {
+                let _ = eprintln!(rt; "amo_worker: list `{file}`: {fault}");
+            }
+            Item::Sheet => {
+                let _ = eprintln!(rt; "amo_worker: answers `{file}`: {fault}");
+            }
+            Item::Boot => {
+                let _ = eprintln!(rt; "amo_worker: boot id `{boot}`: {fault}");
+            }
+            _ if item.is_in_run() => {
+                let _ = eprintln!(rt; "amo_worker: `{run}/{item}`: {fault}");
+            }
+            Item::Output => {
+                let _ = eprintln!(rt; "amo_worker: {item}: {fault}");
+            }
+            _ => {
+                let _ = eprintln!(rt; "amo_worker: `{item}`: {fault}");
+            }
+        },
+        _ => {
+            let _ = eprintln!(rt; "amo_worker: {fault}");
+        }
+    }
+    fault.status()
+}
+
+fn serve_words(rt: HostRuntime, words: &[String]) -> u8 {
+    let Ok(texts) = texts_of(rt, words) else {
+        return tell_fault(rt, &Fault::Memory);
+    };
+    match asked(rt.alloc(), &texts) {
+        Ok((setting, request)) => {
+            let file = file_of(&request);
+            match done(rt, &setting, request) {
+                Ok(()) => 0,
+                Err(fault) => tell_fault_of(rt, &setting, file, &fault),
+            }
+        }
+        Err(misuse) => tell_misuse(rt, &misuse),
+    }
+}
+
+/// Prints why a command line is no request, or the help that it asks for, and returns the status.
+fn tell_misuse(rt: HostRuntime, misuse: &Misuse) -> u8 {
+    match misuse {
+        Misuse::Memory => return tell_fault(rt, &Fault::Memory),
+        Misuse::Words(error) => return tell_words(rt, error),
+        Misuse::Number(name, low, high) => {
+            let _ = eprintln!(rt;
+                "amo_worker: `{name}`: it must be a whole number from {low} to {high}; see amo_worker --help"
+            );
+        }
+        Misuse::Word(name, what) => {
+            let _ = eprintln!(rt; "amo_worker: `{name}`: it must be {what}; see amo_worker --help");
+        }
+    }
+    64
+}
+
+/// Prints the whole help that was asked for, or what is wrong, and returns the status.
+fn tell_words(rt: HostRuntime, error: &Error) -> u8 {
+    let mut shown = error.print(&rt);
+    if error.exit_code() != 0 {
+        return 64;
+    }
+    if shown.is_ok() {
+        shown = rt.stdout().flush();
+    }
+    match written(Item::Output, shown) {
+        Ok(()) => 0,
+        Err(fault) => {
+            let _ = eprintln!(rt; "amo_worker: {}: {fault}", Item::Output);
+            fault.status()
+        }
+    }
+}
+
+/// Does what is asked for.
+fn done(rt: HostRuntime, setting: &Setting<'_>, request: Request<'_>) -> Result<(), Fault> {
+    match request {
+        Request::Door(jobs, into) => open(rt, setting, &jobs, into),
+        Request::Work(jobs, worker) => {
+            let counts = work(rt, setting, &jobs, worker)?;
+            tell_all_done(rt, &counts)
+        }
+        Request::Lines(asked) => work_by_lines(rt, asked),
+        Request::Status(form) => {
+            let age = look_to_read(rt, setting)?;
+            show_status(rt, setting, age, form)
+        }
+        Request::Doubts(form) => {
+            let age = look_to_read(rt, setting)?;
+            show_doubts(rt, setting, age, form)
+        }
+        Request::Answer(intent, line, text, verdict) => {
+            look_to_write(rt, setting)?;
+            answer(rt, setting, said_by(rt, intent, line, text, verdict)?)
+        }
+        Request::AnswerFrom(sheet) => {
+            look_to_write(rt, setting)?;
+            answer_from(rt, setting, sheet)
+        }
+        Request::Again => {
+            look_to_write(rt, setting)?;
+            once_more(rt, setting)
+        }
+    }
+}
+
+/// Returns the answer that a command line gives.
+///
+/// # Errors
+/// `NoAnswerOf` if it can't be read.
+fn said_by(
+    rt: HostRuntime,
+    intent: &str,
+    line: &str,
+    text: &str,
+    verdict: &str,
+) -> Result<Said, Fault> {
+    let Some((intent, line, verdict)) = read_one(intent, line, verdict) else {
+        return Err(Fault::NoAnswerOf(1));
+    };
+    Ok(Said {
+        worker: intent.worker,
+        serial: intent.serial,
+        line,
+        text: text.as_bytes().to_vec(rt.alloc())?,
+        verdict,
+    })
+}
+
+/// Prints on standard error that no line is open, with the counts.
+fn tell_all_done(rt: HostRuntime, counts: &Counts) -> Result<(), Fault> {
+    let text = status_text(rt.alloc(), counts, &[], &[], &[])?;
+    let mut lines = text.as_slice().split(|b| *b == b'\n');
+    let line = std::str::from_utf8(lines.next().unwrap_or(b"")).unwrap_or("");
+    let _ = eprintln!(rt; "amo_worker: all done: {line}");
+    Ok(())
+}

@@ -1,0 +1,17 @@
+//! The program `amo_worker`: its command line, the life of a worker process, the session with its runner, and what an operator
+//! asks of a run. Start with `serve`, or with the module `worker` for the life of a worker.
+#![tactic(auto)]
+
+mod args;
+mod commands;
+mod print;
+mod remote;
+mod resolve;
+mod runner;
+mod session;
+mod snapshot;
+mod worker;
+mod worker_io;
+
+pub use amo_run_dir::{Disk, Door, Fault, Item, Later};
+pub use commands::serve;

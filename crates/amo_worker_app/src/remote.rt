@@ -1,0 +1,97 @@
+//! The life of a worker by lines: its partner, on standard input and output, has the words and the journal too.
+ghost use Rattle.std.specs.Prelude.{◌≡◌, None};
+
+use crate::runner::{Partner, shown};
+use amo_driver::{Failed, LifeEnd, Stop, Try, work};
+use amo_givens::Givens;
+use amo_protocol::{Lines, Wire, text_of};
+use amo_run_dir::Fault;
+use std::rt::HostRuntime;
+
+/// A worker by lines: of which round, and which of its workers.
+#[derive(Clone, Copy)]
+pub(crate) struct ByLines {
+    /// How many jobs the round has, up to 4096.
+    pub(crate) jobs: u64,
+    /// How many workers, 1 to 16.
+    pub(crate) workers: u64,
+    /// The threshold.
+    pub(crate) beta: u64,
+    /// The worker's number.
+    pub(crate) worker: u64,
+}
+
+/// The partner, and why a call has failed.
+#[derive(Drop)]
+struct Streams {
+    rt: HostRuntime,
+    partner: Partner,
+    fault: Option<Fault>,
+}
+
+impl Wire for Streams {
+    ghost done = { λ _. None };
+
+    fn ask(&mut self, asked: Try) -> Result<Option<Vec<u8>>, Failed> {
+        let Ok(line) = text_of(self.rt.alloc(), asked) else {
+            self.fault = Some(Fault::Memory);
+            return Err(Failed);
+        };
+        match self.partner.exchange(&line) {
+            Ok(heard) => Ok(heard),
+            Err(fault) => {
+                self.fault = Some(fault);
+                Err(Failed)
+            }
+        }
+    }
+}
+
+/// Works as this worker to the end of this process: each word that it loads or stores, each intent, each job and each note is a line
+/// to the partner. Ends well where the worker wants nothing more; every other end is a fault.
+pub(crate) fn work_by_lines(rt: HostRuntime, asked: ByLines) -> Result<(), Fault> {
+    let Ok(givens) = Givens::try_new(asked.jobs, asked.workers, asked.beta) else {
+        return Err(Fault::NoWay);
+    };
+    if asked.worker < 1 || asked.worker > givens.workers as u64 {
+        return Err(Fault::NoWay);
+    }
+    let mut lines = Lines::new(Streams {
+        rt,
+        partner: Partner::new(rt),
+        fault: None,
+    });
+    match work(rt.alloc(), givens, asked.worker as u32, 1, &mut lines) {
+        Ok(LifeEnd::Over) => Ok(()),
+        Ok(LifeEnd::Left) => Err(Fault::Left),
+        Ok(LifeEnd::Cut(_)) => Err(Fault::Closed),
+        Err(stop) => Err(fault_of(rt, stop, lines)),
+    }
+}
+
+/// What a stop comes to.
+fn fault_of(rt: HostRuntime, stop: Stop, lines: Lines<Streams>) -> Fault {
+    let Lines { wire, said } = lines;
+    let Streams { fault, .. } = wire;
+    match stop {
+        Stop::Failed => match fault {
+            Some(fault) => fault,
+            None => odd(rt, said),
+        },
+        Stop::NoMemory => Fault::Memory,
+        Stop::NoSuchNumber(word, value) => Fault::NoSuchNumber(word, value),
+        Stop::NoAnswer(_) | Stop::OtherAnswer(..) => odd(rt, said),
+        Stop::NoSerial | Stop::TooLong => Fault::NoWay,
+    }
+}
+
+/// The fault of a line that is no answer, or of none.
+fn odd(rt: HostRuntime, said: Option<Vec<u8>>) -> Fault {
+    match said {
+        Some(line) => match shown(rt, &line) {
+            Ok(text) => Fault::NoAnswer(text),
+            Err(_) => Fault::Memory,
+        },
+        None => Fault::Closed,
+    }
+}

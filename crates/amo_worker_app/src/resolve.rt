@@ -1,0 +1,161 @@
+//! To take what a person found out.
+use crate::session::now;
+use crate::snapshot::{Seen, look_behind};
+use amo_fs::FileDevice;
+use amo_journal::{DeviceError, PutError};
+use amo_run_dir::{
+    Fault, Guarded, Item, Later, Setting, Settled, check_id, check_kept, had, lock_within, settled,
+};
+use amo_run_log::{Fault as Misread, Finding, Verdict};
+use amo_status::{Refusal, Said, may_answer, read_answers, untouched};
+use std::rt::HostRuntime;
+use std::time::Duration;
+use std::{fs, thread};
+
+/// How often an answer to what may still run is tried, and how many milliseconds lie between.
+const TRIES: u32 = 20;
+
+const PAUSE: u64 = 100;
+
+/// Takes an answer of a person. It is refused where the rules of [`may_answer`] say so, or where the text isn't that of the line.
+/// One that was given so already is taken again, and nothing is written.
+pub(crate) fn answer(rt: HostRuntime, setting: &Setting<'_>, said: Said) -> Result<(), Fault> {
+    let all = vec![in rt.alloc(); said]?;
+    take_all(rt, setting, &all)
+}
+
+/// Takes the answers of a file, a line each: all of them, or none where one is refused.
+pub(crate) fn answer_from(
+    rt: HostRuntime,
+    setting: &Setting<'_>,
+    sheet: &str,
+) -> Result<(), Fault> {
+    let bytes = had(Item::Sheet, fs::read(&rt, sheet))?;
+    match read_answers(rt.alloc(), &bytes) {
+        Ok(all) => take_all(rt, setting, &all),
+        Err(Misread::Memory) => Err(Fault::Memory),
+        Err(Misread::Refused(number)) => Err(Fault::NoAnswerOf(number)),
+    }
+}
+
+/// Has each line tried once more whose intent stands untouched.
+pub(crate) fn once_more(rt: HostRuntime, setting: &Setting<'_>) -> Result<(), Fault> {
+    let answers = take_answers(rt, setting)?;
+    check_kept(rt, setting)?;
+    let seen = look_behind(rt, setting, answers.texts)?;
+    let mut findings = Vec::new(rt.alloc());
+    for intent in &untouched(rt.alloc(), &seen.books.findings, &seen.books.journals)? {
+        findings.push(Finding {
+            verdict: Verdict::NotDone,
+            worker: intent.worker,
+            serial: intent.serial,
+            time: now(rt),
+        })?;
+    }
+    put_all(rt, answers.journal, &findings)
+}
+
+/// Takes all of the answers. If one of them is to an attempt that may still run, and none is
+/// refused for another reason, all are tried again, with all locks released in between. A worker
+/// that begins holds its number before it records what became of its past attempts.
+///
+/// # Errors
+///
+/// `Later::Running` if one of the answers is to such an attempt for two seconds. Nothing is written
+/// if an answer is refused.
+fn take_all(rt: HostRuntime, setting: &Setting<'_>, all: &[Said]) -> Result<(), Fault> {
+    let mut runs = 1;
+    for _try in 0..TRIES {
+        match take_once(rt, setting, all)? {
+            None => return Ok(()),
+            Some(number) => runs = number,
+        }
+        thread::sleep(&rt, Duration::from_millis(PAUSE));
+    }
+    Err(Fault::Later(Later::Running(runs)))
+}
+
+/// Checks all of the answers, and then puts each that is new. If one is to an attempt that may
+/// still run, nothing is put. Returns the number of the first such answer.
+fn take_once(rt: HostRuntime, setting: &Setting<'_>, all: &[Said]) -> Result<Option<usize>, Fault> {
+    let answers = take_answers(rt, setting)?;
+    let mut seen = look_behind(rt, setting, answers.texts)?;
+    let mut findings = Vec::new(rt.alloc());
+    let mut runs = None;
+    for (i, said) in all.iter().enumerate() {
+        match checked(rt, &seen, said, i + 1)? {
+            Outcome::New(finding) => {
+                seen.books.findings.push(finding)?;
+                findings.push(finding)?;
+            }
+            Outcome::Given => {}
+            Outcome::Running => runs = runs.or(Some(i + 1)),
+        }
+    }
+    if runs.is_none() {
+        put_all(rt, answers.journal, &findings)?;
+    }
+    Ok(runs)
+}
+
+/// What is to be done with an answer that isn't refused.
+#[derive(Clone, Copy)]
+enum Outcome {
+    /// This is to be put.
+    New(Finding),
+    /// It was given so already.
+    Given,
+    /// It is to an attempt that may still run.
+    Running,
+}
+
+/// Checks an answer, the one of this number.
+fn checked(rt: HostRuntime, seen: &Seen, said: &Said, number: usize) -> Result<Outcome, Fault> {
+    let books = &seen.books;
+    let Some(text) = books.jobs.line(said.line) else {
+        return Err(Fault::NoAnswerOf(number));
+    };
+    if text != said.text.as_slice() {
+        return Err(Fault::NoAnswerOf(number));
+    }
+    let (worker, serial, verdict) = (said.worker, said.serial, said.verdict);
+    let log = books.log(&seen.finals);
+    let may = may_answer(&log, worker, serial, said.line, verdict);
+    match may {
+        Ok(()) => Ok(Outcome::New(Finding {
+            verdict,
+            worker,
+            serial,
+            time: now(rt),
+        })),
+        Err(Refusal::AnsweredSo) => Ok(Outcome::Given),
+        Err(Refusal::Running) => Ok(Outcome::Running),
+        Err(refusal) => Err(Fault::Answer(number, refusal)),
+    }
+}
+
+/// Takes the lock of the answers, and settles them.
+fn take_answers(rt: HostRuntime, setting: &Setting<'_>) -> Result<Guarded, Fault> {
+    let Some(lock) = lock_within(rt, setting, Item::Answers)? else {
+        return Err(Fault::Later(Later::Answering));
+    };
+    check_id(rt, setting)?;
+    settled(rt, setting, Item::Answers, lock)
+}
+
+/// Puts these findings, one after the other.
+fn put_all(
+    rt: HostRuntime,
+    journal: Settled<FileDevice>,
+    findings: &[Finding],
+) -> Result<(), Fault> {
+    let mut journal = journal;
+    for finding in findings {
+        journal = match journal.put_finding(rt.alloc(), *finding) {
+            Ok(journal) => journal,
+            Err(PutError::Device(DeviceError::Memory)) => return Err(Fault::Memory),
+            Err(_) => return Err(Fault::Journal(Item::Answers)),
+        };
+    }
+    Ok(())
+}

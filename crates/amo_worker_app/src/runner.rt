@@ -1,0 +1,73 @@
+//! The runner, which starts the commands: the worker speaks with it by standard input and output.
+use amo_driver::Reply;
+use amo_protocol::{reply_in, whole_line};
+use amo_run_dir::Fault;
+use std::alloc::AllocError;
+use std::io;
+use std::io::{BufRead, Input, Write};
+use std::rt::HostRuntime;
+
+/// The runner, and its last line.
+#[derive(Drop)]
+pub(crate) struct Partner {
+    rt: HostRuntime,
+    input: <HostRuntime as Input>::Reader,
+    /// The runner's last line, without its line feed.
+    pub(crate) said: Vec<u8>,
+}
+
+impl Partner {
+    pub(crate) fn new(rt: HostRuntime) -> Partner {
+        Partner {
+            rt,
+            input: rt.reader(),
+            said: Vec::new(rt.alloc()),
+        }
+    }
+
+    /// Writes a line to the runner, waits for its reply, and returns that without its line feed.
+    /// Returns `None` if the runner takes no line or has closed its pipe, also within a line.
+    ///
+    /// # Errors
+    /// `Memory` if the reply finds no room.
+    pub(crate) fn exchange(&mut self, line: &[u8]) -> Result<Option<Vec<u8>>, Fault> {
+        let mut out = self.rt.stdout();
+        if out.write_all(line).is_err() || out.flush().is_err() {
+            return Ok(None);
+        }
+        let mut said = Vec::new(self.rt.alloc());
+        match self.input.read_until(b'\n', &mut said) {
+            Ok(_) => Ok(whole_line(said)),
+            Err(error) if error.kind() == io::ErrorKind::OutOfMemory => Err(Fault::Memory),
+            Err(_) => Ok(None),
+        }
+    }
+
+    /// Writes a line to the runner, waits for its reply, and parses it.
+    ///
+    /// # Errors
+    /// As [`Partner::exchange`].
+    pub(crate) fn ask(&mut self, line: &[u8]) -> Result<Reply, Fault> {
+        match self.exchange(line)? {
+            Some(said) => {
+                let reply = reply_in(&said);
+                self.said = said;
+                Ok(reply)
+            }
+            None => Ok(Reply::Closed),
+        }
+    }
+
+    /// Returns the runner's last line as a text to print.
+    pub(crate) fn shown(&self) -> Result<String, AllocError> {
+        shown(self.rt, &self.said)
+    }
+}
+
+/// Returns a line as a text to print.
+pub(crate) fn shown(rt: HostRuntime, said: &[u8]) -> Result<String, AllocError> {
+    match std::str::from_utf8(said) {
+        Ok(text) => String::from_str(rt.alloc(), text),
+        Err(_) => String::from_str(rt.alloc(), "(not UTF-8)"),
+    }
+}

@@ -1,0 +1,278 @@
+//! To look at a run, as a person does: with what nobody is at any more held, so that it stays so while it is looked at.
+use amo_fs::is_at;
+use amo_givens::MAX_WORKERS;
+use amo_journal::texts_in;
+use amo_run_dir::{
+    Age, Books, Fault, Item, Pages, Setting, Tried, attempts_of, bytes_of, had, known, lock_of,
+    lock_within, path_of, settled, texts_of, try_lock_of,
+};
+use amo_run_log::pending;
+use amo_status::{Intent, Standing, standings};
+use std::alloc::{AllocError, Global};
+use std::fs::File;
+use std::rt::HostRuntime;
+
+/// What a run says, and what is held of it.
+#[derive(Drop)]
+pub(crate) struct Seen {
+    pub(crate) books: Books,
+    /// The workers whose journals others hold.
+    pub(crate) alive: Vec<u64>,
+    /// Pending intents that nobody can answer any more: their journal, their runner's lock and their command's are held here.
+    pub(crate) finals: Vec<Intent>,
+    /// The locks that are kept as long as this is.
+    held: Vec<File>,
+}
+
+/// What is held of a worker's files, and its texts.
+#[derive(Drop)]
+struct Corner {
+    texts: Vec<Vec<u8>>,
+    alive: bool,
+    /// Whether an intent is pending and nobody runs this worker, so that its commands may be looked at.
+    idle: bool,
+}
+
+impl Corner {
+    /// One of whose commands nothing can be said.
+    fn at_rest(texts: Vec<Vec<u8>>, alive: bool) -> Corner {
+        Corner {
+            texts,
+            alive,
+            idle: false,
+        }
+    }
+}
+
+/// Looks at a run: first at what persons found out, then at the journals, then at the jobs. Who looks holds the lock of what
+/// persons found out meanwhile, so that one doesn't find what another holds and take it for a worker's. Where that lock isn't got it
+/// looks all the same: it may then say of a worker that nobody runs that it is at work, and of a doubt that its command runs.
+pub(crate) fn look(rt: HostRuntime, setting: &Setting<'_>, age: Age) -> Result<Seen, Fault> {
+    let lock = among_readers(rt, setting, age)?;
+    let answers = match age {
+        Age::Now => texts_of(rt, setting, Item::Answers)?,
+        Age::Old => old_texts_of(rt, setting, Item::Answers)?,
+    };
+    let mut seen = look_through(rt, setting, age, answers)?;
+    if let Some(lock) = lock {
+        seen.held.push(lock)?;
+    }
+    Ok(seen)
+}
+
+/// Returns the lock of what persons found out, if it is got.
+fn among_readers(rt: HostRuntime, setting: &Setting<'_>, age: Age) -> Result<Option<File>, Fault> {
+    if age == Age::Now {
+        return lock_within(rt, setting, Item::Answers);
+    }
+    match try_lock_of(rt, setting, Item::Answers)? {
+        Tried::Got(lock) => Ok(Some(lock)),
+        Tried::Held | Tried::Missing => Ok(None),
+    }
+}
+
+/// Looks at a run of which it was read what persons found out.
+pub(crate) fn look_behind(
+    rt: HostRuntime,
+    setting: &Setting<'_>,
+    answers: Vec<Vec<u8>>,
+) -> Result<Seen, Fault> {
+    look_through(rt, setting, Age::Now, answers)
+}
+
+fn look_through(
+    rt: HostRuntime,
+    setting: &Setting<'_>,
+    age: Age,
+    answers: Vec<Vec<u8>>,
+) -> Result<Seen, Fault> {
+    let mut held = Vec::new(rt.alloc());
+    let mut alive = Vec::new(rt.alloc());
+    let mut idle = Vec::new(rt.alloc());
+    let mut journals = Vec::new(rt.alloc());
+    for worker in 1..=MAX_WORKERS as u64 {
+        let corner = match age {
+            Age::Now => corner_of(rt, setting, worker, &mut held)?,
+            Age::Old => old_corner_of(rt, setting, worker, &mut held)?,
+        };
+        if corner.alive {
+            alive.push(worker)?;
+        }
+        if corner.idle {
+            idle.push(worker)?;
+        }
+        journals.push(corner.texts)?;
+    }
+    let jobs = known(rt, setting)?;
+    let books = Books::read(rt.alloc(), &Pages { answers, journals }, jobs)?;
+    let finals = finals_of(rt, setting, &books, &idle, &mut held)?;
+    Ok(Seen {
+        books,
+        alive,
+        finals,
+        held,
+    })
+}
+
+impl Seen {
+    /// How each line stands.
+    pub(crate) fn standings(&self, alloc: Global) -> Result<Vec<Standing>, AllocError> {
+        let count = self.books.jobs.count() as usize;
+        standings(alloc, &self.books.log(&self.finals), count)
+    }
+}
+
+/// Looks at a worker's journal.
+fn corner_of(
+    rt: HostRuntime,
+    setting: &Setting<'_>,
+    worker: u64,
+    held: &mut Vec<File>,
+) -> Result<Corner, Fault> {
+    let item = Item::Journal(worker);
+    let texts = texts_of(rt, setting, item)?;
+    if texts.is_empty() {
+        let alive = is_held(rt, setting, item)?;
+        return Ok(Corner::at_rest(texts, alive));
+    }
+    match lock_of(rt, setting, item)? {
+        Some(lock) => corner_behind(rt, setting, worker, lock, held),
+        None => Ok(Corner::at_rest(texts, true)),
+    }
+}
+
+/// Looks at the journal behind its lock, so that nobody is this worker. Where an intent is pending and nobody runs this worker, both
+/// locks are kept, and the journal is settled, so that what is read is on the disk.
+fn corner_behind(
+    rt: HostRuntime,
+    setting: &Setting<'_>,
+    worker: u64,
+    lock: File,
+    held: &mut Vec<File>,
+) -> Result<Corner, Fault> {
+    let item = Item::Journal(worker);
+    let texts = texts_of(rt, setting, item)?;
+    if !has_pending(rt.alloc(), item, &texts)? {
+        return Ok(Corner::at_rest(texts, false));
+    }
+    let Some(runner) = lock_of(rt, setting, Item::Runner(worker))? else {
+        return Ok(Corner::at_rest(texts, false));
+    };
+    let guarded = settled(rt, setting, item, lock)?;
+    held.push(runner)?;
+    held.push(guarded.lock)?;
+    Ok(Corner {
+        texts: guarded.texts,
+        alive: false,
+        idle: true,
+    })
+}
+
+/// Looks at a worker's journal in a folder of version 0.1.0, and writes nothing: it takes the locks
+/// of files that are there, and settles nothing.
+fn old_corner_of(
+    rt: HostRuntime,
+    setting: &Setting<'_>,
+    worker: u64,
+    held: &mut Vec<File>,
+) -> Result<Corner, Fault> {
+    let item = Item::Journal(worker);
+    let lock = try_lock_of(rt, setting, item)?;
+    let texts = old_texts_of(rt, setting, item)?;
+    let Tried::Got(lock) = lock else {
+        let alive = matches!(lock, Tried::Held);
+        return Ok(Corner::at_rest(texts, alive));
+    };
+    if !has_pending(rt.alloc(), item, &texts)? {
+        return Ok(Corner::at_rest(texts, false));
+    }
+    match try_lock_of(rt, setting, Item::Runner(worker))? {
+        Tried::Got(runner) => held.push(runner)?,
+        Tried::Held => return Ok(Corner::at_rest(texts, false)),
+        Tried::Missing => {}
+    }
+    held.push(lock)?;
+    Ok(Corner {
+        texts,
+        alive: false,
+        idle: true,
+    })
+}
+
+/// Returns the texts of a journal of version 0.1.0: one that isn't there has none.
+fn old_texts_of(rt: HostRuntime, setting: &Setting<'_>, item: Item) -> Result<Vec<Vec<u8>>, Fault> {
+    match bytes_of(rt, setting, item)? {
+        Some(bytes) => Ok(texts_in(rt.alloc(), &bytes)?),
+        None => Ok(Vec::new(rt.alloc())),
+    }
+}
+
+/// Whether somebody else has the lock on a file. One that isn't there has none.
+fn is_held(rt: HostRuntime, setting: &Setting<'_>, item: Item) -> Result<bool, Fault> {
+    match try_lock_of(rt, setting, item)? {
+        Tried::Held => Ok(true),
+        Tried::Got(_) | Tried::Missing => Ok(false),
+    }
+}
+
+/// Whether an intent of the journal has no answer.
+fn has_pending(alloc: Global, item: Item, texts: &[Vec<u8>]) -> Result<bool, Fault> {
+    let attempts = attempts_of(alloc, item, u64::MAX, texts)?;
+    Ok(!pending(alloc, &attempts)?.is_empty())
+}
+
+/// The pending intents of these workers whose commands have ended: what is held of them is kept.
+fn finals_of(
+    rt: HostRuntime,
+    setting: &Setting<'_>,
+    books: &Books,
+    idle: &[u64],
+    held: &mut Vec<File>,
+) -> Result<Vec<Intent>, Fault> {
+    let mut finals = Vec::new(rt.alloc());
+    for worker in idle {
+        push_finals(rt, setting, books, *worker, &mut finals, held)?;
+    }
+    Ok(finals)
+}
+
+/// Adds those of this worker.
+fn push_finals(
+    rt: HostRuntime,
+    setting: &Setting<'_>,
+    books: &Books,
+    worker: u64,
+    finals: &mut Vec<Intent>,
+    held: &mut Vec<File>,
+) -> Result<(), Fault> {
+    let Some(journal) = books.journals.get(worker.saturating_sub(1) as usize) else {
+        return Ok(());
+    };
+    for (serial, _line) in &pending(rt.alloc(), journal)? {
+        if has_ended(rt, setting, Item::Command(worker, *serial), held)? {
+            finals.push(Intent {
+                worker,
+                serial: *serial,
+            })?;
+        }
+    }
+    Ok(())
+}
+
+/// Whether a command has ended: its lock is got, and kept, or its file is gone, which is removed only once its lock was got.
+fn has_ended(
+    rt: HostRuntime,
+    setting: &Setting<'_>,
+    item: Item,
+    held: &mut Vec<File>,
+) -> Result<bool, Fault> {
+    let path = path_of(rt, setting, item)?;
+    let file = match try_lock_of(rt, setting, item)? {
+        Tried::Got(file) => file,
+        Tried::Held => return Ok(false),
+        Tried::Missing => return Ok(true),
+    };
+    let there = had(item, is_at(&rt, &file, path.as_str()))?;
+    held.push(file)?;
+    Ok(there)
+}

@@ -1,0 +1,68 @@
+//! What is outside of a worker in a round: its words, its journal, its partner.
+ghost use Rattle.std.specs.Prelude.{◌≡◌, None};
+
+use crate::session::{Talk, now};
+use amo_driver::{Answer, Failed, Outside, Past, Reply};
+use amo_run_dir::{Fault, Words};
+use amo_run_files::Record;
+use amo_run_log::Entry;
+
+/// The words of a round, its record, and who is talked to.
+#[derive(Drop)]
+pub(crate) struct Desk {
+    pub(crate) talk: Talk,
+    pub(crate) words: Words,
+    pub(crate) record: Record,
+}
+
+impl Desk {
+    /// The line of a job of the round.
+    fn line_of(&mut self, job: u32) -> Result<u64, Failed> {
+        if job >= 1 && job as usize <= self.record.lines.len() {
+            Ok(self.record.line_of(job as usize))
+        } else {
+            Err(self.talk.fails(Fault::NoWay))
+        }
+    }
+}
+
+impl Outside for Desk {
+    ghost deeds = { λ _. None };
+
+    ghost may = { λ _ _. Unit {0} };
+
+    fn load(&mut self, word: u64) -> Result<u64, Failed> {
+        match self.words.load(word) {
+            Ok(value) => Ok(value),
+            Err(fault) => Err(self.talk.fails(fault)),
+        }
+    }
+
+    fn store(&mut self, word: u64, value: u64) -> Result<(), Failed> {
+        match self.words.store(word, value) {
+            Ok(()) => Ok(()),
+            Err(fault) => Err(self.talk.fails(fault)),
+        }
+    }
+
+    // Either the job's line has an intent in the journal, which was asked for before the round was joined, or it was surely not
+    // begun and stays open. Nothing is noted.
+    fn found(&mut self, _job: u32) -> Result<(), Failed> {
+        Ok(())
+    }
+
+    fn intend(&mut self, serial: u64, job: u32) -> Result<(), Failed> {
+        let line = self.line_of(job)?;
+        let time = now(self.talk.rt);
+        self.talk.put(Entry::Intent { serial, line, time })
+    }
+
+    fn perform(&mut self, serial: u64, job: u32) -> Result<Reply, Failed> {
+        let line = self.line_of(job)?;
+        self.talk.perform(serial, line)
+    }
+
+    fn note(&mut self, serial: u64, answer: Answer) -> Result<(), Failed> {
+        Past::note(&mut self.talk, serial, answer)
+    }
+}

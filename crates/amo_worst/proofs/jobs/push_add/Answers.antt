@@ -1,7 +1,0 @@
-use Rattle.std.proofs.Common.{append_assoc}
-use Rattle.amo_worst.specs.Text.{add_lines}
-use Rattle.amo_worst.proofs.jobs.push_add.Goals as goal
-
-pub returns : goal.returns
-unfolding add_lines
-returns c = simp append_assoc at (rw (c.in_ok-push_listed.ensures, c.in_ok-push_str.ensures.bytes) at c.writeln.ensures.bytes)

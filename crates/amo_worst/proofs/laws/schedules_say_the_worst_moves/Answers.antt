@@ -1,5 +1,0 @@
-use Rattle.amo_worst.proofs.ReadWords.{schedule_read}
-use Rattle.amo_worst.proofs.laws.schedules_say_the_worst_moves.Goals as goal
-
-pub returns : goal.returns
-returns c = λ version g short. schedule_read version g short

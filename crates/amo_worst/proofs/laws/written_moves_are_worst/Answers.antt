@@ -1,4 +1,0 @@
-use Rattle.amo_worst.proofs.laws.written_moves_are_worst.Goals as goal
-
-pub returns : goal.returns
-returns c = λ p. c.worst_moves_are_worst.ensures p.givens

@@ -1,5 +1,0 @@
-use Rattle.amo_worst.proofs.ReadPlan.{plan_read}
-use Rattle.amo_worst.proofs.laws.written_plans_are_read.Goals as goal
-
-pub returns : goal.returns
-returns c = λ bytes p e integers small text. plan_read bytes p e integers small text
