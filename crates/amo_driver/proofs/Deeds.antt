@@ -6,7 +6,7 @@ use Rattle.std.proofs.lemmas.List.{length_push}
 use Rattle.std.proofs.Math.Seq.{drop-cons}
 use Rattle.amo_process.specs.Heard.{told_by, doubted_by}
 use Rattle.amo_process.specs.Stepped.{ProcessView, is_refused, may_leave, one_or_none}
-use Rattle.amo_driver.specs.declared.answer.Answer.{Answer}
+use Rattle.amo_driver.specs.declared.answer.JobResult.{JobResult}
 use Rattle.amo_driver.specs.declared.answer.Heard.TheVariants.{Ended}
 use Rattle.amo_driver.specs.declared.answer.Reply.{Reply}
 use Rattle.amo_driver.specs.declared.answer.Reply.TheVariants.{Answered}
@@ -133,7 +133,7 @@ from_place xs k d h = drop-cons xs k d h ∙ ap (λ n. get_or xs k d ∷ drop n 
     suc_is k = omega arith
 
 -- an answer to the first of them
-pub settles : (i : Intent) (rest : List Intent) (reply : Reply) (c : Answer) (way : Way) → heard_of i.serial reply ≡ Ok (Ended c way)
+pub settles : (i : Intent) (rest : List Intent) (reply : Reply) (c : JobResult) (way : Way) → heard_of i.serial reply ≡ Ok (Ended c way)
     → stage_asked (i ∷ rest) reply ≡ Settling i.serial c way rest
 settles i rest (Answered n d w) c way e = search rules
 settles i rest other c way e = search rules

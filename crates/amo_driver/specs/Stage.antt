@@ -1,7 +1,7 @@
 -- Where a worker's process stands between two deeds.
 use Rattle.std.specs.Prelude.{ℕ, List}
 use Rattle.amo_process.specs.Stepped.{ProcessView}
-use Rattle.amo_driver.specs.declared.answer.Answer.{Answer}
+use Rattle.amo_driver.specs.declared.answer.JobResult.{JobResult}
 use Rattle.amo_driver.specs.declared.answer.Reply.{Reply}
 use Rattle.amo_driver.specs.declared.answer.Way.{Way}
 use Rattle.amo_driver.specs.declared.past.Intent.{Intent}
@@ -17,13 +17,13 @@ pub data Stage : Type 0 where
   -- its performance
   Performing : ℕ → ProcessView → ℕ → Stage
   -- the note of this answer
-  Noting : ℕ → ProcessView → Answer → Way → Stage
+  Noting : ℕ → ProcessView → JobResult → Way → Stage
   -- the store by which it leaves
   Leaving : ProcessView → Stage
   -- to ask for the first of these intents, which former processes have left, if there is one
   Asking : List Intent → Stage
   -- the note of this answer to one of them; these are still to be asked for
-  Settling : ℕ → Answer → Way → List Intent → Stage
+  Settling : ℕ → JobResult → Way → List Intent → Stage
   -- it is to leave, and these were not asked for
   Dismissed : List Intent → Stage
   -- it has left

@@ -6,7 +6,7 @@ use crate::stop::Stop;
 
 /// What became of a job. It is noted.
 #[derive(Clone, Copy, Debug, PartialEq, Eq)]
-pub enum Answer {
+pub enum JobResult {
     /// It was performed, and ended with this code.
     Done(u8),
     /// It may or may not have been performed.
@@ -30,7 +30,7 @@ pub enum Way {
 #[derive(Clone, Copy, Debug, PartialEq, Eq)]
 pub enum Reply {
     /// Of the intent of this serial number: what became of its job.
-    Answered(u64, Answer, Way),
+    Answered(u64, JobResult, Way),
     /// Of the intent of this serial number: its job still runs, and what became of it is to be asked for later.
     Running(u64, Way),
     /// Something that is no answer.
@@ -43,7 +43,7 @@ pub enum Reply {
 #[derive(Clone, Copy, Debug, PartialEq, Eq)]
 pub(crate) enum Heard {
     /// What became of its job.
-    Ended(Answer, Way),
+    Ended(JobResult, Way),
     /// That its job still runs.
     Runs(Way),
     /// Nothing, and nothing will be.

@@ -10,7 +10,7 @@ mod past;
 mod stop;
 mod working;
 
-pub use answer::{Answer, Reply, Way};
+pub use answer::{JobResult, Reply, Way};
 pub use model::{Deed, Try};
 pub use outside::{Failed, Outside};
 pub use past::{Asked, Intent, Past, ask_pending};

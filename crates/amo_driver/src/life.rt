@@ -10,7 +10,7 @@ ghost use Rattle.amo_driver.specs.Course.{stage_replied, first_stage, Stands, Ma
 ghost use Rattle.amo_driver.specs.Stops.{EndsAt, StopsAt};
 ghost use Rattle.amo_driver.specs.Life.{beginning, IsGoing, HasHeard, TurnsTo, KeepsDeeds, AddsDeed};
 
-use crate::answer::{Answer, Heard, Reply, Way};
+use crate::answer::{Heard, JobResult, Reply, Way};
 use crate::outside::Outside;
 use crate::stop::{LifeEnd, Stop};
 use amo_givens::Givens;
@@ -219,7 +219,7 @@ impl Life {
     /// Notes the answer.
     fn note<O: Outside>(
         &mut self,
-        answer: Answer,
+        answer: JobResult,
         way: Way,
         outside: &mut O,
     ) -> Result<Option<LifeEnd>, Stop>

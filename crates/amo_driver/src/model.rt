@@ -1,5 +1,5 @@
 //! The values of which the definitions speak.
-use crate::answer::{Answer, Reply};
+use crate::answer::{JobResult, Reply};
 
 /// What a process tries to do outside of itself.
 #[derive(Clone, Copy, Debug, PartialEq, Eq)]
@@ -15,7 +15,7 @@ pub enum Try {
     /// To have this job performed, by the intent of this serial number.
     Perform(u64, u32),
     /// To put into the journal what became of the intent of this serial number.
-    Note(u64, Answer),
+    Note(u64, JobResult),
     /// To ask what became of the intent of this serial number, left by a former process, of this line.
     Ask(u64, u64),
 }
@@ -34,7 +34,7 @@ pub enum Deed {
     /// The partner was told to perform this job, by the intent of this serial number, and this came in answer.
     Performed(u64, u32, Reply),
     /// What became of the intent of this serial number is in the journal.
-    Noted(u64, Answer),
+    Noted(u64, JobResult),
     /// It has asked what became of the intent of this serial number, of this line, and this came in answer.
     Asked(u64, u64, Reply),
     /// This was tried and has failed: it may or may not have come about.

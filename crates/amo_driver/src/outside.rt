@@ -6,7 +6,7 @@ ghost use Rattle.amo_driver.specs.declared.model.Deed.TheVariants.{Loaded, Store
 ghost use Rattle.amo_driver.specs.declared.model.Try.{Try};
 ghost use Rattle.amo_driver.specs.declared.model.Try.TheVariants.{Load, Store, Find, Intend, Perform, Note};
 
-use crate::answer::{Answer, Reply};
+use crate::answer::{JobResult, Reply};
 
 /// Something outside has failed.
 #[derive(Clone, Copy, Debug, PartialEq, Eq)]
@@ -50,7 +50,7 @@ pub trait Outside {
         ensures fails { OnErr result (deeds self.new ≡ with_deed (deeds self.old) (Fell (Perform serial job))) };
 
     /// Puts into the journal what became of an intent, so that every crash from now on leaves it there.
-    fn note(&mut self, serial: u64, answer: Answer) -> Result<(), Failed>
+    fn note(&mut self, serial: u64, answer: JobResult) -> Result<(), Failed>
         requires { may self.old (Note serial answer) }
         ensures done { OnOk result (deeds self.new ≡ with_deed (deeds self.old) (Noted serial answer)) }
         ensures fails { OnErr result (deeds self.new ≡ with_deed (deeds self.old) (Fell (Note serial answer))) };

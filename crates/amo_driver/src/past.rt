@@ -9,7 +9,7 @@ ghost use Rattle.amo_driver.specs.Course.{with_deed, stage_asked, Stands, MayTry
 ghost use Rattle.amo_driver.specs.Stops.{AsksTo, StopsAt};
 ghost use Rattle.amo_driver.specs.Life.{AsksOn, asked_after};
 
-use crate::answer::{Answer, Heard, Reply, Way};
+use crate::answer::{Heard, JobResult, Reply, Way};
 use crate::outside::Failed;
 use crate::stop::Stop;
 
@@ -45,7 +45,7 @@ pub trait Past {
         ensures fails { OnErr result (deeds self.new ≡ with_deed (deeds self.old) (Fell (Ask serial line))) };
 
     /// Puts into the journal what became of an intent, so that every crash from now on leaves it there.
-    fn note(&mut self, serial: u64, answer: Answer) -> Result<(), Failed>
+    fn note(&mut self, serial: u64, answer: JobResult) -> Result<(), Failed>
         requires { may self.old (Note serial answer) }
         ensures done { OnOk result (deeds self.new ≡ with_deed (deeds self.old) (Noted serial answer)) }
         ensures fails { OnErr result (deeds self.new ≡ with_deed (deeds self.old) (Fell (Note serial answer))) };

@@ -9,8 +9,8 @@ use Rattle.amo_kk.specs.Words.{claim_word}
 use Rattle.amo_givens.specs.declared.givens.Givens.{Givens}
 use Rattle.amo_process.specs.Heard.{told_by, doubted_by}
 use Rattle.amo_process.specs.Stepped.{ProcessView, process_after, access_of, may_leave, is_refused}
-use Rattle.amo_driver.specs.declared.answer.Answer.{Answer}
-use Rattle.amo_driver.specs.declared.answer.Answer.TheVariants.{Doubt}
+use Rattle.amo_driver.specs.declared.answer.JobResult.{JobResult}
+use Rattle.amo_driver.specs.declared.answer.JobResult.TheVariants.{Doubt}
 use Rattle.amo_driver.specs.declared.answer.Reply.{Reply}
 use Rattle.amo_driver.specs.declared.answer.Reply.TheVariants.{Answered, Running, Garbled, Closed}
 use Rattle.amo_driver.specs.declared.answer.Way.{Way}
@@ -52,7 +52,7 @@ kind (Some (Ask n line)) = 7
 differ : (x y : Option Try) → x ≡ y → (kind x == kind y) ≡ false → ⊥
 differ x y same other = true≢false (sym (eq-eqb (kind x) (kind y) (ap kind same)) ∙ other)
 
-abbrev answer_in : Option Try → Answer
+abbrev answer_in : Option Try → JobResult
 answer_in (Some (Note n c)) = c
 answer_in t = Doubt
 
@@ -187,14 +187,14 @@ module _ (g : Givens) (p s : ℕ) where
       let f = subst (IsAfter before) at.1 (all_after [] before parts.0 tt) in
       record { earlier = f.0; process = at.0; is = f.1; claimed = f.2; stands = at.1 }
 
-  answered_at : (ds : List Deed) (t : Stage) (n : ℕ) (c : Answer) → due t ≡ Some (Note n c) → IsAfter ds t → HasJustAnswered ds n c
+  answered_at : (ds : List Deed) (t : Stage) (n : ℕ) (c : JobResult) → due t ≡ Some (Note n c) → IsAfter ds t → HasJustAnswered ds n c
   answered_at ds (Noting m a z way) n c e h = subst (λ o. HasJustAnswered ds (serial_in o) (answer_in o)) e h
   answered_at ds (Going m a way) n c e h = absurd (no_other (access_of a.givens a.number a.standing) (Note n c) refl e)
   answered_at ds (Asking intents) n c e h = absurd h
   answered_at ds (Settling m z way rest) n c e h = absurd h
   answered_at ds t n c e h = cc
 
-  pub just_answered : (before after : List Deed) (d : Deed) (n : ℕ) (c : Answer) → try_of d ≡ Note n c → AreDue first (before ++ d ∷ after) → HasJustAnswered before n c
+  pub just_answered : (before after : List Deed) (d : Deed) (n : ℕ) (c : JobResult) → try_of d ≡ Note n c → AreDue first (before ++ d ∷ after) → HasJustAnswered before n c
   just_answered before after d n c is h =
       let parts = due_among first before after d h in
       answered_at before (stage_after_all first before) n c (parts.1 ∙ ap (λ t. Some t) is) (all_after [] before parts.0 tt)

@@ -4,7 +4,7 @@ use Rattle.std.proofs.Common.{◌≡◌, refl, arith, List, [], ◌∷◌}
 use Rattle.amo_givens.specs.Givens.{IsWorker}
 use Rattle.amo_givens.specs.Limits.{within_limits}
 use Rattle.amo_givens.specs.declared.givens.Givens.{Givens}
-use Rattle.amo_driver.specs.declared.answer.Answer.TheVariants.{Done}
+use Rattle.amo_driver.specs.declared.answer.JobResult.TheVariants.{Done}
 use Rattle.amo_driver.specs.declared.answer.Reply.TheVariants.{Answered}
 use Rattle.amo_driver.specs.declared.answer.Way.TheVariants.{Go}
 use Rattle.amo_driver.specs.declared.model.Deed.TheVariants.{Loaded, Stored, Found, Intended, Performed, Noted}

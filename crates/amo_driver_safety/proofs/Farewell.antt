@@ -17,7 +17,7 @@ use Rattle.amo_process.specs.Stepped.{ProcessView, process_after, standing_after
 use Rattle.amo_process.specs.declared.access.Access.TheVariants.{Store as StoreAccess, Nothing}
 use Rattle.amo_process.specs.declared.standing.Standing.{Standing}
 use Rattle.amo_process.specs.declared.standing.Standing.TheVariants.{Going as GoingOn}
-use Rattle.amo_driver.specs.declared.answer.Answer.{Answer}
+use Rattle.amo_driver.specs.declared.answer.JobResult.{JobResult}
 use Rattle.amo_driver.specs.declared.answer.Reply.{Reply}
 use Rattle.amo_driver.specs.declared.answer.Reply.TheVariants.{Answered, Running}
 use Rattle.amo_driver.specs.declared.answer.Way.TheVariants.{Leave}
@@ -104,7 +104,7 @@ module _ (p place j : ℕ) (a : ProcessView) (is : a.number ≡ p) (l : LocalVie
       goes_on (Fell t) more e rest = nothing_due Broken (Store (next_word p) 0 ∷ []) more refl rest
       goes_on d more e rest = cc
 
-  noting : (n : ℕ) (c : Answer) (ds : List Deed) → AreDue (Noting n a c Leave) ds → AreInTurn (Note n c ∷ last) ds
+  noting : (n : ℕ) (c : JobResult) (ds : List Deed) → AreDue (Noting n a c Leave) ds → AreInTurn (Note n c ∷ last) ds
   noting n c ds h = one_due (Noting n a c Leave) (Note n c) last ds refl goes_on h
     where
       goes_on : (d : Deed) (more : List Deed) → try_of d ≡ Note n c → AreDue (stage_after (Noting n a c Leave) d) more → AreInTurn last more

@@ -4,7 +4,7 @@ use Rattle.std.proofs.lemmas.Bool.{true≢false}
 use Rattle.amo_givens.specs.declared.givens.Givens.{Givens}
 use Rattle.amo_process.specs.Heard.{standing_of, told_by}
 use Rattle.amo_process.specs.Stepped.{ProcessView}
-use Rattle.amo_driver.specs.declared.answer.Answer.{Answer}
+use Rattle.amo_driver.specs.declared.answer.JobResult.{JobResult}
 use Rattle.amo_driver.specs.declared.answer.Reply.{Reply}
 use Rattle.amo_driver.specs.declared.answer.Way.{Way}
 use Rattle.amo_driver.specs.declared.model.Deed.{Deed}
@@ -44,7 +44,7 @@ pub performed_spent : (s : Stage) (n j : ℕ) (reply : Reply) → is_spent s ≡
 performed_spent (Performing s a i) n j reply h = absurd (true≢false (sym h))
 performed_spent s n j reply h = h
 
-pub noted_spent : (s : Stage) (n : ℕ) (c : Answer) → is_spent s ≡ true → is_spent (stage_after s (Noted n c)) ≡ true
+pub noted_spent : (s : Stage) (n : ℕ) (c : JobResult) → is_spent s ≡ true → is_spent (stage_after s (Noted n c)) ≡ true
 noted_spent (Noting s a x way) n c h = refl
 noted_spent (Settling s x way rest) n c h = asking_spent way rest
 noted_spent s n c h = h

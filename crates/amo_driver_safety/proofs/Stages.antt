@@ -9,7 +9,7 @@ use Rattle.amo_process.specs.Stepped.{ProcessView, new_process, process_after, p
 use Rattle.amo_process.specs.declared.access.Access.{Access}
 use Rattle.amo_process.specs.declared.access.Access.TheVariants.{Load as LoadAccess, Store as StoreAccess, Nothing}
 use Rattle.amo_process.proofs.Stepped.{stepped_stands}
-use Rattle.amo_driver.specs.declared.answer.Answer.{Answer}
+use Rattle.amo_driver.specs.declared.answer.JobResult.{JobResult}
 use Rattle.amo_driver.specs.declared.answer.Reply.{Reply}
 use Rattle.amo_driver.specs.declared.answer.Reply.TheVariants.{Answered, Running, Garbled, Closed}
 use Rattle.amo_driver.specs.declared.answer.Way.{Way}
@@ -112,7 +112,7 @@ module _ (P : Stage → Type 0) where
   either false x y h k = k
 
   -- what came in answer to an intent
-  pub after_reply : (s : ℕ) (a : ProcessView) (reply : Reply) → ((c : Answer) (way : Way) → P (Noting s a c way)) → ((way : Way) → P (Going (s + 1) a way))
+  pub after_reply : (s : ℕ) (a : ProcessView) (reply : Reply) → ((c : JobResult) (way : Way) → P (Noting s a c way)) → ((way : Way) → P (Going (s + 1) a way))
       → ((r : Reply) → P (Unanswered s r)) → P (stage_replied s a reply)
   after_reply s a (Answered n c way) notes goes ends = either (n == s) (Noting s a c way) (Unanswered s (Answered n c way)) (notes c way) (ends (Answered n c way))
   after_reply s a (Running n way) notes goes ends = either (n == s) (Going (s + 1) a way) (Unanswered s (Running n way)) (goes way) (ends (Running n way))
@@ -126,7 +126,7 @@ module _ (P : Stage → Type 0) where
     after_settling Leave rest = leaves rest
 
     -- what came in answer when such an intent was asked for
-    pub after_question : (intents : List Intent) (reply : Reply) → ((s : ℕ) (c : Answer) (way : Way) (left : List Intent) → P (Settling s c way left))
+    pub after_question : (intents : List Intent) (reply : Reply) → ((s : ℕ) (c : JobResult) (way : Way) (left : List Intent) → P (Settling s c way left))
         → ((s : ℕ) (r : Reply) → P (Unanswered s r)) → P (stage_asked intents reply)
     after_question [] reply notes ends = asks []
     after_question (i ∷ rest) (Answered n c way) notes ends =
@@ -226,7 +226,7 @@ module _ (g : Givens) (p : ℕ) (hs : List ℕ) where
   performed_shown (Performing s a i) n j reply f = replied_shown s a f.0 reply
   performed_shown s n j reply f = f
 
-  pub noted_shown : (s : Stage) (n : ℕ) (c : Answer) → Shown g p hs s → Shown g p hs (stage_after s (Noted n c))
+  pub noted_shown : (s : Stage) (n : ℕ) (c : JobResult) → Shown g p hs s → Shown g p hs (stage_after s (Noted n c))
   noted_shown (Noting s a d way) n c f = f
   noted_shown (Settling s d way rest) n c f = asking_shown way rest
   noted_shown s n c f = f

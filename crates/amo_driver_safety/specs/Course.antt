@@ -9,7 +9,7 @@ use Rattle.amo_kk.specs.declared.phase.Want.TheVariants.{StoreClaim, StoreDone}
 use Rattle.amo_process.specs.Heard.{told_by}
 use Rattle.amo_process.specs.Stepped.{ProcessView, process_after}
 use Rattle.amo_process.specs.declared.standing.Standing.TheVariants.{Going as GoingOn}
-use Rattle.amo_driver.specs.declared.answer.Answer.{Answer}
+use Rattle.amo_driver.specs.declared.answer.JobResult.{JobResult}
 use Rattle.amo_driver.specs.declared.answer.Reply.{Reply}
 use Rattle.amo_driver.specs.declared.answer.Reply.TheVariants.{Answered, Running, Garbled, Closed}
 use Rattle.amo_driver.specs.declared.answer.Way.{Way}
@@ -54,7 +54,7 @@ pub record HasJustIntended (g : Givens) (p : ℕ) (first : Stage) (deeds : List 
   pub stands : stage_after_all first deeds ≡ Performing n process j
 
 -- The last of these deeds is the performance of a job by intent n, and this was answered to it.
-pub record HasJustAnswered (deeds : List Deed) (n : ℕ) (answer : Answer) : Type 0 where
+pub record HasJustAnswered (deeds : List Deed) (n : ℕ) (answer : JobResult) : Type 0 where
   pub earlier : List Deed
   pub job : ℕ
   pub way : Way

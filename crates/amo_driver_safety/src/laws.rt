@@ -3,7 +3,7 @@ ghost use Rattle.std.specs.Prelude.{◌≡◌, ℕ, true, false, List, [], ◌�
 ghost use Rattle.amo_sets.specs.Sets.{has, AreDistinct};
 ghost use Rattle.amo_givens.specs.Givens.{IsWorker};
 ghost use Rattle.amo_givens.specs.declared.givens.Givens.{Givens};
-ghost use Rattle.amo_driver.specs.declared.answer.Answer.{Answer};
+ghost use Rattle.amo_driver.specs.declared.answer.JobResult.{JobResult};
 ghost use Rattle.amo_driver.specs.declared.answer.Reply.{Reply};
 ghost use Rattle.amo_driver.specs.Course.{try_of, due, stage_after_all, AreDue, first_stage, MayTry};
 ghost use Rattle.amo_driver.specs.Stage.{Stage};
@@ -88,7 +88,7 @@ pub fn what_is_found_is_not_performed()
 /// What is noted, also where that fails, is what the partner has answered right before, to that very intent. So nothing is noted
 /// that wasn't answered in this course, and no answer is noted twice.
 pub fn notes_say_what_was_answered()
-    ensures { (g : Givens) (p s n : ℕ) (a : Answer) (before after : List Deed) (d : Deed) → try_of d ≡ Note n a
+    ensures { (g : Givens) (p s n : ℕ) (a : JobResult) (before after : List Deed) (d : Deed) → try_of d ≡ Note n a
         → AreDue (first_stage g p s) (before ++ d ∷ after) → HasJustAnswered before n a }
 {}
 

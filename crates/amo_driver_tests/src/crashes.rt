@@ -2,11 +2,13 @@
 //! disk: what was written or cut since the last sync is torn then. What was performed is counted, and the files are read by eye.
 ghost use Rattle.std.specs.Prelude.{None, ⊤};
 
-use amo_driver::{Answer as Became, Failed, Intent, Outside, Past, Reply, Way, ask_pending, work};
+use amo_driver::{Failed, Intent, JobResult as Became, Outside, Past, Reply, Way, ask_pending, work};
 use amo_givens::Givens;
 use amo_journal::{Journal, texts_in};
 use amo_run_files::givens_of;
-use amo_run_log::{Answer, Attempt, Entry, journal_of, open_lines, pending, put_entry, read_entries};
+use amo_run_log::{
+    Attempt, Entry, Outcome, journal_of, open_lines, pending, put_entry, read_entries,
+};
 use amo_sim_disk::{Call, Disk};
 use std::alloc::{AllocError, Global};
 use std::test::Fail;
@@ -279,10 +281,10 @@ impl Run {
             return Err(Failed);
         }
         let answer = match answer {
-            Became::Done(code) => Answer::Done { code, time: 0 },
-            Became::Doubt => Answer::Doubt,
-            Became::Unbegun => Answer::Unbegun,
-            Became::Untouched(code) => Answer::Untouched { code },
+            Became::Done(code) => Outcome::Done { code, time: 0 },
+            Became::Doubt => Outcome::Doubt,
+            Became::Unbegun => Outcome::Unbegun,
+            Became::Untouched(code) => Outcome::Untouched { code },
         };
         self.put_late()?;
         self.put(Entry::Answer { serial, answer })?;

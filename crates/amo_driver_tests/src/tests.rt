@@ -3,8 +3,8 @@ ghost use Rattle.std.specs.Prelude.{◌≡◌, ◌++◌, ◌∷◌, [], Some, No
 ghost use Rattle.amo_driver.specs.declared.model.Deed.TheVariants.{Fell};
 
 use amo_driver::{
-    Answer, Asked, Deed, Failed, Intent, LifeEnd, Outside, Past, Reply, Stop, Try, Way, ask_pending,
-    work,
+    Asked, Deed, Failed, Intent, JobResult, LifeEnd, Outside, Past, Reply, Stop, Try, Way,
+    ask_pending, work,
 };
 use amo_givens::Givens;
 use std::alloc::Global;
@@ -99,7 +99,7 @@ impl<'a, A: Abort> Outside for Memory<'a, A> {
         Ok(reply)
     }
 
-    fn note(&mut self, serial: u64, answer: Answer) -> Result<(), Failed> {
+    fn note(&mut self, serial: u64, answer: JobResult) -> Result<(), Failed> {
         self.act(Try::Note(serial, answer), Deed::Noted(serial, answer))
     }
 }
@@ -115,14 +115,14 @@ impl<'a, A: Abort> Past for Memory<'a, A> {
         Ok(reply)
     }
 
-    fn note(&mut self, serial: u64, answer: Answer) -> Result<(), Failed> {
+    fn note(&mut self, serial: u64, answer: JobResult) -> Result<(), Failed> {
         self.act(Try::Note(serial, answer), Deed::Noted(serial, answer))
     }
 }
 
 /// The job of this intent has ended with code 7.
 fn done(serial: u64) -> Reply {
-    Reply::Answered(serial, Answer::Done(7), Way::Go)
+    Reply::Answered(serial, JobResult::Done(7), Way::Go)
 }
 
 /// One life of the only worker of two jobs over these words: how it ended, the words after it, and what it did.
@@ -188,13 +188,13 @@ fn another_order_of_deeds(rt: HostRuntime) -> Result<(), Fail> {
         Deed::Stored(2, 1),
         Deed::Intended(5, 1),
         Deed::Performed(5, 1, done(5)),
-        Deed::Noted(5, Answer::Done(7)),
+        Deed::Noted(5, JobResult::Done(7)),
         Deed::Stored(3, 1),
         Deed::Stored(1, 2),
         Deed::Stored(2, 2),
         Deed::Intended(6, 2),
         Deed::Performed(6, 2, done(6)),
-        Deed::Noted(6, Answer::Done(7)),
+        Deed::Noted(6, JobResult::Done(7)),
         Deed::Stored(4, 2),
     ];
     assert!(rt; end == Ok(LifeEnd::Over));
@@ -207,7 +207,7 @@ fn another_order_of_deeds(rt: HostRuntime) -> Result<(), Fail> {
 fn a_reply_leads_elsewhere(rt: HostRuntime) -> Result<(), Fail> {
     let rows = [
         (
-            Reply::Answered(5, Answer::Unbegun, Way::Leave),
+            Reply::Answered(5, JobResult::Unbegun, Way::Leave),
             Ok(LifeEnd::Left),
             10,
             Deed::Stored(1, 0),
@@ -305,18 +305,18 @@ fn the_last_serial_number_is_used_up(rt: HostRuntime) -> Result<(), Fail> {
 fn a_pending_intent_is_passed_over(rt: HostRuntime) -> Result<(), Fail> {
     let pending = [Intent { serial: 3, line: 1 }, Intent { serial: 8, line: 2 }];
     let rows = [
-        (done(3), Ok(Asked::All), 4, Deed::Noted(8, Answer::Done(7))),
+        (done(3), Ok(Asked::All), 4, Deed::Noted(8, JobResult::Done(7))),
         (
             Reply::Running(3, Way::Go),
             Ok(Asked::All),
             3,
-            Deed::Noted(8, Answer::Done(7)),
+            Deed::Noted(8, JobResult::Done(7)),
         ),
         (
-            Reply::Answered(3, Answer::Doubt, Way::Leave),
+            Reply::Answered(3, JobResult::Doubt, Way::Leave),
             Ok(Asked::Dismissed),
             2,
-            Deed::Noted(3, Answer::Doubt),
+            Deed::Noted(3, JobResult::Doubt),
         ),
         (
             done(8),
@@ -393,7 +393,7 @@ impl Outside for Silent {
         Ok(done(serial))
     }
 
-    fn note(&mut self, _serial: u64, _answer: Answer) -> Result<(), Failed> {
+    fn note(&mut self, _serial: u64, _answer: JobResult) -> Result<(), Failed> {
         Ok(())
     }
 }

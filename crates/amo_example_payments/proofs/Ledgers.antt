@@ -3,7 +3,7 @@ use Rattle.std.proofs.Common.{◌≡◌, ℕ, Bool, true, false, List, [], ◌�
 use Rattle.std.specs.Prelude.{option_and_then, option_map, is_none, ◌||◌, ◌&&◌, ◌==◌, not}
 use Rattle.std.proofs.lemmas.Bool.{true≢false}
 use Rattle.std.proofs.lemmas.List.Folds.{list_any-append}
-use Rattle.amo_run_log.specs.declared.entry.Answer.{Answer}
+use Rattle.amo_run_log.specs.declared.entry.Outcome.{Outcome}
 use Rattle.amo_run_log.specs.declared.entry.Entry.{Entry as LedgerEntry}
 use Rattle.amo_run_log.specs.declared.entry.Entry.TheVariants.{Intent}
 use Rattle.amo_run_log.specs.declared.journal.Attempt.{Attempt}
@@ -37,11 +37,11 @@ none_of is f g of same isnt early = ⊎_elim (λ t. true≢false (sym t ∙ ap i
 -- ---- which intents stand after an entry more
 
 -- an answer that opens no line leaves those that stand
-answer_leaves : (es fs : List Attempt) (i : ℕ) (a : Answer) (id : ℕ) → opens a ≡ false → answered es i a ≡ Some fs → has_intent fs id ≡ has_intent es id
+answer_leaves : (es fs : List Attempt) (i : ℕ) (a : Outcome) (id : ℕ) → opens a ≡ false → answered es i a ≡ Some fs → has_intent fs id ≡ has_intent es id
 answer_leaves [] fs i a id shut none = absurd (cc)
 answer_leaves (e ∷ es) fs zero a id shut some = go e.answer refl some
   where
-    go : (o : Option Answer) → e.answer ≡ o → cond (is_none o) (Some (record e { answer = Some a } ∷ es)) None ≡ Some fs → has_intent fs id ≡ has_intent (e ∷ es) id
+    go : (o : Option Outcome) → e.answer ≡ o → cond (is_none o) (Some (record e { answer = Some a } ∷ es)) None ≡ Some fs → has_intent fs id ≡ has_intent (e ∷ es) id
     go None at is =
         let same : fs ≡ record e { answer = Some a } ∷ es = cc in
         ap (λ (xs : List Attempt). has_intent xs id) same ∙ ap (λ b. ((e.line == id) && not b) || has_intent es id) (shut ∙ sym (ap reopens at))
@@ -55,7 +55,7 @@ answer_leaves (e ∷ es) fs (suc i) a id shut some = go (λ rest at. answer_leav
         let same : fs ≡ e ∷ rest = cc in
         ap (λ (xs : List Attempt). has_intent xs id) same ∙ ap (λ b. stands id e || b) (more rest at)
 
-pub answer_stays : (es fs : List Attempt) (serial : ℕ) (a : Answer) (id : ℕ) → opens a ≡ false → answered_to es serial a ≡ Some fs → has_intent fs id ≡ has_intent es id
+pub answer_stays : (es fs : List Attempt) (serial : ℕ) (a : Outcome) (id : ℕ) → opens a ≡ false → answered_to es serial a ≡ Some fs → has_intent fs id ≡ has_intent es id
 answer_stays es fs zero a id shut none = absurd (cc)
 answer_stays es fs (suc i) a id shut some = answer_leaves es fs i a id shut some
 

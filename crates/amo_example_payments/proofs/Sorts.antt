@@ -15,7 +15,7 @@ use Rattle.amo_crew.specs.declared.outcome.Outcome.{Outcome}
 use Rattle.amo_crew.specs.Running.{IsRelated}
 use Rattle.amo_crew.specs.Outcomes.{jobs_of, IsOutcome, HasAPlace, IsOfNoThread}
 use Rattle.amo_example_payments.specs.declared.day.payment.Payment.{Payment}
-use Rattle.amo_example_payments.specs.declared.bank.Answer.{Answer}
+use Rattle.amo_example_payments.specs.declared.bank.BankReply.{BankReply}
 use Rattle.amo_example_payments.specs.declared.sorting.Sorted.{Sorted}
 use Rattle.amo_example_payments.specs.Sorting.{is_paid, has_receipt_of, has_job, is_unsure, ids_of, IsOneOf, IsOwn, IsNumberOf, IsSorted, IsSortingOf, MayBeUnsure}
 use Rattle.amo_example_payments.specs.Payments.{Answers}
@@ -135,12 +135,12 @@ and_left true b h = refl
 and_left false b h = h
 
 -- of which there is a receipt, of that there is an answer
-receipt_has : (xs : List (Output Answer)) (j : ℕ) → has_receipt_of xs j ≡ true → has (jobs_of xs) j ≡ true
+receipt_has : (xs : List (Output BankReply)) (j : ℕ) → has_receipt_of xs j ≡ true → has (jobs_of xs) j ≡ true
 receipt_has [] j h = h
 receipt_has (x ∷ xs) j h = either (eqb x.job j && is_paid x.out) (eqb x.job j) (has_receipt_of xs j) (has (jobs_of xs) j) (and_left (eqb x.job j) (is_paid x.out)) (receipt_has xs j) h
 
 -- the lists that come of a run
-pub sorted : (g : Givens) (payloads : List Payment) (ids : List ℕ) (budgets : List ℕ) (o : Outcome Payment Answer) (s : Sorted) → IsOutcome Answers g payloads budgets o → ids ≡ ids_of payloads
+pub sorted : (g : Givens) (payloads : List Payment) (ids : List ℕ) (budgets : List ℕ) (o : Outcome Payment BankReply) (s : Sorted) → IsOutcome Answers g payloads budgets o → ids ≡ ids_of payloads
     → s.answers.items ≡ o.outputs.items → s.free.items ≡ o.settlement.free.items → s.in_doubt.items ≡ filter (λ t. is_unsure s.answers.items s.free.items t.0) (enumerate_from 1 ids) → IsSorted payloads s
 sorted g payloads ids budgets o s is named all free doubt = record {
   one = λ j low high. one_of (has_receipt_of s.answers.items j) (has_job s.free.items j) (has_job s.in_doubt.items j)
@@ -177,7 +177,7 @@ sorted g payloads ids budgets o s is named all free doubt = record {
         ∙ answered_not_free Answers g payloads budgets o is j (receipt_has o.outputs.items j (ap (λ xs. has_receipt_of xs j) (sym all) ∙ h))
 
 -- what is in doubt was performed, is in a hand, or is with a worker that was not started
-pub may_be_unsure : (g : Givens) (payloads : List Payment) (ids : List ℕ) (budgets : List ℕ) (o : Outcome Payment Answer) (s : Sorted) → IsOutcome Answers g payloads budgets o → ids ≡ ids_of payloads → IsSortingOf ids o s
+pub may_be_unsure : (g : Givens) (payloads : List Payment) (ids : List ℕ) (budgets : List ℕ) (o : Outcome Payment BankReply) (s : Sorted) → IsOutcome Answers g payloads budgets o → ids ≡ ids_of payloads → IsSortingOf ids o s
     → (j : ℕ) → has_job s.in_doubt.items j ≡ true → MayBeUnsure o j
 may_be_unsure g payloads ids budgets o s is named lists j h = go (has_a_place_or Answers g payloads budgets o is j (record { low = within.0; high = high }))
   where

@@ -13,8 +13,8 @@ use Rattle.amo_crew.specs.Running.{IsRelated}
 use Rattle.amo_example_payments.specs.declared.day.Day.{Day}
 use Rattle.amo_example_payments.specs.declared.day.payment.Payment.{Payment}
 use Rattle.amo_run_log.specs.declared.journal.Attempt.{Attempt}
-use Rattle.amo_example_payments.specs.declared.bank.Answer.{Answer}
-use Rattle.amo_example_payments.specs.declared.bank.Answer.TheVariants.{Paid, Unpaid}
+use Rattle.amo_example_payments.specs.declared.bank.BankReply.{BankReply}
+use Rattle.amo_example_payments.specs.declared.bank.BankReply.TheVariants.{Paid, Unpaid}
 use Rattle.amo_example_payments.specs.declared.second.Leftover.{Leftover}
 use Rattle.amo_example_payments.specs.declared.sorting.Sorted.{Sorted}
 use Rattle.amo_example_payments.specs.declared.rounds.Crew.{Crew}
@@ -75,17 +75,17 @@ same_some o x y e f = ap (some_in x) (sym f ∙ e)
 
 -- ---- the lines of an answer have their end
 
-ended_done : (x : Output Answer) → is_ended (done_line x.out) ≡ true
+ended_done : (x : Output BankReply) → is_ended (done_line x.out) ≡ true
 ended_done x = go x.out
   where
-    go : (a : Answer) → is_ended (done_line a) ≡ true
+    go : (a : BankReply) → is_ended (done_line a) ≡ true
     go (Paid r) = ended_line (codes "done") r.id
     go (Unpaid q) = refl
 
-ended_answer : (x : Output Answer) → is_ended (answer_line x.out) ≡ true
+ended_answer : (x : Output BankReply) → is_ended (answer_line x.out) ≡ true
 ended_answer x = go x.out
   where
-    go : (a : Answer) → is_ended (answer_line a) ≡ true
+    go : (a : BankReply) → is_ended (answer_line a) ≡ true
     go (Paid r) = ended_line (codes "done") r.id
     go (Unpaid q) = ended_line (codes "doubt") q.id
 
@@ -93,11 +93,11 @@ ended_answer x = go x.out
 
 module _ (payments : List Payment) (j : ℕ) (p : Payment) (at : slice_get payments (j - 1) ≡ Some p) where
   -- of which there is a receipt
-  done : (xs : List (Output Answer)) → All (IsRelated Answers payments) xs → has_receipt_of xs j ≡ true → HasLine (done_lines xs) (codes "done") p.id
+  done : (xs : List (Output BankReply)) → All (IsRelated Answers payments) xs → has_receipt_of xs j ≡ true → HasLine (done_lines xs) (codes "done") p.id
   done [] all h = absurd (true≢false (sym h))
   done (x ∷ xs) all h = go (λ n. line_after (done_line x.out) (done_lines xs) (codes "done") p.id (ended_done x) (done xs (All-tail (IsRelated Answers payments) x xs all) n)) (eqb x.job j) refl (is_paid x.out) refl h
     where
-      here : (a : Answer) (y : Payment) → x.job ≡ j → slice_get payments (x.job - 1) ≡ Some y → Answers x.worker x.job y a → is_paid a ≡ true → HasLine (done_line a ++ done_lines xs) (codes "done") p.id
+      here : (a : BankReply) (y : Payment) → x.job ≡ j → slice_get payments (x.job - 1) ≡ Some y → Answers x.worker x.job y a → is_paid a ≡ true → HasLine (done_line a ++ done_lines xs) (codes "done") p.id
       here (Paid r) y e s is paid =
           let own : y ≡ p = same_some (slice_get payments (j - 1)) p y at (subst (λ k. slice_get payments (k - 1) ≡ Some y) e s) in
           subst (λ id. HasLine (line (codes "done") r.id ++ done_lines xs) (codes "done") id) (is.id ∙ ap (λ (q : Payment). q.id) own) (line_here (codes "done") r.id (done_lines xs))
@@ -134,14 +134,14 @@ module _ (payments : List Payment) (j : ℕ) (p : Payment) (at : slice_get payme
       go more false e n = more n
 
   -- that has an answer
-  answered : (xs : List (Output Answer)) → All (IsRelated Answers payments) xs → has (jobs_of xs) j ≡ true → IsTold (answer_lines xs) p
+  answered : (xs : List (Output BankReply)) → All (IsRelated Answers payments) xs → has (jobs_of xs) j ≡ true → IsTold (answer_lines xs) p
   answered [] all h = absurd (true≢false (sym h))
   answered (x ∷ xs) all h = go (λ n. told_after (answer_line x.out) (answer_lines xs) p (ended_answer x) (answered xs (All-tail (IsRelated Answers payments) x xs all) n)) (eqb x.job j) refl h
     where
       own : (y : Payment) → x.job ≡ j → slice_get payments (x.job - 1) ≡ Some y → y ≡ p
       own y e s = same_some (slice_get payments (j - 1)) p y at (subst (λ k. slice_get payments (k - 1) ≡ Some y) e s)
 
-      here : (a : Answer) (y : Payment) → y ≡ p → Answers x.worker x.job y a → IsTold (answer_line a ++ answer_lines xs) p
+      here : (a : BankReply) (y : Payment) → y ≡ p → Answers x.worker x.job y a → IsTold (answer_line a ++ answer_lines xs) p
       here (Paid r) y e is = inr (inl (subst (λ id. HasLine (line (codes "done") r.id ++ answer_lines xs) (codes "done") id) (is.id ∙ ap (λ (q : Payment). q.id) e) (line_here (codes "done") r.id (answer_lines xs))))
       here (Unpaid q) y e is = inr (inr (inl (subst (λ (o : Payment). HasLine (line (codes "doubt") q.id ++ answer_lines xs) (codes "doubt") o.id) (is ∙ e) (line_here (codes "doubt") q.id (answer_lines xs)))))
 
@@ -154,7 +154,7 @@ module _ (payments : List Payment) (j : ℕ) (p : Payment) (at : slice_get payme
 round_ended : (s : Sorted) → is_ended (round_text s) ≡ true
 round_ended s = ended_append (done_lines s.answers.items) (doubt_lines s.in_doubt.items) (ended_flat (λ x. done_line x.out) s.answers.items ended_done) (ended_flat (λ t. line (codes "doubt") t.1) s.in_doubt.items (λ t. ended_line (codes "doubt") t.1))
 
-rest_ended : (r : Leftover Payment Answer) → is_ended (leftover_text r) ≡ true
+rest_ended : (r : Leftover Payment BankReply) → is_ended (leftover_text r) ≡ true
 rest_ended r = ended_flat (λ x. answer_line x.out) r.outputs.items ended_answer
 
 place_of : (payments : List Payment) (k : ℕ) (d : Payment) → k < length payments → slice_get payments (k + 1 - 1) ≡ Some (get_or payments k d)
@@ -178,7 +178,7 @@ of_round crew Q payments s is free_are told k d within =
         (inr (inr (inl (doubt payments (k + 1) p at s.in_doubt.items is.sorted.numbers l)))))
     go false h false i false l one = absurd (true≢false (sym one))
 
-of_rest : (Q : Payment → Type 0) (payments : List Payment) (r : Leftover Payment Answer) → IsLeftover Answers payments r → All Q (payments_of r.free.items) → ((p : Payment) → IsTold (leftover_text r) p → Q p) → All Q payments
+of_rest : (Q : Payment → Type 0) (payments : List Payment) (r : Leftover Payment BankReply) → IsLeftover Answers payments r → All Q (payments_of r.free.items) → ((p : Payment) → IsTold (leftover_text r) p → Q p) → All Q payments
 of_rest Q payments r is free_are told k d within = go (has (jobs_of r.outputs.items) (k + 1)) refl
   where
     p : Payment
@@ -256,7 +256,7 @@ module _ (day : Day) (entries : List Attempt) (text : List ℕ) (is : IsReport d
   at_floors p h = at_rounds p (told_after is.rounds_text of_floors_on p (ap is_ended is.rounds.text_is ∙ ended_flat (λ (f : List Payment × Sorted). round_text f.1) is.rounds.floors (λ f. round_ended f.1)) h)
 
   at_last : (p : Payment) → IsTold last p → Told p
-  at_last p h = at_floors p (told_after is.floors_text last p (ap is_ended is.floors.text_is ∙ ended_flat (λ (f : List Payment × Leftover Payment Answer). leftover_text f.1) is.floors.floors (λ f. rest_ended f.1)) h)
+  at_last p h = at_floors p (told_after is.floors_text last p (ap is_ended is.floors.text_is ∙ ended_flat (λ (f : List Payment × Leftover Payment BankReply). leftover_text f.1) is.floors.floors (λ f. rest_ended f.1)) h)
 
   left_are_told : All Told is.left
   left_are_told = All-weaker (λ p. HasLine last (codes "free") p.id) Told (λ p h. at_last p (inr (inr (inr h)))) is.left (each_line (codes "free") is.left)

@@ -3,8 +3,8 @@ use Rattle.std.specs.Prelude.{◌≡◌, ℕ, List, ◌++◌, codes}
 use Rattle.std.specs.Fmt.{decimal}
 use Rattle.amo_example_payments.specs.declared.day.payment.Payment.{Payment}
 use Rattle.amo_example_payments.specs.declared.ledger.order.Receipt.{Receipt}
-use Rattle.amo_example_payments.specs.declared.bank.Answer.{Answer}
-use Rattle.amo_example_payments.specs.declared.bank.Answer.TheVariants.{Paid, Unpaid}
+use Rattle.amo_example_payments.specs.declared.bank.BankReply.{BankReply}
+use Rattle.amo_example_payments.specs.declared.bank.BankReply.TheVariants.{Paid, Unpaid}
 
 -- The receipt is of this payment, and names the job.
 pub record IsReceiptOf (job : ℕ) (p : Payment) (r : Receipt) : Type 0 where
@@ -18,6 +18,6 @@ abbrev pub order_line : Payment → List ℕ
 order_line p = codes "paid " ++ (decimal p.id ++ (codes " " ++ (decimal p.account ++ (codes " " ++ (decimal p.cents ++ codes "\n")))))
 
 -- what a bank answers: a receipt of this payment as this job, or the payment itself
-abbrev pub Answers : ℕ → ℕ → Payment → Answer → Type 0
+abbrev pub Answers : ℕ → ℕ → Payment → BankReply → Type 0
 Answers worker job p (Paid r) = IsReceiptOf job p r
 Answers worker job p (Unpaid q) = q ≡ p

@@ -6,8 +6,8 @@ use Rattle.amo_mailbox.specs.declared.output.Output.{Output}
 use Rattle.amo_run_log.specs.declared.journal.Attempt.{Attempt}
 use Rattle.amo_example_payments.specs.declared.day.Day.{Day}
 use Rattle.amo_example_payments.specs.declared.day.payment.Payment.{Payment}
-use Rattle.amo_example_payments.specs.declared.bank.Answer.{Answer}
-use Rattle.amo_example_payments.specs.declared.bank.Answer.TheVariants.{Paid, Unpaid}
+use Rattle.amo_example_payments.specs.declared.bank.BankReply.{BankReply}
+use Rattle.amo_example_payments.specs.declared.bank.BankReply.TheVariants.{Paid, Unpaid}
 use Rattle.amo_example_payments.specs.declared.rounds.Crew.{Crew}
 use Rattle.amo_example_payments.specs.declared.second.Leftover.{Leftover}
 use Rattle.amo_example_payments.specs.declared.sorting.Sorted.{Sorted}
@@ -24,21 +24,21 @@ abbrev pub lines_of : List ℕ → List Payment → List ℕ
 lines_of word payments = flat_map (λ p. line word p.id) payments
 
 -- the line of each payment of which there is a receipt
-abbrev pub done_line : Answer → List ℕ
+abbrev pub done_line : BankReply → List ℕ
 done_line (Paid r) = line (codes "done") r.id
 done_line (Unpaid p) = []
 
 -- the line of an answer: `done` with a receipt, and `doubt` without
-abbrev pub answer_line : Answer → List ℕ
+abbrev pub answer_line : BankReply → List ℕ
 answer_line (Paid r) = line (codes "done") r.id
 answer_line (Unpaid p) = line (codes "doubt") p.id
 
 -- a line for each answer
-abbrev pub answer_lines : List (Output Answer) → List ℕ
+abbrev pub answer_lines : List (Output BankReply) → List ℕ
 answer_lines outputs = flat_map (λ x. answer_line x.out) outputs
 
 -- a line for each answer with a receipt
-abbrev pub done_lines : List (Output Answer) → List ℕ
+abbrev pub done_lines : List (Output BankReply) → List ℕ
 done_lines outputs = flat_map (λ x. done_line x.out) outputs
 
 -- a line for each job that is in doubt, with its payment's number
@@ -50,7 +50,7 @@ abbrev pub round_text : Sorted → List ℕ
 round_text s = done_lines s.answers.items ++ doubt_lines s.in_doubt.items
 
 -- what is written of a floor of one worker
-abbrev pub leftover_text : Leftover Payment Answer → List ℕ
+abbrev pub leftover_text : Leftover Payment BankReply → List ℕ
 leftover_text r = answer_lines r.outputs.items
 
 -- the payments that come with these jobs

@@ -1,8 +1,8 @@
 -- What the journal of earlier runs says of a payment, whose line there is that of its number.
 use Rattle.std.specs.Prelude.{◌≡◌, ℕ, Bool, false, not, ◌==◌, ◌&&◌, ◌||◌, List, filter, Option, Some, None, option_and_then}
 use Rattle.std.specs.List.{list_any}
-use Rattle.amo_run_log.specs.declared.entry.Answer.{Answer}
-use Rattle.amo_run_log.specs.declared.entry.Answer.TheVariants.{Done}
+use Rattle.amo_run_log.specs.declared.entry.Outcome.{Outcome}
+use Rattle.amo_run_log.specs.declared.entry.Outcome.TheVariants.{Done}
 use Rattle.amo_run_log.specs.declared.journal.Attempt.{Attempt}
 use Rattle.amo_run_log.specs.Journals.{journal_of}
 use Rattle.amo_run_log.specs.Open.{reopens}
@@ -15,12 +15,12 @@ abbrev pub journal_in : ℕ → List ℕ → Option (List Attempt)
 journal_in lines file = option_and_then (λ entries. journal_of lines entries) (entries_of file)
 
 -- the payment was made, by this answer
-abbrev pub is_made_by : Answer → Bool
+abbrev pub is_made_by : Outcome → Bool
 is_made_by (Done code time) = code == 0
 is_made_by answer = false
 
 -- by what is known of its intent
-abbrev pub is_made : Option Answer → Bool
+abbrev pub is_made : Option Outcome → Bool
 is_made None = false
 is_made (Some answer) = is_made_by answer
 

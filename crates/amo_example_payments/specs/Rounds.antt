@@ -6,7 +6,7 @@ use Rattle.amo_crew.specs.declared.outcome.Outcome.{Outcome}
 use Rattle.amo_crew.specs.Outcomes.{IsOutcome}
 use Rattle.amo_crew.specs.Unsettling.{IsUnsettled}
 use Rattle.amo_example_payments.specs.declared.day.payment.Payment.{Payment}
-use Rattle.amo_example_payments.specs.declared.bank.Answer.{Answer}
+use Rattle.amo_example_payments.specs.declared.bank.BankReply.{BankReply}
 use Rattle.amo_example_payments.specs.declared.sorting.Sorted.{Sorted}
 use Rattle.amo_example_payments.specs.declared.rounds.Crew.{Crew}
 use Rattle.amo_example_payments.specs.declared.rounds.RoundFault.{RoundFault}
@@ -23,7 +23,7 @@ is_fit crew = nat_le 1 crew.workers && nat_le crew.workers MAX_WORKERS && nat_le
 pub record IsRound (crew : Crew) (payments : List Payment) (s : Sorted) : Type 0 where
   pub givens : Givens
   pub givens_are : givens_of (length payments) crew.workers crew.workers ≡ Ok givens
-  pub outcome : Outcome Payment Answer
+  pub outcome : Outcome Payment BankReply
   pub has_come : IsOutcome Answers givens payments (replicate crew.workers crew.steps) outcome
   pub lists : IsSortingOf (ids_of payments) outcome s
   pub sorted : IsSorted payments s

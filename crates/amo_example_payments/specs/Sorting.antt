@@ -5,20 +5,20 @@ use Rattle.amo_sets.specs.Sets.{has, AreDistinct}
 use Rattle.amo_mailbox.specs.declared.output.Output.{Output}
 use Rattle.amo_crew.specs.declared.outcome.Outcome.{Outcome}
 use Rattle.amo_example_payments.specs.declared.day.payment.Payment.{Payment}
-use Rattle.amo_example_payments.specs.declared.bank.Answer.{Answer}
-use Rattle.amo_example_payments.specs.declared.bank.Answer.TheVariants.{Paid, Unpaid}
+use Rattle.amo_example_payments.specs.declared.bank.BankReply.{BankReply}
+use Rattle.amo_example_payments.specs.declared.bank.BankReply.TheVariants.{Paid, Unpaid}
 use Rattle.amo_example_payments.specs.declared.sorting.Sorted.{Sorted}
 use Rattle.amo_crew.specs.Outcomes.{jobs_of, answered, in_hand, IsOfNoThread}
 use Rattle.amo_crew.specs.Running.{IsRelated}
 use Rattle.amo_example_payments.specs.Payments.{Answers}
 
 -- it is a receipt
-abbrev pub is_paid : Answer → Bool
+abbrev pub is_paid : BankReply → Bool
 is_paid (Paid r) = true
 is_paid (Unpaid p) = false
 
 -- one of the answers is a receipt of the job j
-abbrev pub has_receipt_of : List (Output Answer) → ℕ → Bool
+abbrev pub has_receipt_of : List (Output BankReply) → ℕ → Bool
 has_receipt_of answers j = list_any (λ x. x.job == j && is_paid x.out) answers
 
 -- the job j is in a list of jobs with what belongs to each
@@ -26,11 +26,11 @@ abbrev pub has_job : {X : Type 0} → List (ℕ × X) → ℕ → Bool
 has_job list j = list_any (λ t. t.0 == j) list
 
 -- there is no receipt of a job, and it is not free
-abbrev pub is_unsure : List (Output Answer) → List (ℕ × Payment) → ℕ → Bool
+abbrev pub is_unsure : List (Output BankReply) → List (ℕ × Payment) → ℕ → Bool
 is_unsure answers free j = not (has_receipt_of answers j || has_job free j)
 
 -- What can be in doubt: the job was performed, or is in a hand, or was claimed by a worker whose thread could not be started.
-abbrev pub MayBeUnsure : Outcome Payment Answer → ℕ → Type 0
+abbrev pub MayBeUnsure : Outcome Payment BankReply → ℕ → Type 0
 MayBeUnsure o j = (has (answered o) j ≡ true) ⊎ ((has (in_hand o) j ≡ true) ⊎ IsOfNoThread o j)
 
 -- the numbers of these payments
@@ -53,7 +53,7 @@ IsNumberOf payloads t = slice_get (ids_of payloads) (t.0 - 1) ≡ Some t.1
 
 -- The lists are those of the outcome of a run of payments with these numbers: all its answers, its free jobs, what came back
 -- from a hand, and by rising job each, once, of which there is no receipt and which is not free, with its payment's number.
-pub record IsSortingOf (ids : List ℕ) (o : Outcome Payment Answer) (s : Sorted) : Type 0 where
+pub record IsSortingOf (ids : List ℕ) (o : Outcome Payment BankReply) (s : Sorted) : Type 0 where
   pub answers : s.answers.items ≡ o.outputs.items
   pub free : s.free.items ≡ o.settlement.free.items
   pub in_hand : s.in_hand.items ≡ o.in_hand.items

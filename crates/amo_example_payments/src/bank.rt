@@ -14,7 +14,7 @@ use std::time::{Clock, SystemTime, UNIX_EPOCH};
 
 /// What performing a payment gives.
 #[derive(Debug, PartialEq, Drop)]
-pub(crate) enum Answer {
+pub(crate) enum BankReply {
     /// The payment was made, and its receipt stands in the journal.
     Paid(Receipt),
     /// There is no receipt: its intent could not be put, and then it was not made; or nobody knows whether the bank has it; or it
@@ -101,17 +101,17 @@ impl<'a, D: Device + Drop, S: Write + Drop, R: Wait + Clock> Bank<'a, D, S, R> {
 }
 
 impl<'a, D: Device + Drop, S: Write + Drop, R: Wait + Clock> Work<Payment> for Bank<'a, D, S, R> {
-    type Out = Answer;
+    type Out = BankReply;
 
     ghost related = { λ _. Answers };
 
     /// Makes the payment. Where there is no receipt of it, it sets the flag.
-    fn perform(&self, _worker: u32, job: u32, payment: Payment) -> Answer {
+    fn perform(&self, _worker: u32, job: u32, payment: Payment) -> BankReply {
         match self.make(job, payment) {
-            Ok(receipt) => Answer::Paid(receipt),
+            Ok(receipt) => BankReply::Paid(receipt),
             Err(payment) => {
                 self.stop.store(true, Ordering::SeqCst);
-                Answer::Unpaid(payment)
+                BankReply::Unpaid(payment)
             }
         }
     }

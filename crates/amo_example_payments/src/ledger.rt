@@ -9,7 +9,7 @@ use crate::day::Payment;
 use crate::fault::Fault;
 use crate::restarting::{Earlier, follow};
 use amo_journal::{Device, Journal};
-use amo_run_log::{Answer, Attempt, Entry, journal_of, note, put_entry, read_entries};
+use amo_run_log::{Attempt, Entry, Outcome, journal_of, note, put_entry, read_entries};
 use std::alloc::Global;
 use std::collections::BTreeSet;
 
@@ -38,7 +38,7 @@ impl<D: Device + Drop> Ledger<D> {
     ghost use Rattle.std.specs.Prelude.{◌+◌, ◌++◌, ◌∷◌, [], List, true, length, Err, IfOk, IfErr, OnOk, OnErr};
     ghost use Rattle.amo_journal.specs.Device.{LeavesOnly};
     ghost use Rattle.amo_journal.specs.Journal.{MaySettle};
-    ghost use Rattle.amo_run_log.specs.declared.entry.Answer.TheVariants.{Done};
+    ghost use Rattle.amo_run_log.specs.declared.entry.Outcome.TheVariants.{Done};
     ghost use Rattle.amo_run_log.specs.declared.entry.Entry.{Entry as EntryView};
     ghost use Rattle.amo_run_log.specs.declared.entry.Entry.TheVariants.{Intent as IntentEntry, Answer as AnswerEntry};
     ghost use Rattle.amo_run_log.specs.Journals.{noted};
@@ -160,7 +160,7 @@ impl<D: Device + Drop> Ledger<D> {
             (StandsForOneMoreOrNot entries (AnswerEntry given.serial (Done 0 time))) }
     {
         let serial = given.serial();
-        let answer = Answer::Done { code: 0, time };
+        let answer = Outcome::Done { code: 0, time };
         if self.put(Entry::Answer { serial, answer }) {
             Ok(given.receipt(job))
         } else {

@@ -8,7 +8,7 @@ ghost use Rattle.amo_example_payments.specs.declared.day.payment.Payment.{Paymen
 ghost use Rattle.amo_example_payments.specs.Restarts.{has_intent, has_receipt, is_made, is_receipt, stands, IsParted};
 
 use crate::day::Payment;
-use amo_run_log::{Answer, Attempt, Entry, opens, reopens};
+use amo_run_log::{Attempt, Entry, Outcome, opens, reopens};
 use std::alloc::{AllocError, Global};
 use std::collections::BTreeSet;
 
@@ -24,10 +24,10 @@ pub(crate) struct Restart {
 }
 
 /// Whether it is known that a payment was made.
-fn is_made(answer: Option<Answer>) -> bool
+fn is_made(answer: Option<Outcome>) -> bool
     ensures { result ≡ is_made answer }
 {
-    matches!(answer, Some(Answer::Done { code: 0, .. }))
+    matches!(answer, Some(Outcome::Done { code: 0, .. }))
 }
 
 /// What a journal says of payments, by their numbers.

@@ -11,7 +11,7 @@ ghost use Rattle.amo_example_payments.specs.Rounds.{is_fit, IsRound, IsRunFault,
 ghost use Rattle.amo_example_payments.specs.declared.rounds.RoundFault.TheVariants.{Unsettled as UnsettledRound, Unsorted};
 ghost use Rattle.amo_givens.specs.declared.limits.TheConstants.{MAX_JOBS};
 
-use crate::bank::{Answer, Bank};
+use crate::bank::{Bank, BankReply};
 use crate::day::Payment;
 use crate::sorting::{Sorted, sort_out};
 use amo_crew::laws::settled_later;
@@ -49,9 +49,9 @@ pub(crate) enum RoundFault {
     /// Nothing was paid, and the payments come back in their order: there was no memory, or the crew is outside its ranges.
     Unpaid(Vec<Payment>),
     /// Memory was refused where the round was to be settled, twice. What it left can be settled later.
-    Unsettled(Unsettled<Payment, Answer>),
+    Unsettled(Unsettled<Payment, BankReply>),
     /// Memory was refused where the outcome of the round was to be sorted, twice. It can be sorted later.
-    Unsorted(Outcome<Payment, Answer>),
+    Unsorted(Outcome<Payment, BankReply>),
 }
 
 /// Takes the next round off the payments: their first 4096, or all. Where memory is refused they stay as they are.
@@ -95,7 +95,7 @@ fn ids_of(alloc: Global, payments: &[Payment]) -> Result<Vec<u64>, AllocError>
 fn sort_twice(
     alloc: Global,
     ids: &[u64],
-    outcome: Outcome<Payment, Answer>,
+    outcome: Outcome<Payment, BankReply>,
 ) -> Result<Sorted, RoundFault>
     requires few { length ids.now ≤ MAX_JOBS }
     ensures lists { IfOk result (IsSortingOf ids.now outcome) }
@@ -116,8 +116,8 @@ fn sort_twice(
 fn settle_again<D: Device + Drop, S: Write + Drop, R: Wait + Clock>(
     alloc: Global,
     bank: &Bank<'_, D, S, R>,
-    rest: Unsettled<Payment, Answer>,
-) -> Result<Outcome<Payment, Answer>, RoundFault>
+    rest: Unsettled<Payment, BankReply>,
+) -> Result<Outcome<Payment, BankReply>, RoundFault>
     ensures outcome { IfOk result (λ o. (g : GivensView) (payloads : List PaymentView) (budgets : List ℕ)
         → IsUnsettled Answers g payloads budgets rest → IsOutcome Answers g payloads budgets o) }
     ensures fault { IfErr result (λ f. f ≡ UnsettledRound rest) }
@@ -137,7 +137,7 @@ fn run_round<D: Device + Drop + Send, S: Write + Drop + Send, R: Threads + Wait 
     bank: &Bank<'_, D, S, R>,
     plan: &StopPlan,
     payments: Vec<Payment>,
-) -> Result<Outcome<Payment, Answer>, RoundFault>
+) -> Result<Outcome<Payment, BankReply>, RoundFault>
     ensures outcome { IfOk result (IsOutcome Answers plan.now.givens payments.items plan.now.budgets) }
     ensures fault { IfErr result (IsRunFault plan.now.givens payments.items plan.now.budgets) }
 {

@@ -10,7 +10,7 @@ ghost use Rattle.amo_example_payments.specs.Sorting.{is_paid, has_receipt_of, ha
 ghost use Rattle.amo_example_payments.specs.declared.day.payment.Payment.{Payment as PaymentView};
 ghost use Rattle.amo_givens.specs.declared.limits.TheConstants.{MAX_JOBS};
 
-use crate::bank::Answer;
+use crate::bank::BankReply;
 use crate::day::Payment;
 use amo_crew::{Outcome, Output};
 use std::alloc::{AllocError, Global};
@@ -21,7 +21,7 @@ use std::collections::BTreeSet;
 #[derive(Drop)]
 pub(crate) struct Sorted {
     /// What came of those that were performed. Where it is a receipt the payment was made, and there is nothing left to do.
-    pub(crate) answers: Vec<Output<Answer>>,
+    pub(crate) answers: Vec<Output<BankReply>>,
     /// Those that nobody began, each with its payment. They may be handed to a new floor.
     pub(crate) free: Vec<(u32, Payment)>,
     /// All others, each with its payment's number, to be shown to a person. They must not be made again.
@@ -31,14 +31,14 @@ pub(crate) struct Sorted {
 }
 
 /// Whether the answer is a receipt.
-fn is_paid(answer: &Answer) -> bool
+fn is_paid(answer: &BankReply) -> bool
     ensures { result ≡ is_paid answer.now }
 {
-    matches!(answer, Answer::Paid(_))
+    matches!(answer, BankReply::Paid(_))
 }
 
 /// The jobs of which there is a receipt among the answers.
-fn paid_in(alloc: Global, answers: &[Output<Answer>]) -> Result<BTreeSet<u32>, AllocError>
+fn paid_in(alloc: Global, answers: &[Output<BankReply>]) -> Result<BTreeSet<u32>, AllocError>
     ensures { IfOk result (λ s. (j : ℕ) → contains nat_cmp s j ≡ has_receipt_of answers.now j) }
 {
     let mut paid = BTreeSet::new(alloc);
@@ -110,8 +110,8 @@ fn list_unsure(
 pub(crate) fn sort_out(
     alloc: Global,
     ids: &[u64],
-    outcome: Outcome<Payment, Answer>,
-) -> Result<Sorted, Outcome<Payment, Answer>>
+    outcome: Outcome<Payment, BankReply>,
+) -> Result<Sorted, Outcome<Payment, BankReply>>
     requires few { length ids.now ≤ MAX_JOBS }
     ensures lists { IfOk result (IsSortingOf ids.now outcome) }
     ensures sorted { IfOk result (λ s. (givens : GivensView) (payloads : List PaymentView) (budgets : List ℕ)

@@ -6,7 +6,7 @@ ghost use Rattle.amo_io.specs.Streams.{AppendsFront};
 ghost use Rattle.amo_example_payments.specs.Reports.{lines_of, answer_lines, done_lines, doubt_lines, round_text};
 ghost use Rattle.amo_example_payments.specs.declared.fault.Fault.TheVariants.{Output as NoOutput, Memory as NoMemory};
 
-use crate::bank::Answer;
+use crate::bank::BankReply;
 use crate::day::Payment;
 use crate::fault::Fault;
 use crate::sorting::Sorted;
@@ -39,24 +39,24 @@ fn push_each(text: &mut String, word: &str, payments: &[Payment]) -> Result<(), 
 }
 
 /// Appends a line for each answer: `done` with a receipt, and `doubt` without.
-fn push_answers(text: &mut String, outputs: &[Output<Answer>]) -> Result<(), AllocError>
+fn push_answers(text: &mut String, outputs: &[Output<BankReply>]) -> Result<(), AllocError>
     ensures { OnOk result (string_bytes text.new ≡ string_bytes text.old ++ answer_lines outputs.now) }
 {
     for output in outputs {
         match &output.out {
-            Answer::Paid(receipt) => push_line(text, "done", receipt.id())?,
-            Answer::Unpaid(payment) => push_line(text, "doubt", payment.id())?,
+            BankReply::Paid(receipt) => push_line(text, "done", receipt.id())?,
+            BankReply::Unpaid(payment) => push_line(text, "doubt", payment.id())?,
         }
     }
     Ok(())
 }
 
 /// Appends a line for each answer with a receipt.
-fn push_done(text: &mut String, outputs: &[Output<Answer>]) -> Result<(), AllocError>
+fn push_done(text: &mut String, outputs: &[Output<BankReply>]) -> Result<(), AllocError>
     ensures { OnOk result (string_bytes text.new ≡ string_bytes text.old ++ done_lines outputs.now) }
 {
     for output in outputs {
-        if let Answer::Paid(receipt) = &output.out {
+        if let BankReply::Paid(receipt) = &output.out {
             push_line(text, "done", receipt.id())?;
         }
     }
@@ -94,7 +94,7 @@ pub(crate) fn tell_each<O: Write>(
 pub(crate) fn tell_answers<O: Write>(
     alloc: Global,
     out: &mut O,
-    outputs: &[Output<Answer>],
+    outputs: &[Output<BankReply>],
 ) -> Result<(), Fault>
     ensures whole { OnOk result (Appends (O.contents out.old) (O.contents out.new) (answer_lines outputs.now)) }
     ensures front { OnErr result (AppendsFront (O.contents out.old) (O.contents out.new) (answer_lines outputs.now)) }

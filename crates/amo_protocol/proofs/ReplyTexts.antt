@@ -7,8 +7,8 @@ use Rattle.std.proofs.lemmas.Fmt.{IsAscii-decimal}
 use Rattle.std.proofs.lemmas.Str.{IsUtf8-from_ascii, IsAscii-append}
 use Rattle.std.proofs.lemmas.Str.Ascii.{IsAscii-cons}
 use Rattle.std.proofs.lemmas.Slice.Eq.{bytes_eq-Decides}
-use Rattle.amo_driver.specs.declared.answer.Answer.{Answer}
-use Rattle.amo_driver.specs.declared.answer.Answer.TheVariants.{Done, Doubt, Unbegun, Untouched}
+use Rattle.amo_driver.specs.declared.answer.JobResult.{JobResult}
+use Rattle.amo_driver.specs.declared.answer.JobResult.TheVariants.{Done, Doubt, Unbegun, Untouched}
 use Rattle.amo_driver.specs.declared.answer.Reply.{Reply}
 use Rattle.amo_driver.specs.declared.answer.Reply.TheVariants.{Answered, Running, Garbled, Closed}
 use Rattle.amo_driver.specs.declared.answer.Way.{Way}
@@ -56,7 +56,7 @@ code_and_way_reads n c way fits small =
     ∙ ap (λ o. with_code n o) (number_reads c way (omega (arith, small)))
     ∙ ap (λ o. option_and_then (λ (code : ℕ). Some (n, code, way)) o) (code_reads c small)
 
-answer_reads : (s : ℕ) (a : Answer) (way : Way) → s < 2 ^ 64 → FitsAnswer a → said_in (text_of_answer s a way) ≡ Some (Answered s a way)
+answer_reads : (s : ℕ) (a : JobResult) (way : Way) → s < 2 ^ 64 → FitsAnswer a → said_in (text_of_answer s a way) ≡ Some (Answered s a way)
 answer_reads s (Done c) way fits small =
     word_reads reply_of_word (codes "done") (decimal s ++ 32 ∷ (decimal c ++ 32 ∷ word_of way)) refl
     ∙ ap (λ o. option_and_then (λ (n : ℕ × ℕ × Way). Some (Answered n.0 (Done n.1) n.2)) o) (code_and_way_reads s c way fits small)
@@ -124,7 +124,7 @@ with_parts word r print reply n e printed same said =
     subst (λ (x : Reply). IsSaid (word ++ 32 ∷ r) x) (some_is same) (subst (λ (x : List ℕ). IsSaid (word ++ 32 ∷ x) (reply n)) printed said)
 
 -- a number, a code and a way, behind the word that was tested
-coded : (w word r : List ℕ) (answer : ℕ → Answer) (e : Reply) → bytes_eq w word ≡ true → option_and_then (λ (n : ℕ × ℕ × Way). Some (Answered n.0 (answer n.1) n.2)) (code_and_way_in r) ≡ Some e
+coded : (w word r : List ℕ) (answer : ℕ → JobResult) (e : Reply) → bytes_eq w word ≡ true → option_and_then (λ (n : ℕ × ℕ × Way). Some (Answered n.0 (answer n.1) n.2)) (code_and_way_in r) ≡ Some e
     → ((s c : ℕ) (way : Way) → s < 2 ^ 64 → c < 2 ^ 8 → IsSaid (word ++ 32 ∷ (decimal s ++ 32 ∷ (decimal c ++ 32 ∷ word_of way))) (Answered s (answer c) way))
     → IsSaid (w ++ 32 ∷ r) e
 coded w word r answer e is h says =
@@ -200,7 +200,7 @@ ascii_code s c way fits small =
     IsAscii-append (decimal s) (32 ∷ (decimal c ++ 32 ∷ word_of way)) (IsAscii-decimal s fits)
     (IsAscii-cons 32 (decimal c ++ 32 ∷ word_of way) (omega arith) (ascii_number c way (omega (arith, small))))
 
-ascii_answer : (s : ℕ) (a : Answer) (way : Way) → s < 2 ^ 64 → FitsAnswer a → IsAscii (text_of_answer s a way)
+ascii_answer : (s : ℕ) (a : JobResult) (way : Way) → s < 2 ^ 64 → FitsAnswer a → IsAscii (text_of_answer s a way)
 ascii_answer s (Done c) way fits small = IsAscii-append (codes "done ") (decimal s ++ 32 ∷ (decimal c ++ 32 ∷ word_of way)) (ascii_by_test (codes "done ") refl) (ascii_code s c way fits small)
 ascii_answer s Doubt way fits any = IsAscii-append (codes "doubt ") (decimal s ++ 32 ∷ word_of way) (ascii_by_test (codes "doubt ") refl) (ascii_number s way fits)
 ascii_answer s Unbegun way fits any = IsAscii-append (codes "unbegun ") (decimal s ++ 32 ∷ word_of way) (ascii_by_test (codes "unbegun ") refl) (ascii_number s way fits)

@@ -3,8 +3,8 @@ use Rattle.std.specs.Prelude.{ℕ, List, ◌++◌, codes, Bool, false, Option, S
 use Rattle.std.specs.Fmt.{decimal}
 use Rattle.std.specs.Str.{bytes_eq}
 use Rattle.amo_decimal.specs.Numbers.{number_in}
-use Rattle.amo_driver.specs.declared.answer.Answer.{Answer}
-use Rattle.amo_driver.specs.declared.answer.Answer.TheVariants.{Done, Doubt, Unbegun, Untouched}
+use Rattle.amo_driver.specs.declared.answer.JobResult.{JobResult}
+use Rattle.amo_driver.specs.declared.answer.JobResult.TheVariants.{Done, Doubt, Unbegun, Untouched}
 use Rattle.amo_driver.specs.declared.answer.Reply.{Reply}
 use Rattle.amo_driver.specs.declared.answer.Reply.TheVariants.{Closed}
 use Rattle.amo_driver.specs.declared.model.Deed.{Deed}
@@ -22,7 +22,7 @@ abbrev pub two : List ℕ → ℕ → ℕ → List ℕ
 two words a b = words ++ (codes " " ++ (decimal a ++ (codes " " ++ (decimal b ++ codes "\n"))))
 
 -- the line that notes an answer to the intent of this serial number
-abbrev pub note_text : ℕ → Answer → List ℕ
+abbrev pub note_text : ℕ → JobResult → List ℕ
 note_text serial (Done code) = two (codes "note done") serial code
 note_text serial Doubt = one (codes "note doubt") serial
 note_text serial Unbegun = one (codes "note unbegun") serial

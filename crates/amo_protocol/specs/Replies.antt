@@ -5,8 +5,8 @@ use Rattle.std.specs.Str.{bytes_eq}
 use Rattle.amo_decimal.specs.Numbers.{number_in}
 use Rattle.amo_run_log.specs.Numbers.{both_in, by_word, has_blank, first_word, other_words}
 use Rattle.amo_run_log.specs.Entries.{code_in}
-use Rattle.amo_driver.specs.declared.answer.Answer.{Answer}
-use Rattle.amo_driver.specs.declared.answer.Answer.TheVariants.{Done, Doubt, Unbegun, Untouched}
+use Rattle.amo_driver.specs.declared.answer.JobResult.{JobResult}
+use Rattle.amo_driver.specs.declared.answer.JobResult.TheVariants.{Done, Doubt, Unbegun, Untouched}
 use Rattle.amo_driver.specs.declared.answer.Reply.{Reply}
 use Rattle.amo_driver.specs.declared.answer.Reply.TheVariants.{Answered, Running, Garbled, Closed}
 use Rattle.amo_driver.specs.declared.answer.Way.{Way}
@@ -18,7 +18,7 @@ word_of Go = codes "go"
 word_of Leave = codes "leave"
 
 -- the line of an answer to the intent of this serial number, without its end
-abbrev pub text_of_answer : ℕ → Answer → Way → List ℕ
+abbrev pub text_of_answer : ℕ → JobResult → Way → List ℕ
 text_of_answer serial (Done code) way = codes "done " ++ (decimal serial ++ (codes " " ++ (decimal code ++ (codes " " ++ word_of way))))
 text_of_answer serial Doubt way = codes "doubt " ++ (decimal serial ++ (codes " " ++ word_of way))
 text_of_answer serial Unbegun way = codes "unbegun " ++ (decimal serial ++ (codes " " ++ word_of way))
@@ -32,7 +32,7 @@ text_of Garbled = None
 text_of Closed = None
 
 -- its code is at most 255
-abbrev pub FitsAnswer : Answer → Type 0
+abbrev pub FitsAnswer : JobResult → Type 0
 FitsAnswer (Done code) = code < 2 ^ 8
 FitsAnswer Doubt = Unit {0}
 FitsAnswer Unbegun = Unit {0}

@@ -5,7 +5,7 @@ ghost use Rattle.amo_protocol.specs.Lines.{is_agreed};
 use crate::replies::reply_in;
 use crate::wire::Wire;
 use amo_decimal::number_of_bytes;
-use amo_driver::{Answer, Failed, Outside, Reply, Try};
+use amo_driver::{Failed, JobResult, Outside, Reply, Try};
 
 /// The words, the journal and the partner of a worker, all behind a wire.
 #[derive(Drop)]
@@ -79,7 +79,7 @@ impl<W: Wire> Outside for Lines<W> {
         Ok(reply)
     }
 
-    fn note(&mut self, serial: u64, answer: Answer) -> Result<(), Failed> {
+    fn note(&mut self, serial: u64, answer: JobResult) -> Result<(), Failed> {
         let heard = self.wire.ask(Try::Note(serial, answer))?;
         self.agreed(heard)
     }

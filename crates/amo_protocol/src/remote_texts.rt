@@ -2,7 +2,7 @@
 ghost use Rattle.std.specs.Prelude.{◌≡◌, IfOk};
 ghost use Rattle.amo_protocol.specs.Lines.{note_text, text_of};
 
-use amo_driver::{Answer, Try};
+use amo_driver::{JobResult, Try};
 use std::alloc::{AllocError, Global};
 
 /// The line of what is tried, its end with it. The serial number of an intent counts within the life of one process.
@@ -21,13 +21,13 @@ pub fn text_of(alloc: Global, asked: Try) -> Result<Vec<u8>, AllocError>
     Ok(text.into_bytes())
 }
 
-fn note_text(alloc: Global, serial: u64, answer: Answer) -> Result<String, AllocError>
+fn note_text(alloc: Global, serial: u64, answer: JobResult) -> Result<String, AllocError>
     ensures { IfOk result (λ said. said.bytes.items ≡ note_text serial answer) }
 {
     match answer {
-        Answer::Done(code) => format!(in alloc; "note done {serial} {code}\n"),
-        Answer::Doubt => format!(in alloc; "note doubt {serial}\n"),
-        Answer::Unbegun => format!(in alloc; "note unbegun {serial}\n"),
-        Answer::Untouched(code) => format!(in alloc; "note untouched {serial} {code}\n"),
+        JobResult::Done(code) => format!(in alloc; "note done {serial} {code}\n"),
+        JobResult::Doubt => format!(in alloc; "note doubt {serial}\n"),
+        JobResult::Unbegun => format!(in alloc; "note unbegun {serial}\n"),
+        JobResult::Untouched(code) => format!(in alloc; "note untouched {serial} {code}\n"),
     }
 }

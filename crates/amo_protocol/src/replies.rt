@@ -4,7 +4,7 @@ ghost use Rattle.amo_driver.specs.declared.answer.Reply.{Reply as ReplyView};
 ghost use Rattle.amo_protocol.specs.Replies.{text_of, Fits, way_in, number_and_way_in, code_and_way_in, reply_of_word, said_in, reply_in};
 
 use amo_decimal::number;
-use amo_driver::{Answer, Reply, Way};
+use amo_driver::{JobResult, Reply, Way};
 use amo_run_log::code_of;
 use std::str;
 
@@ -45,19 +45,19 @@ fn reply_of_word(word: &str, rest: &str) -> Option<Reply>
     match word {
         "done" => {
             let (serial, code, way) = code_and_way(rest)?;
-            Some(Reply::Answered(serial, Answer::Done(code), way))
+            Some(Reply::Answered(serial, JobResult::Done(code), way))
         }
         "doubt" => {
             let (serial, way) = number_and_way(rest)?;
-            Some(Reply::Answered(serial, Answer::Doubt, way))
+            Some(Reply::Answered(serial, JobResult::Doubt, way))
         }
         "unbegun" => {
             let (serial, way) = number_and_way(rest)?;
-            Some(Reply::Answered(serial, Answer::Unbegun, way))
+            Some(Reply::Answered(serial, JobResult::Unbegun, way))
         }
         "untouched" => {
             let (serial, code, way) = code_and_way(rest)?;
-            Some(Reply::Answered(serial, Answer::Untouched(code), way))
+            Some(Reply::Answered(serial, JobResult::Untouched(code), way))
         }
         "running" => {
             let (serial, way) = number_and_way(rest)?;

@@ -6,7 +6,7 @@ use crate::files::bytes_of;
 use crate::identity::{Age, check_id, check_kept, check_whole, has_id};
 use crate::layout::Item;
 use crate::new_round::grown;
-use crate::settings::{Jobs, Setting};
+use crate::settings::{ListSettings, Setting};
 use crate::state::known;
 use amo_fs::{is_mine, make_folder, sync_folder};
 use std::fs;
@@ -22,7 +22,7 @@ use std::rt::HostRuntime;
 pub fn open(
     rt: HostRuntime,
     setting: &Setting<'_>,
-    jobs: &Jobs<'_>,
+    jobs: &ListSettings<'_>,
     into: bool,
 ) -> Result<(), Fault> {
     if !is_there(rt, setting)? {
@@ -42,7 +42,7 @@ pub fn open(
 }
 
 /// Makes the folder, which isn't there: whole, or with `into` without its files.
-fn make(rt: HostRuntime, setting: &Setting<'_>, jobs: &Jobs<'_>, into: bool) -> Result<(), Fault> {
+fn make(rt: HostRuntime, setting: &Setting<'_>, jobs: &ListSettings<'_>, into: bool) -> Result<(), Fault> {
     if setting.id.is_some() {
         return Err(Fault::NoRun);
     }
@@ -111,7 +111,7 @@ fn look_at(rt: HostRuntime, setting: &Setting<'_>) -> Result<(), Fault> {
 pub fn check_jobs(
     rt: HostRuntime,
     setting: &Setting<'_>,
-    jobs: &Jobs<'_>,
+    jobs: &ListSettings<'_>,
 ) -> Result<(), Fault> {
     let list = had(Item::List, fs::read(&rt, jobs.list))?;
     let begun = bytes_of(rt, setting, Item::Record)?.is_some();

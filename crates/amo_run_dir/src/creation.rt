@@ -6,7 +6,7 @@ use crate::identity::{has_id, len_of};
 use crate::layout::Item;
 use crate::locks::lock_within;
 use crate::names::{Kind, Named, first_refused, is_id, kind_of};
-use crate::settings::{Jobs, Setting};
+use crate::settings::{ListSettings, Setting};
 use amo_fs::{make_file, make_folder, make_if_missing, names_in, sync_folder};
 use amo_givens::MAX_WORKERS;
 use std::fs;
@@ -63,7 +63,7 @@ fn make_first(rt: HostRuntime, folder: &str, item: Item, bytes: &[u8]) -> Result
 pub fn make_within(
     rt: HostRuntime,
     setting: &Setting<'_>,
-    jobs: &Jobs<'_>,
+    jobs: &ListSettings<'_>,
 ) -> Result<(), Fault> {
     check_new(rt, setting)?;
     check_jobs(rt, setting, jobs)?;

@@ -6,14 +6,14 @@ use crate::locks::shared_lock_within;
 use crate::registers::Words;
 use crate::settings::Setting;
 use amo_givens::{MAX_JOBS, MAX_WORKERS};
-use amo_run_files::{Record, head_of, seat_of, words_len};
+use amo_run_files::{RoundHeader, head_of, seat_of, words_len};
 use std::fs::File;
 use std::rt::HostRuntime;
 
 /// A round in which this process has a seat. While it has this value nobody begins another.
 #[derive(Drop)]
-pub struct Joined {
-    pub record: Record,
+pub struct JoinedRound {
+    pub record: RoundHeader,
     pub words: Words,
     /// As which of the round's workers it acts.
     pub seat: u64,
@@ -31,7 +31,7 @@ pub fn join(
     setting: &Setting<'_>,
     worker: u64,
     boot: &[u8],
-) -> Result<Joined, Fault> {
+) -> Result<JoinedRound, Fault> {
     match shared_lock_within(rt, setting, Item::Round)? {
         Some(lock) => read(rt, setting, worker, boot, lock),
         None => Err(Fault::Later(Later::Beginning)),
@@ -46,7 +46,7 @@ fn read(
     worker: u64,
     boot: &[u8],
     lock: File,
-) -> Result<Joined, Fault> {
+) -> Result<JoinedRound, Fault> {
     let Some(record) = record_of(rt, setting)? else {
         return Err(Fault::Later(Later::OtherRound));
     };
@@ -58,7 +58,7 @@ fn read(
         return Err(Fault::Later(Later::NoSeat));
     };
     sync(rt, setting)?;
-    Ok(Joined {
+    Ok(JoinedRound {
         record,
         words,
         seat,
@@ -67,11 +67,11 @@ fn read(
 }
 
 /// Returns the record of the last round, if there is one.
-pub fn record_of(rt: HostRuntime, setting: &Setting<'_>) -> Result<Option<Record>, Fault> {
+pub fn record_of(rt: HostRuntime, setting: &Setting<'_>) -> Result<Option<RoundHeader>, Fault> {
     let Some(bytes) = bytes_of(rt, setting, Item::Record)? else {
         return Ok(None);
     };
-    match Record::read(rt.alloc(), &bytes)? {
+    match RoundHeader::read(rt.alloc(), &bytes)? {
         Some(record) => Ok(Some(record)),
         None => Err(Fault::Refused(Item::Record)),
     }
@@ -81,7 +81,7 @@ pub fn record_of(rt: HostRuntime, setting: &Setting<'_>) -> Result<Option<Record
 ///
 /// # Errors
 /// `Refused` if the record is damaged, `Later` if the words are of another round.
-fn words_of(rt: HostRuntime, setting: &Setting<'_>, record: &Record) -> Result<Words, Fault> {
+fn words_of(rt: HostRuntime, setting: &Setting<'_>, record: &RoundHeader) -> Result<Words, Fault> {
     if record.givens.jobs > MAX_JOBS as u64 || record.givens.workers > MAX_WORKERS as u64 {
         return Err(Fault::Refused(Item::Record));
     }
@@ -104,7 +104,7 @@ fn words_of(rt: HostRuntime, setting: &Setting<'_>, record: &Record) -> Result<W
 }
 
 /// Returns the number as which this worker acts in the round, if it has a seat.
-fn seat_in(record: &Record, worker: u64) -> Option<u64> {
+fn seat_in(record: &RoundHeader, worker: u64) -> Option<u64> {
     let (first, workers) = (record.first, record.workers);
     if first < 1 || first > workers || workers > MAX_WORKERS as u64 {
         return None;

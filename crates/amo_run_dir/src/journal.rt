@@ -11,34 +11,34 @@ use std::alloc::Global;
 
 /// A journal that is settled. What can't be put takes it away, so nothing is put behind a fault.
 #[derive(Drop)]
-pub struct Settled<D: Device> {
+pub struct OpenJournal<D: Device> {
     pub journal: Journal<D>,
     ghost settled: { Rattle.amo_journal.specs.Journal.IsSettled D.seen D.may_leave D.stale journal },
 }
 
-impl<D: Device + Drop> Settled<D> {
+impl<D: Device + Drop> OpenJournal<D> {
     /// Settles the journal on a device, and answers its texts.
     pub fn settle(
         alloc: Global,
         device: D,
-    ) -> Result<(Settled<D>, Vec<Vec<u8>>), DeviceError>
+    ) -> Result<(OpenJournal<D>, Vec<Vec<u8>>), DeviceError>
         requires { MaySettle D.seen D.may_leave D.stale device }
         ensures texts { IfOk result (λ r. map (λ text. text.items) r.1.items ≡ texts_in (D.seen device)) }
         ensures same { IfOk result (λ r. texts_in (D.seen r.0.journal.device) ≡ texts_in (D.seen device)) }
     {
         let mut journal = Journal::new(device);
         let texts = journal.settle(alloc)?;
-        Ok((Settled { journal }, texts))
+        Ok((OpenJournal { journal }, texts))
     }
 
     /// Puts an entry.
-    pub fn put(self, alloc: Global, entry: Entry) -> Result<Settled<D>, PutError>
+    pub fn put(self, alloc: Global, entry: Entry) -> Result<OpenJournal<D>, PutError>
         ensures acknowledged { (entries : List EntryView) → entries_of (D.seen self.journal.device) ≡ Some entries
             → IfOk result (λ s. entries_of (D.seen s.journal.device) ≡ Some (entries ++ entry ∷ [])) }
     {
         let mut journal = self.journal;
         put_entry(&mut journal, alloc, entry)?;
-        Ok(Settled { journal })
+        Ok(OpenJournal { journal })
     }
 
     /// Puts a finding.
@@ -46,9 +46,9 @@ impl<D: Device + Drop> Settled<D> {
         self,
         alloc: Global,
         finding: Finding,
-    ) -> Result<Settled<D>, PutError> {
+    ) -> Result<OpenJournal<D>, PutError> {
         let mut journal = self.journal;
         put_finding(&mut journal, alloc, finding)?;
-        Ok(Settled { journal })
+        Ok(OpenJournal { journal })
     }
 }

@@ -2,7 +2,7 @@
 use crate::error::{Fault, Later, had, written};
 use crate::files::{opened, opened_to_read, path_of, sync};
 use crate::identity::check_kept;
-use crate::journal::Settled;
+use crate::journal::OpenJournal;
 use crate::layout::Item;
 use crate::settings::Setting;
 use amo_fs::{FileDevice, is_at, try_exclusive, try_shared};
@@ -21,8 +21,8 @@ const PAUSE: u64 = 20;
 
 /// A journal whose lock this process has. The lock is kept as long as the value is.
 #[derive(Drop)]
-pub struct Guarded {
-    pub journal: Settled<FileDevice>,
+pub struct LockedJournal {
+    pub journal: OpenJournal<FileDevice>,
     pub texts: Vec<Vec<u8>>,
     /// The handle that has the lock.
     pub lock: File,
@@ -110,19 +110,19 @@ pub fn settled(
     setting: &Setting<'_>,
     item: Item,
     lock: File,
-) -> Result<Guarded, Fault> {
+) -> Result<LockedJournal, Fault> {
     if had(item, lock.metadata())?.len() == 0 {
         return Err(Fault::Empty(item));
     }
     let handle = written(item, lock.try_clone())?;
     let device = had(item, FileDevice::open(rt.alloc(), handle))?;
-    let (journal, texts) = match Settled::settle(rt.alloc(), device) {
+    let (journal, texts) = match OpenJournal::settle(rt.alloc(), device) {
         Ok(both) => both,
         Err(DeviceError::Memory) => return Err(Fault::Memory),
         Err(DeviceError::Failed) => return Err(Fault::Journal(item)),
     };
     sync(rt, setting)?;
-    Ok(Guarded {
+    Ok(LockedJournal {
         journal,
         texts,
         lock,
@@ -136,7 +136,7 @@ pub fn take_number(
     rt: HostRuntime,
     setting: &Setting<'_>,
     worker: u64,
-) -> Result<Guarded, Fault> {
+) -> Result<LockedJournal, Fault> {
     let item = Item::Journal(worker);
     match lock_within(rt, setting, item)? {
         Some(lock) => {

@@ -8,10 +8,12 @@ use crate::error::{Fault, had};
 use crate::files::replaced;
 use crate::join::record_of;
 use crate::layout::Item;
-use crate::settings::{Jobs as Asked, Setting};
-use crate::state::{Books, known, read_pages};
+use crate::settings::{ListSettings as Asked, Setting};
+use crate::state::{RunState, known, read_pages};
 use amo_givens::{MAX_JOBS, MAX_WORKERS};
-use amo_run_files::{Jobs, JobsFault, Record, Why, first_difference, givens_of, head_of, words_len};
+use amo_run_files::{
+    Jobs, JobsFault, RoundHeader, Why, first_difference, givens_of, head_of, words_len,
+};
 use amo_run_log::open_lines;
 use amo_status::{Counts, counts, standings};
 use std::alloc::{AllocError, Global};
@@ -25,7 +27,7 @@ struct Found {
     /// The bytes of the jobs' file.
     list: Vec<u8>,
     /// What the run's files say, with the lines of the jobs' file.
-    books: Books,
+    books: RunState,
     /// Whether the run doesn't know all of these lines.
     more: bool,
 }
@@ -64,7 +66,7 @@ fn what_there_is(
     let list = list_of(rt, asked)?;
     let jobs = grown(rt.alloc(), &known, &list, cut)?;
     let more = jobs.bytes().len() > known.bytes().len();
-    let books = Books::read(rt.alloc(), &read_pages(rt, setting)?, jobs)?;
+    let books = RunState::read(rt.alloc(), &read_pages(rt, setting)?, jobs)?;
     Ok(Found { list, books, more })
 }
 
@@ -107,7 +109,7 @@ fn whole(list: &[u8], taken: &[u8], count: u64) -> Result<(), Fault> {
 }
 
 /// The open lines.
-fn open_of(alloc: Global, books: &Books) -> Result<Vec<u64>, Fault>
+fn open_of(alloc: Global, books: &RunState) -> Result<Vec<u64>, Fault>
     ensures { IfOk result (λ lines. (count : _) × (lines.items ≡ open_lines books.now.findings.items (map (λ journal. journal.items) books.now.journals.items) count)) }
 {
     let count = books.jobs.count() as usize;
@@ -115,7 +117,7 @@ fn open_of(alloc: Global, books: &Books) -> Result<Vec<u64>, Fault>
 }
 
 /// How many lines stand where. Nobody holds an intent that is pending here, but its command may run.
-fn counted(alloc: Global, books: &Books) -> Result<Counts, Fault> {
+fn counted(alloc: Global, books: &RunState) -> Result<Counts, Fault> {
     let count = books.jobs.count() as usize;
     let all = standings(alloc, &books.log(&[]), count)?;
     Ok(counts(&all))
@@ -127,15 +129,15 @@ fn record_for(
     asked: &Asked<'_>,
     worker: u64,
     boot: &[u8],
-    last: Option<Record>,
+    last: Option<RoundHeader>,
     lines: Vec<u64>,
-) -> Result<Record, Fault>
+) -> Result<RoundHeader, Fault>
     ensures { IfOk result (λ next. IsNextRound asked.now worker boot.now last lines.items next) }
 {
     let lines = first_lines(alloc, &lines)?;
     let givens = givens_of(lines.len() as u64, asked.workers, asked.beta);
     let boot = boot.to_vec(alloc)?;
-    Ok(Record {
+    Ok(RoundHeader {
         round: round_after(&last),
         boot,
         givens,
@@ -146,7 +148,7 @@ fn record_for(
 }
 
 /// The number of the next round.
-fn round_after(last: &Option<Record>) -> u64
+fn round_after(last: &Option<RoundHeader>) -> u64
     ensures { result ≡ round_after last.now }
 {
     match last {
@@ -169,7 +171,7 @@ fn first_lines(alloc: Global, lines: &[u64]) -> Result<Vec<u64>, AllocError>
 }
 
 /// Makes record and words. The words are all 0, and never synced: after a power cut they are of another boot.
-fn make(rt: HostRuntime, setting: &Setting<'_>, record: &Record) -> Result<(), Fault> {
+fn make(rt: HostRuntime, setting: &Setting<'_>, record: &RoundHeader) -> Result<(), Fault> {
     let Some(mut words) = head_of(rt.alloc(), record)? else {
         return Err(Fault::Refused(Item::Boot));
     };

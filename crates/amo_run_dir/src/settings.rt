@@ -18,7 +18,7 @@ pub struct Setting<'a> {
 
 /// Which jobs a run has, and how many may share them.
 #[derive(Clone, Copy)]
-pub struct Jobs<'a> {
+pub struct ListSettings<'a> {
     /// The path of the jobs' file: a line is a job.
     pub list: &'a str,
     /// How many workers there may be, 1 to 16.

@@ -9,13 +9,13 @@ use amo_run_files::{Jobs, JobsFault};
 use amo_run_log::{
     Attempt, Fault as Misread, Finding, first_misplaced, journal_of, read_entries, read_findings,
 };
-use amo_status::{Intent, RunLog};
+use amo_status::{AttemptId, RunLog};
 use std::alloc::Global;
 use std::rt::HostRuntime;
 
 /// What the files say, each text of them read.
 #[derive(Drop)]
-pub struct Books {
+pub struct RunState {
     pub jobs: Jobs,
     /// Those of the workers 1, 2 and so on.
     pub journals: Vec<Vec<Attempt>>,
@@ -24,7 +24,7 @@ pub struct Books {
 
 /// The texts of the journals and of what persons found out.
 #[derive(Drop)]
-pub struct Pages {
+pub struct RawLogs {
     pub answers: Vec<Vec<u8>>,
     /// Those of the workers 1, 2 and so on.
     pub journals: Vec<Vec<Vec<u8>>>,
@@ -32,13 +32,13 @@ pub struct Pages {
 
 /// The texts as they can be read now: first what persons found out, then the journals, so that nothing is read of an intent that
 /// isn't read itself.
-pub fn read_pages(rt: HostRuntime, setting: &Setting<'_>) -> Result<Pages, Fault> {
+pub fn read_pages(rt: HostRuntime, setting: &Setting<'_>) -> Result<RawLogs, Fault> {
     let answers = texts_of(rt, setting, Item::Answers)?;
     let mut journals = Vec::new(rt.alloc());
     for worker in 1..=MAX_WORKERS as u64 {
         journals.push(texts_of(rt, setting, Item::Journal(worker))?)?;
     }
-    Ok(Pages { answers, journals })
+    Ok(RawLogs { answers, journals })
 }
 
 /// Returns the texts of a journal, which was made with the run's id.
@@ -68,16 +68,16 @@ pub fn known(rt: HostRuntime, setting: &Setting<'_>) -> Result<Jobs, Fault> {
     }
 }
 
-impl Books {
+impl RunState {
     /// What these texts say of these jobs.
-    pub fn read(alloc: Global, pages: &Pages, jobs: Jobs) -> Result<Books, Fault> {
+    pub fn read(alloc: Global, pages: &RawLogs, jobs: Jobs) -> Result<RunState, Fault> {
         let mut journals = Vec::new(alloc);
         for (i, texts) in pages.journals.iter().enumerate() {
             let item = Item::Journal(i as u64 + 1);
             journals.push(attempts_of(alloc, item, jobs.count(), texts)?)?;
         }
         let findings = findings_of(alloc, &journals, &pages.answers)?;
-        Ok(Books {
+        Ok(RunState {
             jobs,
             journals,
             findings,
@@ -85,7 +85,7 @@ impl Books {
     }
 
     /// What the run has written down of its intents, of which the caller has settled these.
-    pub fn log<'a>(&'a self, finals: &'a [Intent]) -> RunLog<'a> {
+    pub fn log<'a>(&'a self, finals: &'a [AttemptId]) -> RunLog<'a> {
         RunLog {
             findings: self.findings.as_slice(),
             journals: self.journals.as_slice(),

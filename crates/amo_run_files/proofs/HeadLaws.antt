@@ -5,7 +5,7 @@ use Rattle.std.specs.List.{AllByRecursion}
 use Rattle.std.proofs.lemmas.Fmt.{decimal_injective}
 use Rattle.std.proofs.lemmas.List.{append_cancel_left, same_from_push}
 use Rattle.std.proofs.lemmas.Option.{cond_some}
-use Rattle.amo_run_files.specs.declared.seats.Givens.{Givens}
+use Rattle.amo_run_files.specs.declared.seats.RoundParams.{RoundParams}
 use Rattle.amo_run_log.specs.Numbers.{three_in}
 use Rattle.amo_run_log.specs.Texts.{ended}
 use Rattle.amo_run_files.specs.Records.{RecordView, IsRecord, is_sound}
@@ -18,7 +18,7 @@ use Rattle.amo_run_files.proofs.Cuts.{only}
 use Rattle.amo_run_files.proofs.Ends.{ended-append}
 
 -- what a sound record keeps of its givens
-record Fits (g : Givens) : Type 0 where
+record Fits (g : RoundParams) : Type 0 where
   pub jobs : g.jobs < 2 ^ 64
   pub workers : g.workers < 2 ^ 64
   pub beta : g.beta < 2 ^ 64
@@ -29,19 +29,19 @@ fits r h =
     record { jobs = omega (arith, kept.jobs); workers = omega (arith, kept.sharing, kept.workers); beta = omega (arith, kept.beta) }
 
 -- the line of the givens
-abbrev numbers : Givens → List ℕ
+abbrev numbers : RoundParams → List ℕ
 numbers g = decimal g.jobs ++ 32 ∷ (decimal g.workers ++ 32 ∷ decimal g.beta)
 
-numbers_lack : (g : Givens) → Fits g → Lacks 10 (numbers g)
+numbers_lack : (g : RoundParams) → Fits g → Lacks 10 (numbers g)
 numbers_lack g f =
     lacks_append 10 (decimal g.jobs) (32 ∷ (decimal g.workers ++ 32 ∷ decimal g.beta)) (decimal_lacks 10 g.jobs (omega arith) f.jobs)
     ((λ e. omega (arith, e)), lacks_append 10 (decimal g.workers) (32 ∷ decimal g.beta) (decimal_lacks 10 g.workers (omega arith) f.workers) ((λ e. omega (arith, e)), decimal_lacks 10 g.beta (omega arith) f.beta))
 
-same_numbers : (g h : Givens) → Fits g → Fits h → numbers g ≡ numbers h → g ≡ h
+same_numbers : (g h : RoundParams) → Fits g → Fits h → numbers g ≡ numbers h → g ≡ h
 same_numbers g h f k same = by_parts g h
     (sym (three_reads g.jobs g.workers g.beta f.jobs f.workers f.beta) ∙ ap three_in same ∙ three_reads h.jobs h.workers h.beta k.jobs k.workers k.beta)
   where
-    by_parts : (a b : Givens) → ◌≡◌ {A = Option (ℕ × ℕ × ℕ)} (Some (a.jobs, a.workers, a.beta)) (Some (b.jobs, b.workers, b.beta)) → a ≡ b
+    by_parts : (a b : RoundParams) → ◌≡◌ {A = Option (ℕ × ℕ × ℕ)} (Some (a.jobs, a.workers, a.beta)) (Some (b.jobs, b.workers, b.beta)) → a ≡ b
     by_parts a b e =
         let jobs : a.jobs ≡ b.jobs = ap (λ (o : Option (ℕ × ℕ × ℕ)). (unwrap_or o (0, 0, 0)).0) e in
         let workers : a.workers ≡ b.workers = ap (λ (o : Option (ℕ × ℕ × ℕ)). (unwrap_or o (0, 0, 0)).1) e in

@@ -9,8 +9,8 @@ use Rattle.std.proofs.lemmas.Bool.Decides.{nat_tests}
 use Rattle.std.proofs.lemmas.List.{take_at, drop_at, take-append-drop, append-nil}
 use Rattle.std.proofs.lemmas.Slice.Eq.{bytes_eq-Decides}
 use Rattle.amo_givens.specs.declared.limits.TheConstants.{MAX_JOBS, MAX_WORKERS, MAX_BETA}
-use Rattle.amo_run_files.specs.declared.header.Record.{Record}
-use Rattle.amo_run_files.specs.declared.seats.Givens.{Givens}
+use Rattle.amo_run_files.specs.declared.header.RoundHeader.{RoundHeader}
+use Rattle.amo_run_files.specs.declared.seats.RoundParams.{RoundParams}
 use Rattle.amo_decimal.specs.Numbers.{number_in}
 use Rattle.amo_run_log.specs.Numbers.{two_in, three_in, read_all}
 use Rattle.amo_run_log.specs.Texts.{ended}
@@ -69,12 +69,12 @@ labelled_printed label text r h =
 -- what is printed is read
 
 abbrev Head : Type 0
-Head = ℕ × Givens × ℕ × ℕ
+Head = ℕ × RoundParams × ℕ × ℕ
 
 abbrev head_of : Option ℕ → Option (ℕ × ℕ × ℕ) → Option (ℕ × ℕ) → Option Head
 head_of a b c = option_and_then (λ (r : ℕ). option_and_then (λ (g : ℕ × ℕ × ℕ). option_and_then (λ (w : ℕ × ℕ). Some (r, record { jobs = g.0; workers = g.1; beta = g.2 }, w.0, w.1)) c) b) a
 
-head_reads : (r : ℕ) (g : Givens) (w f : ℕ) → r < 2 ^ 64 → g.jobs < 2 ^ 64 → g.workers < 2 ^ 64 → g.beta < 2 ^ 64 → w < 2 ^ 64 → f < 2 ^ 64
+head_reads : (r : ℕ) (g : RoundParams) (w f : ℕ) → r < 2 ^ 64 → g.jobs < 2 ^ 64 → g.workers < 2 ^ 64 → g.beta < 2 ^ 64 → w < 2 ^ 64 → f < 2 ^ 64
     → head_in (codes "round " ++ decimal r) (codes "givens " ++ (decimal g.jobs ++ 32 ∷ (decimal g.workers ++ 32 ∷ decimal g.beta))) (codes "workers " ++ (decimal w ++ 32 ∷ decimal f)) ≡ Some (r, g, w, f)
 head_reads r g w f fr fj fm fb fw ff =
     let givens = decimal g.jobs ++ 32 ∷ (decimal g.workers ++ 32 ∷ decimal g.beta) in
@@ -242,11 +242,11 @@ record_printed file r e =
     let (is, are) = texts_printed texts r all read in
     (is, ap ended are ∙ sym file_is)
 
-pub read_found : (file : List ℕ) (o : Option Record) → option_map said_by o ≡ record_in file → IfSome o (λ r. IsRecord (said_by r) × (text_of_record (said_by r) ≡ file))
+pub read_found : (file : List ℕ) (o : Option RoundHeader) → option_map said_by o ≡ record_in file → IfSome o (λ r. IsRecord (said_by r) × (text_of_record (said_by r) ≡ file))
 read_found file None is = tt
 read_found file (Some r) is = record_printed file (said_by r) (sym is)
 
-pub read_none : (file : List ℕ) (o : Option Record) → option_map said_by o ≡ record_in file → IfNone o ((r : RecordView) → IsRecord r → text_of_record r ≡ file → ⊥)
+pub read_none : (file : List ℕ) (o : Option RoundHeader) → option_map said_by o ≡ record_in file → IfNone o ((r : RecordView) → IsRecord r → text_of_record r ≡ file → ⊥)
 read_none file (Some r) is = tt
 read_none file None is = λ r fits printed. absurd (none_some (is ∙ ap record_in (sym printed) ∙ record_reads r fits))
   where

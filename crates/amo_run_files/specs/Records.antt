@@ -7,20 +7,20 @@ use Rattle.amo_decimal.specs.Numbers.{number_in}
 use Rattle.amo_run_log.specs.Texts.{ended}
 use Rattle.amo_run_log.specs.Numbers.{two_in, three_in, read_all}
 use Rattle.amo_givens.specs.declared.limits.TheConstants.{MAX_JOBS, MAX_WORKERS, MAX_BETA}
-use Rattle.amo_run_files.specs.declared.header.Record.{Record}
-use Rattle.amo_run_files.specs.declared.seats.Givens.{Givens}
+use Rattle.amo_run_files.specs.declared.header.RoundHeader.{RoundHeader}
+use Rattle.amo_run_files.specs.declared.seats.RoundParams.{RoundParams}
 
 -- a record, with lists for vectors
 pub record RecordView : Type 0 where
   pub round : ℕ
   pub boot : List ℕ
-  pub givens : Givens
+  pub givens : RoundParams
   pub workers : ℕ
   pub first : ℕ
   pub lines : List ℕ
 
 -- what a record says
-abbrev pub said_by : Record → RecordView
+abbrev pub said_by : RoundHeader → RecordView
 said_by r = record { round = r.round; boot = r.boot.items; givens = r.givens; workers = r.workers; first = r.first; lines = r.lines.items }
 
 -- the texts of a record, one for each of its lines
@@ -65,7 +65,7 @@ abbrev pub labelled : List ℕ → List ℕ → Option (List ℕ)
 labelled label text = if bytes_eq (take (length label) text) label then Some (drop (length label) text) else None
 
 -- the round, the givens, the workers, and the first of them
-abbrev pub head_in : List ℕ → List ℕ → List ℕ → Option (ℕ × Givens × ℕ × ℕ)
+abbrev pub head_in : List ℕ → List ℕ → List ℕ → Option (ℕ × RoundParams × ℕ × ℕ)
 head_in round givens workers =
     option_and_then (λ r. option_and_then (λ g. option_and_then (λ w. Some (r, record { jobs = g.0; workers = g.1; beta = g.2 }, w.0, w.1))
     (option_and_then two_in (labelled (codes "workers ") workers)))

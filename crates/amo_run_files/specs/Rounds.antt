@@ -1,9 +1,9 @@
 -- The givens of a round, and who acts as which of its workers.
 use Rattle.std.specs.Prelude.{ℕ, ◌+◌, ◌-◌, ◌*◌, ◌/◌, min, max, ◌&&◌, nat_lt, nat_le, Option, Some, None, if◌then◌else◌}
-use Rattle.amo_run_files.specs.declared.seats.Givens.{Givens}
+use Rattle.amo_run_files.specs.declared.seats.RoundParams.{RoundParams}
 
 -- how many of the jobs a round performs at least, whoever stops
-abbrev pub bound_of : Givens → ℕ
+abbrev pub bound_of : RoundParams → ℕ
 bound_of g = g.jobs - (g.beta + g.workers - 2)
 
 -- how many workers share these jobs
@@ -15,7 +15,7 @@ abbrev pub threshold : ℕ → ℕ → ℕ → ℕ
 threshold jobs shared beta = if nat_lt 1 shared && nat_le (2 * (beta + shared - 2)) jobs then max beta shared else shared
 
 -- the givens of a round of these jobs, of at most so many workers
-abbrev pub givens_of : ℕ → ℕ → ℕ → Givens
+abbrev pub givens_of : ℕ → ℕ → ℕ → RoundParams
 givens_of jobs workers beta = record { jobs = jobs; workers = shared_by jobs workers; beta = threshold jobs (shared_by jobs workers) beta }
 
 -- how many of the workers 1..workers the circle has from the first to this one, both with it

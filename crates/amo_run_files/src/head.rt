@@ -4,8 +4,8 @@ ghost use Rattle.amo_run_files.specs.Records.{said_by};
 ghost use Rattle.amo_run_files.specs.Heads.{head_text, filled_up, head_of};
 ghost use Rattle.amo_run_files.specs.declared.head.TheConstants.{HEAD_LEN};
 
-use crate::header::Record;
-use crate::seats::Givens;
+use crate::header::RoundHeader;
+use crate::seats::RoundParams;
 use std::alloc::{AllocError, Global};
 
 /// How many bytes stand before the first word.
@@ -13,7 +13,7 @@ pub(crate) const HEAD_LEN: usize = 512;
 
 /// The `HEAD_LEN` bytes at the front of the words of the round that has this record: which round it is of, and behind it blanks and a
 /// line feed. `None` where the boot id is so long that it doesn't fit.
-pub fn head_of(alloc: Global, recorded: &Record) -> Result<Option<Vec<u8>>, AllocError>
+pub fn head_of(alloc: Global, recorded: &RoundHeader) -> Result<Option<Vec<u8>>, AllocError>
     ensures exact { IfOk result (λ head. option_map (λ bytes. bytes.items) head ≡ head_of (said_by recorded.now)) }
     ensures size { IfOk result (λ head. IfSome head (λ bytes. length bytes.items ≡ HEAD_LEN)) }
 {
@@ -22,10 +22,10 @@ pub fn head_of(alloc: Global, recorded: &Record) -> Result<Option<Vec<u8>>, Allo
 }
 
 /// The lines at the front of the head.
-fn head_text(alloc: Global, recorded: &Record) -> Result<Vec<u8>, AllocError>
+fn head_text(alloc: Global, recorded: &RoundHeader) -> Result<Vec<u8>, AllocError>
     ensures { IfOk result (λ text. text.items ≡ head_text (said_by recorded.now)) }
 {
-    let Givens {
+    let RoundParams {
         jobs,
         workers,
         beta,

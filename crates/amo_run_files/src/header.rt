@@ -7,7 +7,7 @@ ghost use Rattle.amo_run_log.specs.Numbers.{read_all};
 ghost use Rattle.amo_run_log.specs.Texts.{ended};
 ghost use Rattle.amo_run_files.specs.Records.{RecordView, said_by, texts_of, text_of_record, ascends_from, is_sound, IsRecord, texts_from, labelled, head_in, record_behind, record_of, record_in};
 
-use crate::seats::Givens;
+use crate::seats::RoundParams;
 use amo_decimal::number_of_bytes;
 use amo_givens::{MAX_BETA, MAX_JOBS, MAX_WORKERS};
 use amo_run_log::{three_of_bytes, two_of_bytes};
@@ -16,13 +16,13 @@ use std::mem;
 
 /// What is recorded of a round when it is begun.
 #[derive(Debug, PartialEq, Eq, Drop)]
-pub struct Record {
+pub struct RoundHeader {
     /// Rounds are counted from 1.
     pub round: u64,
     /// The id that the machine had since it was started, in one line.
     pub boot: Vec<u8>,
     /// The jobs, how many workers share them, and the threshold.
-    pub givens: Givens,
+    pub givens: RoundParams,
     /// How many workers there may be, 1 to 16.
     pub workers: u64,
     /// The worker who began the round.
@@ -31,7 +31,7 @@ pub struct Record {
     pub lines: Vec<u64>,
 }
 
-impl Record {
+impl RoundHeader {
     /// The text of the record.
     pub fn print(&self, alloc: Global) -> Result<Vec<u8>, AllocError>
         ensures { IfOk result (λ text. text.items ≡ text_of_record (said_by self.now)) }
@@ -45,7 +45,7 @@ impl Record {
     }
 
     /// The record that a file says, if it says one.
-    pub fn read(alloc: Global, bytes: &[u8]) -> Result<Option<Record>, AllocError>
+    pub fn read(alloc: Global, bytes: &[u8]) -> Result<Option<RoundHeader>, AllocError>
         ensures exact { IfOk result (λ found. option_map said_by found ≡ record_in bytes.now) }
         // What is read was printed so.
         ensures found { IfOk result (λ found. IfSome found (λ r. IsRecord (said_by r) × (text_of_record (said_by r) ≡ bytes.now))) }
@@ -67,7 +67,7 @@ impl Record {
     fn print_head(&self, alloc: Global) -> Result<Vec<u8>, AllocError>
         ensures { IfOk result (λ text. text.items ++ ended (map (λ line. decimal line) self.now.lines.items) ≡ text_of_record (said_by self.now)) }
     {
-        let Givens {
+        let RoundParams {
             jobs,
             workers,
             beta,
@@ -102,7 +102,7 @@ fn push(text: &mut Vec<u8>, line: &[u8]) -> Result<(), AllocError>
     Ok(())
 }
 
-fn read_record(alloc: Global, bytes: &[u8]) -> Result<Option<Record>, AllocError>
+fn read_record(alloc: Global, bytes: &[u8]) -> Result<Option<RoundHeader>, AllocError>
     ensures { IfOk result (λ found. option_map said_by found ≡ record_in bytes.now) }
 {
     let Some(texts) = texts_of(alloc, bytes)? else {
@@ -133,7 +133,7 @@ fn texts_of(alloc: Global, bytes: &[u8]) -> Result<Option<Vec<Vec<u8>>>, AllocEr
 }
 
 /// The record that texts say.
-fn record_of(alloc: Global, texts: &[Vec<u8>]) -> Result<Option<Record>, AllocError>
+fn record_of(alloc: Global, texts: &[Vec<u8>]) -> Result<Option<RoundHeader>, AllocError>
     ensures { IfOk result (λ found. option_map said_by found ≡ record_of (map (λ text. text.items) texts.now)) }
 {
     if texts.len() < 5 {
@@ -164,7 +164,7 @@ fn record_behind(
     givens: &[u8],
     workers: &[u8],
     lines: &[Vec<u8>],
-) -> Result<Option<Record>, AllocError>
+) -> Result<Option<RoundHeader>, AllocError>
     ensures { IfOk result (λ found. option_map said_by found ≡ record_behind round.now boot.now givens.now workers.now (map (λ text. text.items) lines.now)) }
 {
     let Some((round, givens, workers, first)) = head_of(round, givens, workers) else {
@@ -177,7 +177,7 @@ fn record_behind(
         return Ok(None);
     };
     let boot = boot.to_vec(alloc)?;
-    let record = Record {
+    let record = RoundHeader {
         round,
         boot,
         givens,
@@ -200,13 +200,13 @@ fn text_at(texts: &[Vec<u8>], i: usize) -> &[u8]
 }
 
 /// The round, the givens, the workers, and the first of them.
-fn head_of(round: &[u8], givens: &[u8], workers: &[u8]) -> Option<(u64, Givens, u64, u64)>
+fn head_of(round: &[u8], givens: &[u8], workers: &[u8]) -> Option<(u64, RoundParams, u64, u64)>
     ensures { result ≡ head_in round.now givens.now workers.now }
 {
     let round = number_of_bytes(labelled(b"round ", round)?)?;
     let (jobs, shared, beta) = three_of_bytes(labelled(b"givens ", givens)?)?;
     let (workers, first) = two_of_bytes(labelled(b"workers ", workers)?)?;
-    let givens = Givens {
+    let givens = RoundParams {
         jobs,
         workers: shared,
         beta,
@@ -238,10 +238,10 @@ fn numbers_of(alloc: Global, texts: &[Vec<u8>]) -> Result<Option<Vec<u64>>, Allo
     Ok(Some(numbers))
 }
 
-fn is_sound(candidate: &Record) -> bool
+fn is_sound(candidate: &RoundHeader) -> bool
     ensures { result ≡ is_sound (said_by candidate.now) }
 {
-    let Givens {
+    let RoundParams {
         jobs,
         workers,
         beta,

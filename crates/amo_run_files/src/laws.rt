@@ -6,7 +6,7 @@ ghost use Rattle.amo_kk.specs.declared.model.Process.{Process as Worker};
 ghost use Rattle.amo_run_log.specs.Texts.{ended};
 ghost use Rattle.amo_run_files.specs.Records.{RecordView, text_of_record, record_in, IsRecord};
 ghost use Rattle.amo_run_files.specs.Rounds.{seat_of};
-ghost use Rattle.amo_run_files.specs.declared.seats.Givens.{Givens as GivensView};
+ghost use Rattle.amo_run_files.specs.declared.seats.RoundParams.{RoundParams as GivensView};
 ghost use Rattle.amo_run_files.specs.Heads.{head_of};
 ghost use Rattle.amo_run_files.specs.Lines.{lines_in, remainder_in, first_lines, BeginsWith};
 ghost use Rattle.amo_run_files.specs.Jobs.{IsLine, AreJobs};

@@ -1,5 +1,5 @@
 //! The files of a round: the header with its parameters and seats, the job list that the run knows, and the layout of the
-//! register file. Start with `Record` and `Jobs`. The theorems stand in the module `laws`.
+//! register file. Start with `RoundHeader` and `Jobs`. The theorems stand in the module `laws`.
 #![tactic(auto)]
 
 mod difference;
@@ -16,7 +16,7 @@ mod words;
 pub use difference::first_difference;
 pub use fault::{JobsFault, Why};
 pub use head::head_of;
-pub use header::Record;
+pub use header::RoundHeader;
 pub use jobs::Jobs;
-pub use seats::{Givens, givens_of, seat_of};
+pub use seats::{RoundParams, givens_of, seat_of};
 pub use words::{offset_of, words_len};

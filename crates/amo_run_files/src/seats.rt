@@ -4,14 +4,14 @@ ghost use Rattle.amo_run_files.specs.Rounds.{bound_of, givens_of, turn_of, seat_
 
 /// With what a round is begun: so many jobs, the workers that share them, and the threshold at which a worker stops.
 #[derive(Clone, Copy, Debug, PartialEq, Eq)]
-pub struct Givens {
+pub struct RoundParams {
     pub jobs: u64,
     pub workers: u64,
     pub beta: u64,
 }
 
 /// The givens of a round of these jobs, of at most so many workers, with this threshold where it fits.
-pub fn givens_of(jobs: u64, workers: u64, beta: u64) -> Givens
+pub fn givens_of(jobs: u64, workers: u64, beta: u64) -> RoundParams
     requires some_worker { 1 ≤ workers }
     requires few_workers { workers < 2 ^ 32 }
     requires small_beta { beta < 2 ^ 32 }
@@ -25,7 +25,7 @@ pub fn givens_of(jobs: u64, workers: u64, beta: u64) -> Givens
     ensures asked { 1 < result.workers → result.workers ≤ beta → 2 * (beta + result.workers) ≤ jobs + 4 → result.beta ≡ beta }
 {
     let shared = workers.min(jobs / 4 + 1);
-    Givens {
+    RoundParams {
         jobs,
         workers: shared,
         beta: threshold(jobs, shared, beta),

@@ -5,11 +5,11 @@ ghost use Rattle.amo_run_files.specs.Words.{offset_of, word_count, words_len};
 ghost use Rattle.amo_run_files.specs.declared.head.TheConstants.{HEAD_LEN};
 
 use crate::head::HEAD_LEN;
-use crate::seats::Givens;
+use crate::seats::RoundParams;
 
 /// How many bytes the file of the words has: the head, and 8 for each word.
 #[tactic(auto, using(crate::proofs::Counts::few_words))]
-pub fn words_len(givens: &Givens) -> u64
+pub fn words_len(givens: &RoundParams) -> u64
     requires few_jobs { givens.now.jobs ≤ MAX_JOBS }
     requires few_workers { givens.now.workers ≤ MAX_WORKERS }
     ensures { result ≡ words_len givens.now }

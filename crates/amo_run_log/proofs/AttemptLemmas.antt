@@ -3,31 +3,31 @@ use Rattle.std.proofs.Common.{◌≡◌, ℕ, zero, suc, ◌+◌, ◌-◌, ◌<�
 use Rattle.std.specs.Prelude.{is_none, is_some, option_and_then, option_map}
 use Rattle.std.proofs.Math.ListN.{set}
 use Rattle.std.proofs.lemmas.List.{take_more}
-use Rattle.amo_run_log.specs.declared.entry.Answer.{Answer}
+use Rattle.amo_run_log.specs.declared.entry.Outcome.{Outcome}
 use Rattle.amo_run_log.specs.declared.journal.Attempt.{Attempt}
 use Rattle.amo_run_log.specs.declared.entry.Entry.{Entry}
 use Rattle.amo_run_log.specs.Journals.{answered, answered_to, noted, journal_from, journal_of, NotesOrNot}
 
-pub answered_at : (es : List Attempt) (i : ℕ) (a : Answer) (d : Attempt) → i < length es → (get_or es i d).answer ≡ None → answered es i a ≡ Some (set es i (record (get_or es i d) { answer = Some a }))
+pub answered_at : (es : List Attempt) (i : ℕ) (a : Outcome) (d : Attempt) → i < length es → (get_or es i d).answer ≡ None → answered es i a ≡ Some (set es i (record (get_or es i d) { answer = Some a }))
 answered_at [] i a d lt none = absurd (omega arith)
 answered_at (e ∷ es) zero a d lt none = ap (λ o. cond (is_none o) (Some (record e { answer = Some a } ∷ es)) None) none
 answered_at (e ∷ es) (suc i) a d lt none = ap (option_map (λ rest. e ∷ rest)) (answered_at es i a d (omega arith) none)
 
-pub answered_not : (es : List Attempt) (i : ℕ) (a : Answer) (d : Attempt) → i < length es → is_some (get_or es i d).answer ≡ true → answered es i a ≡ None
+pub answered_not : (es : List Attempt) (i : ℕ) (a : Outcome) (d : Attempt) → i < length es → is_some (get_or es i d).answer ≡ true → answered es i a ≡ None
 answered_not [] i a d lt some = absurd (omega arith)
 answered_not (e ∷ es) zero a d lt some = taken e.answer some
   where
-    taken : (o : Option Answer) → is_some o ≡ true → cond (is_none o) (Some (record e { answer = Some a } ∷ es)) None ≡ None
+    taken : (o : Option Outcome) → is_some o ≡ true → cond (is_none o) (Some (record e { answer = Some a } ∷ es)) None ≡ None
     taken None s = absurd (cc)
     taken (Some b) s = refl
 answered_not (e ∷ es) (suc i) a d lt some = ap (option_map (λ rest. e ∷ rest)) (answered_not es i a d (omega arith) some)
 
-pub answered_past : (es : List Attempt) (i : ℕ) (a : Answer) → length es ≤ i → answered es i a ≡ None
+pub answered_past : (es : List Attempt) (i : ℕ) (a : Outcome) → length es ≤ i → answered es i a ≡ None
 answered_past [] i a le = refl
 answered_past (e ∷ es) zero a le = absurd (omega arith)
 answered_past (e ∷ es) (suc i) a le = ap (option_map (λ rest. e ∷ rest)) (answered_past es i a (omega arith))
 
-pub serial : (es : List Attempt) (s : ℕ) (a : Answer) → 0 < s → answered_to es s a ≡ answered es (s - 1) a
+pub serial : (es : List Attempt) (s : ℕ) (a : Outcome) → 0 < s → answered_to es s a ≡ answered es (s - 1) a
 serial es zero a pos = absurd (omega arith)
 serial es (suc i) a pos = let same : i ≡ suc i - 1 = omega arith in ap (λ k. answered es k a) same
 

@@ -7,8 +7,8 @@ use Rattle.std.proofs.lemmas.Bool.Decides.{nat_tests}
 use Rattle.std.proofs.lemmas.Fmt.{IsAscii-decimal}
 use Rattle.std.proofs.lemmas.Str.{IsAscii-append}
 use Rattle.std.proofs.lemmas.Slice.Eq.{bytes_eq-Decides}
-use Rattle.amo_run_log.specs.declared.entry.Answer.{Answer}
-use Rattle.amo_run_log.specs.declared.entry.Answer.TheVariants.{Done, Doubt, Unbegun, Untouched}
+use Rattle.amo_run_log.specs.declared.entry.Outcome.{Outcome}
+use Rattle.amo_run_log.specs.declared.entry.Outcome.TheVariants.{Done, Doubt, Unbegun, Untouched}
 use Rattle.amo_run_log.specs.declared.entry.Entry.{Entry}
 use Rattle.amo_run_log.specs.declared.entry.Entry.TheVariants.{Intent, Answer as Answered}
 use Rattle.amo_decimal.specs.Numbers.{number_in}
@@ -39,16 +39,16 @@ code_printed n c h = by_test (nat_lt 255 n) refl h
 -- what is printed is read
 
 -- the parts of what is read, each by what it is read of
-abbrev done_of : ℕ × ℕ × ℕ → Option (ℕ × Answer)
+abbrev done_of : ℕ × ℕ × ℕ → Option (ℕ × Outcome)
 done_of n = option_and_then (λ code. Some (n.0, Done code n.2)) (code_in n.1)
 
-abbrev untouched_of : ℕ × ℕ → Option (ℕ × Answer)
+abbrev untouched_of : ℕ × ℕ → Option (ℕ × Outcome)
 untouched_of n = option_and_then (λ code. Some (n.0, Untouched code)) (code_in n.1)
 
-abbrev entry_of : Option (ℕ × Answer) → Option Entry
-entry_of o = option_and_then (λ (n : ℕ × Answer). Some (Answered n.0 n.1)) o
+abbrev entry_of : Option (ℕ × Outcome) → Option Entry
+entry_of o = option_and_then (λ (n : ℕ × Outcome). Some (Answered n.0 n.1)) o
 
-answer_reads : (s : ℕ) (a : Answer) → FitsAnswer s a → entry_in (text_of_answer s a) ≡ Some (Answered s a)
+answer_reads : (s : ℕ) (a : Outcome) → FitsAnswer s a → entry_in (text_of_answer s a) ≡ Some (Answered s a)
 answer_reads s (Done c t) f =
     word_reads entry_of_word (codes "done") (decimal s ++ 32 ∷ (decimal c ++ 32 ∷ decimal t)) refl
     ∙ ap (λ o. entry_of (option_and_then done_of o)) (three_reads s c t f.0 (omega (arith, f.1)) f.2)
@@ -69,40 +69,40 @@ entry_reads (Answered s a) f = answer_reads s a f
 abbrev IsPrinted : List ℕ → Entry → Type 0
 IsPrinted text e = (text_of e ≡ text) × Fits e
 
-abbrev IsPrintedAnswer : List ℕ → ℕ × Answer → Type 0
+abbrev IsPrintedAnswer : List ℕ → ℕ × Outcome → Type 0
 IsPrintedAnswer text n = (text_of_answer n.0 n.1 ≡ text) × FitsAnswer n.0 n.1
 
 -- the word is the one that was tested
-word_is : (w r word : List ℕ) (e : ℕ × Answer) → bytes_eq w word ≡ true → IsPrintedAnswer (word ++ 32 ∷ r) e → IsPrintedAnswer (w ++ 32 ∷ r) e
+word_is : (w r word : List ℕ) (e : ℕ × Outcome) → bytes_eq w word ≡ true → IsPrintedAnswer (word ++ 32 ∷ r) e → IsPrintedAnswer (w ++ 32 ∷ r) e
 word_is w r word e is printed =
     let same : w ≡ word = (bytes_eq-Decides w word).0 is in
     (printed.0 ∙ ap (λ v. v ++ 32 ∷ r) (sym same), printed.1)
 
-with_code : (r : List ℕ) (n : ℕ × ℕ × ℕ) (e : ℕ × Answer) → three_in r ≡ Some n → option_and_then (λ code. Some (n.0, Done code n.2)) (code_in n.1) ≡ Some e → IsPrintedAnswer (codes "done" ++ 32 ∷ r) e
+with_code : (r : List ℕ) (n : ℕ × ℕ × ℕ) (e : ℕ × Outcome) → three_in r ≡ Some n → option_and_then (λ code. Some (n.0, Done code n.2)) (code_in n.1) ≡ Some e → IsPrintedAnswer (codes "done" ++ 32 ∷ r) e
 with_code r n e read more =
     let (code, is_code, same) = and_then_some _ (code_in n.1) e more in
     let (number_is, small) = code_printed n.1 code is_code in
     let p = three_printed r n read in
     let is : (n.0, Done code n.2) ≡ e = cc in
-    subst (λ (x : ℕ × Answer). IsPrintedAnswer (codes "done" ++ 32 ∷ r) x) is
+    subst (λ (x : ℕ × Outcome). IsPrintedAnswer (codes "done" ++ 32 ∷ r) x) is
     (ap (λ c. codes "done" ++ 32 ∷ (decimal n.0 ++ 32 ∷ (decimal c ++ 32 ∷ decimal n.2))) (sym number_is) ∙ ap (λ x. codes "done" ++ 32 ∷ x) p.0, (p.1, small, p.3))
 
-with_untouched : (r : List ℕ) (n : ℕ × ℕ) (e : ℕ × Answer) → two_in r ≡ Some n → option_and_then (λ code. Some (n.0, Untouched code)) (code_in n.1) ≡ Some e → IsPrintedAnswer (codes "untouched" ++ 32 ∷ r) e
+with_untouched : (r : List ℕ) (n : ℕ × ℕ) (e : ℕ × Outcome) → two_in r ≡ Some n → option_and_then (λ code. Some (n.0, Untouched code)) (code_in n.1) ≡ Some e → IsPrintedAnswer (codes "untouched" ++ 32 ∷ r) e
 with_untouched r n e read more =
     let (code, is_code, same) = and_then_some _ (code_in n.1) e more in
     let (number_is, small) = code_printed n.1 code is_code in
     let p = two_printed r n read in
     let is : (n.0, Untouched code) ≡ e = cc in
-    subst (λ (x : ℕ × Answer). IsPrintedAnswer (codes "untouched" ++ 32 ∷ r) x) is
+    subst (λ (x : ℕ × Outcome). IsPrintedAnswer (codes "untouched" ++ 32 ∷ r) x) is
     (ap (λ c. codes "untouched" ++ 32 ∷ (decimal n.0 ++ 32 ∷ decimal c)) (sym number_is) ∙ ap (λ x. codes "untouched" ++ 32 ∷ x) p.0, (p.1, small))
 
-with_number : (r word : List ℕ) (a : Answer) (n : ℕ) (e : ℕ × Answer) → number_in r ≡ Some n → Some (n, a) ≡ Some e → ((s : ℕ) → s < 2 ^ 64 → IsPrintedAnswer (word ++ 32 ∷ decimal s) (s, a)) → IsPrintedAnswer (word ++ 32 ∷ r) e
+with_number : (r word : List ℕ) (a : Outcome) (n : ℕ) (e : ℕ × Outcome) → number_in r ≡ Some n → Some (n, a) ≡ Some e → ((s : ℕ) → s < 2 ^ 64 → IsPrintedAnswer (word ++ 32 ∷ decimal s) (s, a)) → IsPrintedAnswer (word ++ 32 ∷ r) e
 with_number r word a n e read same prints =
     let p = printed_of_read r n read in
     let is : (n, a) ≡ e = cc in
-    subst (λ (x : ℕ × Answer). IsPrintedAnswer (word ++ 32 ∷ r) x) is (subst (λ (x : List ℕ). IsPrintedAnswer (word ++ 32 ∷ x) (n, a)) p.0 (prints n p.1))
+    subst (λ (x : ℕ × Outcome). IsPrintedAnswer (word ++ 32 ∷ r) x) is (subst (λ (x : List ℕ). IsPrintedAnswer (word ++ 32 ∷ x) (n, a)) p.0 (prints n p.1))
 
-answer_printed : (w r : List ℕ) (e : ℕ × Answer) → answer_of_word w r ≡ Some e → IsPrintedAnswer (w ++ 32 ∷ r) e
+answer_printed : (w r : List ℕ) (e : ℕ × Outcome) → answer_of_word w r ≡ Some e → IsPrintedAnswer (w ++ 32 ∷ r) e
 answer_printed w r e h = elim (either_way (bytes_eq w (codes "done")) _ _ (Some e) h) [
   | inl t ↦ let (n, read, more) = and_then_some _ (three_in r) e t.1 in word_is w r (codes "done") e t.0 (with_code r n e read more)
   | inr f ↦ elim (either_way (bytes_eq w (codes "doubt")) _ _ (Some e) f.1) [
@@ -138,7 +138,7 @@ word_printed w r e h = elim (either_way (bytes_eq w (codes "intent")) _ _ (Some 
 pub entry_printed : (text : List ℕ) (e : Entry) → entry_in text ≡ Some e → (text_of e ≡ text) × Fits e
 entry_printed = printed_by text_of Fits entry_of_word word_printed
 
-ascii_answer : (s : ℕ) (a : Answer) → FitsAnswer s a → IsAscii (text_of_answer s a)
+ascii_answer : (s : ℕ) (a : Outcome) → FitsAnswer s a → IsAscii (text_of_answer s a)
 ascii_answer s (Done c t) f = IsAscii-append (codes "done ") (decimal s ++ 32 ∷ (decimal c ++ 32 ∷ decimal t)) (ascii_by_test (codes "done ") refl) (three_ascii s c t f.0 (omega (arith, f.1)) f.2)
 ascii_answer s Doubt f = IsAscii-append (codes "doubt ") (decimal s) (ascii_by_test (codes "doubt ") refl) (IsAscii-decimal s f)
 ascii_answer s Unbegun f = IsAscii-append (codes "unbegun ") (decimal s) (ascii_by_test (codes "unbegun ") refl) (IsAscii-decimal s f)

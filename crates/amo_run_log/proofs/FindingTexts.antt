@@ -5,8 +5,8 @@ use Rattle.std.specs.Fmt.{decimal}
 use Rattle.std.specs.Str.{IsAscii, IsUtf8}
 use Rattle.std.proofs.lemmas.Str.{IsAscii-append}
 use Rattle.amo_run_log.specs.declared.finding.Finding.{Finding}
-use Rattle.amo_run_log.specs.declared.finding.Verdict.{Verdict}
-use Rattle.amo_run_log.specs.declared.finding.Verdict.TheVariants.{Done, NotDone}
+use Rattle.amo_run_log.specs.declared.finding.Resolution.{Resolution}
+use Rattle.amo_run_log.specs.declared.finding.Resolution.TheVariants.{Done, NotDone}
 use Rattle.amo_run_log.specs.Numbers.{three_in}
 use Rattle.amo_run_log.specs.Findings.{word_of, text_of_finding, FitsFinding, verdict_in, finding_of_word, finding_in}
 use Rattle.amo_run_log.proofs.Readings.{no_text_by}
@@ -14,7 +14,7 @@ use Rattle.amo_run_log.proofs.Words.{word_reads, printed_by, three_reads, and_th
 
 -- what is printed is read
 
-by_verdict : (v : Verdict) (p s t : ℕ) → p < 2 ^ 64 → s < 2 ^ 64 → t < 2 ^ 64 → finding_in (text_of_finding (record { verdict = v; worker = p; serial = s; time = t })) ≡ Some (record { verdict = v; worker = p; serial = s; time = t })
+by_verdict : (v : Resolution) (p s t : ℕ) → p < 2 ^ 64 → s < 2 ^ 64 → t < 2 ^ 64 → finding_in (text_of_finding (record { verdict = v; worker = p; serial = s; time = t })) ≡ Some (record { verdict = v; worker = p; serial = s; time = t })
 by_verdict Done p s t fp fs ft = word_reads finding_of_word (codes "done") (decimal p ++ 32 ∷ (decimal s ++ 32 ∷ decimal t)) refl
     ∙ ap (λ o. option_and_then (λ (n : ℕ × ℕ × ℕ). Some (record { verdict = Done; worker = n.0; serial = n.1; time = n.2 })) o) (three_reads p s t fp fs ft)
 by_verdict NotDone p s t fp fs ft = word_reads finding_of_word (codes "not-done") (decimal p ++ 32 ∷ (decimal s ++ 32 ∷ decimal t)) refl
@@ -25,7 +25,7 @@ finding_reads f fits = by_verdict f.verdict f.worker f.serial f.time fits.0 fits
 
 -- what is read was printed so
 
-verdict_printed : (w : List ℕ) (v : Verdict) → verdict_in w ≡ Some v → w ≡ word_of v
+verdict_printed : (w : List ℕ) (v : Resolution) → verdict_in w ≡ Some v → w ≡ word_of v
 verdict_printed w v h = ⊎_elim (λ p. p.0 ∙ ap word_of p.1) (λ p. p.0 ∙ ap word_of p.1) (either_word w (codes "done") (codes "not-done") Done NotDone v h)
 
 word_printed : (w r : List ℕ) (f : Finding) → finding_of_word w r ≡ Some f → (text_of_finding f ≡ w ++ 32 ∷ r) × FitsFinding f
@@ -39,11 +39,11 @@ word_printed w r f h =
 pub finding_printed : (text : List ℕ) (f : Finding) → finding_in text ≡ Some f → (text_of_finding f ≡ text) × FitsFinding f
 finding_printed = printed_by text_of_finding FitsFinding finding_of_word word_printed
 
-ascii_word : (v : Verdict) → IsAscii (word_of v ++ codes " ")
+ascii_word : (v : Resolution) → IsAscii (word_of v ++ codes " ")
 ascii_word Done = ascii_by_test (codes "done ") refl
 ascii_word NotDone = ascii_by_test (codes "not-done ") refl
 
-ascii : (v : Verdict) (r : List ℕ) → IsAscii r → IsAscii (word_of v ++ 32 ∷ r)
+ascii : (v : Resolution) (r : List ℕ) → IsAscii r → IsAscii (word_of v ++ 32 ∷ r)
 ascii Done r is = IsAscii-append (codes "done ") r (ascii_word Done) is
 ascii NotDone r is = IsAscii-append (codes "not-done ") r (ascii_word NotDone) is
 

@@ -3,7 +3,7 @@ use Rattle.std.proofs.Common.{◌≡◌, ◌≢◌, inl, inr, ℕ, zero, suc, �
 use Rattle.std.specs.Prelude.{◌==◌, nat_le, is_some, is_none, option_and_then, option_map}
 use Rattle.std.proofs.lemmas.Bool.{cases_eq, and_from, and_parts}
 use Rattle.std.proofs.lemmas.Bool.Decides.{nat_tests}
-use Rattle.amo_run_log.specs.declared.entry.Answer.{Answer}
+use Rattle.amo_run_log.specs.declared.entry.Outcome.{Outcome}
 use Rattle.amo_run_log.specs.declared.entry.Entry.{Entry}
 use Rattle.amo_run_log.specs.declared.entry.Entry.TheVariants.{Intent, Answer as Answered}
 use Rattle.amo_run_log.specs.declared.journal.Attempt.{Attempt}
@@ -73,7 +73,7 @@ has_push (e ∷ es) line time zero = refl
 has_push (e ∷ es) line time (suc i) = has_push es line time i
 
 -- an attempt answered
-head : (e : Attempt) (es next : List Attempt) (a : Answer) (o : Option Answer) → cond (is_none o) (Some (record e { answer = Some a } ∷ es)) None ≡ Some next → (o ≡ None) × (record e { answer = Some a } ∷ es ≡ next)
+head : (e : Attempt) (es next : List Attempt) (a : Outcome) (o : Option Outcome) → cond (is_none o) (Some (record e { answer = Some a } ∷ es)) None ≡ Some next → (o ≡ None) × (record e { answer = Some a } ∷ es ≡ next)
 head e es next a None h = (refl, cc)
 head e es next a (Some b) h = absurd (cc)
 
@@ -88,7 +88,7 @@ record Answers (es next : List Attempt) (i : ℕ) : Type 0 where
   pub own : has next i ≡ true
   pub others : (j : ℕ) → j ≢ i → has next j ≡ has es j
 
-answers_one : (es next : List Attempt) (i : ℕ) (a : Answer) → answered es i a ≡ Some next → Answers es next i
+answers_one : (es next : List Attempt) (i : ℕ) (a : Outcome) → answered es i a ≡ Some next → Answers es next i
 answers_one [] next i a h = absurd (cc)
 answers_one (e ∷ es) next zero a h =
     let (none, is) = head e es next a e.answer h in
@@ -106,11 +106,11 @@ answers_one (e ∷ es) next (suc i) a h =
     later rest each zero ne = refl
     later rest each (suc j) ne = each j (λ same. ne (ap suc same))
 
-can_answer : (es : List Attempt) (i : ℕ) (a : Answer) → i < length es → has es i ≡ false → (next : List Attempt) × (answered es i a ≡ Some next)
+can_answer : (es : List Attempt) (i : ℕ) (a : Outcome) → i < length es → has es i ≡ false → (next : List Attempt) × (answered es i a ≡ Some next)
 can_answer [] i a lt free = absurd (omega arith)
 can_answer (e ∷ es) zero a lt free = (record e { answer = Some a } ∷ es, ap (λ o. cond (is_none o) (Some (record e { answer = Some a } ∷ es)) None) (none_of e.answer free))
   where
-    none_of : (o : Option Answer) → is_some o ≡ false → o ≡ None
+    none_of : (o : Option Outcome) → is_some o ≡ false → o ≡ None
     none_of None h = refl
     none_of (Some b) h = absurd (cc)
 can_answer (e ∷ es) (suc i) a lt free =
@@ -151,7 +151,7 @@ record IsAnswerTo (l : Entry) (s : ℕ) : Type 0 where
   pub none : intent_in l ≡ 0
   pub test : (n : ℕ) → answers n l ≡ (s == n)
 
-follow_answer : (entries : List Entry) (es next : List Attempt) (l : Entry) (s : ℕ) (a : Answer) → StandsFor entries es → IsAnswerTo l s → answered_to es s a ≡ Some next → IsPending s entries × StandsFor (entries ++ l ∷ []) next
+follow_answer : (entries : List Entry) (es next : List Attempt) (l : Entry) (s : ℕ) (a : Outcome) → StandsFor entries es → IsAnswerTo l s → answered_to es s a ≡ Some next → IsPending s entries × StandsFor (entries ++ l ∷ []) next
 follow_answer entries es next l zero a stands is h = absurd (cc)
 follow_answer entries es next l (suc i) a stands is h =
     let r : Answers es next i = answers_one es next i a h in (
@@ -174,7 +174,7 @@ follow count entries es next (Answered s a) stands h = let (may, more) = follow_
 
 -- what may follow is noted
 
-pending_noted : (entries : List Entry) (es : List Attempt) (s : ℕ) (a : Answer) → StandsFor entries es → IsPending s entries → (next : List Attempt) × (answered_to es s a ≡ Some next)
+pending_noted : (entries : List Entry) (es : List Attempt) (s : ℕ) (a : Outcome) → StandsFor entries es → IsPending s entries → (next : List Attempt) × (answered_to es s a ≡ Some next)
 pending_noted entries es zero a stands p = absurd (omega (arith, p.from_1))
 pending_noted entries es (suc i) a stands p = can_answer es i a (omega (arith, p.there, stands.size)) (stands.same (suc i) ∙ p.unanswered)
 

@@ -4,7 +4,7 @@ use Rattle.std.specs.Prelude.{not, ◌==◌, is_none, option_and_then, option_ma
 use Rattle.std.specs.List.{AllByRecursion}
 use Rattle.std.proofs.lemmas.Bool.{and_parts}
 use Rattle.std.proofs.lemmas.Bool.Decides.{nat_tests}
-use Rattle.amo_run_log.specs.declared.entry.Answer.{Answer}
+use Rattle.amo_run_log.specs.declared.entry.Outcome.{Outcome}
 use Rattle.amo_run_log.specs.declared.entry.Entry.{Entry}
 use Rattle.amo_run_log.specs.declared.entry.Entry.TheVariants.{Intent, Answer as Answered}
 use Rattle.amo_run_log.specs.declared.finding.Finding.{Finding}
@@ -18,11 +18,11 @@ is_equal : (a b : ℕ) → (a == b) ≡ true → a ≡ b
 is_equal a b h = grind (arith, nat_tests)
 
 -- an entry with an answer
-abbrev with : Attempt → Answer → Attempt
+abbrev with : Attempt → Outcome → Attempt
 with e a = record e { answer = Some a }
 
 -- the first entry is answered where it has none
-head : (e : Attempt) (es next : List Attempt) (a : Answer) (o : Option Answer) → cond (is_none o) (Some (with e a ∷ es)) None ≡ Some next → (o ≡ None) × (with e a ∷ es ≡ next)
+head : (e : Attempt) (es next : List Attempt) (a : Outcome) (o : Option Outcome) → cond (is_none o) (Some (with e a ∷ es)) None ≡ Some next → (o ≡ None) × (with e a ∷ es ≡ next)
 head e es next a None h = (refl, cc)
 head e es next a (Some b) h = absurd (cc)
 
@@ -50,7 +50,7 @@ module _ (count : ℕ) (findings : List Finding) (worker line : ℕ) where
   own false r f t h g = absurd (cc (h, g))
 
   -- an answer closes nothing
-  pub answer_closes_none : (es next : List Attempt) (i serial : ℕ) (a : Answer) → answered es i a ≡ Some next → any serial next ≡ true → any serial es ≡ true
+  pub answer_closes_none : (es next : List Attempt) (i serial : ℕ) (a : Outcome) → answered es i a ≡ Some next → any serial next ≡ true → any serial es ≡ true
   answer_closes_none [] next i serial a h closed = absurd (cc)
   answer_closes_none (e ∷ es) next zero serial a h closed =
       let (none, is) = head e es next a e.answer h in
@@ -66,7 +66,7 @@ module _ (count : ℕ) (findings : List Finding) (worker line : ℕ) where
       by_head false t u follows c = follows c
 
   -- an answer that opens nothing leaves closed what is closed
-  pub answer_opens_none : (es next : List Attempt) (i serial : ℕ) (a : Answer) → opens a ≡ false → answered es i a ≡ Some next → any serial es ≡ true → any serial next ≡ true
+  pub answer_opens_none : (es next : List Attempt) (i serial : ℕ) (a : Outcome) → opens a ≡ false → answered es i a ≡ Some next → any serial es ≡ true → any serial next ≡ true
   answer_opens_none [] next i serial a shut h closed = absurd (cc)
   answer_opens_none (e ∷ es) next zero serial a shut h closed =
       let (none, is) = head e es next a e.answer h in
@@ -81,7 +81,7 @@ module _ (count : ℕ) (findings : List Finding) (worker line : ℕ) where
       by_head false t u follows c = follows c
 
   -- what an answer opens is the line of its intent
-  pub answer_opens_own : (es next : List Attempt) (i serial : ℕ) (a : Answer) → answered es i a ≡ Some next → any serial es ≡ true → any serial next ≡ false → IsAtIndex es i line
+  pub answer_opens_own : (es next : List Attempt) (i serial : ℕ) (a : Outcome) → answered es i a ≡ Some next → any serial es ≡ true → any serial next ≡ false → IsAtIndex es i line
   answer_opens_own [] next i serial a h closed opened = absurd (cc)
   answer_opens_own (e ∷ es) next zero serial a h closed opened =
       let (none, is) = head e es next a e.answer h in
@@ -108,7 +108,7 @@ module _ (count : ℕ) (findings : List Finding) (worker line : ℕ) where
 
   -- the same of an entry of a journal
 
-  to_serial : {P : Type 0} (es next : List Attempt) (s : ℕ) (a : Answer) → ((i : ℕ) → suc i ≡ s → answered es i a ≡ Some next → P) → answered_to es s a ≡ Some next → P
+  to_serial : {P : Type 0} (es next : List Attempt) (s : ℕ) (a : Outcome) → ((i : ℕ) → suc i ≡ s → answered es i a ≡ Some next → P) → answered_to es s a ≡ Some next → P
   to_serial es next zero a follows h = absurd (cc)
   to_serial es next (suc i) a follows h = follows i refl h
 
@@ -126,7 +126,7 @@ module _ (count : ℕ) (findings : List Finding) (worker line : ℕ) where
   noted_closes_none es next (Intent s m t) answers h closed = absurd answers
   noted_closes_none es next (Answered s a) answers h closed = to_serial es next s a (λ i is at. answer_closes_none es next i 1 a at closed) h
 
-  opens_own_at : (es next : List Attempt) (s : ℕ) (a : Answer) → answered_to es s a ≡ Some next → any 1 es ≡ true → any 1 next ≡ false → IsOfLine es s line
+  opens_own_at : (es next : List Attempt) (s : ℕ) (a : Outcome) → answered_to es s a ≡ Some next → any 1 es ≡ true → any 1 next ≡ false → IsOfLine es s line
   opens_own_at es next zero a h closed opened = absurd (cc)
   opens_own_at es next (suc i) a h closed opened = answer_opens_own es next i 1 a h closed opened
 
@@ -166,7 +166,7 @@ module _ (count : ℕ) (findings : List Finding) (worker line : ℕ) where
   unopened_push (d ∷ es) e zero u = u
   unopened_push (d ∷ es) e (suc i) u = unopened_push es e i u
 
-  unopened_other : (es next : List Attempt) (i j : ℕ) (a : Answer) → j ≢ i → answered es j a ≡ Some next → Unopened es i → Unopened next i
+  unopened_other : (es next : List Attempt) (i j : ℕ) (a : Outcome) → j ≢ i → answered es j a ≡ Some next → Unopened es i → Unopened next i
   unopened_other [] next i j a ne h u = absurd u
   unopened_other (e ∷ es) next zero zero a ne h u = absurd (ne refl)
   unopened_other (e ∷ es) next (suc i) zero a ne h u = let (none, is) = head e es next a e.answer h in subst (λ (x : List Attempt). Unopened x (suc i)) is u
@@ -175,7 +175,7 @@ module _ (count : ℕ) (findings : List Finding) (worker line : ℕ) where
       let (rest, is_rest, is) = tail e (answered es j a) next h in
       subst (λ (x : List Attempt). Unopened x (suc i)) is (unopened_other es rest i j a (λ same. ne (ap suc same)) is_rest u)
 
-  unopened_shut : (es next : List Attempt) (i j : ℕ) (a : Answer) → opens a ≡ false → answered es j a ≡ Some next → Unopened es i → Unopened next i
+  unopened_shut : (es next : List Attempt) (i j : ℕ) (a : Outcome) → opens a ≡ false → answered es j a ≡ Some next → Unopened es i → Unopened next i
   unopened_shut [] next i j a shut h u = absurd u
   unopened_shut (e ∷ es) next zero zero a shut h u = let (none, is) = head e es next a e.answer h in subst (λ (x : List Attempt). Unopened x zero) is (u.0, shut)
   unopened_shut (e ∷ es) next (suc i) zero a shut h u = let (none, is) = head e es next a e.answer h in subst (λ (x : List Attempt). Unopened x (suc i)) is u

@@ -5,13 +5,13 @@ use Rattle.std.specs.Fmt.{decimal}
 use Rattle.amo_journal.specs.Device.{LeavesOnly}
 use Rattle.amo_journal.specs.Journal.{IsBeforeOrAfter}
 use Rattle.amo_journal.specs.Texts.{texts_in}
-use Rattle.amo_run_log.specs.declared.entry.Answer.{Answer}
-use Rattle.amo_run_log.specs.declared.entry.Answer.TheVariants.{Done, Doubt, Unbegun, Untouched}
+use Rattle.amo_run_log.specs.declared.entry.Outcome.{Outcome}
+use Rattle.amo_run_log.specs.declared.entry.Outcome.TheVariants.{Done, Doubt, Unbegun, Untouched}
 use Rattle.amo_run_log.specs.declared.entry.Entry.{Entry}
 use Rattle.amo_run_log.specs.declared.entry.Entry.TheVariants.{Intent, Answer as Answered}
 use Rattle.amo_run_log.specs.declared.finding.Finding.{Finding}
-use Rattle.amo_run_log.specs.declared.finding.Verdict.{Verdict}
-use Rattle.amo_run_log.specs.declared.finding.Verdict.TheVariants.{Done as Found, NotDone}
+use Rattle.amo_run_log.specs.declared.finding.Resolution.{Resolution}
+use Rattle.amo_run_log.specs.declared.finding.Resolution.TheVariants.{Done as Found, NotDone}
 use Rattle.amo_run_log.specs.declared.journal.Attempt.{Attempt}
 use Rattle.amo_run_log.specs.Entries.{text_of, text_of_answer, Fits, FitsAnswer}
 use Rattle.amo_run_log.specs.Findings.{word_of, text_of_finding, FitsFinding, is_undone}
@@ -30,7 +30,7 @@ two_lack a b fa fb = lacks_append 10 (decimal a) (32 ∷ decimal b) (decimal_lac
 three_lack : (a b c : ℕ) → a < 2 ^ 64 → b < 2 ^ 64 → c < 2 ^ 64 → Lacks 10 (decimal a ++ 32 ∷ (decimal b ++ 32 ∷ decimal c))
 three_lack a b c fa fb fc = lacks_append 10 (decimal a) (32 ∷ (decimal b ++ 32 ∷ decimal c)) (decimal_lacks 10 a (omega arith) fa) ((λ e. omega arith), two_lack b c fb fc)
 
-answer_lacks : (s : ℕ) (a : Answer) → FitsAnswer s a → Lacks 10 (text_of_answer s a)
+answer_lacks : (s : ℕ) (a : Outcome) → FitsAnswer s a → Lacks 10 (text_of_answer s a)
 answer_lacks s (Done c t) f = lacks_append 10 (codes "done ") (decimal s ++ 32 ∷ (decimal c ++ 32 ∷ decimal t)) (lacks_by_test 10 (codes "done ") refl) (three_lack s c t f.0 (omega (arith, f.1)) f.2)
 answer_lacks s Doubt f = lacks_append 10 (codes "doubt ") (decimal s) (lacks_by_test 10 (codes "doubt ") refl) (decimal_lacks 10 s (omega arith) f)
 answer_lacks s Unbegun f = lacks_append 10 (codes "unbegun ") (decimal s) (lacks_by_test 10 (codes "unbegun ") refl) (decimal_lacks 10 s (omega arith) f)
@@ -40,7 +40,7 @@ pub one_line : (e : Entry) → Fits e → Lacks 10 (text_of e)
 one_line (Intent s l t) f = lacks_append 10 (codes "intent ") (decimal s ++ 32 ∷ (decimal l ++ 32 ∷ decimal t)) (lacks_by_test 10 (codes "intent ") refl) (three_lack s l t f.0 f.1 f.2)
 one_line (Answered s a) f = answer_lacks s a f
 
-word_lacks : (v : Verdict) → Lacks 10 (word_of v)
+word_lacks : (v : Resolution) → Lacks 10 (word_of v)
 word_lacks Found = lacks_by_test 10 (codes "done") refl
 word_lacks NotDone = lacks_by_test 10 (codes "not-done") refl
 

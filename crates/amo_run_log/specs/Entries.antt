@@ -4,13 +4,13 @@ use Rattle.std.specs.Fmt.{decimal}
 use Rattle.std.specs.Str.{bytes_eq}
 use Rattle.amo_decimal.specs.Numbers.{number_in}
 use Rattle.amo_run_log.specs.Numbers.{by_word, two_in, three_in, read_all}
-use Rattle.amo_run_log.specs.declared.entry.Answer.{Answer}
-use Rattle.amo_run_log.specs.declared.entry.Answer.TheVariants.{Done, Doubt, Unbegun, Untouched}
+use Rattle.amo_run_log.specs.declared.entry.Outcome.{Outcome}
+use Rattle.amo_run_log.specs.declared.entry.Outcome.TheVariants.{Done, Doubt, Unbegun, Untouched}
 use Rattle.amo_run_log.specs.declared.entry.Entry.{Entry}
 use Rattle.amo_run_log.specs.declared.entry.Entry.TheVariants.{Intent, Answer as Answered}
 
 -- the text of the answer to the intent of this serial number
-abbrev pub text_of_answer : ℕ → Answer → List ℕ
+abbrev pub text_of_answer : ℕ → Outcome → List ℕ
 text_of_answer serial (Done code time) = codes "done " ++ (decimal serial ++ (codes " " ++ (decimal code ++ (codes " " ++ decimal time))))
 text_of_answer serial Doubt = codes "doubt " ++ decimal serial
 text_of_answer serial Unbegun = codes "unbegun " ++ decimal serial
@@ -22,7 +22,7 @@ text_of (Intent serial line time) = codes "intent " ++ (decimal serial ++ (codes
 text_of (Answered serial answer) = text_of_answer serial answer
 
 -- its numbers have 64 bits, and its code is at most 255
-abbrev pub FitsAnswer : ℕ → Answer → Type 0
+abbrev pub FitsAnswer : ℕ → Outcome → Type 0
 FitsAnswer serial (Done code time) = (serial < 2 ^ 64) × (code < 2 ^ 8) × (time < 2 ^ 64)
 FitsAnswer serial Doubt = serial < 2 ^ 64
 FitsAnswer serial Unbegun = serial < 2 ^ 64
@@ -38,7 +38,7 @@ abbrev pub code_in : ℕ → Option ℕ
 code_in number = if nat_lt 255 number then None else Some number
 
 -- the answer of this word and these numbers, and the serial number of its intent
-abbrev pub answer_of_word : List ℕ → List ℕ → Option (ℕ × Answer)
+abbrev pub answer_of_word : List ℕ → List ℕ → Option (ℕ × Outcome)
 answer_of_word word rest =
     if bytes_eq word (codes "done") then option_and_then (λ n. option_and_then (λ code. Some (n.0, Done code n.2)) (code_in n.1)) (three_in rest)
     else (if bytes_eq word (codes "doubt") then option_and_then (λ n. Some (n, Doubt)) (number_in rest)

@@ -5,12 +5,12 @@ use Rattle.std.specs.List.{list_any}
 use Rattle.std.specs.Str.{bytes_eq}
 use Rattle.amo_run_log.specs.Numbers.{by_word, three_in, read_all}
 use Rattle.amo_run_log.specs.declared.finding.Finding.{Finding}
-use Rattle.amo_run_log.specs.declared.finding.Verdict.{Verdict}
-use Rattle.amo_run_log.specs.declared.finding.Verdict.TheVariants.{Done, NotDone}
+use Rattle.amo_run_log.specs.declared.finding.Resolution.{Resolution}
+use Rattle.amo_run_log.specs.declared.finding.Resolution.TheVariants.{Done, NotDone}
 use Rattle.amo_run_log.specs.declared.journal.Attempt.{Attempt}
 
 -- the word of a verdict
-abbrev pub word_of : Verdict → List ℕ
+abbrev pub word_of : Resolution → List ℕ
 word_of Done = codes "done"
 word_of NotDone = codes "not-done"
 
@@ -23,7 +23,7 @@ abbrev pub FitsFinding : Finding → Type 0
 FitsFinding f = (f.worker < 2 ^ 64) × (f.serial < 2 ^ 64) × (f.time < 2 ^ 64)
 
 -- the verdict of a word
-abbrev pub verdict_in : List ℕ → Option Verdict
+abbrev pub verdict_in : List ℕ → Option Resolution
 verdict_in word = if bytes_eq word (codes "done") then Some Done else (if bytes_eq word (codes "not-done") then Some NotDone else None)
 
 -- the finding of this word and these numbers
@@ -44,7 +44,7 @@ abbrev pub is_of : ℕ → ℕ → Finding → Bool
 is_of worker serial f = (f.worker == worker) && (f.serial == serial)
 
 -- whether it says that what was intended was not done
-abbrev pub is_not_done : Verdict → Bool
+abbrev pub is_not_done : Resolution → Bool
 is_not_done Done = false
 is_not_done NotDone = true
 

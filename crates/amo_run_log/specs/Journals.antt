@@ -1,7 +1,7 @@
 -- A journal: its intents in order, each with its answer. Serial numbers count from 1 without a gap, an intent is of one of the
 -- lines 1..count, and an answer goes to an intent that has none.
 use Rattle.std.specs.Prelude.{◌≡◌, ◌≢◌, ◌≤◌, ◌+◌, ◌-◌, ℕ, zero, suc, Bool, true, false, ◌&&◌, nat_le, List, [], ◌∷◌, ◌++◌, ◌==◌, length, take, Option, Some, None, is_none, option_and_then, option_map, if◌then◌else◌}
-use Rattle.amo_run_log.specs.declared.entry.Answer.{Answer}
+use Rattle.amo_run_log.specs.declared.entry.Outcome.{Outcome}
 use Rattle.amo_run_log.specs.declared.entry.Entry.{Entry}
 use Rattle.amo_run_log.specs.declared.entry.Entry.TheVariants.{Intent, Answer as Answered}
 use Rattle.amo_run_log.specs.declared.fault.Fault.{Fault}
@@ -9,13 +9,13 @@ use Rattle.amo_run_log.specs.declared.fault.Fault.TheVariants.{Memory, Refused}
 use Rattle.amo_run_log.specs.declared.journal.Attempt.{Attempt}
 
 -- the attempts once the one at this index has this answer
-abbrev pub answered : List Attempt → ℕ → Answer → Option (List Attempt)
+abbrev pub answered : List Attempt → ℕ → Outcome → Option (List Attempt)
 answered [] i a = None
 answered (e ∷ es) zero a = if is_none e.answer then Some (record e { answer = Some a } ∷ es) else None
 answered (e ∷ es) (suc i) a = option_map (λ rest. e ∷ rest) (answered es i a)
 
 -- once the intent of this serial number has it
-abbrev pub answered_to : List Attempt → ℕ → Answer → Option (List Attempt)
+abbrev pub answered_to : List Attempt → ℕ → Outcome → Option (List Attempt)
 answered_to es zero a = None
 answered_to es (suc i) a = answered es i a
 

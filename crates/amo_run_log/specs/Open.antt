@@ -1,8 +1,8 @@
 -- The lines that are open: closing wins.
 use Rattle.std.specs.Prelude.{slice_get, ◌⊎◌, ◌≡◌, ◌≢◌, ℕ, zero, suc, ◌+◌, Bool, true, false, not, ◌&&◌, ◌||◌, ◌==◌, List, [], ◌∷◌, ◌++◌, map, Option, Some, None}
 use Rattle.std.specs.List.{AllByRecursion, filter, range_with_len}
-use Rattle.amo_run_log.specs.declared.entry.Answer.{Answer}
-use Rattle.amo_run_log.specs.declared.entry.Answer.TheVariants.{Done, Doubt, Unbegun, Untouched}
+use Rattle.amo_run_log.specs.declared.entry.Outcome.{Outcome}
+use Rattle.amo_run_log.specs.declared.entry.Outcome.TheVariants.{Done, Doubt, Unbegun, Untouched}
 use Rattle.amo_run_log.specs.declared.entry.Entry.{Entry}
 use Rattle.amo_run_log.specs.declared.entry.Entry.TheVariants.{Intent, Answer as Answered}
 use Rattle.amo_run_log.specs.declared.finding.Finding.{Finding}
@@ -10,14 +10,14 @@ use Rattle.amo_run_log.specs.declared.journal.Attempt.{Attempt}
 use Rattle.amo_run_log.specs.Findings.{is_undone}
 
 -- whether an answer opens the line again
-abbrev pub opens : Answer → Bool
+abbrev pub opens : Outcome → Bool
 opens (Done code time) = false
 opens Doubt = false
 opens Unbegun = true
 opens (Untouched code) = false
 
 -- whether what is known of an intent opens its line again
-abbrev pub reopens : Option Answer → Bool
+abbrev pub reopens : Option Outcome → Bool
 reopens None = false
 reopens (Some answer) = opens answer
 

@@ -11,7 +11,7 @@ use std::str;
 
 /// What became of an intent.
 #[derive(Clone, Copy, Debug, PartialEq, Eq)]
-pub enum Answer {
+pub enum Outcome {
     /// The command ended with this code, at this time in seconds since 1970.
     Done { code: u8, time: u64 },
     /// Nobody can know.
@@ -28,7 +28,7 @@ pub enum Entry {
     /// The line of this number is about to be performed. The time is in seconds since 1970.
     Intent { serial: u64, line: u64, time: u64 },
     /// What became of the intent of this serial number.
-    Answer { serial: u64, answer: Answer },
+    Answer { serial: u64, answer: Outcome },
 }
 
 impl Entry {
@@ -65,15 +65,15 @@ impl FromText for Entry {
     }
 }
 
-fn print_answer(alloc: Global, serial: u64, answer: Answer) -> Result<String, AllocError>
+fn print_answer(alloc: Global, serial: u64, answer: Outcome) -> Result<String, AllocError>
     ensures text { IfOk result (λ text. string_bytes text ≡ text_of_answer serial answer) }
     ensures fits { FitsAnswer serial answer }
 {
     match answer {
-        Answer::Done { code, time } => format!(in alloc; "done {serial} {code} {time}"),
-        Answer::Doubt => format!(in alloc; "doubt {serial}"),
-        Answer::Unbegun => format!(in alloc; "unbegun {serial}"),
-        Answer::Untouched { code } => format!(in alloc; "untouched {serial} {code}"),
+        Outcome::Done { code, time } => format!(in alloc; "done {serial} {code} {time}"),
+        Outcome::Doubt => format!(in alloc; "doubt {serial}"),
+        Outcome::Unbegun => format!(in alloc; "unbegun {serial}"),
+        Outcome::Untouched { code } => format!(in alloc; "untouched {serial} {code}"),
     }
 }
 
@@ -106,21 +106,21 @@ fn entry_of_word(word: &str, rest: &str) -> Option<Entry>
     Some(Entry::Answer { serial, answer })
 }
 
-fn answer_of_word(word: &str, rest: &str) -> Option<(u64, Answer)>
+fn answer_of_word(word: &str, rest: &str) -> Option<(u64, Outcome)>
     ensures { result ≡ answer_of_word word.now rest.now }
 {
     match word {
         "done" => {
             let (serial, code, time) = three(rest)?;
             let code = code_of(code)?;
-            Some((serial, Answer::Done { code, time }))
+            Some((serial, Outcome::Done { code, time }))
         }
-        "doubt" => Some((number(rest)?, Answer::Doubt)),
-        "unbegun" => Some((number(rest)?, Answer::Unbegun)),
+        "doubt" => Some((number(rest)?, Outcome::Doubt)),
+        "unbegun" => Some((number(rest)?, Outcome::Unbegun)),
         "untouched" => {
             let (serial, code) = two(rest)?;
             let code = code_of(code)?;
-            Some((serial, Answer::Untouched { code }))
+            Some((serial, Outcome::Untouched { code }))
         }
         _ => None,
     }

@@ -14,7 +14,7 @@ use std::str;
 
 /// What was found out.
 #[derive(Clone, Copy, Debug, PartialEq, Eq)]
-pub enum Verdict {
+pub enum Resolution {
     /// What was intended was done.
     Done,
     /// It was not done: its line may be performed.
@@ -24,7 +24,7 @@ pub enum Verdict {
 /// What a person found out about an intent.
 #[derive(Clone, Copy, Debug, PartialEq, Eq)]
 pub struct Finding {
-    pub verdict: Verdict,
+    pub verdict: Resolution,
     /// Whose intent it is, from 1.
     pub worker: u64,
     /// Its place in that worker's journal, from 1.
@@ -46,8 +46,8 @@ impl Finding {
             time,
         } = *self;
         match verdict {
-            Verdict::Done => format!(in alloc; "done {worker} {serial} {time}"),
-            Verdict::NotDone => format!(in alloc; "not-done {worker} {serial} {time}"),
+            Resolution::Done => format!(in alloc; "done {worker} {serial} {time}"),
+            Resolution::NotDone => format!(in alloc; "not-done {worker} {serial} {time}"),
         }
     }
 
@@ -102,12 +102,12 @@ fn finding_of_word(word: &str, rest: &str) -> Option<Finding>
     })
 }
 
-fn verdict_of(word: &str) -> Option<Verdict>
+fn verdict_of(word: &str) -> Option<Resolution>
     ensures { result ≡ verdict_in word.now }
 {
     match word {
-        "done" => Some(Verdict::Done),
-        "not-done" => Some(Verdict::NotDone),
+        "done" => Some(Resolution::Done),
+        "not-done" => Some(Resolution::NotDone),
         _ => None,
     }
 }
@@ -128,12 +128,12 @@ pub fn is_undone(findings: &[Finding], worker: u64, serial: u64) -> bool
 }
 
 /// Returns whether the verdict is that the line was not done.
-pub fn is_not_done(verdict: Verdict) -> bool
+pub fn is_not_done(verdict: Resolution) -> bool
     ensures { result ≡ is_not_done verdict }
 {
     match verdict {
-        Verdict::Done => false,
-        Verdict::NotDone => true,
+        Resolution::Done => false,
+        Resolution::NotDone => true,
     }
 }
 

@@ -5,7 +5,7 @@ ghost use Rattle.amo_run_log.specs.Faults.{SaysNothing};
 ghost use Rattle.amo_run_log.specs.Journals.{answered_to, is_line, journal_of, pending_from, NotesOrNot, IsRefused};
 ghost use Rattle.amo_run_log.specs.declared.entry.Entry.TheVariants.{Intent};
 
-use crate::entry::{Answer, Entry};
+use crate::entry::{Entry, Outcome};
 use crate::fault::Fault;
 use crate::reading::read_each;
 use std::alloc::{AllocError, Global};
@@ -18,7 +18,7 @@ pub struct Attempt {
     /// In seconds since 1970.
     pub time: u64,
     /// What became of it, where that is known.
-    pub answer: Option<Answer>,
+    pub answer: Option<Outcome>,
 }
 
 /// Reads each text of a journal as an entry. The first that is none is refused, by its number.
@@ -86,7 +86,7 @@ fn is_line(count: u64, line: u64) -> bool
 }
 
 /// Notes an answer.
-fn settle(attempts: &mut [Attempt], serial: u64, answer: Answer) -> bool
+fn settle(attempts: &mut [Attempt], serial: u64, answer: Outcome) -> bool
     ensures noted { result ≡ true → answered_to attempts.old serial answer ≡ Some attempts.new }
     ensures refused { result ≡ false → answered_to attempts.old serial answer ≡ None }
     ensures stays { result ≡ false → attempts.new ≡ attempts.old }

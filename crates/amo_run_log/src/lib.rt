@@ -12,10 +12,10 @@ mod open;
 mod put;
 mod reading;
 
-pub use entry::{Answer, Entry, code_of};
+pub use entry::{Entry, Outcome, code_of};
 pub use fault::Fault;
 pub use finding::{
-    Finding, Verdict, first_misplaced, has_finding, is_not_done, is_undone, read_findings,
+    Finding, Resolution, first_misplaced, has_finding, is_not_done, is_undone, read_findings,
 };
 pub use journal::{Attempt, journal_of, note, pending, read_entries};
 pub use numbers::{three_of_bytes, two_of_bytes};

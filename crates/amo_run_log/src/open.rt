@@ -3,7 +3,7 @@ ghost use Rattle.std.specs.List.{filter};
 ghost use Rattle.std.specs.Prelude.{◌≡◌, ◌+◌, ◌<◌, ◌||◌, ℕ, Bool, true, false, not, length, map, slice_index_or, IfOk};
 ghost use Rattle.amo_run_log.specs.Open.{opens, reopens, closes, any_closes, closed_by, numbers, open_lines};
 
-use crate::entry::Answer;
+use crate::entry::Outcome;
 use crate::finding::{Finding, is_undone};
 use crate::journal::Attempt;
 use std::alloc::{AllocError, Global};
@@ -68,7 +68,7 @@ fn mark_one(closed: &mut [bool], findings: &[Finding], worker: u64, serial: u64,
 
 /// Returns whether what is known of an intent opens its line again: only the answer that it was not
 /// begun. An intent with no answer closes its line.
-pub fn reopens(answer: Option<Answer>) -> bool
+pub fn reopens(answer: Option<Outcome>) -> bool
     ensures { result ≡ reopens answer }
 {
     match answer {
@@ -78,11 +78,11 @@ pub fn reopens(answer: Option<Answer>) -> bool
 }
 
 /// Whether an answer opens the line again: only that it was not begun.
-pub fn opens(answer: Answer) -> bool
+pub fn opens(answer: Outcome) -> bool
     ensures { result ≡ opens answer }
 {
     match answer {
-        Answer::Unbegun => true,
-        Answer::Done { .. } | Answer::Doubt | Answer::Untouched { .. } => false,
+        Outcome::Unbegun => true,
+        Outcome::Done { .. } | Outcome::Doubt | Outcome::Untouched { .. } => false,
     }
 }

@@ -1,7 +1,7 @@
 -- The run of the example with its commands: the first begins and does nothing, the second performs the line.
 use Rattle.std.proofs.Common.{◌≡◌, ℕ, Bool, true, false, List, [], ◌∷◌, ◌++◌, map, refl, sym, ap, ◌∙◌, subst, inl, arith}
 use Rattle.std.proofs.lemmas.Bool.{true≢false}
-use Rattle.amo_run_log.specs.declared.entry.Answer.TheVariants.{Doubt as NotedDoubt}
+use Rattle.amo_run_log.specs.declared.entry.Outcome.TheVariants.{Doubt as NotedDoubt}
 use Rattle.amo_run_log.specs.declared.entry.Entry.TheVariants.{Answer as AnswerTo}
 use Rattle.amo_run_safety.specs.Site.{first_site, Event, Says, Site}
 use Rattle.amo_run_safety.specs.Run.{site_after, IsRunFrom, Handing, openings_by, openings_from, is_among, names_of, site_after_all}

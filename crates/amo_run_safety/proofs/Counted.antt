@@ -6,7 +6,7 @@ use Rattle.std.proofs.lemmas.Option.{none-some, same_Some, cond_some, option_and
 use Rattle.std.proofs.lemmas.List.{length_push}
 use Rattle.amo_process.specs.Heard.{told_by, doubted_by}
 use Rattle.amo_process.specs.Stepped.{ProcessView, process_after, may_leave, is_refused}
-use Rattle.amo_driver.specs.declared.answer.Answer.{Answer}
+use Rattle.amo_driver.specs.declared.answer.JobResult.{JobResult}
 use Rattle.amo_driver.specs.declared.answer.Reply.{Reply}
 use Rattle.amo_driver.specs.declared.answer.Reply.TheVariants.{Answered, Running, Garbled, Closed}
 use Rattle.amo_driver.specs.declared.answer.Way.{Way}
@@ -17,7 +17,7 @@ use Rattle.amo_driver.specs.declared.model.Try.TheVariants.{Intend}
 use Rattle.amo_driver.specs.Stage.{Stage, Going, Finding, Intending, Performing, Noting, Leaving, Asking, Settling, Unanswered, Refused}
 use Rattle.amo_driver.specs.Course.{try_of, due, stage_by_jobs, stage_heard, stage_told, stage_replied, stage_after}
 use Rattle.amo_driver_safety.proofs.Stages.{intending_at}
-use Rattle.amo_run_log.specs.declared.entry.Answer.{Answer as NotedAnswer}
+use Rattle.amo_run_log.specs.declared.entry.Outcome.{Outcome as NotedAnswer}
 use Rattle.amo_run_log.specs.declared.entry.Entry.{Entry}
 use Rattle.amo_run_log.specs.declared.entry.Entry.TheVariants.{Intent as IntentOf, Answer as AnswerTo}
 use Rattle.amo_run_log.specs.declared.journal.Attempt.{Attempt}
@@ -125,7 +125,7 @@ module _ (k : ℕ) where
   performed_counted (Performing m a i) n j reply h = replied_counted m h a reply
   performed_counted s n j reply h = h
 
-  noted_counted : (s : Stage) (n : ℕ) (c : Answer) → IsCounted k s → IsCounted k (stage_after s (Noted n c))
+  noted_counted : (s : Stage) (n : ℕ) (c : JobResult) → IsCounted k s → IsCounted k (stage_after s (Noted n c))
   noted_counted (Noting m a x way) n c h = ap (λ x. x + 1) h
   noted_counted (Settling m x way rest) n c h = absurd h
   noted_counted s n c h = h

@@ -9,17 +9,17 @@ use Rattle.amo_givens.specs.Givens.{IsWorker}
 use Rattle.amo_givens.specs.Limits.{within_limits}
 use Rattle.amo_givens.specs.declared.givens.Givens.{Givens}
 use Rattle.amo_givens.specs.declared.limits.TheConstants.{MAX_WORKERS}
-use Rattle.amo_driver.specs.declared.answer.Answer.TheVariants.{Done, Doubt}
+use Rattle.amo_driver.specs.declared.answer.JobResult.TheVariants.{Done, Doubt}
 use Rattle.amo_driver.specs.declared.answer.Reply.TheVariants.{Answered}
 use Rattle.amo_driver.specs.declared.answer.Way.TheVariants.{Go, Leave}
 use Rattle.amo_driver.specs.declared.model.Deed.TheVariants.{Loaded, Stored, Intended, Performed, Noted, Asked}
 use Rattle.amo_driver.specs.declared.model.Try.TheVariants.{Intend, Perform}
 use Rattle.amo_driver_safety.proofs.Chains.{◌▸◌}
-use Rattle.amo_run_log.specs.declared.entry.Answer.TheVariants.{Doubt as NotedDoubt}
+use Rattle.amo_run_log.specs.declared.entry.Outcome.TheVariants.{Doubt as NotedDoubt}
 use Rattle.amo_run_log.specs.declared.entry.Entry.{Entry}
 use Rattle.amo_run_log.specs.declared.entry.Entry.TheVariants.{Intent as IntentOf, Answer as AnswerTo}
 use Rattle.amo_run_log.specs.declared.finding.Finding.{Finding}
-use Rattle.amo_run_log.specs.declared.finding.Verdict.TheVariants.{NotDone}
+use Rattle.amo_run_log.specs.declared.finding.Resolution.TheVariants.{NotDone}
 use Rattle.amo_run_log.specs.declared.journal.Attempt.{Attempt}
 use Rattle.amo_run_log.specs.Journals.{journal_of}
 use Rattle.amo_run_log.specs.Open.{open_lines}

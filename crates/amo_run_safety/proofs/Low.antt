@@ -3,7 +3,7 @@ use Rattle.std.proofs.Common.{◌≡◌, ℕ, ◌+◌, ◌≤◌, Bool, true, fa
 use Rattle.std.specs.Prelude.{⊤, is_none, ◌==◌, if◌then◌else◌}
 use Rattle.std.proofs.lemmas.Bool.{true≢false}
 use Rattle.amo_process.specs.Stepped.{access_of}
-use Rattle.amo_driver.specs.declared.answer.Answer.{Answer}
+use Rattle.amo_driver.specs.declared.answer.JobResult.{JobResult}
 use Rattle.amo_driver.specs.declared.answer.Reply.{Reply}
 use Rattle.amo_driver.specs.declared.answer.Reply.TheVariants.{Answered, Running, Garbled, Closed}
 use Rattle.amo_driver.specs.declared.answer.Way.{Way}
@@ -145,7 +145,7 @@ module _ (w : Site) (said : List (ℕ × ℕ)) (sane : IsSane w said) (low : Are
 
 -- what is noted is an intent up to that number
 
-pub noted_low : (k : ℕ) (s : Stage) (n : ℕ) (c : Answer) → due s ≡ Some (Note n c) → is_asking s ≡ true → IsLow k s → n ≤ k
+pub noted_low : (k : ℕ) (s : Stage) (n : ℕ) (c : JobResult) → due s ≡ Some (Note n c) → is_asking s ≡ true → IsLow k s → n ≤ k
 noted_low k (Settling m a way rest) n c e asks h = let same = ap serial_in e in let low = h.0 in omega (arith, same, low)
 noted_low k (Asking []) n c e asks h = cc
 noted_low k (Asking (i ∷ rest)) n c e asks h = cc
@@ -154,7 +154,7 @@ noted_low k (Unanswered m reply) n c e asks h = cc
 noted_low k Broken n c e asks h = cc
 noted_low k s n c e asks h = absurd (true≢false (sym asks))
 
-pub noted_counted : (k : ℕ) (s : Stage) (n : ℕ) (c : Answer) → due s ≡ Some (Note n c) → IsCounted k s → n ≤ k
+pub noted_counted : (k : ℕ) (s : Stage) (n : ℕ) (c : JobResult) → due s ≡ Some (Note n c) → IsCounted k s → n ≤ k
 noted_counted k (Noting m a z way) n c e h = let same = ap serial_in e in omega (arith, same, h)
 noted_counted k (Going m a way) n c e h = absurd (no_other (access_of a.givens a.number a.standing) (Note n c) refl e)
 noted_counted k (Asking intents) n c e h = absurd h

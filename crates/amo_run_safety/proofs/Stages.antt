@@ -6,7 +6,7 @@ use Rattle.std.proofs.lemmas.Option.{none-some}
 use Rattle.amo_sets.specs.Lists.{numbered}
 use Rattle.amo_process.specs.Heard.{told_by, doubted_by}
 use Rattle.amo_process.specs.Stepped.{ProcessView, process_after, may_leave, is_refused}
-use Rattle.amo_driver.specs.declared.answer.Answer.{Answer}
+use Rattle.amo_driver.specs.declared.answer.JobResult.{JobResult}
 use Rattle.amo_driver.specs.declared.answer.Reply.{Reply}
 use Rattle.amo_driver.specs.declared.answer.Way.{Way}
 use Rattle.amo_driver.specs.declared.answer.Way.TheVariants.{Go, Leave}
@@ -70,7 +70,7 @@ performed_asks : (s : Stage) (n j : ℕ) (reply : Reply) → is_asking s ≡ tru
 performed_asks (Performing m a i) n j reply h = absurd (true≢false (sym h))
 performed_asks s n j reply h = h
 
-noted_asks : (s : Stage) (n : ℕ) (c : Answer) → is_asking s ≡ true → is_asking (stage_after s (Noted n c)) ≡ true
+noted_asks : (s : Stage) (n : ℕ) (c : JobResult) → is_asking s ≡ true → is_asking (stage_after s (Noted n c)) ≡ true
 noted_asks (Noting m a x way) n c h = absurd (true≢false (sym h))
 noted_asks (Settling m x way rest) n c h = asking_then way rest
 noted_asks s n c h = h
@@ -145,7 +145,7 @@ module _ (Q R : Stage → Type 0) (unless : (s : Stage) → is_performing s ≡ 
   performed_then (Performing m a i) n j reply h = unless (stage_replied m a reply) (by_reply m a reply)
   performed_then s n j reply h = stays s h
 
-  noted_then : (s : Stage) (n : ℕ) (c : Answer) → Q s → R (stage_after s (Noted n c))
+  noted_then : (s : Stage) (n : ℕ) (c : JobResult) → Q s → R (stage_after s (Noted n c))
   noted_then (Noting m a x way) n c h = unless (Going (m + 1) a way) refl
   noted_then (Settling m x way rest) n c h = unless (stage_asking way rest) (asks_no (stage_asking way rest) (asking_then way rest))
   noted_then s n c h = stays s h

@@ -5,8 +5,8 @@ use Rattle.amo_sets.specs.Lists.{numbered, table}
 use Rattle.amo_sets.specs.Sets.{has}
 use Rattle.amo_givens.specs.declared.givens.Givens.{Givens}
 use Rattle.amo_givens.specs.declared.limits.TheConstants.{MAX_WORKERS}
-use Rattle.amo_driver.specs.declared.answer.Answer.{Answer}
-use Rattle.amo_driver.specs.declared.answer.Answer.TheVariants.{Done, Doubt, Unbegun, Untouched}
+use Rattle.amo_driver.specs.declared.answer.JobResult.{JobResult}
+use Rattle.amo_driver.specs.declared.answer.JobResult.TheVariants.{Done, Doubt, Unbegun, Untouched}
 use Rattle.amo_driver.specs.declared.model.Deed.{Deed}
 use Rattle.amo_driver.specs.declared.model.Deed.TheVariants.{Fell}
 use Rattle.amo_driver.specs.declared.model.Try.{Try}
@@ -17,8 +17,8 @@ use Rattle.amo_driver.specs.Course.{try_of, due, stage_after}
 use Rattle.amo_driver_safety.specs.Scene.{scene_of, MayBe}
 use Rattle.amo_driver_safety.specs.declared.model.Moment.{Moment}
 use Rattle.amo_driver_safety.specs.declared.model.Moment.TheVariants.{Does, Loses, Begins}
-use Rattle.amo_run_log.specs.declared.entry.Answer.{Answer as NotedAnswer}
-use Rattle.amo_run_log.specs.declared.entry.Answer.TheVariants.{Done as NotedDone, Doubt as NotedDoubt, Unbegun as NotedUnbegun, Untouched as NotedUntouched}
+use Rattle.amo_run_log.specs.declared.entry.Outcome.{Outcome as NotedAnswer}
+use Rattle.amo_run_log.specs.declared.entry.Outcome.TheVariants.{Done as NotedDone, Doubt as NotedDoubt, Unbegun as NotedUnbegun, Untouched as NotedUntouched}
 use Rattle.amo_run_log.specs.declared.entry.Entry.{Entry}
 use Rattle.amo_run_log.specs.declared.entry.Entry.TheVariants.{Intent as IntentOf, Answer as AnswerTo}
 use Rattle.amo_run_log.specs.declared.finding.Finding.{Finding}
@@ -34,7 +34,7 @@ use Rattle.amo_run_safety.specs.Site.{Whereabouts, Away, Before, Inside, Round, 
 -- what comes into a journal
 
 -- an answer, as it is noted at this time
-abbrev pub as_noted : (time : ℕ) → Answer → NotedAnswer
+abbrev pub as_noted : (time : ℕ) → JobResult → NotedAnswer
 as_noted time (Done code) = NotedDone code time
 as_noted time Doubt = NotedDoubt
 as_noted time Unbegun = NotedUnbegun

@@ -9,8 +9,8 @@ use Rattle.std.proofs.lemmas.Option.{get_or_from_slice_get}
 use Rattle.amo_run_log.specs.declared.finding.Finding.{Finding}
 use Rattle.amo_run_log.specs.declared.journal.Attempt.{Attempt}
 use Rattle.amo_run_log.specs.Open.{closes, closed_by, is_open}
-use Rattle.amo_status.specs.declared.standing.Standing.{Standing}
-use Rattle.amo_status.specs.declared.state.Intent.{Intent}
+use Rattle.amo_status.specs.declared.standing.LineStatus.{LineStatus}
+use Rattle.amo_status.specs.declared.state.AttemptId.{AttemptId}
 use Rattle.amo_status.specs.declared.state.State.TheVariants.{Running}
 use Rattle.amo_status.specs.States.{is, state_of}
 use Rattle.amo_status.specs.Standings.{attempt_of, open_standing, standing_by, if_closing, closing_in, closing, foremost, deciding, standing_of, IsByIntent}
@@ -38,8 +38,8 @@ at_indices journals p s es e journal intent =
     ∙ ap (λ (l : List Attempt). slice_get l s) (get_or_from_slice_get journals p es [] journal)
     ∙ intent
 
-module _ (findings : List Finding) (all : List (List Attempt)) (finals : List Intent) (line : ℕ) where
-  abbrev pub ByIntent : Standing → Type 0
+module _ (findings : List Finding) (all : List (List Attempt)) (finals : List AttemptId) (line : ℕ) where
+  abbrev pub ByIntent : LineStatus → Type 0
   ByIntent s = IsByIntent findings all finals line s
 
   if_by : (worker serial : ℕ) (e : Attempt) → attempt_of all worker serial ≡ Some e → AllByRecursion ByIntent (if_closing findings finals worker serial e line)
@@ -71,16 +71,16 @@ module _ (findings : List Finding) (all : List (List Attempt)) (finals : List In
   pub law_open : is_open findings all line ≡ true → standing_of findings all finals line ≡ open_standing
   law_open opened = none (closing findings finals 1 all line) (has_closing findings finals line 1 all ∙ not-true (closed_by findings 1 all line) opened)
     where
-      none : (xs : List Standing) → has_some xs ≡ false → deciding xs ≡ open_standing
+      none : (xs : List LineStatus) → has_some xs ≡ false → deciding xs ≡ open_standing
       none [] h = refl
       none (x ∷ xs) h = absurd (cc)
 
 -- one that runs
 
-abbrev runs : Standing → Bool
+abbrev runs : LineStatus → Bool
 runs s = is Running s.state
 
-first_runs : (xs ys : List Standing) → list_any runs xs ≡ true → runs (foremost (filter runs xs ++ ys)) ≡ true
+first_runs : (xs ys : List LineStatus) → list_any runs xs ≡ true → runs (foremost (filter runs xs ++ ys)) ≡ true
 first_runs [] ys h = absurd (cc)
 first_runs (x ∷ xs) ys h = by_test (runs x) refl h (first_runs xs ys)
   where
@@ -88,7 +88,7 @@ first_runs (x ∷ xs) ys h = by_test (runs x) refl h (first_runs xs ys)
     by_test true is_so some later = is_so
     by_test false is_so some later = later some
 
-module _ (findings : List Finding) (finals : List Intent) (line : ℕ) where
+module _ (findings : List Finding) (finals : List AttemptId) (line : ℕ) where
   run_here : (worker serial : ℕ) (e : Attempt) → closes findings worker serial e line ≡ true → is Running (state_of findings finals worker serial e.answer) ≡ true → list_any runs (if_closing findings finals worker serial e line) ≡ true
   run_here worker serial e shut running =
       ap (λ b. list_any runs (cond b (standing_by findings finals worker serial e ∷ []) [])) shut ∙ ap (λ b. b || false) running

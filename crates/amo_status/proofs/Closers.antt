@@ -2,21 +2,21 @@
 use Rattle.std.proofs.Common.{◌≡◌, ℕ, ◌+◌, Bool, true, false, cond, ◌&&◌, ◌||◌, List, [], ◌∷◌, ◌++◌, Option, Some, None, refl, ap, ◌∙◌}
 use Rattle.std.specs.Prelude.{not, ◌==◌}
 use Rattle.std.specs.List.{AllByRecursion, filter}
-use Rattle.amo_run_log.specs.declared.entry.Answer.{Answer}
-use Rattle.amo_run_log.specs.declared.entry.Answer.TheVariants.{Done as Ended, Doubt as Unknown, Unbegun, Untouched as Idle}
+use Rattle.amo_run_log.specs.declared.entry.Outcome.{Outcome}
+use Rattle.amo_run_log.specs.declared.entry.Outcome.TheVariants.{Done as Ended, Doubt as Unknown, Unbegun, Untouched as Idle}
 use Rattle.amo_run_log.specs.declared.finding.Finding.{Finding}
 use Rattle.amo_run_log.specs.declared.journal.Attempt.{Attempt}
 use Rattle.amo_run_log.specs.Findings.{is_undone}
 use Rattle.amo_run_log.specs.Open.{reopens, closes, any_closes, closed_by}
-use Rattle.amo_status.specs.declared.standing.Standing.{Standing}
-use Rattle.amo_status.specs.declared.state.Intent.{Intent}
+use Rattle.amo_status.specs.declared.standing.LineStatus.{LineStatus}
+use Rattle.amo_status.specs.declared.state.AttemptId.{AttemptId}
 use Rattle.amo_status.specs.declared.state.State.TheVariants.{Open, Done, Failed, Running}
 use Rattle.amo_status.specs.States.{is, is_among, is_found_done, state_by, state_of}
 use Rattle.amo_status.specs.Standings.{standing_by, if_closing, closing_in, closing, foremost, deciding}
 
 -- an intent stands open just where its line was opened again
 
-by_parts : (answer : Option Answer) (undone found final : Bool) → is Open (cond (reopens answer || undone) Open (cond found Done (state_by final answer))) ≡ (reopens answer || undone)
+by_parts : (answer : Option Outcome) (undone found final : Bool) → is Open (cond (reopens answer || undone) Open (cond found Done (state_by final answer))) ≡ (reopens answer || undone)
 by_parts None true found final = refl
 by_parts None false true final = refl
 by_parts None false false true = refl
@@ -36,16 +36,16 @@ by_parts (Some (Idle code)) true found final = refl
 by_parts (Some (Idle code)) false true final = refl
 by_parts (Some (Idle code)) false false final = refl
 
-pub open_state : (findings : List Finding) (finals : List Intent) (worker serial : ℕ) (answer : Option Answer) → is Open (state_of findings finals worker serial answer) ≡ (reopens answer || is_undone findings worker serial)
+pub open_state : (findings : List Finding) (finals : List AttemptId) (worker serial : ℕ) (answer : Option Outcome) → is Open (state_of findings finals worker serial answer) ≡ (reopens answer || is_undone findings worker serial)
 open_state findings finals worker serial answer = by_parts answer (is_undone findings worker serial) (is_found_done findings worker serial) (is_among finals worker serial)
 
 -- what holds of all
 
-pub all_append : (P : Standing → Type 0) (xs ys : List Standing) → AllByRecursion P xs → AllByRecursion P ys → AllByRecursion P (xs ++ ys)
+pub all_append : (P : LineStatus → Type 0) (xs ys : List LineStatus) → AllByRecursion P xs → AllByRecursion P ys → AllByRecursion P (xs ++ ys)
 all_append P [] ys x y = y
 all_append P (s ∷ xs) ys x y = (x.0, all_append P xs ys x.1 y)
 
-all_filter : (P : Standing → Type 0) (p : Standing → Bool) (xs : List Standing) → AllByRecursion P xs → AllByRecursion P (filter p xs)
+all_filter : (P : LineStatus → Type 0) (p : LineStatus → Bool) (xs : List LineStatus) → AllByRecursion P xs → AllByRecursion P (filter p xs)
 all_filter P p [] x = tt
 all_filter P p (s ∷ xs) x = by_test (p s) (all_filter P p xs x.1)
   where
@@ -53,28 +53,28 @@ all_filter P p (s ∷ xs) x = by_test (p s) (all_filter P p xs x.1)
     by_test true rest = (x.0, rest)
     by_test false rest = rest
 
-all_foremost : (P : Standing → Type 0) (ys : List Standing) (x : Standing) (xs : List Standing) → AllByRecursion P ys → P x → P (foremost (ys ++ x ∷ xs))
+all_foremost : (P : LineStatus → Type 0) (ys : List LineStatus) (x : LineStatus) (xs : List LineStatus) → AllByRecursion P ys → P x → P (foremost (ys ++ x ∷ xs))
 all_foremost P [] x xs y h = h
 all_foremost P (s ∷ ys) x xs y h = y.0
 
 -- whether there is one
-abbrev pub has_some : List Standing → Bool
+abbrev pub has_some : List LineStatus → Bool
 has_some [] = false
 has_some (s ∷ ss) = true
 
-pub all_deciding : (P : Standing → Type 0) (xs : List Standing) → AllByRecursion P xs → has_some xs ≡ true → P (deciding xs)
+pub all_deciding : (P : LineStatus → Type 0) (xs : List LineStatus) → AllByRecursion P xs → has_some xs ≡ true → P (deciding xs)
 all_deciding P [] all some = absurd (cc)
-all_deciding P (x ∷ xs) all some = all_foremost P (filter (λ (s : Standing). is Running s.state) (x ∷ xs)) x xs (all_filter P (λ (s : Standing). is Running s.state) (x ∷ xs) all) all.0
+all_deciding P (x ∷ xs) all some = all_foremost P (filter (λ (s : LineStatus). is Running s.state) (x ∷ xs)) x xs (all_filter P (λ (s : LineStatus). is Running s.state) (x ∷ xs) all) all.0
 
 -- none stands open
 
-abbrev pub IsClosed : Standing → Type 0
+abbrev pub IsClosed : LineStatus → Type 0
 IsClosed s = is Open s.state ≡ false
 
-abbrev pub AllClosed : List Standing → Type 0
+abbrev pub AllClosed : List LineStatus → Type 0
 AllClosed ss = AllByRecursion IsClosed ss
 
-module _ (findings : List Finding) (finals : List Intent) (line : ℕ) where
+module _ (findings : List Finding) (finals : List AttemptId) (line : ℕ) where
   if_closed : (worker serial : ℕ) (e : Attempt) → AllClosed (if_closing findings finals worker serial e line)
   if_closed worker serial e = by_test (e.line == line) (reopens e.answer || is_undone findings worker serial) (open_state findings finals worker serial e.answer)
     where
@@ -95,11 +95,11 @@ module _ (findings : List Finding) (finals : List Intent) (line : ℕ) where
 
 -- there is one just where the line is closed
 
-has_append : (xs ys : List Standing) → has_some (xs ++ ys) ≡ (has_some xs || has_some ys)
+has_append : (xs ys : List LineStatus) → has_some (xs ++ ys) ≡ (has_some xs || has_some ys)
 has_append [] ys = refl
 has_append (s ∷ xs) ys = refl
 
-module _ (findings : List Finding) (finals : List Intent) (line : ℕ) where
+module _ (findings : List Finding) (finals : List AttemptId) (line : ℕ) where
   has_if : (worker serial : ℕ) (e : Attempt) → has_some (if_closing findings finals worker serial e line) ≡ closes findings worker serial e line
   has_if worker serial e = by_test (closes findings worker serial e line)
     where
@@ -121,12 +121,12 @@ module _ (findings : List Finding) (finals : List Intent) (line : ℕ) where
       ∙ ap (λ b. b || has_some (closing findings finals (worker + 1) journals line)) (has_in worker 1 es)
       ∙ ap (λ b. any_closes findings worker 1 es line || b) (has_closing (worker + 1) journals)
 
-open_deciding : (xs : List Standing) → AllClosed xs → is Open (deciding xs).state ≡ not (has_some xs)
+open_deciding : (xs : List LineStatus) → AllClosed xs → is Open (deciding xs).state ≡ not (has_some xs)
 open_deciding [] closed = refl
 open_deciding (x ∷ xs) closed = all_deciding IsClosed (x ∷ xs) closed refl
 
 -- a line stands open just where no intent closes it
-pub open_just : (findings : List Finding) (finals : List Intent) (line worker : ℕ) (journals : List (List Attempt)) → is Open (deciding (closing findings finals worker journals line)).state ≡ not (closed_by findings worker journals line)
+pub open_just : (findings : List Finding) (finals : List AttemptId) (line worker : ℕ) (journals : List (List Attempt)) → is Open (deciding (closing findings finals worker journals line)).state ≡ not (closed_by findings worker journals line)
 open_just findings finals line worker journals =
     open_deciding (closing findings finals worker journals line) (all_closed findings finals line worker journals)
     ∙ ap not (has_closing findings finals line worker journals)

@@ -10,8 +10,8 @@ use Rattle.amo_run_log.specs.declared.finding.Finding.{Finding}
 use Rattle.amo_run_log.specs.declared.journal.Attempt.{Attempt}
 use Rattle.amo_run_log.specs.Findings.{is_undone}
 use Rattle.amo_run_log.specs.Open.{reopens}
-use Rattle.amo_status.specs.declared.standing.Standing.{Standing}
-use Rattle.amo_status.specs.declared.state.Intent.{Intent}
+use Rattle.amo_status.specs.declared.standing.LineStatus.{LineStatus}
+use Rattle.amo_status.specs.declared.state.AttemptId.{AttemptId}
 use Rattle.amo_status.specs.declared.state.State.{State}
 use Rattle.amo_status.specs.declared.state.State.TheVariants.{Open, Running}
 use Rattle.amo_status.specs.Deciding.{decided_of, decided_from}
@@ -27,14 +27,14 @@ not_equal a b isnt = grind (arith, nat_tests)
 
 -- one intent
 
-module _ (findings : List Finding) (finals : List Intent) (worker serial : ℕ) (e : Attempt) where
-  abbrev parted : Bool → Bool → List Standing
+module _ (findings : List Finding) (finals : List AttemptId) (worker serial : ℕ) (e : Attempt) where
+  abbrev parted : Bool → Bool → List LineStatus
   parted of_line opened = cond (of_line && not opened) (standing_by findings finals worker serial e ∷ []) []
 
-  pub of_another : (before : Standing) (line : ℕ) → e.line ≢ line → before ≡ decided_from before (if_closing findings finals worker serial e line)
+  pub of_another : (before : LineStatus) (line : ℕ) → e.line ≢ line → before ≡ decided_from before (if_closing findings finals worker serial e line)
   of_another before line isnt = ap (λ b. decided_from before (parted b (reopens e.answer || is_undone findings worker serial))) (sym (not_equal e.line line isnt))
 
-  pub decided_by_it : (before : Standing) (line : ℕ) (state : State) → e.line ≡ line → state ≡ state_of findings finals worker serial e.answer → is Open state ≡ false
+  pub decided_by_it : (before : LineStatus) (line : ℕ) (state : State) → e.line ≡ line → state ≡ state_of findings finals worker serial e.answer → is Open state ≡ false
       → decided_of before (record { state = state; worker = worker; serial = serial; time = e.time }) ≡ decided_from before (if_closing findings finals worker serial e line)
   decided_by_it before line state of_line stands closed =
       let known : (reopens e.answer || is_undone findings worker serial) ≡ false = sym (open_state findings finals worker serial e.answer) ∙ ap (is Open) (sym stands) ∙ closed in
@@ -42,7 +42,7 @@ module _ (findings : List Finding) (finals : List Intent) (worker serial : ℕ) 
       ∙ ap (λ b. decided_from before (parted true b)) (sym known) ∙ ap (λ b. decided_from before (parted b (reopens e.answer || is_undone findings worker serial))) (sym (equal e.line line of_line))
 
   -- at its place among all lines
-  pub at_its_place : (found : List Standing) (k line : ℕ) (new : Standing) → e.line ≡ line → 1 ≤ line → line ≤ length found
+  pub at_its_place : (found : List LineStatus) (k line : ℕ) (new : LineStatus) → e.line ≡ line → 1 ≤ line → line ≤ length found
       → new ≡ decided_from (get_or found (line - 1) open_standing) (if_closing findings finals worker serial e line)
       → get_or (set found (line - 1) new) k open_standing ≡ decided_from (get_or found k open_standing) (if_closing findings finals worker serial e (k + 1))
   at_its_place found k line new of_line from there is = ⊎_elim
@@ -58,12 +58,12 @@ module _ (findings : List Finding) (finals : List Intent) (worker serial : ℕ) 
 
 -- more of them
 
-decided_append : (s : Standing) (xs ys : List Standing) → decided_from (decided_from s xs) ys ≡ decided_from s (xs ++ ys)
+decided_append : (s : LineStatus) (xs ys : List LineStatus) → decided_from (decided_from s xs) ys ≡ decided_from s (xs ++ ys)
 decided_append s [] ys = refl
 decided_append s (x ∷ xs) ys = decided_append (decided_of s x) xs ys
 
 -- one intent more
-pub noted : (findings : List Finding) (finals : List Intent) (worker : ℕ) (es : List Attempt) (i line : ℕ) (d : Attempt) (old new all : Standing) → i < length es
+pub noted : (findings : List Finding) (finals : List AttemptId) (worker : ℕ) (es : List Attempt) (i line : ℕ) (d : Attempt) (old new all : LineStatus) → i < length es
     → decided_from old (closing_in findings finals worker (i + 1) (drop i es) line) ≡ all → new ≡ decided_from old (if_closing findings finals worker (i + 1) (get_or es i d) line)
     → decided_from new (closing_in findings finals worker ((i + 1) + 1) (drop (i + 1) es) line) ≡ all
 noted findings finals worker es i line d old new all lt so_far is =
@@ -73,7 +73,7 @@ noted findings finals worker es i line d old new all lt so_far is =
     ∙ so_far
 
 -- one journal more
-pub noted_by : (findings : List Finding) (finals : List Intent) (journals : List (Vec Attempt Global)) (p line : ℕ) (d : Vec Attempt Global) (old new all : Standing) → p < length journals
+pub noted_by : (findings : List Finding) (finals : List AttemptId) (journals : List (Vec Attempt Global)) (p line : ℕ) (d : Vec Attempt Global) (old new all : LineStatus) → p < length journals
     → decided_from old (closing findings finals (p + 1) (map (λ (v : Vec Attempt Global). v.items) (drop p journals)) line) ≡ all
     → new ≡ decided_from old (closing_in findings finals (p + 1) 1 (get_or journals p d).items line)
     → decided_from new (closing findings finals ((p + 1) + 1) (map (λ (v : Vec Attempt Global). v.items) (drop (p + 1) journals)) line) ≡ all
@@ -85,13 +85,13 @@ noted_by findings finals journals p line d old new all lt so_far is =
 
 -- in the end
 
-abbrev runs : Standing → Bool
+abbrev runs : LineStatus → Bool
 runs s = is Running s.state
 
-abbrev chosen : Bool → Bool → Bool → Standing → Standing → Standing
+abbrev chosen : Bool → Bool → Bool → LineStatus → LineStatus → LineStatus
 chosen old_open new_runs old_runs old new = cond (old_open || (new_runs && not old_runs)) new old
 
-stays : (s : Standing) (xs : List Standing) → is Open s.state ≡ false → runs s ≡ true → decided_from s xs ≡ s
+stays : (s : LineStatus) (xs : List LineStatus) → is Open s.state ≡ false → runs s ≡ true → decided_from s xs ≡ s
 stays s [] closed running = refl
 stays s (x ∷ xs) closed running =
     let keeps : decided_of s x ≡ s = ap (λ o. chosen o (runs x) (runs s) s x) closed ∙ ap (λ r. chosen false (runs x) r s x) running ∙ by_test (runs x) in
@@ -101,13 +101,13 @@ stays s (x ∷ xs) closed running =
     by_test true = refl
     by_test false = refl
 
-running_open : (x : Standing) → runs x ≡ true → is Open x.state ≡ false
+running_open : (x : LineStatus) → runs x ≡ true → is Open x.state ≡ false
 running_open x running = by_state x.state running
   where
     by_state : (s : State) → is Running s ≡ true → is Open s ≡ false
     by_state s h = grind (arith, nat_tests)
 
-waits : (s : Standing) (xs ys : List Standing) → is Open s.state ≡ false → runs s ≡ false → decided_from s xs ≡ foremost (filter runs xs ++ s ∷ ys)
+waits : (s : LineStatus) (xs ys : List LineStatus) → is Open s.state ≡ false → runs s ≡ false → decided_from s xs ≡ foremost (filter runs xs ++ s ∷ ys)
 waits s [] ys closed idle = refl
 waits s (x ∷ xs) ys closed idle = by_test (runs x) refl (waits s xs ys closed idle)
   where
@@ -126,7 +126,7 @@ waits s (x ∷ xs) ys closed idle = by_test (runs x) refl (waits s xs ys closed 
         ap (λ t. decided_from t xs) (chooses false is) ∙ rest
         ∙ ap (λ c. foremost (cond c (x ∷ filter runs xs) (filter runs xs) ++ s ∷ ys)) (sym is)
 
-pub decides : (xs : List Standing) → AllClosed xs → decided_from open_standing xs ≡ deciding xs
+pub decides : (xs : List LineStatus) → AllClosed xs → decided_from open_standing xs ≡ deciding xs
 decides [] closed = refl
 decides (x ∷ xs) closed = by_test (runs x) refl
   where
@@ -134,5 +134,5 @@ decides (x ∷ xs) closed = by_test (runs x) refl
     by_test true is = stays x xs closed.0 is ∙ ap (λ c. foremost (cond c (x ∷ filter runs xs) (filter runs xs) ++ x ∷ xs)) (sym is)
     by_test false is = waits x xs xs closed.0 is ∙ ap (λ c. foremost (cond c (x ∷ filter runs xs) (filter runs xs) ++ x ∷ xs)) (sym is)
 
-pub decides_all : (findings : List Finding) (finals : List Intent) (worker : ℕ) (journals : List (List Attempt)) (line : ℕ) → decided_from open_standing (closing findings finals worker journals line) ≡ deciding (closing findings finals worker journals line)
+pub decides_all : (findings : List Finding) (finals : List AttemptId) (worker : ℕ) (journals : List (List Attempt)) (line : ℕ) → decided_from open_standing (closing findings finals worker journals line) ≡ deciding (closing findings finals worker journals line)
 decides_all findings finals worker journals line = decides (closing findings finals worker journals line) (all_closed findings finals line worker journals)

@@ -2,7 +2,7 @@
 use Rattle.std.proofs.Common.{◌≡◌, ℕ, ◌+◌, ◌<◌, Bool, true, cond, ◌||◌, List, [], ◌∷◌, ◌++◌, length, get_or, drop, sym, ap, ◌∙◌, append_assoc}
 use Rattle.std.specs.Fmt.{decimal}
 use Rattle.std.proofs.lemmas.List.{drop_more}
-use Rattle.amo_status.specs.declared.standing.Standing.{Standing}
+use Rattle.amo_status.specs.declared.standing.LineStatus.{LineStatus}
 use Rattle.amo_status.specs.Json.{comma_if, is_shown, json_head, json_numbers, json_row, json_rows, json_tail, text_or_null}
 use Rattle.amo_status.specs.Rows.{spaced}
 
@@ -23,7 +23,7 @@ numbers_more numbers i d later old mid new all lt so_far comma is =
     ∙ so_far
 
 -- an object, put in three parts behind its comma
-pub row_put : (old mid new head middle tail : List ℕ) (timed later : Bool) (line : ℕ) (s : Standing) (text : List ℕ) → is_shown timed s.state ≡ true → mid ≡ old ++ comma_if later
+pub row_put : (old mid new head middle tail : List ℕ) (timed later : Bool) (line : ℕ) (s : LineStatus) (text : List ℕ) → is_shown timed s.state ≡ true → mid ≡ old ++ comma_if later
     → new ≡ mid ++ (head ++ (middle ++ tail)) → head ≡ json_head line s → middle ≡ text_or_null text → tail ≡ json_tail timed s → new ≡ old ++ json_row timed later line s text
 row_put old mid new head middle tail timed later line s text shown comma put h m t =
     put
@@ -34,7 +34,7 @@ row_put old mid new head middle tail timed later line s text shown comma put h m
     ∙ ap (λ x. old ++ (comma_if later ++ (json_head line s ++ (text_or_null text ++ x)))) t
     ∙ ap (λ b. old ++ cond b (comma_if later ++ (json_head line s ++ (text_or_null text ++ json_tail timed s))) []) (sym shown)
 
-pub row_more : (timed : Bool) (standings : List Standing) (i : ℕ) (d : Standing) (texts : List (List ℕ)) (later next : Bool) (old new all : List ℕ) → i < length standings
+pub row_more : (timed : Bool) (standings : List LineStatus) (i : ℕ) (d : LineStatus) (texts : List (List ℕ)) (later next : Bool) (old new all : List ℕ) → i < length standings
     → old ++ json_rows timed later i (drop i standings) texts ≡ all → new ≡ old ++ json_row timed later (i + 1) (get_or standings i d) (get_or texts i [])
     → next ≡ (later || is_shown timed (get_or standings i d).state)
     → new ++ json_rows timed next (i + 1) (drop (i + 1) standings) texts ≡ all

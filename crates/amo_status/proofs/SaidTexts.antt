@@ -8,15 +8,15 @@ use Rattle.std.proofs.lemmas.Bool.{eqb-true, lt-ltb, ltb-true}
 use Rattle.std.proofs.lemmas.List.{append-nil, drop_at, drop-drop, take_at, take_rest, take-append-drop}
 use Rattle.std.proofs.lemmas.List.Sums.{passes_at_first, split_at_first}
 use Rattle.std.proofs.lemmas.Slice.Eq.{bytes_eq-Decides}
-use Rattle.amo_run_log.specs.declared.finding.Verdict.{Verdict}
-use Rattle.amo_run_log.specs.declared.finding.Verdict.TheVariants.{Done, NotDone}
+use Rattle.amo_run_log.specs.declared.finding.Resolution.{Resolution}
+use Rattle.amo_run_log.specs.declared.finding.Resolution.TheVariants.{Done, NotDone}
 use Rattle.amo_run_log.specs.Findings.{verdict_in, word_of}
 use Rattle.amo_decimal.specs.Numbers.{number_in}
 use Rattle.amo_run_log.specs.Texts.{ended}
 use Rattle.amo_decimal.proofs.NumberTexts.{printed_of_read, reads_printed}
 use Rattle.amo_run_log.proofs.Words.{Lacks, and_then_some, blank_and, decimal_lacks, either_way, equal, lacks_append, lacks_by_test, not_equal}
-use Rattle.amo_status.specs.declared.state.Intent.{Intent}
-use Rattle.amo_status.specs.declared.standing.Standing.{Standing}
+use Rattle.amo_status.specs.declared.state.AttemptId.{AttemptId}
+use Rattle.amo_status.specs.declared.standing.LineStatus.{LineStatus}
 use Rattle.amo_status.specs.declared.state.State.{State}
 use Rattle.amo_status.specs.declared.state.State.TheVariants.{Open}
 use Rattle.amo_status.specs.States.{is}
@@ -68,7 +68,7 @@ found_nowhere c text h = by_test (nat_lt (position_or_len (λ b. b == c) text) (
 
 -- an intent
 
-abbrev intent_with : Option ℕ → Option ℕ → Option Intent
+abbrev intent_with : Option ℕ → Option ℕ → Option AttemptId
 intent_with worker serial = option_and_then (λ (w : ℕ). option_and_then (λ (s : ℕ). Some (record { worker = w; serial = s })) serial) worker
 
 intent_reads : (w s : ℕ) → w < 2 ^ 64 → s < 2 ^ 64 → intent_in (intent_text w s) ≡ Some (record { worker = w; serial = s })
@@ -77,10 +77,10 @@ intent_reads w s fw fs =
     ∙ ap (λ o. intent_with o (number_in (decimal s))) (reads_printed w fw)
     ∙ ap (λ o. intent_with (Some w) o) (reads_printed s fs)
 
-abbrev IsIntentText : List ℕ → Intent → Type 0
+abbrev IsIntentText : List ℕ → AttemptId → Type 0
 IsIntentText text i = (intent_text i.worker i.serial ≡ text) × (i.worker < 2 ^ 64) × (i.serial < 2 ^ 64)
 
-intent_printed : (text : List ℕ) (i : Intent) → intent_in text ≡ Some i → IsIntentText text i
+intent_printed : (text : List ℕ) (i : AttemptId) → intent_in text ≡ Some i → IsIntentText text i
 intent_printed text i h =
     let (p, cut, more) = and_then_some _ (split_at 46 text) i h in
     let (w, first, rest) = and_then_some _ (number_in p.0) i more in
@@ -95,16 +95,16 @@ intent_lacks w s fw fs = lacks_append 9 (decimal w) (46 ∷ decimal s) (decimal_
 
 -- an intent and a line
 
-abbrev place_with : Option Intent → Option ℕ → Option (Intent × ℕ)
-place_with intent line = option_and_then (λ (i : Intent). option_and_then (λ (n : ℕ). Some (i, n)) line) intent
+abbrev place_with : Option AttemptId → Option ℕ → Option (AttemptId × ℕ)
+place_with intent line = option_and_then (λ (i : AttemptId). option_and_then (λ (n : ℕ). Some (i, n)) line) intent
 
 place_reads : (w s n : ℕ) → w < 2 ^ 64 → s < 2 ^ 64 → n < 2 ^ 64 → place_in (intent_text w s) (decimal n) ≡ Some (record { worker = w; serial = s }, n)
 place_reads w s n fw fs fn = ap (λ o. place_with o (number_in (decimal n))) (intent_reads w s fw fs) ∙ ap (λ o. place_with (Some (record { worker = w; serial = s })) o) (reads_printed n fn)
 
-abbrev IsPlaceText : List ℕ → List ℕ → Intent × ℕ → Type 0
+abbrev IsPlaceText : List ℕ → List ℕ → AttemptId × ℕ → Type 0
 IsPlaceText intent line p = IsIntentText intent p.0 × (decimal p.1 ≡ line) × (p.1 < 2 ^ 64)
 
-place_printed : (intent line : List ℕ) (p : Intent × ℕ) → place_in intent line ≡ Some p → IsPlaceText intent line p
+place_printed : (intent line : List ℕ) (p : AttemptId × ℕ) → place_in intent line ≡ Some p → IsPlaceText intent line p
 place_printed intent line p h =
     let (i, first, more) = and_then_some _ (intent_in intent) p h in
     let (n, second, some) = and_then_some _ (number_in line) p more in
@@ -114,11 +114,11 @@ place_printed intent line p h =
 
 -- a verdict
 
-verdict_reads : (v : Verdict) → verdict_in (word_of v) ≡ Some v
+verdict_reads : (v : Resolution) → verdict_in (word_of v) ≡ Some v
 verdict_reads Done = refl
 verdict_reads NotDone = refl
 
-verdict_printed : (w : List ℕ) (v : Verdict) → verdict_in w ≡ Some v → word_of v ≡ w
+verdict_printed : (w : List ℕ) (v : Resolution) → verdict_in w ≡ Some v → word_of v ≡ w
 verdict_printed w v h = elim (either_way (bytes_eq w (codes "done")) _ _ (Some v) h) [
   | inl t ↦ let is : Done ≡ v = cc in ap word_of (sym is) ∙ sym ((bytes_eq-Decides w (codes "done")).0 t.0)
   | inr f ↦ elim (either_way (bytes_eq w (codes "not-done")) _ _ (Some v) f.1) [
@@ -132,16 +132,16 @@ verdict_printed w v h = elim (either_way (bytes_eq w (codes "done")) _ _ (Some v
 
 -- three words
 
-abbrev words_with : Option (Intent × ℕ) → Option Verdict → Option (Intent × ℕ × Verdict)
-words_with place verdict = option_and_then (λ (p : Intent × ℕ). option_and_then (λ (v : Verdict). Some (p.0, p.1, v)) verdict) place
+abbrev words_with : Option (AttemptId × ℕ) → Option Resolution → Option (AttemptId × ℕ × Resolution)
+words_with place verdict = option_and_then (λ (p : AttemptId × ℕ). option_and_then (λ (v : Resolution). Some (p.0, p.1, v)) verdict) place
 
-words_read : (w s n : ℕ) (v : Verdict) → w < 2 ^ 64 → s < 2 ^ 64 → n < 2 ^ 64 → words_in (intent_text w s) (decimal n) (word_of v) ≡ Some (record { worker = w; serial = s }, n, v)
+words_read : (w s n : ℕ) (v : Resolution) → w < 2 ^ 64 → s < 2 ^ 64 → n < 2 ^ 64 → words_in (intent_text w s) (decimal n) (word_of v) ≡ Some (record { worker = w; serial = s }, n, v)
 words_read w s n v fw fs fn = ap (λ o. words_with o (verdict_in (word_of v))) (place_reads w s n fw fs fn) ∙ ap (λ o. words_with (Some (record { worker = w; serial = s }, n)) o) (verdict_reads v)
 
-abbrev AreWordsOf : List ℕ → List ℕ → List ℕ → Intent × ℕ × Verdict → Type 0
+abbrev AreWordsOf : List ℕ → List ℕ → List ℕ → AttemptId × ℕ × Resolution → Type 0
 AreWordsOf intent line verdict o = (intent_text o.0.worker o.0.serial ≡ intent) × (decimal o.1 ≡ line) × (word_of o.2 ≡ verdict)
 
-words_printed : (intent line verdict : List ℕ) (o : Intent × ℕ × Verdict) → words_in intent line verdict ≡ Some o → AreWordsOf intent line verdict o
+words_printed : (intent line verdict : List ℕ) (o : AttemptId × ℕ × Resolution) → words_in intent line verdict ≡ Some o → AreWordsOf intent line verdict o
 words_printed intent line verdict o h =
     let (p, first, more) = and_then_some _ (place_in intent line) o h in
     let (v, second, some) = and_then_some _ (verdict_in verdict) o more in
@@ -149,12 +149,12 @@ words_printed intent line verdict o h =
     let is : (p.0, p.1, v) ≡ o = cc in
     subst (AreWordsOf intent line verdict) is (placed.0.0, placed.1, verdict_printed verdict v second)
 
-pub words_found : (intent line verdict : List ℕ) (r : Option (Intent × ℕ × Verdict)) → r ≡ words_in intent line verdict → IfSome r (AreWordsOf intent line verdict)
+pub words_found : (intent line verdict : List ℕ) (r : Option (AttemptId × ℕ × Resolution)) → r ≡ words_in intent line verdict → IfSome r (AreWordsOf intent line verdict)
 words_found intent line verdict None is = tt
 words_found intent line verdict (Some o) is = words_printed intent line verdict o (sym is)
 
-pub words_none : (intent line verdict : List ℕ) (r : Option (Intent × ℕ × Verdict)) → r ≡ words_in intent line verdict
-    → IfNone r ((w s n : ℕ) (v : Verdict) → w < 2 ^ 64 → s < 2 ^ 64 → n < 2 ^ 64 → intent_text w s ≡ intent → decimal n ≡ line → word_of v ≡ verdict → ⊥)
+pub words_none : (intent line verdict : List ℕ) (r : Option (AttemptId × ℕ × Resolution)) → r ≡ words_in intent line verdict
+    → IfNone r ((w s n : ℕ) (v : Resolution) → w < 2 ^ 64 → s < 2 ^ 64 → n < 2 ^ 64 → intent_text w s ≡ intent → decimal n ≡ line → word_of v ≡ verdict → ⊥)
 words_none intent line verdict (Some o) is = tt
 words_none intent line verdict None is =
     λ w s n v fw fs fn i_is n_is v_is.
@@ -171,10 +171,10 @@ before_done = 9 ∷ codes "done"
 abbrev before_not_done : List ℕ
 before_not_done = 9 ∷ codes "not-done"
 
-abbrev parted : Bool → Bool → List ℕ → List ℕ → Option (List ℕ × Verdict)
+abbrev parted : Bool → Bool → List ℕ → List ℕ → Option (List ℕ × Resolution)
 parted done not_done a b = cond done (Some (a, Done)) (cond not_done (Some (b, NotDone)) None)
 
-behind_reads : (t : List ℕ) (v : Verdict) → verdict_behind (t ++ 9 ∷ word_of v) ≡ Some (t, v)
+behind_reads : (t : List ℕ) (v : Resolution) → verdict_behind (t ++ 9 ∷ word_of v) ≡ Some (t, v)
 behind_reads t Done =
     let text = t ++ before_done in
     let at : length text - 5 ≡ length t = omega (arith, length-append t before_done) in
@@ -191,24 +191,24 @@ behind_reads t NotDone =
     ((bytes_eq-Decides (drop (length text - 9) text) before_not_done).1 (ap (λ n. drop n text) at ∙ drop_at t before_not_done (length t) refl))
     ∙ ap (λ x. parted false true x x) (ap (λ n. take n text) at ∙ take_at t before_not_done (length t) refl)
 
-behind_printed : (text : List ℕ) (p : List ℕ × Verdict) → verdict_behind text ≡ Some p → text ≡ p.0 ++ 9 ∷ word_of p.1
+behind_printed : (text : List ℕ) (p : List ℕ × Resolution) → verdict_behind text ≡ Some p → text ≡ p.0 ++ 9 ∷ word_of p.1
 behind_printed text p h = elim (either_way (bytes_eq (drop (length text - 5) text) before_done) _ _ (Some p) h) [
   | inl t ↦
       let is : (take (length text - 5) text, Done) ≡ p = cc in
-      subst (λ (q : List ℕ × Verdict). text ≡ q.0 ++ 9 ∷ word_of q.1) is
+      subst (λ (q : List ℕ × Resolution). text ≡ q.0 ++ 9 ∷ word_of q.1) is
       (sym (take-append-drop (length text - 5) text) ∙ ap (λ l. take (length text - 5) text ++ l) ((bytes_eq-Decides (drop (length text - 5) text) before_done).0 t.0))
   | inr f ↦
       let (same, some) = blank_and (bytes_eq (drop (length text - 9) text) before_not_done) _ p f.1 in
       let is : (take (length text - 9) text, NotDone) ≡ p = cc in
-      subst (λ (q : List ℕ × Verdict). text ≡ q.0 ++ 9 ∷ word_of q.1) is
+      subst (λ (q : List ℕ × Resolution). text ≡ q.0 ++ 9 ∷ word_of q.1) is
       (sym (take-append-drop (length text - 9) text) ∙ ap (λ l. take (length text - 9) text ++ l) ((bytes_eq-Decides (drop (length text - 9) text) before_not_done).0 same))
 ]
 
 -- an answer
 
-abbrev said_with : Option (List ℕ × Verdict) → Option (Intent × ℕ) → Option SaidView
+abbrev said_with : Option (List ℕ × Resolution) → Option (AttemptId × ℕ) → Option SaidView
 said_with behind place =
-    option_and_then (λ (t : List ℕ × Verdict). option_and_then (λ (p : Intent × ℕ). Some (record { worker = p.0.worker; serial = p.0.serial; line = p.1; text = t.0; verdict = t.1 })) place) behind
+    option_and_then (λ (t : List ℕ × Resolution). option_and_then (λ (p : AttemptId × ℕ). Some (record { worker = p.0.worker; serial = p.0.serial; line = p.1; text = t.0; verdict = t.1 })) place) behind
 
 pub said_reads : (s : SaidView) → FitsSaid s → said_in (said_text s) ≡ Some s
 said_reads s fits =
@@ -255,7 +255,7 @@ cuts (text ∷ texts) all = cut_one text [] (ended texts) all.0 ∙ ap (λ ts. t
 
 -- the text of an answer is one line
 
-word_lacks : (v : Verdict) → Lacks 10 (word_of v)
+word_lacks : (v : Resolution) → Lacks 10 (word_of v)
 word_lacks Done = lacks_by_test 10 (codes "done") refl
 word_lacks NotDone = lacks_by_test 10 (codes "not-done") refl
 
@@ -277,7 +277,7 @@ texts_lack (s ∷ answers) fit lack = (text_lacks s fit.0 lack.0, texts_lack ans
 regroup : (a b c t v : List ℕ) → ((a ++ 46 ∷ (b ++ 9 ∷ (c ++ 9 ∷ []))) ++ t) ++ 9 ∷ v ≡ (a ++ 46 ∷ b) ++ 9 ∷ (c ++ 9 ∷ (t ++ 9 ∷ v))
 regroup a b c t v = simp append_assoc
 
-pub row_is_answer : (kind : State) (line : ℕ) (s : Standing) (text : List ℕ) (v : Verdict) → is Open s.state ≡ false → is kind s.state ≡ true
+pub row_is_answer : (kind : State) (line : ℕ) (s : LineStatus) (text : List ℕ) (v : Resolution) → is Open s.state ≡ false → is kind s.state ≡ true
     → (row : List ℕ) × (kind_row kind line s text ≡ row ++ 10 ∷ []) × (row ++ 9 ∷ word_of v ≡ said_text (record { worker = s.worker; serial = s.serial; line = line; text = text; verdict = v }))
 row_is_answer kind line s text v closed of_kind =
     let head : List ℕ = decimal s.worker ++ 46 ∷ (decimal s.serial ++ 9 ∷ (decimal line ++ 9 ∷ [])) in (

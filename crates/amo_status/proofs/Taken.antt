@@ -4,17 +4,17 @@ use Rattle.std.specs.Prelude.{not, ◌==◌, is_ok, IsOk}
 use Rattle.std.specs.Result.{result_err}
 use Rattle.std.specs.List.{list_any}
 use Rattle.std.proofs.lemmas.Bool.{eqb-true, eq-eqb, or_parts}
-use Rattle.amo_run_log.specs.declared.entry.Answer.{Answer}
-use Rattle.amo_run_log.specs.declared.entry.Answer.TheVariants.{Done as Ended, Doubt as Unknown, Unbegun, Untouched as Idle}
+use Rattle.amo_run_log.specs.declared.entry.Outcome.{Outcome}
+use Rattle.amo_run_log.specs.declared.entry.Outcome.TheVariants.{Done as Ended, Doubt as Unknown, Unbegun, Untouched as Idle}
 use Rattle.amo_run_log.specs.declared.finding.Finding.{Finding}
-use Rattle.amo_run_log.specs.declared.finding.Verdict.{Verdict}
-use Rattle.amo_run_log.specs.declared.finding.Verdict.TheVariants.{Done as FoundDone, NotDone}
+use Rattle.amo_run_log.specs.declared.finding.Resolution.{Resolution}
+use Rattle.amo_run_log.specs.declared.finding.Resolution.TheVariants.{Done as FoundDone, NotDone}
 use Rattle.amo_run_log.specs.declared.journal.Attempt.{Attempt}
 use Rattle.amo_run_log.specs.Findings.{is_not_done, is_of, is_undone}
 use Rattle.amo_run_log.specs.Open.{reopens}
 use Rattle.amo_status.specs.declared.refusal.Refusal.{Refusal}
 use Rattle.amo_status.specs.declared.refusal.Refusal.TheVariants.{OtherLine, AnsweredOtherwise, AnsweredSo}
-use Rattle.amo_status.specs.declared.state.Intent.{Intent}
+use Rattle.amo_status.specs.declared.state.AttemptId.{AttemptId}
 use Rattle.amo_status.specs.declared.state.State.{State}
 use Rattle.amo_status.specs.declared.state.State.TheVariants.{Open, Done, Failed}
 use Rattle.amo_status.specs.States.{is_among, is_found_done, state_by, state_of}
@@ -47,7 +47,7 @@ answered (f ∷ findings) worker serial =
     ap (λ b. is_of worker serial f || b) (answered findings worker serial)
     ∙ by_parts (is_not_done f.verdict) (is_of worker serial f) (is_found_done findings worker serial) (is_undone findings worker serial)
 
-both_no : (findings : List Finding) (worker serial : ℕ) (v : Verdict) → is_said findings worker serial (contrary v) ≡ false → is_said findings worker serial v ≡ false
+both_no : (findings : List Finding) (worker serial : ℕ) (v : Resolution) → is_said findings worker serial (contrary v) ≡ false → is_said findings worker serial v ≡ false
     → (is_found_done findings worker serial ≡ false) × (is_undone findings worker serial ≡ false)
 both_no findings worker serial FoundDone otherwise so = (so, otherwise)
 both_no findings worker serial NotDone otherwise so = (otherwise, so)
@@ -55,7 +55,7 @@ both_no findings worker serial NotDone otherwise so = (otherwise, so)
 nobody : (a b : Bool) → a ≡ false → b ≡ false → (a || b) ≡ false
 nobody a b no_a no_b = ap (λ x. x || b) no_a ∙ no_b
 
-said : (findings : List Finding) (worker serial : ℕ) (v : Verdict) → is_found_done findings worker serial ≡ false → is_undone findings worker serial ≡ false → is_said findings worker serial v ≡ false
+said : (findings : List Finding) (worker serial : ℕ) (v : Resolution) → is_found_done findings worker serial ≡ false → is_undone findings worker serial ≡ false → is_said findings worker serial v ≡ false
 said findings worker serial FoundDone found undone = found
 said findings worker serial NotDone found undone = undone
 
@@ -70,16 +70,16 @@ negated true h = refl
 negated false h = absurd (cc)
 
 -- how an intent stands that no person answered
-abbrev pub plain : Bool → Option Answer → State
+abbrev pub plain : Bool → Option Outcome → State
 plain final answer = cond (reopens answer || false) Open (cond false Done (state_by final answer))
 
-pub stands : (findings : List Finding) (finals : List Intent) (worker serial : ℕ) (answer : Option Answer) → is_found_done findings worker serial ≡ false → is_undone findings worker serial ≡ false
+pub stands : (findings : List Finding) (finals : List AttemptId) (worker serial : ℕ) (answer : Option Outcome) → is_found_done findings worker serial ≡ false → is_undone findings worker serial ≡ false
     → state_of findings finals worker serial answer ≡ plain (is_among finals worker serial) answer
 stands findings finals worker serial answer found undone =
     ap (λ b. cond (reopens answer || b) Open (cond (is_found_done findings worker serial) Done (state_by (is_among finals worker serial) answer))) undone
     ∙ ap (λ b. cond (reopens answer || false) Open (cond b Done (state_by (is_among finals worker serial) answer))) found
 
-pub asks : (answer : Option Answer) (final closing_now : Bool) → refusal_at (plain final answer) closing_now ≡ None → (is_asked final answer ≡ true) × (closing_now ≡ true)
+pub asks : (answer : Option Outcome) (final closing_now : Bool) → refusal_at (plain final answer) closing_now ≡ None → (is_asked final answer ≡ true) × (closing_now ≡ true)
 asks None true true h = (refl, refl)
 asks None true false h = absurd (cc)
 asks None false closing_now h = absurd (cc)
@@ -95,7 +95,7 @@ asks (Some Unbegun) final closing_now h = absurd (cc)
 asks (Some (Idle code)) final true h = (refl, refl)
 asks (Some (Idle code)) final false h = absurd (cc)
 
-asked : (answer : Option Answer) (final : Bool) → is_asked final answer ≡ true → refusal_at (plain final answer) true ≡ None
+asked : (answer : Option Outcome) (final : Bool) → is_asked final answer ≡ true → refusal_at (plain final answer) true ≡ None
 asked None true h = refl
 asked None false h = absurd (cc)
 asked (Some (Ended code time)) final h = by_code (code == 0) h
@@ -107,7 +107,7 @@ asked (Some Unknown) final h = refl
 asked (Some Unbegun) final h = absurd (cc)
 asked (Some (Idle code)) final h = refl
 
-module _ (findings : List Finding) (journals : List (List Attempt)) (finals : List Intent) (worker serial line : ℕ) (verdict : Verdict) where
+module _ (findings : List Finding) (journals : List (List Attempt)) (finals : List AttemptId) (worker serial line : ℕ) (verdict : Resolution) where
   may : refusal_of findings journals finals worker serial line verdict ≡ None → MayBeTaken findings journals finals worker serial line
   may h = by_option (attempt_of journals worker serial) refl h
     where

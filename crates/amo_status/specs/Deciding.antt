@@ -1,14 +1,14 @@
 -- Within this crate: which intent decides, as they are come by one after the other.
 use Rattle.std.specs.Prelude.{◌&&◌, ◌||◌, not, List, [], ◌∷◌, if◌then◌else◌}
-use Rattle.amo_status.specs.declared.standing.Standing.{Standing}
+use Rattle.amo_status.specs.declared.standing.LineStatus.{LineStatus}
 use Rattle.amo_status.specs.declared.state.State.TheVariants.{Open, Running}
 use Rattle.amo_status.specs.States.{is}
 
 -- which of two decides: the later one where the line was open before it, or where it alone runs
-abbrev pub decided_of : Standing → Standing → Standing
+abbrev pub decided_of : LineStatus → LineStatus → LineStatus
 decided_of old new = if is Open old.state || (is Running new.state && not (is Running old.state)) then new else old
 
 -- what decides, after all these
-abbrev pub decided_from : Standing → List Standing → Standing
+abbrev pub decided_from : LineStatus → List LineStatus → LineStatus
 decided_from old [] = old
 decided_from old (new ∷ more) = decided_from (decided_of old new) more

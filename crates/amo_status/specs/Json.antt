@@ -5,7 +5,7 @@ use Rattle.std.specs.Str.{is_utf8}
 use Rattle.json.specs.Print.{quoted}
 use Rattle.amo_status.specs.declared.count.Counts.{Counts}
 use Rattle.amo_status.specs.declared.heading.Style.TheVariants.{Members}
-use Rattle.amo_status.specs.declared.standing.Standing.{Standing}
+use Rattle.amo_status.specs.declared.standing.LineStatus.{LineStatus}
 use Rattle.amo_status.specs.declared.state.State.{State}
 use Rattle.amo_status.specs.declared.state.State.TheVariants.{Doubt}
 use Rattle.amo_status.specs.Headings.{counts_text}
@@ -25,21 +25,21 @@ abbrev pub text_or_null : List ℕ → List ℕ
 text_or_null bytes = if is_utf8 bytes then quoted bytes else codes "null"
 
 -- before the line's text
-abbrev pub json_head : ℕ → Standing → List ℕ
+abbrev pub json_head : ℕ → LineStatus → List ℕ
 json_head line s = codes "{\"intent\":\"" ++ (decimal s.worker ++ (codes "." ++ (decimal s.serial ++ (codes "\",\"line\":" ++ (decimal line ++ codes ",\"text\":")))))
 
 -- behind it
-abbrev pub json_tail : Bool → Standing → List ℕ
+abbrev pub json_tail : Bool → LineStatus → List ℕ
 json_tail timed s =
     if timed then codes ",\"state\":\"" ++ (state_word s.state ++ (codes "\",\"time\":" ++ (decimal s.time ++ codes "}")))
     else codes ",\"state\":\"" ++ (state_word s.state ++ codes "\"}")
 
 -- the object of a line, if it is shown
-abbrev pub json_row : Bool → Bool → ℕ → Standing → List ℕ → List ℕ
+abbrev pub json_row : Bool → Bool → ℕ → LineStatus → List ℕ → List ℕ
 json_row timed later line s text = if is_shown timed s.state then comma_if later ++ (json_head line s ++ (text_or_null text ++ json_tail timed s)) else []
 
 -- those of the lines from the one at this index on
-abbrev pub json_rows : Bool → Bool → ℕ → List Standing → List (List ℕ) → List ℕ
+abbrev pub json_rows : Bool → Bool → ℕ → List LineStatus → List (List ℕ) → List ℕ
 json_rows timed later k [] texts = []
 json_rows timed later k (s ∷ ss) texts = json_row timed later (k + 1) s (slice_index_or texts k []) ++ json_rows timed (later || is_shown timed s.state) (k + 1) ss texts
 
@@ -49,10 +49,10 @@ json_numbers later [] = []
 json_numbers later (n ∷ ns) = comma_if later ++ (decimal n ++ json_numbers true ns)
 
 -- the status
-abbrev pub status_json : Counts → List ℕ → List Standing → List (List ℕ) → List ℕ
+abbrev pub status_json : Counts → List ℕ → List LineStatus → List (List ℕ) → List ℕ
 status_json c alive standings texts =
     codes "{" ++ (counts_text Members c ++ (codes ",\"alive\":[" ++ (json_numbers false alive ++ (codes "],\"intents\":[" ++ (json_rows false false 0 standings texts ++ (codes "]}" ++ line_end))))))
 
 -- the doubts
-abbrev pub doubts_json : List Standing → List (List ℕ) → List ℕ
+abbrev pub doubts_json : List LineStatus → List (List ℕ) → List ℕ
 doubts_json standings texts = codes "[" ++ (json_rows true false 0 standings texts ++ (codes "]" ++ line_end))

@@ -5,7 +5,7 @@ use Rattle.amo_status.specs.declared.count.Counts.{Counts}
 use Rattle.amo_status.specs.declared.heading.Style.TheVariants.{Words}
 use Rattle.amo_status.specs.declared.rows.Form.{Form}
 use Rattle.amo_status.specs.declared.rows.Form.TheVariants.{Status, Doubts, Kind}
-use Rattle.amo_status.specs.declared.standing.Standing.{Standing}
+use Rattle.amo_status.specs.declared.standing.LineStatus.{LineStatus}
 use Rattle.amo_status.specs.declared.state.State.{State}
 use Rattle.amo_status.specs.declared.state.State.TheVariants.{Open, Done, Failed, Doubt, Untouched, Running}
 use Rattle.amo_status.specs.Headings.{counts_text}
@@ -36,11 +36,11 @@ is_listed Failed = false
 is_listed state = true
 
 -- `STATE P.S LINE `
-abbrev pub status_head : ℕ → Standing → List ℕ
+abbrev pub status_head : ℕ → LineStatus → List ℕ
 status_head line s = state_word s.state ++ (codes " " ++ (decimal s.worker ++ (codes "." ++ (decimal s.serial ++ (codes " " ++ (decimal line ++ codes " "))))))
 
 -- `P.S`, a tab, the line, a tab; for an open line `-` in place of an intent
-abbrev pub kind_head : ℕ → Standing → List ℕ
+abbrev pub kind_head : ℕ → LineStatus → List ℕ
 kind_head line s =
     if is Open s.state then codes "-" ++ (tab ++ (decimal line ++ tab))
     else decimal s.worker ++ (codes "." ++ (decimal s.serial ++ (tab ++ (decimal line ++ tab))))
@@ -52,33 +52,33 @@ is_listed_in Doubts state = is Doubt state
 is_listed_in (Kind kind) state = is kind state
 
 -- what stands before a line's text
-abbrev pub row_head : Form → ℕ → Standing → List ℕ
+abbrev pub row_head : Form → ℕ → LineStatus → List ℕ
 row_head (Kind kind) line s = kind_head line s
 row_head form line s = status_head line s
 
 -- what stands behind it: its end, in the list of doubts after the time
-abbrev pub row_tail : Form → Standing → List ℕ
+abbrev pub row_tail : Form → LineStatus → List ℕ
 row_tail Doubts s = codes " " ++ (decimal s.time ++ line_end)
 row_tail form s = line_end
 
 -- the row of a line in this form
-abbrev pub row_of : Form → ℕ → Standing → List ℕ → List ℕ
+abbrev pub row_of : Form → ℕ → LineStatus → List ℕ → List ℕ
 row_of form line s text = if is_listed_in form s.state then row_head form line s ++ (text ++ row_tail form s) else []
 
 -- its row in the status
-abbrev pub status_row : ℕ → Standing → List ℕ → List ℕ
+abbrev pub status_row : ℕ → LineStatus → List ℕ → List ℕ
 status_row = row_of Status
 
 -- its row in the list of doubts
-abbrev pub doubt_row : ℕ → Standing → List ℕ → List ℕ
+abbrev pub doubt_row : ℕ → LineStatus → List ℕ → List ℕ
 doubt_row = row_of Doubts
 
 -- its row in the list of the lines that stand so
-abbrev pub kind_row : State → ℕ → Standing → List ℕ → List ℕ
+abbrev pub kind_row : State → ℕ → LineStatus → List ℕ → List ℕ
 kind_row kind = row_of (Kind kind)
 
 -- the rows of the lines from the one at this index on
-abbrev pub rows_from : (ℕ → Standing → List ℕ → List ℕ) → ℕ → List Standing → List (List ℕ) → List ℕ
+abbrev pub rows_from : (ℕ → LineStatus → List ℕ → List ℕ) → ℕ → List LineStatus → List (List ℕ) → List ℕ
 rows_from row k [] texts = []
 rows_from row k (s ∷ ss) texts = row (k + 1) s (slice_index_or texts k []) ++ rows_from row (k + 1) ss texts
 
@@ -88,5 +88,5 @@ spaced [] = []
 spaced (p ∷ ps) = codes " " ++ (decimal p ++ spaced ps)
 
 -- the status: the counts, the workers that are alive, and the rows
-abbrev pub status_text : Counts → List ℕ → List Standing → List (List ℕ) → List ℕ
+abbrev pub status_text : Counts → List ℕ → List LineStatus → List (List ℕ) → List ℕ
 status_text c alive standings texts = counts_text Words c ++ (line_end ++ (codes "alive" ++ (spaced alive ++ (line_end ++ rows_from status_row 0 standings texts))))

@@ -6,13 +6,13 @@ use Rattle.std.specs.List.{after_first, before_first, position_or_len}
 use Rattle.std.specs.Str.{bytes_eq}
 use Rattle.amo_run_log.specs.declared.fault.Fault.{Fault}
 use Rattle.amo_run_log.specs.declared.fault.Fault.TheVariants.{Memory, Refused}
-use Rattle.amo_run_log.specs.declared.finding.Verdict.{Verdict}
-use Rattle.amo_run_log.specs.declared.finding.Verdict.TheVariants.{Done, NotDone}
+use Rattle.amo_run_log.specs.declared.finding.Resolution.{Resolution}
+use Rattle.amo_run_log.specs.declared.finding.Resolution.TheVariants.{Done, NotDone}
 use Rattle.amo_run_log.specs.Findings.{verdict_in, word_of}
 use Rattle.amo_decimal.specs.Numbers.{number_in}
 use Rattle.amo_run_log.specs.Numbers.{read_all}
 use Rattle.amo_status.specs.declared.said.Said.{Said}
-use Rattle.amo_status.specs.declared.state.Intent.{Intent}
+use Rattle.amo_status.specs.declared.state.AttemptId.{AttemptId}
 use Rattle.amo_status.specs.Rows.{tab}
 
 -- an answer as it was said, with a list for the vector
@@ -21,7 +21,7 @@ pub record SaidView : Type 0 where
   pub serial : ℕ
   pub line : ℕ
   pub text : List ℕ
-  pub verdict : Verdict
+  pub verdict : Resolution
 
 -- what was said
 abbrev pub said_by : Said → SaidView
@@ -45,15 +45,15 @@ split_at byte text =
     if nat_lt (position_or_len (λ b. b == byte) text) (length text) then Some (before_first (λ b. b == byte) text, after_first (λ b. b == byte) text) else None
 
 -- the intent that a text names
-abbrev pub intent_in : List ℕ → Option Intent
+abbrev pub intent_in : List ℕ → Option AttemptId
 intent_in text = option_and_then (λ p. option_and_then (λ w. option_and_then (λ s. Some (record { worker = w; serial = s })) (number_in p.1)) (number_in p.0)) (split_at 46 text)
 
 -- the intent and the line that two texts name
-abbrev pub place_in : List ℕ → List ℕ → Option (Intent × ℕ)
+abbrev pub place_in : List ℕ → List ℕ → Option (AttemptId × ℕ)
 place_in intent line = option_and_then (λ i. option_and_then (λ n. Some (i, n)) (number_in line)) (intent_in intent)
 
 -- the answer of three words
-abbrev pub words_in : List ℕ → List ℕ → List ℕ → Option (Intent × ℕ × Verdict)
+abbrev pub words_in : List ℕ → List ℕ → List ℕ → Option (AttemptId × ℕ × Resolution)
 words_in intent line verdict = option_and_then (λ p. option_and_then (λ v. Some (p.0, p.1, v)) (verdict_in verdict)) (place_in intent line)
 
 -- what stands before this ending
@@ -61,7 +61,7 @@ abbrev pub before_end : List ℕ → List ℕ → Option (List ℕ)
 before_end ending text = if bytes_eq (drop (length text - length ending) text) ending then Some (take (length text - length ending) text) else None
 
 -- what stands before the verdict, which is the last
-abbrev pub verdict_behind : List ℕ → Option (List ℕ × Verdict)
+abbrev pub verdict_behind : List ℕ → Option (List ℕ × Resolution)
 verdict_behind text =
     if bytes_eq (drop (length text - 5) text) (tab ++ codes "done") then Some (take (length text - 5) text, Done)
     else (if bytes_eq (drop (length text - 9) text) (tab ++ codes "not-done") then Some (take (length text - 9) text, NotDone) else None)

@@ -1,12 +1,12 @@
 -- How an intent stands: by its answer, by what persons found out, and by whether a missing answer is final.
 use Rattle.std.specs.Prelude.{ℕ, Bool, ◌&&◌, ◌||◌, ◌==◌, not, List, Option, Some, None, if◌then◌else◌}
 use Rattle.std.specs.List.{list_any}
-use Rattle.amo_run_log.specs.declared.entry.Answer.{Answer}
-use Rattle.amo_run_log.specs.declared.entry.Answer.TheVariants.{Done as Ended, Doubt as Unknown, Unbegun, Untouched as Idle}
+use Rattle.amo_run_log.specs.declared.entry.Outcome.{Outcome}
+use Rattle.amo_run_log.specs.declared.entry.Outcome.TheVariants.{Done as Ended, Doubt as Unknown, Unbegun, Untouched as Idle}
 use Rattle.amo_run_log.specs.declared.finding.Finding.{Finding}
 use Rattle.amo_run_log.specs.Findings.{is_not_done, is_of, is_undone}
 use Rattle.amo_run_log.specs.Open.{reopens}
-use Rattle.amo_status.specs.declared.state.Intent.{Intent}
+use Rattle.amo_status.specs.declared.state.AttemptId.{AttemptId}
 use Rattle.amo_status.specs.declared.state.State.{State}
 use Rattle.amo_status.specs.declared.state.State.TheVariants.{Open, Done, Failed, Doubt, Untouched, Running}
 
@@ -24,7 +24,7 @@ abbrev pub is : State → State → Bool
 is kind s = number_of kind == number_of s
 
 -- whether the intent of this worker and serial number is among these
-abbrev pub is_among : List Intent → ℕ → ℕ → Bool
+abbrev pub is_among : List AttemptId → ℕ → ℕ → Bool
 is_among intents worker serial = list_any (λ i. (i.worker == worker) && (i.serial == serial)) intents
 
 -- whether a person found that what was intended was done
@@ -32,19 +32,19 @@ abbrev pub is_found_done : List Finding → ℕ → ℕ → Bool
 is_found_done findings worker serial = list_any (λ f. not (is_not_done f.verdict) && is_of worker serial f) findings
 
 -- how an intent stands by an answer
-abbrev pub state_in : Answer → State
+abbrev pub state_in : Outcome → State
 state_in (Ended code time) = if code == 0 then Done else Failed
 state_in Unknown = Doubt
 state_in Unbegun = Open
 state_in (Idle code) = Untouched
 
 -- how it stands by what is known of it; without an answer it runs, unless nobody can answer any more
-abbrev pub state_by : Bool → Option Answer → State
+abbrev pub state_by : Bool → Option Outcome → State
 state_by final None = if final then Doubt else Running
 state_by final (Some answer) = state_in answer
 
 -- how an intent stands: what was opened again is open, and a person's word that it was done goes before its answer
-abbrev pub state_of : List Finding → List Intent → ℕ → ℕ → Option Answer → State
+abbrev pub state_of : List Finding → List AttemptId → ℕ → ℕ → Option Outcome → State
 state_of findings finals worker serial answer =
     if reopens answer || is_undone findings worker serial then Open
     else (if is_found_done findings worker serial then Done else state_by (is_among finals worker serial) answer)

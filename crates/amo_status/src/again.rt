@@ -2,8 +2,8 @@
 ghost use Rattle.std.specs.Prelude.{◌≡◌, ◌++◌, map, IfOk, OnOk};
 ghost use Rattle.amo_status.specs.Answers.{is_idle, untouched_in, untouched_of};
 
-use crate::state::Intent;
-use amo_run_log::{Answer, Attempt, Finding, has_finding};
+use crate::state::AttemptId;
+use amo_run_log::{Attempt, Finding, Outcome, has_finding};
 use std::alloc::{AllocError, Global};
 
 /// The intents that are answered untouched and that no person answered, in the order of the journals: who wants their lines tried
@@ -12,7 +12,7 @@ pub fn untouched(
     alloc: Global,
     findings: &[Finding],
     journals: &[Vec<Attempt>],
-) -> Result<Vec<Intent>, AllocError>
+) -> Result<Vec<AttemptId>, AllocError>
     ensures { IfOk result (λ found. found.items ≡ untouched_of findings.now 1 (map (λ journal. journal.items) journals.now)) }
 {
     let mut found = Vec::new(alloc);
@@ -24,7 +24,7 @@ pub fn untouched(
 
 /// Adds those of this journal.
 fn push_untouched(
-    found: &mut Vec<Intent>,
+    found: &mut Vec<AttemptId>,
     findings: &[Finding],
     worker: u64,
     attempts: &[Attempt],
@@ -34,18 +34,18 @@ fn push_untouched(
     for (i, attempt) in attempts.iter().enumerate() {
         let serial = i as u64 + 1;
         if is_idle(attempt.answer) && !has_finding(findings, worker, serial) {
-            found.push(Intent { worker, serial })?;
+            found.push(AttemptId { worker, serial })?;
         }
     }
     Ok(())
 }
 
 /// Whether it did nothing.
-fn is_idle(answer: Option<Answer>) -> bool
+fn is_idle(answer: Option<Outcome>) -> bool
     ensures { result ≡ is_idle answer }
 {
     match answer {
-        Some(Answer::Untouched { .. }) => true,
-        Some(Answer::Done { .. } | Answer::Doubt | Answer::Unbegun) | None => false,
+        Some(Outcome::Untouched { .. }) => true,
+        Some(Outcome::Done { .. } | Outcome::Doubt | Outcome::Unbegun) | None => false,
     }
 }

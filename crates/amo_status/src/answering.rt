@@ -7,8 +7,8 @@ ghost use Rattle.amo_status.specs.Standings.{attempt_of};
 use crate::refusal::Refusal;
 use crate::run_log::RunLog;
 use crate::standing::standing_of;
-use crate::state::{Intent, State, is_found_done, state_of};
-use amo_run_log::{Attempt, Finding, Verdict, is_undone};
+use crate::state::{AttemptId, State, is_found_done, state_of};
+use amo_run_log::{Attempt, Finding, Resolution, is_undone};
 
 /// Whether a person's answer to the intent of this worker and serial number, said to be of this line, may be taken. It may only
 /// where a person is asked about that intent, so that it is noted as doubt, as untouched or by a code other than 0, or has no
@@ -20,19 +20,19 @@ pub fn may_answer(
     worker: u64,
     serial: u64,
     line: u64,
-    verdict: Verdict,
+    verdict: Resolution,
 ) -> Result<(), Refusal>
     ensures exact { result_err result ≡ refusal_of log.now.findings.now (map (λ journal. journal.items) log.now.journals.now) log.now.finals.now worker serial line verdict }
     ensures taken { IsOk result ↔ MayBeTaken log.now.findings.now (map (λ journal. journal.items) log.now.journals.now) log.now.finals.now worker serial line }
 {
-    let intent = Intent { worker, serial };
+    let intent = AttemptId { worker, serial };
     checked(log, intent, line, verdict)
 }
 
-fn checked(log: &RunLog<'_>, intent: Intent, line: u64, verdict: Verdict) -> Result<(), Refusal>
+fn checked(log: &RunLog<'_>, intent: AttemptId, line: u64, verdict: Resolution) -> Result<(), Refusal>
     ensures { result_err result ≡ refusal_of log.now.findings.now (map (λ journal. journal.items) log.now.journals.now) log.now.finals.now intent.worker intent.serial line verdict }
 {
-    let Intent { worker, serial } = intent;
+    let AttemptId { worker, serial } = intent;
     let Some(attempt) = attempt_of(log.journals, worker, serial) else {
         return Err(Refusal::NoIntent);
     };
@@ -73,26 +73,26 @@ fn attempt_of(journals: &[Vec<Attempt>], worker: u64, serial: u64) -> Option<Att
 }
 
 /// Whether a person said so of the intent.
-fn is_said(findings: &[Finding], worker: u64, serial: u64, verdict: Verdict) -> bool
+fn is_said(findings: &[Finding], worker: u64, serial: u64, verdict: Resolution) -> bool
     ensures { result ≡ is_said findings.now worker serial verdict }
 {
     match verdict {
-        Verdict::Done => is_found_done(findings, worker, serial),
-        Verdict::NotDone => is_undone(findings, worker, serial),
+        Resolution::Done => is_found_done(findings, worker, serial),
+        Resolution::NotDone => is_undone(findings, worker, serial),
     }
 }
 
-fn contrary(verdict: Verdict) -> Verdict
+fn contrary(verdict: Resolution) -> Resolution
     ensures { result ≡ contrary verdict }
 {
     match verdict {
-        Verdict::Done => Verdict::NotDone,
-        Verdict::NotDone => Verdict::Done,
+        Resolution::Done => Resolution::NotDone,
+        Resolution::NotDone => Resolution::Done,
     }
 }
 
 /// Whether it is by this intent that the line is closed now.
-fn is_closed_by(log: &RunLog<'_>, intent: Intent, line: u64) -> bool
+fn is_closed_by(log: &RunLog<'_>, intent: AttemptId, line: u64) -> bool
     ensures { result ≡ is_closed_by log.now.findings.now (map (λ journal. journal.items) log.now.journals.now) log.now.finals.now intent.worker intent.serial line }
 {
     let standing = standing_of(log, line);

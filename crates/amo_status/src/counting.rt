@@ -3,11 +3,11 @@ ghost use Rattle.std.specs.Prelude.{◌≡◌, ◌+◌, length};
 ghost use Rattle.amo_status.specs.Counts.{count_of, counts_of};
 
 use crate::count::Counts;
-use crate::standing::Standing;
+use crate::standing::LineStatus;
 use crate::state::{State, is};
 
 /// How many lines there are that stand so, and how many stand how.
-pub fn counts(standings: &[Standing]) -> Counts
+pub fn counts(standings: &[LineStatus]) -> Counts
     ensures exact { result ≡ counts_of standings.now }
     // Each is counted once.
     ensures all { result.done + result.failed + result.doubt + result.untouched + result.running + result.open ≡ length standings.now }
@@ -24,7 +24,7 @@ pub fn counts(standings: &[Standing]) -> Counts
 }
 
 /// How many stand so.
-fn count_of(kind: State, standings: &[Standing]) -> u64
+fn count_of(kind: State, standings: &[LineStatus]) -> u64
     ensures { result ≡ count_of kind standings.now }
 {
     standings.iter().filter(|s| is(kind, s.state)).count() as u64

@@ -26,5 +26,5 @@ pub use objects::{doubts_json, status_json};
 pub use refusal::Refusal;
 pub use run_log::RunLog;
 pub use said::{Said, read_answers, read_one};
-pub use standing::{Standing, standings};
-pub use state::{Intent, State};
+pub use standing::{LineStatus, standings};
+pub use state::{AttemptId, State};

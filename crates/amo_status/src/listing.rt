@@ -5,7 +5,7 @@ ghost use Rattle.amo_status.specs.Rows.{doubt_row, kind_row, line_end, rows_from
 use crate::count::Counts;
 use crate::heading::{Style, push_counts};
 use crate::rows::{Form, push_rows};
-use crate::standing::Standing;
+use crate::standing::LineStatus;
 use crate::state::State;
 use std::alloc::{AllocError, Global};
 
@@ -15,7 +15,7 @@ pub fn status_text(
     alloc: Global,
     counts: &Counts,
     alive: &[u64],
-    standings: &[Standing],
+    standings: &[LineStatus],
     texts: &[&[u8]],
 ) -> Result<Vec<u8>, AllocError>
     requires { length standings.now ≤ length texts.now }
@@ -34,7 +34,7 @@ pub fn status_text(
 pub fn lines_text(
     alloc: Global,
     kind: State,
-    standings: &[Standing],
+    standings: &[LineStatus],
     texts: &[&[u8]],
 ) -> Result<Vec<u8>, AllocError>
     requires { length standings.now ≤ length texts.now }
@@ -48,7 +48,7 @@ pub fn lines_text(
 /// A row for each line that is in doubt, `doubt P.S LINE TEXT TIME`.
 pub fn doubts_text(
     alloc: Global,
-    standings: &[Standing],
+    standings: &[LineStatus],
     texts: &[&[u8]],
 ) -> Result<Vec<u8>, AllocError>
     requires { length standings.now ≤ length texts.now }

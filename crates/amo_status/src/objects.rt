@@ -6,7 +6,7 @@ ghost use Rattle.amo_status.specs.Json.{comma_if, doubts_json, is_shown, json_he
 use crate::count::Counts;
 use crate::heading::{Style, push_counts};
 use crate::rows::{is_listed, push_parts, state_word, text_at};
-use crate::standing::Standing;
+use crate::standing::LineStatus;
 use crate::state::{State, is};
 use serde_json::Value;
 use std::alloc::{AllocError, Global};
@@ -18,7 +18,7 @@ pub fn status_json(
     alloc: Global,
     counts: &Counts,
     alive: &[u64],
-    standings: &[Standing],
+    standings: &[LineStatus],
     texts: &[&[u8]],
 ) -> Result<Vec<u8>, AllocError>
     requires { length standings.now ≤ length texts.now }
@@ -38,7 +38,7 @@ pub fn status_json(
 /// The lines that are in doubt, as a list of such objects, each with the time at which it was begun, and a line feed.
 pub fn doubts_json(
     alloc: Global,
-    standings: &[Standing],
+    standings: &[LineStatus],
     texts: &[&[u8]],
 ) -> Result<Vec<u8>, AllocError>
     requires { length standings.now ≤ length texts.now }
@@ -80,7 +80,7 @@ fn push_json_rows(
     text: &mut Vec<u8>,
     alloc: Global,
     timed: bool,
-    standings: &[Standing],
+    standings: &[LineStatus],
     texts: &[&[u8]],
 ) -> Result<(), AllocError>
     requires { length standings.now ≤ length texts.now }
@@ -101,7 +101,7 @@ fn push_json_row(
     timed: bool,
     later: bool,
     i: usize,
-    standing: &Standing,
+    standing: &LineStatus,
     texts: &[&[u8]],
 ) -> Result<(), AllocError>
     requires { i < length texts.now }
@@ -135,7 +135,7 @@ fn is_shown(timed: bool, state: State) -> bool
     }
 }
 
-fn json_head(alloc: Global, line: u64, standing: &Standing) -> Result<String, AllocError>
+fn json_head(alloc: Global, line: u64, standing: &LineStatus) -> Result<String, AllocError>
     ensures { IfOk result (λ text. string_bytes text ≡ json_head line standing.now) }
 {
     let worker = standing.worker;
@@ -143,7 +143,7 @@ fn json_head(alloc: Global, line: u64, standing: &Standing) -> Result<String, Al
     format!(in alloc; "{{\"intent\":\"{worker}.{serial}\",\"line\":{line},\"text\":")
 }
 
-fn json_tail(alloc: Global, timed: bool, standing: &Standing) -> Result<String, AllocError>
+fn json_tail(alloc: Global, timed: bool, standing: &LineStatus) -> Result<String, AllocError>
     ensures { IfOk result (λ text. string_bytes text ≡ json_tail timed standing.now) }
 {
     let word = state_word(standing.state);

@@ -2,7 +2,7 @@
 ghost use Rattle.std.specs.Prelude.{◌≡◌, ◌≤◌, ◌<◌, ◌++◌, [], length, map, slice_index_or, string_bytes, IfOk, OnOk};
 ghost use Rattle.amo_status.specs.Rows.{is_listed, is_listed_in, kind_head, row_head, row_of, row_tail, rows_from, state_word, status_head};
 
-use crate::standing::Standing;
+use crate::standing::LineStatus;
 use crate::state::{State, is};
 use std::alloc::{AllocError, Global};
 
@@ -22,7 +22,7 @@ pub(crate) fn push_rows(
     text: &mut Vec<u8>,
     alloc: Global,
     form: Form,
-    standings: &[Standing],
+    standings: &[LineStatus],
     texts: &[&[u8]],
 ) -> Result<(), AllocError>
     requires { length standings.now ≤ length texts.now }
@@ -49,7 +49,7 @@ fn push_row(
     alloc: Global,
     form: Form,
     line: u64,
-    standing: &Standing,
+    standing: &LineStatus,
     job: &[u8],
 ) -> Result<(), AllocError>
     ensures { OnOk result (text.new.items ≡ text.old.items ++ row_of form line standing.now job.now) }
@@ -74,7 +74,7 @@ fn is_listed_in(form: Form, state: State) -> bool
 }
 
 /// What stands before a line's text.
-fn row_head(alloc: Global, form: Form, line: u64, standing: &Standing) -> Result<String, AllocError>
+fn row_head(alloc: Global, form: Form, line: u64, standing: &LineStatus) -> Result<String, AllocError>
     ensures { IfOk result (λ head. string_bytes head ≡ row_head form line standing.now) }
 {
     match form {
@@ -84,7 +84,7 @@ fn row_head(alloc: Global, form: Form, line: u64, standing: &Standing) -> Result
 }
 
 /// What stands behind it.
-fn row_tail(alloc: Global, form: Form, standing: &Standing) -> Result<String, AllocError>
+fn row_tail(alloc: Global, form: Form, standing: &LineStatus) -> Result<String, AllocError>
     ensures { IfOk result (λ tail. string_bytes tail ≡ row_tail form standing.now) }
 {
     let time = standing.time;
@@ -95,7 +95,7 @@ fn row_tail(alloc: Global, form: Form, standing: &Standing) -> Result<String, Al
 }
 
 /// What stands before a line's text, by state, intent and line.
-fn status_head(alloc: Global, line: u64, standing: &Standing) -> Result<String, AllocError>
+fn status_head(alloc: Global, line: u64, standing: &LineStatus) -> Result<String, AllocError>
     ensures { IfOk result (λ head. string_bytes head ≡ status_head line standing.now) }
 {
     let word = state_word(standing.state);
@@ -105,7 +105,7 @@ fn status_head(alloc: Global, line: u64, standing: &Standing) -> Result<String, 
 }
 
 /// What stands before a line's text, by intent and line.
-fn kind_head(alloc: Global, line: u64, standing: &Standing) -> Result<String, AllocError>
+fn kind_head(alloc: Global, line: u64, standing: &LineStatus) -> Result<String, AllocError>
     ensures { IfOk result (λ head. string_bytes head ≡ kind_head line standing.now) }
 {
     if is(State::Open, standing.state) {

@@ -1,14 +1,14 @@
 //! Answers of persons as they are said, in a file or in the words of a command.
 ghost use Rattle.std.specs.Fmt.{decimal};
 ghost use Rattle.std.specs.Prelude.{◌≡◌, ◌==◌, ◌<◌, ◌^◌, ℕ, Some, length, map, option_map, position, IfOk, IfErr, IfSome, IfNone};
-ghost use Rattle.amo_run_log.specs.declared.finding.Verdict.{Verdict as VerdictView};
+ghost use Rattle.amo_run_log.specs.declared.finding.Resolution.{Resolution as VerdictView};
 ghost use Rattle.amo_run_log.specs.Findings.{verdict_in, word_of};
 ghost use Rattle.amo_run_log.specs.Numbers.{read_all};
 ghost use Rattle.amo_status.specs.Said.{IsRefused, before_end, intent_in, intent_text, lines_in, place_in, said_by, said_in, split_at, verdict_behind, words_in};
 
-use crate::state::Intent;
+use crate::state::AttemptId;
 use amo_decimal::number_of_bytes;
-use amo_run_log::{Fault, Verdict};
+use amo_run_log::{Fault, Resolution};
 use std::alloc::{AllocError, Global};
 use std::mem;
 
@@ -19,7 +19,7 @@ pub struct Said {
     pub serial: u64,
     pub line: u64,
     pub text: Vec<u8>,
-    pub verdict: Verdict,
+    pub verdict: Resolution,
 }
 
 /// The answers that a file says, a line each: the intent as `P.S`, the number of its line, the line's text, and `done` or
@@ -85,7 +85,7 @@ fn said_of(alloc: Global, bytes: &[u8]) -> Result<Option<Said>, AllocError>
         return Ok(None);
     };
     let text = text.to_vec(alloc)?;
-    let Intent { worker, serial } = intent;
+    let AttemptId { worker, serial } = intent;
     Ok(Some(Said {
         worker,
         serial,
@@ -96,7 +96,7 @@ fn said_of(alloc: Global, bytes: &[u8]) -> Result<Option<Said>, AllocError>
 }
 
 /// The answer that three words of a command say: the intent as `P.S`, the number of its line, and `done` or `not-done`.
-pub fn read_one(intent: &str, line: &str, verdict: &str) -> Option<(Intent, u64, Verdict)>
+pub fn read_one(intent: &str, line: &str, verdict: &str) -> Option<(AttemptId, u64, Resolution)>
     ensures exact { result ≡ words_in intent.now line.now verdict.now }
     // What is read was printed so.
     ensures found { IfSome result (λ said. (intent_text said.0.worker said.0.serial ≡ intent.now) × (decimal said.1 ≡ line.now) × (word_of said.2 ≡ verdict.now)) }
@@ -107,7 +107,7 @@ pub fn read_one(intent: &str, line: &str, verdict: &str) -> Option<(Intent, u64,
     words_of(intent.as_bytes(), line.as_bytes(), verdict.as_bytes())
 }
 
-fn words_of(intent: &[u8], line: &[u8], verdict: &[u8]) -> Option<(Intent, u64, Verdict)>
+fn words_of(intent: &[u8], line: &[u8], verdict: &[u8]) -> Option<(AttemptId, u64, Resolution)>
     ensures { result ≡ words_in intent.now line.now verdict.now }
 {
     let (intent, line) = place_of(intent, line)?;
@@ -116,7 +116,7 @@ fn words_of(intent: &[u8], line: &[u8], verdict: &[u8]) -> Option<(Intent, u64, 
 }
 
 /// The intent and the line that these name.
-fn place_of(intent: &[u8], line: &[u8]) -> Option<(Intent, u64)>
+fn place_of(intent: &[u8], line: &[u8]) -> Option<(AttemptId, u64)>
     ensures { result ≡ place_in intent.now line.now }
 {
     let intent = intent_of(intent)?;
@@ -124,36 +124,36 @@ fn place_of(intent: &[u8], line: &[u8]) -> Option<(Intent, u64)>
     Some((intent, line))
 }
 
-fn intent_of(text: &[u8]) -> Option<Intent>
+fn intent_of(text: &[u8]) -> Option<AttemptId>
     ensures { result ≡ intent_in text.now }
 {
     let (worker, serial) = split_at(text, b'.')?;
     let worker = number_of_bytes(worker)?;
     let serial = number_of_bytes(serial)?;
-    Some(Intent { worker, serial })
+    Some(AttemptId { worker, serial })
 }
 
-fn verdict_of(word: &[u8]) -> Option<Verdict>
+fn verdict_of(word: &[u8]) -> Option<Resolution>
     ensures { result ≡ verdict_in word.now }
 {
     if word == b"done".as_slice() {
-        return Some(Verdict::Done);
+        return Some(Resolution::Done);
     }
     if word == b"not-done".as_slice() {
-        return Some(Verdict::NotDone);
+        return Some(Resolution::NotDone);
     }
     None
 }
 
 /// The verdict that stands last, and what stands before it.
-fn verdict_behind(text: &[u8]) -> Option<(&[u8], Verdict)>
+fn verdict_behind(text: &[u8]) -> Option<(&[u8], Resolution)>
     ensures { option_map (λ p. (p.0.now, p.1)) result ≡ verdict_behind text.now }
 {
     if let Some(before) = before_end(text, b"\tdone") {
-        return Some((before, Verdict::Done));
+        return Some((before, Resolution::Done));
     }
     let before = before_end(text, b"\tnot-done")?;
-    Some((before, Verdict::NotDone))
+    Some((before, Resolution::NotDone))
 }
 
 /// What stands before this ending.

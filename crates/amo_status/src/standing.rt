@@ -13,7 +13,7 @@ use std::alloc::{AllocError, Global};
 
 /// How a line stands now.
 #[derive(Clone, Copy, Debug, PartialEq, Eq)]
-pub struct Standing {
+pub struct LineStatus {
     pub state: State,
     /// The worker of the intent by which the line is closed. 0 where it is open.
     pub worker: u64,
@@ -23,7 +23,7 @@ pub struct Standing {
     pub time: u64,
 }
 
-const OPEN: Standing = Standing {
+const OPEN: LineStatus = LineStatus {
     state: State::Open,
     worker: 0,
     serial: 0,
@@ -32,7 +32,7 @@ const OPEN: Standing = Standing {
 
 /// Returns how each of the lines 1..count stands, in order. If several intents close a line, one that
 /// is running decides, else the first in the order of the journals.
-pub fn standings(alloc: Global, log: &RunLog<'_>, count: usize) -> Result<Vec<Standing>, AllocError>
+pub fn standings(alloc: Global, log: &RunLog<'_>, count: usize) -> Result<Vec<LineStatus>, AllocError>
     ensures exact { IfOk result (λ found. found.items ≡ standings_of log.now.findings.now (map (λ journal. journal.items) log.now.journals.now) log.now.finals.now count) }
     // A line stands open just where it is open.
     ensures just_open { IfOk result (λ found. map (λ s. is Open s.state) found.items ≡ map (is_open log.now.findings.now (map (λ journal. journal.items) log.now.journals.now)) (numbers count)) }
@@ -43,7 +43,7 @@ pub fn standings(alloc: Global, log: &RunLog<'_>, count: usize) -> Result<Vec<St
 }
 
 /// Notes the intents of these journals at their lines: the line k + 1 at k.
-fn note_all(found: &mut [Standing], log: &RunLog<'_>)
+fn note_all(found: &mut [LineStatus], log: &RunLog<'_>)
     ensures { (k : ℕ) → k < length found.old → slice_index_or found.new k open_standing
         ≡ decided_from (slice_index_or found.old k open_standing) (closing log.now.findings.now log.now.finals.now 1 (map (λ journal. journal.items) log.now.journals.now) (k + 1)) }
 {
@@ -54,7 +54,7 @@ fn note_all(found: &mut [Standing], log: &RunLog<'_>)
 }
 
 /// Notes the intents of this journal.
-fn note(found: &mut [Standing], log: &RunLog<'_>, worker: u64, attempts: &[Attempt])
+fn note(found: &mut [LineStatus], log: &RunLog<'_>, worker: u64, attempts: &[Attempt])
     ensures { (k : ℕ) → k < length found.old → slice_index_or found.new k open_standing
         ≡ decided_from (slice_index_or found.old k open_standing) (closing_in log.now.findings.now log.now.finals.now worker 1 attempts.now (k + 1)) }
 {
@@ -65,7 +65,7 @@ fn note(found: &mut [Standing], log: &RunLog<'_>, worker: u64, attempts: &[Attem
 
 /// Notes this intent.
 #[tactic(auto, using(crate::proofs::Noting::of_another, crate::proofs::Noting::at_its_place))]
-fn note_one(found: &mut [Standing], log: &RunLog<'_>, worker: u64, serial: u64, attempt: &Attempt)
+fn note_one(found: &mut [LineStatus], log: &RunLog<'_>, worker: u64, serial: u64, attempt: &Attempt)
     ensures { (k : ℕ) → k < length found.old → slice_index_or found.new k open_standing
         ≡ decided_from (slice_index_or found.old k open_standing) (if_closing log.now.findings.now log.now.finals.now worker serial attempt.now (k + 1)) }
 {
@@ -80,13 +80,13 @@ fn note_one(found: &mut [Standing], log: &RunLog<'_>, worker: u64, serial: u64, 
 
 /// What decides on the line after this intent, before which it stood so.
 fn decided_with(
-    before: Standing,
+    before: LineStatus,
     log: &RunLog<'_>,
     worker: u64,
     serial: u64,
     attempt: &Attempt,
     line: u64,
-) -> Standing
+) -> LineStatus
     ensures { result ≡ decided_from before (if_closing log.now.findings.now log.now.finals.now worker serial attempt.now line) }
 {
     if attempt.line != line {
@@ -97,7 +97,7 @@ fn decided_with(
         return before;
     }
     let time = attempt.time;
-    let standing = Standing {
+    let standing = LineStatus {
         state,
         worker,
         serial,
@@ -107,7 +107,7 @@ fn decided_with(
 }
 
 /// Which of two decides.
-fn decided_of(old: Standing, new: Standing) -> Standing
+fn decided_of(old: LineStatus, new: LineStatus) -> LineStatus
     ensures { result ≡ decided_of old new }
 {
     if is(State::Open, old.state)
@@ -119,14 +119,14 @@ fn decided_of(old: Standing, new: Standing) -> Standing
 }
 
 /// How this line stands.
-pub(crate) fn standing_of(log: &RunLog<'_>, line: u64) -> Standing
+pub(crate) fn standing_of(log: &RunLog<'_>, line: u64) -> LineStatus
     ensures { result ≡ standing_of log.now.findings.now (map (λ journal. journal.items) log.now.journals.now) log.now.finals.now line }
 {
     decided_by_all(log, line)
 }
 
 /// What decides on this line.
-fn decided_by_all(log: &RunLog<'_>, line: u64) -> Standing
+fn decided_by_all(log: &RunLog<'_>, line: u64) -> LineStatus
     ensures { result ≡ decided_from open_standing (closing log.now.findings.now log.now.finals.now 1 (map (λ journal. journal.items) log.now.journals.now) line) }
 {
     let mut standing = OPEN;
@@ -139,12 +139,12 @@ fn decided_by_all(log: &RunLog<'_>, line: u64) -> Standing
 
 /// What decides on this line after this journal, before which it stood so.
 fn decided_by(
-    before: Standing,
+    before: LineStatus,
     log: &RunLog<'_>,
     worker: u64,
     attempts: &[Attempt],
     line: u64,
-) -> Standing
+) -> LineStatus
     ensures { result ≡ decided_from before (closing_in log.now.findings.now log.now.finals.now worker 1 attempts.now line) }
 {
     let mut standing = before;

@@ -3,7 +3,7 @@ ghost use Rattle.std.specs.Prelude.{◌≡◌};
 ghost use Rattle.amo_status.specs.States.{is, is_among, is_found_done, number_of, state_by, state_in, state_of};
 
 use crate::run_log::RunLog;
-use amo_run_log::{Answer, Finding, is_not_done, is_undone, reopens};
+use amo_run_log::{Finding, Outcome, is_not_done, is_undone, reopens};
 
 /// How a line stands, or an intent.
 #[derive(Clone, Copy, Debug, PartialEq, Eq)]
@@ -24,13 +24,13 @@ pub enum State {
 
 /// An intent: the worker whose it is, and its place in that worker's journal, each from 1.
 #[derive(Clone, Copy, Debug, PartialEq, Eq)]
-pub struct Intent {
+pub struct AttemptId {
     pub worker: u64,
     pub serial: u64,
 }
 
 /// How the intent of this worker and serial number stands, of which this answer is known.
-pub(crate) fn state_of(log: &RunLog<'_>, worker: u64, serial: u64, answer: Option<Answer>) -> State
+pub(crate) fn state_of(log: &RunLog<'_>, worker: u64, serial: u64, answer: Option<Outcome>) -> State
     ensures { result ≡ state_of log.now.findings.now log.now.finals.now worker serial answer }
 {
     if reopens(answer) || is_undone(log.findings, worker, serial) {
@@ -43,7 +43,7 @@ pub(crate) fn state_of(log: &RunLog<'_>, worker: u64, serial: u64, answer: Optio
 }
 
 /// How an intent stands by what is known of it.
-fn state_by(is_final: bool, answer: Option<Answer>) -> State
+fn state_by(is_final: bool, answer: Option<Outcome>) -> State
     ensures { result ≡ state_by is_final answer }
 {
     match answer {
@@ -53,15 +53,15 @@ fn state_by(is_final: bool, answer: Option<Answer>) -> State
     }
 }
 
-fn state_in(answer: Answer) -> State
+fn state_in(answer: Outcome) -> State
     ensures { result ≡ state_in answer }
 {
     match answer {
-        Answer::Done { code: 0, .. } => State::Done,
-        Answer::Done { .. } => State::Failed,
-        Answer::Doubt => State::Doubt,
-        Answer::Unbegun => State::Open,
-        Answer::Untouched { .. } => State::Untouched,
+        Outcome::Done { code: 0, .. } => State::Done,
+        Outcome::Done { .. } => State::Failed,
+        Outcome::Doubt => State::Doubt,
+        Outcome::Unbegun => State::Open,
+        Outcome::Untouched { .. } => State::Untouched,
     }
 }
 
@@ -73,7 +73,7 @@ pub(crate) fn is_found_done(findings: &[Finding], worker: u64, serial: u64) -> b
 }
 
 /// Whether the intent of this worker and serial number is among these.
-fn is_among(intents: &[Intent], worker: u64, serial: u64) -> bool
+fn is_among(intents: &[AttemptId], worker: u64, serial: u64) -> bool
     ensures { result ≡ is_among intents.now worker serial }
 {
     intents

@@ -1,25 +1,25 @@
 -- Within this crate: what is noted of what a partner says.
 use Rattle.std.specs.Prelude.{ℕ, Bool, true, false}
-use Rattle.amo_driver.specs.declared.answer.Answer.{Answer}
-use Rattle.amo_driver.specs.declared.answer.Answer.TheVariants.{Done, Doubt, Unbegun, Untouched}
+use Rattle.amo_driver.specs.declared.answer.JobResult.{JobResult}
+use Rattle.amo_driver.specs.declared.answer.JobResult.TheVariants.{Done, Doubt, Unbegun, Untouched}
 use Rattle.amo_driver.specs.declared.answer.Reply.{Reply}
 use Rattle.amo_driver.specs.declared.answer.Reply.TheVariants.{Answered as Replied, Running, Garbled, Closed}
 use Rattle.amo_driver.specs.declared.answer.Way.{Way}
 use Rattle.amo_driver.specs.declared.answer.Way.TheVariants.{Go, Leave}
-use Rattle.amo_run_log.specs.declared.entry.Answer.{Answer as Noted}
-use Rattle.amo_run_log.specs.declared.entry.Answer.TheVariants.{Done as DoneAt, Doubt as DoubtNoted, Unbegun as UnbegunNoted, Untouched as UntouchedNoted}
+use Rattle.amo_run_log.specs.declared.entry.Outcome.{Outcome as Noted}
+use Rattle.amo_run_log.specs.declared.entry.Outcome.TheVariants.{Done as DoneAt, Doubt as DoubtNoted, Unbegun as UnbegunNoted, Untouched as UntouchedNoted}
 use Rattle.amo_run_log.specs.declared.entry.Entry.{Entry}
 use Rattle.amo_run_log.specs.declared.entry.Entry.TheVariants.{Answer as Answered}
 
 -- an answer, as a journal has it
-abbrev pub noted_of : Answer → ℕ → Noted
+abbrev pub noted_of : JobResult → ℕ → Noted
 noted_of (Done code) time = DoneAt code time
 noted_of Doubt time = DoubtNoted
 noted_of Unbegun time = UnbegunNoted
 noted_of (Untouched code) time = UntouchedNoted code
 
 -- the entry for the answer to the intent of this serial number, at this time
-abbrev pub note_of : ℕ → Answer → ℕ → Entry
+abbrev pub note_of : ℕ → JobResult → ℕ → Entry
 note_of serial answer time = Answered serial (noted_of answer time)
 
 -- whether a word behind an answer tells to leave

@@ -4,7 +4,7 @@ ghost use Rattle.std.specs.Prelude.{◌≤◌, IfOk};
 use crate::remote::ByLines;
 use amo_decimal::number;
 use amo_givens::{MAX_BETA, MAX_JOBS, MAX_WORKERS};
-use amo_run_dir::{Jobs, Setting, is_id};
+use amo_run_dir::{ListSettings, Setting, is_id};
 use amo_status::State;
 use clap::error::ErrorKind;
 use clap::{Arg, ArgAction, ArgMatches, Command, Error};
@@ -23,9 +23,9 @@ pub(crate) enum Form {
 pub(crate) enum Request<'a> {
     /// Checks that workers may begin, and makes the run's folder if it is missing. With `true` it
     /// is made under its own name.
-    Door(Jobs<'a>, bool),
+    Door(ListSettings<'a>, bool),
     /// Runs this worker.
-    Work(Jobs<'a>, u64),
+    Work(ListSettings<'a>, u64),
     /// Runs a worker whose runner keeps words and journal too.
     Lines(ByLines),
     /// Prints how all lines stand.
@@ -264,10 +264,10 @@ fn number_at(
 }
 
 /// Returns the jobs that `door` and `work` name.
-fn jobs_of<'a>(matches: &ArgMatches<'a>) -> Result<Jobs<'a>, Misuse> {
+fn jobs_of<'a>(matches: &ArgMatches<'a>) -> Result<ListSettings<'a>, Misuse> {
     let workers = number_at(matches, "workers", "--workers", 1, MAX_WORKERS as u64)?;
     let beta = number_at(matches, "beta", "--beta", 1, MAX_BETA as u64)?;
-    Ok(Jobs {
+    Ok(ListSettings {
         list: matches.get_str("JOBS").unwrap_or(""),
         workers,
         beta,

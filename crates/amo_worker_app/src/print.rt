@@ -2,11 +2,11 @@
 ghost use Rattle.std.specs.Prelude.{◌≡◌, ◌≤◌, length, IfOk};
 
 use crate::args::Form;
-use crate::snapshot::{Seen, look};
+use crate::snapshot::{Snapshot, look};
 use amo_run_dir::{Age, Fault, Item, Setting, written};
 use amo_run_files::Jobs;
 use amo_status::{
-    Standing, counts, doubts_json, doubts_text, lines_text, status_json, status_text,
+    LineStatus, counts, doubts_json, doubts_text, lines_text, status_json, status_text,
 };
 use std::alloc::{AllocError, Global};
 use std::io::Write;
@@ -72,8 +72,8 @@ fn texts_of(alloc: Global, jobs: &Jobs, count: usize) -> Result<Vec<&[u8]>, Allo
 fn status_in(
     alloc: Global,
     form: Form,
-    seen: &Seen,
-    standings: &[Standing],
+    seen: &Snapshot,
+    standings: &[LineStatus],
     texts: &[&[u8]],
 ) -> Result<Vec<u8>, AllocError>
     requires { length standings.now ≤ length texts.now }
@@ -89,7 +89,7 @@ fn status_in(
 fn doubts_in(
     alloc: Global,
     form: Form,
-    standings: &[Standing],
+    standings: &[LineStatus],
     texts: &[&[u8]],
 ) -> Result<Vec<u8>, AllocError>
     requires { length standings.now ≤ length texts.now }

@@ -1,7 +1,7 @@
 //! The life of a worker by lines: its partner, on standard input and output, has the words and the journal too.
 ghost use Rattle.std.specs.Prelude.{◌≡◌, None};
 
-use crate::runner::{Partner, shown};
+use crate::runner::{Runner, shown};
 use amo_driver::{Failed, LifeEnd, Stop, Try, work};
 use amo_givens::Givens;
 use amo_protocol::{Lines, Wire, text_of};
@@ -25,7 +25,7 @@ pub(crate) struct ByLines {
 #[derive(Drop)]
 struct Streams {
     rt: HostRuntime,
-    partner: Partner,
+    partner: Runner,
     fault: Option<Fault>,
 }
 
@@ -58,7 +58,7 @@ pub(crate) fn work_by_lines(rt: HostRuntime, asked: ByLines) -> Result<(), Fault
     }
     let mut lines = Lines::new(Streams {
         rt,
-        partner: Partner::new(rt),
+        partner: Runner::new(rt),
         fault: None,
     });
     match work(rt.alloc(), givens, asked.worker as u32, 1, &mut lines) {

@@ -1,12 +1,13 @@
 //! To take what a person found out.
 use crate::session::now;
-use crate::snapshot::{Seen, look_behind};
+use crate::snapshot::{Snapshot, look_behind};
 use amo_fs::FileDevice;
 use amo_journal::{DeviceError, PutError};
 use amo_run_dir::{
-    Fault, Guarded, Item, Later, Setting, Settled, check_id, check_kept, had, lock_within, settled,
+    Fault, Item, Later, LockedJournal, OpenJournal, Setting, check_id, check_kept, had, lock_within,
+    settled,
 };
-use amo_run_log::{Fault as Misread, Finding, Verdict};
+use amo_run_log::{Fault as Misread, Finding, Resolution};
 use amo_status::{Refusal, Said, may_answer, read_answers, untouched};
 use std::rt::HostRuntime;
 use std::time::Duration;
@@ -46,7 +47,7 @@ pub(crate) fn once_more(rt: HostRuntime, setting: &Setting<'_>) -> Result<(), Fa
     let mut findings = Vec::new(rt.alloc());
     for intent in &untouched(rt.alloc(), &seen.books.findings, &seen.books.journals)? {
         findings.push(Finding {
-            verdict: Verdict::NotDone,
+            verdict: Resolution::NotDone,
             worker: intent.worker,
             serial: intent.serial,
             time: now(rt),
@@ -110,7 +111,7 @@ enum Outcome {
 }
 
 /// Checks an answer, the one of this number.
-fn checked(rt: HostRuntime, seen: &Seen, said: &Said, number: usize) -> Result<Outcome, Fault> {
+fn checked(rt: HostRuntime, seen: &Snapshot, said: &Said, number: usize) -> Result<Outcome, Fault> {
     let books = &seen.books;
     let Some(text) = books.jobs.line(said.line) else {
         return Err(Fault::NoAnswerOf(number));
@@ -135,7 +136,7 @@ fn checked(rt: HostRuntime, seen: &Seen, said: &Said, number: usize) -> Result<O
 }
 
 /// Takes the lock of the answers, and settles them.
-fn take_answers(rt: HostRuntime, setting: &Setting<'_>) -> Result<Guarded, Fault> {
+fn take_answers(rt: HostRuntime, setting: &Setting<'_>) -> Result<LockedJournal, Fault> {
     let Some(lock) = lock_within(rt, setting, Item::Answers)? else {
         return Err(Fault::Later(Later::Answering));
     };
@@ -146,7 +147,7 @@ fn take_answers(rt: HostRuntime, setting: &Setting<'_>) -> Result<Guarded, Fault
 /// Puts these findings, one after the other.
 fn put_all(
     rt: HostRuntime,
-    journal: Settled<FileDevice>,
+    journal: OpenJournal<FileDevice>,
     findings: &[Finding],
 ) -> Result<(), Fault> {
     let mut journal = journal;

@@ -9,16 +9,16 @@ use std::rt::HostRuntime;
 
 /// The runner, and its last line.
 #[derive(Drop)]
-pub(crate) struct Partner {
+pub(crate) struct Runner {
     rt: HostRuntime,
     input: <HostRuntime as Input>::Reader,
     /// The runner's last line, without its line feed.
     pub(crate) said: Vec<u8>,
 }
 
-impl Partner {
-    pub(crate) fn new(rt: HostRuntime) -> Partner {
-        Partner {
+impl Runner {
+    pub(crate) fn new(rt: HostRuntime) -> Runner {
+        Runner {
             rt,
             input: rt.reader(),
             said: Vec::new(rt.alloc()),
@@ -46,7 +46,7 @@ impl Partner {
     /// Writes a line to the runner, waits for its reply, and parses it.
     ///
     /// # Errors
-    /// As [`Partner::exchange`].
+    /// As [`Runner::exchange`].
     pub(crate) fn ask(&mut self, line: &[u8]) -> Result<Reply, Fault> {
         match self.exchange(line)? {
             Some(said) => {

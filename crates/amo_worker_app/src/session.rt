@@ -2,26 +2,26 @@
 ghost use Rattle.std.specs.Prelude.{◌≡◌, None};
 ghost use Rattle.amo_worker_app.specs.Notes.{dismisses, note_of};
 
-use crate::runner::Partner;
-use amo_driver::{Answer, Failed, Past, Reply, Way};
+use crate::runner::Runner;
+use amo_driver::{Failed, JobResult, Past, Reply, Way};
 use amo_fs::FileDevice;
 use amo_journal::{DeviceError, PutError};
 use amo_protocol::{perform_text, was_text};
-use amo_run_dir::{Fault, Item, Settled};
+use amo_run_dir::{Fault, Item, OpenJournal};
 use amo_run_files::Jobs;
-use amo_run_log::{Answer as Noted, Entry};
+use amo_run_log::{Entry, Outcome as Noted};
 use std::rt::HostRuntime;
 use std::time::{SystemTime, UNIX_EPOCH};
 
 /// A journal whose guard this process has, and a partner. After a call has failed the fault says why.
 #[derive(Drop)]
-pub(crate) struct Talk {
+pub(crate) struct Session {
     pub(crate) rt: HostRuntime,
     pub(crate) worker: u64,
     /// There is none once an entry could not be put.
-    pub(crate) journal: Option<Settled<FileDevice>>,
+    pub(crate) journal: Option<OpenJournal<FileDevice>>,
     pub(crate) jobs: Jobs,
-    pub(crate) partner: Partner,
+    pub(crate) partner: Runner,
     /// Whether the partner's last answer told this process to leave.
     pub(crate) is_dismissed: bool,
     pub(crate) fault: Option<Fault>,
@@ -39,19 +39,19 @@ pub(crate) fn now(rt: HostRuntime) -> u64 {
 }
 
 /// What is noted of an answer that came at this time.
-pub(crate) fn note_of(serial: u64, answer: Answer, time: u64) -> Entry
+pub(crate) fn note_of(serial: u64, answer: JobResult, time: u64) -> Entry
     ensures { result ≡ note_of serial answer time }
 {
     let answer = match answer {
-        Answer::Done(code) => Noted::Done { code, time },
-        Answer::Doubt => Noted::Doubt,
-        Answer::Unbegun => Noted::Unbegun,
-        Answer::Untouched(code) => Noted::Untouched { code },
+        JobResult::Done(code) => Noted::Done { code, time },
+        JobResult::Doubt => Noted::Doubt,
+        JobResult::Unbegun => Noted::Unbegun,
+        JobResult::Untouched(code) => Noted::Untouched { code },
     };
     Entry::Answer { serial, answer }
 }
 
-impl Talk {
+impl Session {
     /// Remembers why a call has failed.
     pub(crate) fn fails(&mut self, fault: Fault) -> Failed {
         self.fault = Some(fault);
@@ -108,7 +108,7 @@ fn dismisses(reply: Reply) -> bool
     }
 }
 
-impl Past for Talk {
+impl Past for Session {
     ghost deeds = { λ _. None };
 
     ghost may = { λ _ _. Unit {0} };
@@ -123,7 +123,7 @@ impl Past for Talk {
         }
     }
 
-    fn note(&mut self, serial: u64, answer: Answer) -> Result<(), Failed> {
+    fn note(&mut self, serial: u64, answer: JobResult) -> Result<(), Failed> {
         let entry = note_of(serial, answer, now(self.rt));
         self.put(entry)
     }

@@ -3,23 +3,23 @@ use amo_fs::is_at;
 use amo_givens::MAX_WORKERS;
 use amo_journal::texts_in;
 use amo_run_dir::{
-    Age, Books, Fault, Item, Pages, Setting, Tried, attempts_of, bytes_of, had, known, lock_of,
+    Age, Fault, Item, RawLogs, RunState, Setting, Tried, attempts_of, bytes_of, had, known, lock_of,
     lock_within, path_of, settled, texts_of, try_lock_of,
 };
 use amo_run_log::pending;
-use amo_status::{Intent, Standing, standings};
+use amo_status::{AttemptId, LineStatus, standings};
 use std::alloc::{AllocError, Global};
 use std::fs::File;
 use std::rt::HostRuntime;
 
 /// What a run says, and what is held of it.
 #[derive(Drop)]
-pub(crate) struct Seen {
-    pub(crate) books: Books,
+pub(crate) struct Snapshot {
+    pub(crate) books: RunState,
     /// The workers whose journals others hold.
     pub(crate) alive: Vec<u64>,
     /// Pending intents that nobody can answer any more: their journal, their runner's lock and their command's are held here.
-    pub(crate) finals: Vec<Intent>,
+    pub(crate) finals: Vec<AttemptId>,
     /// The locks that are kept as long as this is.
     held: Vec<File>,
 }
@@ -47,7 +47,7 @@ impl Corner {
 /// Looks at a run: first at what persons found out, then at the journals, then at the jobs. Who looks holds the lock of what
 /// persons found out meanwhile, so that one doesn't find what another holds and take it for a worker's. Where that lock isn't got it
 /// looks all the same: it may then say of a worker that nobody runs that it is at work, and of a doubt that its command runs.
-pub(crate) fn look(rt: HostRuntime, setting: &Setting<'_>, age: Age) -> Result<Seen, Fault> {
+pub(crate) fn look(rt: HostRuntime, setting: &Setting<'_>, age: Age) -> Result<Snapshot, Fault> {
     let lock = among_readers(rt, setting, age)?;
     let answers = match age {
         Age::Now => texts_of(rt, setting, Item::Answers)?,
@@ -76,7 +76,7 @@ pub(crate) fn look_behind(
     rt: HostRuntime,
     setting: &Setting<'_>,
     answers: Vec<Vec<u8>>,
-) -> Result<Seen, Fault> {
+) -> Result<Snapshot, Fault> {
     look_through(rt, setting, Age::Now, answers)
 }
 
@@ -85,7 +85,7 @@ fn look_through(
     setting: &Setting<'_>,
     age: Age,
     answers: Vec<Vec<u8>>,
-) -> Result<Seen, Fault> {
+) -> Result<Snapshot, Fault> {
     let mut held = Vec::new(rt.alloc());
     let mut alive = Vec::new(rt.alloc());
     let mut idle = Vec::new(rt.alloc());
@@ -104,9 +104,9 @@ fn look_through(
         journals.push(corner.texts)?;
     }
     let jobs = known(rt, setting)?;
-    let books = Books::read(rt.alloc(), &Pages { answers, journals }, jobs)?;
+    let books = RunState::read(rt.alloc(), &RawLogs { answers, journals }, jobs)?;
     let finals = finals_of(rt, setting, &books, &idle, &mut held)?;
-    Ok(Seen {
+    Ok(Snapshot {
         books,
         alive,
         finals,
@@ -114,9 +114,9 @@ fn look_through(
     })
 }
 
-impl Seen {
+impl Snapshot {
     /// How each line stands.
-    pub(crate) fn standings(&self, alloc: Global) -> Result<Vec<Standing>, AllocError> {
+    pub(crate) fn standings(&self, alloc: Global) -> Result<Vec<LineStatus>, AllocError> {
         let count = self.books.jobs.count() as usize;
         standings(alloc, &self.books.log(&self.finals), count)
     }
@@ -225,10 +225,10 @@ fn has_pending(alloc: Global, item: Item, texts: &[Vec<u8>]) -> Result<bool, Fau
 fn finals_of(
     rt: HostRuntime,
     setting: &Setting<'_>,
-    books: &Books,
+    books: &RunState,
     idle: &[u64],
     held: &mut Vec<File>,
-) -> Result<Vec<Intent>, Fault> {
+) -> Result<Vec<AttemptId>, Fault> {
     let mut finals = Vec::new(rt.alloc());
     for worker in idle {
         push_finals(rt, setting, books, *worker, &mut finals, held)?;
@@ -240,9 +240,9 @@ fn finals_of(
 fn push_finals(
     rt: HostRuntime,
     setting: &Setting<'_>,
-    books: &Books,
+    books: &RunState,
     worker: u64,
-    finals: &mut Vec<Intent>,
+    finals: &mut Vec<AttemptId>,
     held: &mut Vec<File>,
 ) -> Result<(), Fault> {
     let Some(journal) = books.journals.get(worker.saturating_sub(1) as usize) else {
@@ -250,7 +250,7 @@ fn push_finals(
     };
     for (serial, _line) in &pending(rt.alloc(), journal)? {
         if has_ended(rt, setting, Item::Command(worker, *serial), held)? {
-            finals.push(Intent {
+            finals.push(AttemptId {
                 worker,
                 serial: *serial,
             })?;

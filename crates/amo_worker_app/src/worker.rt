@@ -1,14 +1,14 @@
 //! The life of a worker's process.
 ghost use Rattle.std.specs.Prelude.{◌≡◌};
 
-use crate::runner::Partner;
-use crate::session::Talk;
-use crate::worker_io::Desk;
+use crate::runner::Runner;
+use crate::session::Session;
+use crate::worker_io::WorkerIo;
 use amo_driver::{Asked, Intent, LifeEnd, Stop, ask_pending};
 use amo_givens::Givens;
 use amo_run_dir::{
-    Fault, Guarded, Item, Jobs, Joined, Later, Setting, attempts_of, begin, enter, had, join, known,
-    lock_of, take_number,
+    Fault, Item, JoinedRound, Later, ListSettings, LockedJournal, Setting, attempts_of, begin,
+    enter, had, join, known, lock_of, take_number,
 };
 use amo_run_log::pending;
 use amo_status::Counts;
@@ -25,7 +25,7 @@ const LONGEST_BOOT: usize = 200;
 pub(crate) fn work(
     rt: HostRuntime,
     setting: &Setting<'_>,
-    jobs: &Jobs<'_>,
+    jobs: &ListSettings<'_>,
     worker: u64,
 ) -> Result<Counts, Fault> {
     enter(rt, setting)?;
@@ -38,22 +38,22 @@ pub(crate) fn work(
 fn live(
     rt: HostRuntime,
     setting: &Setting<'_>,
-    jobs: &Jobs<'_>,
+    jobs: &ListSettings<'_>,
     worker: u64,
     boot: &[u8],
-    guarded: Guarded,
+    guarded: LockedJournal,
 ) -> Result<Counts, Fault> {
-    let Guarded {
+    let LockedJournal {
         journal,
         texts,
         lock: _guard,
     } = guarded;
-    let mut talk = Talk {
+    let mut talk = Session {
         rt,
         worker,
         journal: Some(journal),
         jobs: known(rt, setting)?,
-        partner: Partner::new(rt),
+        partner: Runner::new(rt),
         is_dismissed: false,
         fault: None,
     };
@@ -70,7 +70,7 @@ fn live(
 fn begun(
     rt: HostRuntime,
     setting: &Setting<'_>,
-    jobs: &Jobs<'_>,
+    jobs: &ListSettings<'_>,
     worker: u64,
     boot: &[u8],
 ) -> Result<Option<Counts>, Fault> {
@@ -95,7 +95,7 @@ fn boot_id(rt: HostRuntime, setting: &Setting<'_>) -> Result<Vec<u8>, Fault> {
 }
 
 /// Asks what became of each pending intent of the worker's journal. Answers the serial number of the next intent.
-fn ask_past(alloc: Global, talk: &mut Talk, texts: &[Vec<u8>]) -> Result<u64, Fault> {
+fn ask_past(alloc: Global, talk: &mut Session, texts: &[Vec<u8>]) -> Result<u64, Fault> {
     let item = Item::Journal(talk.worker);
     let attempts = attempts_of(alloc, item, talk.jobs.count(), texts)?;
     let mut intents = Vec::new(alloc);
@@ -114,8 +114,8 @@ fn ask_past(alloc: Global, talk: &mut Talk, texts: &[Vec<u8>]) -> Result<u64, Fa
 }
 
 /// Works in a round to the end of this process.
-fn work_in(alloc: Global, talk: Talk, joined: Joined, serial: u64) -> Fault {
-    let Joined {
+fn work_in(alloc: Global, talk: Session, joined: JoinedRound, serial: u64) -> Fault {
+    let JoinedRound {
         record,
         words,
         seat,
@@ -128,7 +128,7 @@ fn work_in(alloc: Global, talk: Talk, joined: Joined, serial: u64) -> Fault {
     if seat < 1 || seat > givens.workers as u64 {
         return Fault::Later(Later::NoSeat);
     }
-    let mut desk = Desk {
+    let mut desk = WorkerIo {
         talk,
         words,
         record,
@@ -143,7 +143,7 @@ fn work_in(alloc: Global, talk: Talk, joined: Joined, serial: u64) -> Fault {
 }
 
 /// What a stop comes to.
-fn fault_of(stop: Stop, talk: &mut Talk) -> Fault {
+fn fault_of(stop: Stop, talk: &mut Session) -> Fault {
     match stop {
         Stop::Failed => talk.fault.take().unwrap_or(Fault::NoWay),
         Stop::NoMemory => Fault::Memory,

@@ -1,21 +1,21 @@
 //! What is outside of a worker in a round: its words, its journal, its partner.
 ghost use Rattle.std.specs.Prelude.{◌≡◌, None};
 
-use crate::session::{Talk, now};
-use amo_driver::{Answer, Failed, Outside, Past, Reply};
+use crate::session::{Session, now};
+use amo_driver::{Failed, JobResult, Outside, Past, Reply};
 use amo_run_dir::{Fault, Words};
-use amo_run_files::Record;
+use amo_run_files::RoundHeader;
 use amo_run_log::Entry;
 
 /// The words of a round, its record, and who is talked to.
 #[derive(Drop)]
-pub(crate) struct Desk {
-    pub(crate) talk: Talk,
+pub(crate) struct WorkerIo {
+    pub(crate) talk: Session,
     pub(crate) words: Words,
-    pub(crate) record: Record,
+    pub(crate) record: RoundHeader,
 }
 
-impl Desk {
+impl WorkerIo {
     /// The line of a job of the round.
     fn line_of(&mut self, job: u32) -> Result<u64, Failed> {
         if job >= 1 && job as usize <= self.record.lines.len() {
@@ -26,7 +26,7 @@ impl Desk {
     }
 }
 
-impl Outside for Desk {
+impl Outside for WorkerIo {
     ghost deeds = { λ _. None };
 
     ghost may = { λ _ _. Unit {0} };
@@ -62,7 +62,7 @@ impl Outside for Desk {
         self.talk.perform(serial, line)
     }
 
-    fn note(&mut self, serial: u64, answer: Answer) -> Result<(), Failed> {
+    fn note(&mut self, serial: u64, answer: JobResult) -> Result<(), Failed> {
         Past::note(&mut self.talk, serial, answer)
     }
 }

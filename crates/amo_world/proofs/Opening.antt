@@ -12,7 +12,7 @@ use Rattle.amo_kk.specs.declared.event.Event.{Event}
 use Rattle.amo_kk.specs.declared.model.World.{World}
 use Rattle.amo_kk.proofs.Worlds.{opening_lawful}
 use Rattle.amo_kk.proofs.Runs.{always_runs}
-use Rattle.amo_world.specs.declared.process.Process.{Process as OwnProcess}
+use Rattle.amo_world.specs.declared.process.SimProcess.{SimProcess as OwnProcess}
 use Rattle.amo_world.specs.Processes.{process_of, world_of_processes, AreInOrder, IsKept}
 
 pub processes_next : (g : Givens) (n : ℕ) (processes : List OwnProcess) (s : OwnProcess) → map process_of processes ≡ table n (first_process g) → process_of s ≡ first_process g (n + 1)

@@ -11,7 +11,7 @@ use Rattle.amo_kk.specs.declared.model.World.{World}
 use Rattle.amo_kk.specs.declared.phase.Want.{Want}
 use Rattle.amo_kk.specs.declared.phase.Want.TheVariants.{LoadNext, LoadDone}
 use Rattle.amo_kk.proofs.Bits.{numbered_before}
-use Rattle.amo_world.specs.declared.process.Process.{Process as OwnProcess}
+use Rattle.amo_world.specs.declared.process.SimProcess.{SimProcess as OwnProcess}
 use Rattle.amo_world.specs.Processes.{process_of}
 
 pub process_at : (processes : List OwnProcess) (q : ℕ) (d : OwnProcess) → 1 ≤ q → q ≤ length processes → numbered nobody (map process_of processes) q ≡ process_of (get_or processes (q - 1) d)

@@ -26,7 +26,7 @@ use Rattle.amo_kk.proofs.Worlds.{turn_lawful, halt_lawful, leave_lawful}
 use Rattle.amo_kk.proofs.Runs.{turn_runs, halt_runs, leave_runs, stored_local}
 use Rattle.amo_kk.proofs.Room.{run_is_short}
 use Rattle.amo_kk.proofs.Loads.{store_zero, may_load}
-use Rattle.amo_world.specs.declared.process.Process.{Process as OwnProcess}
+use Rattle.amo_world.specs.declared.process.SimProcess.{SimProcess as OwnProcess}
 use Rattle.amo_world.specs.Views.{WorldView}
 use Rattle.amo_world.specs.Processes.{process_of, process_after_step, world_of_processes, AreInOrder, IsKept, IsSameWorker}
 use Rattle.amo_world.proofs.Places.{process_at}

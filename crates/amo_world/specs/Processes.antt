@@ -8,7 +8,7 @@ use Rattle.amo_givens.specs.declared.givens.Givens.{Givens}
 use Rattle.amo_kk.specs.declared.event.Event.{Event}
 use Rattle.amo_kk.specs.declared.model.Process.{Process}
 use Rattle.amo_kk.specs.declared.model.World.{World}
-use Rattle.amo_world.specs.declared.process.Process.{Process as OwnProcess}
+use Rattle.amo_world.specs.declared.process.SimProcess.{SimProcess as OwnProcess}
 
 -- a process as the definitions have it: the record and the words of its worker
 abbrev pub process_of : OwnProcess → Process

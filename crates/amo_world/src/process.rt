@@ -15,7 +15,7 @@ use std::alloc::{AllocError, Global};
 
 /// A worker's machine, its announcement, its count of claims and its row, and whether it is gone.
 #[derive(Drop)]
-pub(crate) struct Process {
+pub(crate) struct SimProcess {
     pub(crate) local: Local,
     pub(crate) next: u32,
     pub(crate) claim: u32,
@@ -23,9 +23,9 @@ pub(crate) struct Process {
     pub(crate) gone: bool,
 }
 
-impl Process {
+impl SimProcess {
     /// Worker p before its first step. Its room is made here.
-    pub(crate) fn new(alloc: Global, givens: Givens, p: u32) -> Result<Process, AllocError>
+    pub(crate) fn new(alloc: Global, givens: Givens, p: u32) -> Result<SimProcess, AllocError>
         requires { IsWorker givens p }
         ensures process { IfOk result (λ s. process_of s ≡ first_process givens p) }
         ensures givens { IfOk result (λ s. s.local.givens ≡ givens) }
@@ -35,7 +35,7 @@ impl Process {
         let local = Local::new(alloc, givens, p)?;
         let row = filled(alloc, givens.jobs as usize + 1, 0u32)?;
         let gone = local.phase().wants_nothing();
-        Ok(Process {
+        Ok(SimProcess {
             local,
             next: 0,
             claim: 0,

@@ -19,7 +19,7 @@ ghost use Rattle.amo_world.specs.Views.{WorldView};
 ghost use Rattle.amo_world.specs.Processes.{process_of, world_of_processes, AreInOrder};
 
 use crate::answer::{Alone, Turned};
-use crate::process::Process;
+use crate::process::SimProcess;
 use crate::tally::{count, has_claim};
 use amo_givens::{Givens, Move};
 use amo_kk::{Event, Leaving, Local, Shown, Want};
@@ -31,7 +31,7 @@ use std::marker::Model;
 #[derive(Drop)]
 pub struct World {
     givens: Givens,
-    processes: Vec<Process>,
+    processes: Vec<SimProcess>,
     history: Vec<Event>,
 }
 
@@ -192,7 +192,7 @@ impl World {
     }
 
     /// The process of worker p.
-    fn process(&self, p: u32) -> &Process
+    fn process(&self, p: u32) -> &SimProcess
         requires { IsWorker self.now.givens p }
         ensures process { process_of result.now ≡ process self.now.world p }
         ensures givens { result.now.local.givens ≡ self.now.givens }
@@ -313,14 +313,14 @@ fn turned(shown: Shown) -> Turned
 }
 
 /// The processes of all workers before their first steps.
-fn first_processes(alloc: Global, givens: Givens) -> Result<Vec<Process>, AllocError>
+fn first_processes(alloc: Global, givens: Givens) -> Result<Vec<SimProcess>, AllocError>
     ensures processes { IfOk result (λ v. map process_of v.items ≡ table givens.workers (first_process givens)) }
     ensures in_order { IfOk result (λ v. AreInOrder givens givens.workers v.items) }
     ensures room { IfOk result (λ v. vec_capacity v ≡ givens.workers) }
 {
     let mut processes = Vec::with_capacity(alloc, givens.workers as usize)?;
     for p in 0..givens.workers {
-        let process = Process::new(alloc, givens, p + 1)?;
+        let process = SimProcess::new(alloc, givens, p + 1)?;
         processes.push_reserved(process);
     }
     Ok(processes)

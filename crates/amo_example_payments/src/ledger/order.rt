@@ -11,7 +11,7 @@ use std::io::Write;
 
 /// A payment whose intent stands in the journal, on the disk. Only such a payment can be given to the bank.
 #[derive(Drop)]
-pub(crate) struct Intent {
+pub(crate) struct IntentToken {
     payment: Payment,
     serial: u64,
 }
@@ -32,12 +32,12 @@ pub(crate) struct Receipt {
     cents: u64,
 }
 
-impl Intent {
+impl IntentToken {
     /// The payment, whose intent has this serial number in the journal.
-    pub(super) fn new(payment: Payment, serial: u64) -> Intent
+    pub(super) fn new(payment: Payment, serial: u64) -> IntentToken
         ensures { result ≡ record { payment = payment; serial = serial } }
     {
-        Intent { payment, serial }
+        IntentToken { payment, serial }
     }
 
     /// Gives the payment to the bank. A real bank's call stands here: it sends the order, and answers once the bank has taken
@@ -49,7 +49,7 @@ impl Intent {
         ensures given { IfOk result (λ g. (g.payment ≡ self.payment) × (g.serial ≡ self.serial)) }
         ensures back { IfErr result (λ p. p ≡ self.payment) }
     {
-        let Intent { payment, serial } = self;
+        let IntentToken { payment, serial } = self;
         let (id, account, cents) = (payment.id(), payment.account(), payment.cents());
         let Ok(order) = format!(in alloc; "paid {id} {account} {cents}\n") else {
             return Err(payment);

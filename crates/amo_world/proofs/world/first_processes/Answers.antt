@@ -1,7 +1,7 @@
 use Rattle.std.proofs.Common.{◌≡◌, ◌∙◌, sym, subst, List, map, ◌+◌}
 use Rattle.amo_sets.specs.Lists.{table}
 use Rattle.amo_kk.specs.World.{first_process}
-use Rattle.amo_world.specs.declared.process.Process.{Process as OwnProcess}
+use Rattle.amo_world.specs.declared.process.SimProcess.{SimProcess as OwnProcess}
 use Rattle.amo_world.specs.Processes.{process_of, AreInOrder}
 use Rattle.amo_world.proofs.Opening.{processes_next, in_order_next}
 use Rattle.amo_world.proofs.world.first_processes.Goals as goal

@@ -3,7 +3,7 @@ use Rattle.std.specs.Prelude.{codes}
 use Rattle.std.specs.Fmt.{decimal}
 use Rattle.amo_run_log.specs.Texts.{ended}
 use Rattle.amo_run_files.proofs.Records.{pieces}
-use Rattle.amo_run_files.proofs.header.Record.print_head.Goals as goal
+use Rattle.amo_run_files.proofs.header.RoundHeader.print_head.Goals as goal
 
 pub returns : goal.returns
 returns c =
