@@ -37,7 +37,7 @@ def control_of(name, pairs, test, wanted):
     def try_control(bench):
         room = f"{bench.room}/{name}"
         os.mkdir(room)
-        for it in ("amo_jobs", "amo_crews", "claims"):
+        for it in ("amo_jobs", "amo_crews", "stores"):
             os.symlink(f"{os.path.dirname(bench.program)}/{it}", f"{room}/{it}")
         with open(bench.program) as file:
             text = file.read()

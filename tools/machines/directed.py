@@ -1,4 +1,4 @@
-"""What amo_share has to do, each in a run that is made for it, over claims/folder."""
+"""What amo_share has to do, each in a run that is made for it, over stores/folder."""
 
 import os
 import re
@@ -327,7 +327,7 @@ def try_claim_programs(bench, kind="folder"):
     environment = {"PATH": os.environ["PATH"], **store.straight()}
     for chunk in range(1, 4):
         want(store.ask("look", "list", str(chunk)) == "", "a free chunk has an owner")
-        words = [f"{os.path.dirname(bench.program)}/claims/{kind}", "claim", "list", str(chunk)]
+        words = [f"{os.path.dirname(bench.program)}/stores/{kind}", "claim", "list", str(chunk)]
         asking = [subprocess.Popen([*words, f"mark.{number}", str(number) * 64], stdout=subprocess.PIPE, env=environment)
                   for number in range(8)]
         said = {it.communicate()[0].decode() for it in asking}

@@ -16,7 +16,7 @@ from machines.scene import Skipped, until, want
 from worker.folder import read
 
 HERE = os.path.dirname(os.path.realpath(__file__))
-CLAIMS = os.path.realpath(f"{HERE}/../../claims")
+CLAIMS = os.path.realpath(f"{HERE}/../../stores")
 
 
 def free_ports(count):

@@ -102,7 +102,7 @@ def try_folder_storms(bench):
 
 
 def try_etcd_claims(bench):
-    """claims/etcd over three nodes: of many that claim at once one has it"""
+    """stores/etcd over three nodes: of many that claim at once one has it"""
     return directed.try_claim_programs(bench, "etcd")
 
 
@@ -112,7 +112,7 @@ def try_etcd_storms(bench):
 
 
 def try_postgres_claims(bench):
-    """claims/postgres over a server: of many that claim at once one has it"""
+    """stores/postgres over a server: of many that claim at once one has it"""
     return directed.try_claim_programs(bench, "postgres")
 
 

@@ -9,4 +9,4 @@ pub mod KnownLines
 pub mod RecordTexts
 pub mod Records
 pub mod Refusals
-pub mod Seats
+pub mod SeatLaws

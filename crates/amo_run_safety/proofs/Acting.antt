@@ -11,7 +11,7 @@ use Rattle.amo_driver_safety.specs.declared.model.Moment.{Moment}
 use Rattle.amo_driver_safety.specs.declared.model.Moment.TheVariants.{Does, Loses, Begins}
 use Rattle.amo_run_log.specs.declared.entry.Entry.{Entry}
 use Rattle.amo_run_log.specs.Grammar.{intents}
-use Rattle.amo_run_files.proofs.Seats.{in_range}
+use Rattle.amo_run_files.proofs.SeatLaws.{in_range}
 use Rattle.amo_run_safety.specs.File.{File, after_put}
 use Rattle.amo_run_safety.specs.Site.{Whereabouts, Away, Before, Inside, Round, Site, with_at, lines_of, lines_at}
 use Rattle.amo_run_safety.specs.Run.{entries_of_try, has_fallen, whereabouts_after, whereabouts_missing, with_moment, with_moment_at, MayJoin, MayBeIn, MayAct, MayMiss}

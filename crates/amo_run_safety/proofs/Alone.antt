@@ -12,7 +12,7 @@ use Rattle.amo_driver_safety.specs.Tries.{tried_in}
 use Rattle.amo_driver_safety.specs.declared.model.Moment.{Moment}
 use Rattle.amo_driver_safety.specs.declared.model.Moment.TheVariants.{Does, Loses, Begins}
 use Rattle.amo_driver_safety.proofs.Intents.{no_intent_after, by_its_intent}
-use Rattle.amo_run_files.proofs.Seats.{one_each}
+use Rattle.amo_run_files.proofs.SeatLaws.{one_each}
 use Rattle.amo_run_safety.specs.File.{read_of}
 use Rattle.amo_run_safety.specs.Site.{Inside, Round, Site, Event, Acts, Misses, IsNumber, is_inside, lines_at}
 use Rattle.amo_run_safety.specs.Run.{site_after, MayHappen, Handing, handings_by, openings_by, is_among, IsOneOf}

@@ -6,7 +6,7 @@ use Rattle.amo_sets.specs.Sets.{has, AreDistinct}
 use Rattle.amo_sets.proofs.Numbers.{has-append}
 use Rattle.amo_driver_safety.specs.Scene.{IsHistory}
 use Rattle.amo_run_log.specs.declared.entry.Entry.{Entry}
-use Rattle.amo_run_files.proofs.Seats.{one_each}
+use Rattle.amo_run_files.proofs.SeatLaws.{one_each}
 use Rattle.amo_run_safety.specs.File.{File}
 use Rattle.amo_run_safety.specs.Site.{Inside, Round, Site, first_site, Event}
 use Rattle.amo_run_safety.specs.Run.{site_after, IsRunFrom, IsRun, site_after_all, site_of, Handing, handings_by, handings_from, handings, openings_by, openings_from, openings, is_among, AreUnperformed, performed_lines, IsOneOf, IsKept}

@@ -8,7 +8,7 @@ use Rattle.amo_driver_safety.specs.Log.{Log, log_of}
 use Rattle.amo_driver_safety.specs.Scene.{scene_of, IsTrue}
 use Rattle.amo_driver_safety.specs.declared.model.Moment.TheVariants.{Does, Loses}
 use Rattle.amo_driver_safety.proofs.Logs.{call_may_be, deed_may_be}
-use Rattle.amo_run_files.proofs.Seats.{in_range}
+use Rattle.amo_run_files.proofs.SeatLaws.{in_range}
 use Rattle.amo_run_safety.specs.Site.{Inside, Round, Event}
 use Rattle.amo_run_safety.specs.Run.{MayBeIn, MayAct, MayMiss, IsRun, site_of}
 use Rattle.amo_run_safety.proofs.Records.{sound_parts}

@@ -12,7 +12,7 @@ use Rattle.amo_run_log.specs.declared.finding.Finding.{Finding}
 use Rattle.amo_run_log.specs.Findings.{is_not_done}
 use Rattle.amo_run_log.specs.Grammar.{intents}
 use Rattle.amo_run_log.specs.Open.{opens}
-use Rattle.amo_run_files.proofs.Seats.{in_range}
+use Rattle.amo_run_files.proofs.SeatLaws.{in_range}
 use Rattle.amo_run_safety.specs.Site.{Whereabouts, Away, Before, Inside, Round, Site, Event, Acts, Misses, Says, SaysUnheard, SaysUnread, lines_at}
 use Rattle.amo_run_safety.specs.Run.{entries_of_try, as_noted, site_after, IsOfIntent, MayBeIn, MayAct, MayMiss, MayHappen, Handing, opened_by_entries, opened_by_finding, openings_by, is_among}
 use Rattle.amo_run_safety.proofs.Openings.{among_either}

@@ -12,7 +12,7 @@ use Rattle.amo_run_log.specs.Grammar.{intents}
 use Rattle.amo_run_log.specs.Open.{NoneOpens}
 use Rattle.amo_run_files.specs.Records.{is_sound}
 use Rattle.amo_run_files.specs.Rounds.{seat_of}
-use Rattle.amo_run_files.proofs.Seats.{one_each}
+use Rattle.amo_run_files.proofs.SeatLaws.{one_each}
 use Rattle.amo_run_safety.specs.File.{File}
 use Rattle.amo_run_safety.specs.Site.{Whereabouts, Away, Before, Inside, Round, Site, first_site, IsNumber, is_inside, with_at}
 use Rattle.amo_run_safety.specs.Run.{with_moment, is_among}

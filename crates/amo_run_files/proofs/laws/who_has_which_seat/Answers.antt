@@ -1,4 +1,4 @@
-use Rattle.amo_run_files.proofs.Seats.{one_each, in_range, first_seat, each_taken}
+use Rattle.amo_run_files.proofs.SeatLaws.{one_each, in_range, first_seat, each_taken}
 use Rattle.amo_run_files.proofs.laws.who_has_which_seat.Goals as goal
 
 pub returns-clause-one_each : goal.returns-clause-one_each
