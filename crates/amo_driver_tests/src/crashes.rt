@@ -2,7 +2,9 @@
 //! disk: what was written or cut since the last sync is torn then. What was performed is counted, and the files are read by eye.
 ghost use Rattle.std.specs.Prelude.{None, ⊤};
 
-use amo_driver::{Failed, Intent, JobResult as Became, Outside, Past, Reply, Way, ask_pending, work};
+use amo_driver::{
+    Failed, Intent, JobResult as Became, Outside, Past, Reply, Way, ask_pending, work,
+};
 use amo_givens::Givens;
 use amo_journal::{Journal, texts_in};
 use amo_run_files::givens_of;

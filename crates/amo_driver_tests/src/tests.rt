@@ -305,7 +305,12 @@ fn the_last_serial_number_is_used_up(rt: HostRuntime) -> Result<(), Fail> {
 fn a_pending_intent_is_passed_over(rt: HostRuntime) -> Result<(), Fail> {
     let pending = [Intent { serial: 3, line: 1 }, Intent { serial: 8, line: 2 }];
     let rows = [
-        (done(3), Ok(Asked::All), 4, Deed::Noted(8, JobResult::Done(7))),
+        (
+            done(3),
+            Ok(Asked::All),
+            4,
+            Deed::Noted(8, JobResult::Done(7)),
+        ),
         (
             Reply::Running(3, Way::Go),
             Ok(Asked::All),

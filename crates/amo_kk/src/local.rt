@@ -19,9 +19,9 @@ mod again;
 use crate::event::Shown;
 use crate::knowledge::Knowledge;
 use crate::phase::{Phase, Want, next_other};
+pub use again::NoSuchWords;
 use amo_givens::Givens;
 use amo_sets::filled;
-pub use again::NoSuchWords;
 use std::alloc::{AllocError, Global};
 use std::marker::Model;
 

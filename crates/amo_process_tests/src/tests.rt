@@ -1,7 +1,9 @@
 //! Worked values of processes: what each load and store is, and what comes of words that a dead process has left.
 use amo_givens::Givens;
 use amo_kk::Local;
-use amo_process::{Access, Item, NoSuchNumber, Process, Standing, done_word, items_of, standing_of};
+use amo_process::{
+    Access, Item, NoSuchNumber, Process, Standing, done_word, items_of, standing_of,
+};
 use std::alloc::{AllocError, Global};
 use std::process::Abort;
 use std::test::Fail;

@@ -12,8 +12,8 @@ mod stops;
 mod summary;
 mod wanted;
 
-pub use amo_plan::{MOST_COUNT, MOST_FIRST, MOST_TURNS};
 pub use amo_io::{Bytes, Failed, ReadFault, Room, Sink, Source, Streamed, write_all};
+pub use amo_plan::{MOST_COUNT, MOST_FIRST, MOST_TURNS};
 pub use amo_render::{MOST_READ, ReplayFault, fault_text, read_all};
 pub use checking::check_text;
 pub use explorer::explore;

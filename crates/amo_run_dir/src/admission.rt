@@ -42,7 +42,12 @@ pub fn open(
 }
 
 /// Makes the folder, which isn't there: whole, or with `into` without its files.
-fn make(rt: HostRuntime, setting: &Setting<'_>, jobs: &ListSettings<'_>, into: bool) -> Result<(), Fault> {
+fn make(
+    rt: HostRuntime,
+    setting: &Setting<'_>,
+    jobs: &ListSettings<'_>,
+    into: bool,
+) -> Result<(), Fault> {
     if setting.id.is_some() {
         return Err(Fault::NoRun);
     }

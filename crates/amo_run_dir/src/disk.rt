@@ -36,11 +36,7 @@ pub enum Disk {
 /// # Errors
 ///
 /// `Door::Disk` if the folder is refused, and `Read` if the system's texts can't be read.
-pub fn check_file_system(
-    rt: HostRuntime,
-    setting: &Setting<'_>,
-    path: &str,
-) -> Result<(), Fault> {
+pub fn check_file_system(rt: HostRuntime, setting: &Setting<'_>, path: &str) -> Result<(), Fault> {
     let folder = had(Item::Run, fs::open(&rt, path))?;
     let name = format!(in rt.alloc(); "/proc/self/fdinfo/{}", folder.as_raw_fd())?;
     let handle = had(Item::Handle, fs::read(&rt, name.as_str()))?;

@@ -91,11 +91,7 @@ fn check_bytes(rt: HostRuntime, setting: &Setting<'_>, item: Item) -> Result<(),
 ///
 /// # Errors
 /// `Read` for the system's.
-pub fn len_of(
-    rt: HostRuntime,
-    setting: &Setting<'_>,
-    item: Item,
-) -> Result<Option<u64>, Fault> {
+pub fn len_of(rt: HostRuntime, setting: &Setting<'_>, item: Item) -> Result<Option<u64>, Fault> {
     let path = path_of(rt, setting, item)?;
     match fs::metadata(&rt, path.as_str()) {
         Ok(found) => Ok(Some(found.len())),

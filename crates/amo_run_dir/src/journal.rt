@@ -18,10 +18,7 @@ pub struct OpenJournal<D: Device> {
 
 impl<D: Device + Drop> OpenJournal<D> {
     /// Settles the journal on a device, and answers its texts.
-    pub fn settle(
-        alloc: Global,
-        device: D,
-    ) -> Result<(OpenJournal<D>, Vec<Vec<u8>>), DeviceError>
+    pub fn settle(alloc: Global, device: D) -> Result<(OpenJournal<D>, Vec<Vec<u8>>), DeviceError>
         requires { MaySettle D.seen D.may_leave D.stale device }
         ensures texts { IfOk result (λ r. map (λ text. text.items) r.1.items ≡ texts_in (D.seen device)) }
         ensures same { IfOk result (λ r. texts_in (D.seen r.0.journal.device) ≡ texts_in (D.seen device)) }
@@ -42,11 +39,7 @@ impl<D: Device + Drop> OpenJournal<D> {
     }
 
     /// Puts a finding.
-    pub fn put_finding(
-        self,
-        alloc: Global,
-        finding: Finding,
-    ) -> Result<OpenJournal<D>, PutError> {
+    pub fn put_finding(self, alloc: Global, finding: Finding) -> Result<OpenJournal<D>, PutError> {
         let mut journal = self.journal;
         put_finding(&mut journal, alloc, finding)?;
         Ok(OpenJournal { journal })

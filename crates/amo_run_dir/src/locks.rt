@@ -29,11 +29,7 @@ pub struct LockedJournal {
 }
 
 /// Takes the exclusive lock on a file of the run. Returns `None` if another process has a lock.
-pub fn lock_of(
-    rt: HostRuntime,
-    setting: &Setting<'_>,
-    item: Item,
-) -> Result<Option<File>, Fault> {
+pub fn lock_of(rt: HostRuntime, setting: &Setting<'_>, item: Item) -> Result<Option<File>, Fault> {
     let file = opened(rt, setting, item)?;
     if !written(item, try_exclusive(&file))? {
         return Ok(None);
@@ -163,11 +159,7 @@ pub enum Tried {
 ///
 /// # Errors
 /// `Read` if it can't be opened, `Write` if it can't be locked.
-pub fn try_lock_of(
-    rt: HostRuntime,
-    setting: &Setting<'_>,
-    item: Item,
-) -> Result<Tried, Fault> {
+pub fn try_lock_of(rt: HostRuntime, setting: &Setting<'_>, item: Item) -> Result<Tried, Fault> {
     let Some(file) = opened_to_read(rt, setting, item)? else {
         return Ok(Tried::Missing);
     };

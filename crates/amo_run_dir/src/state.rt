@@ -45,11 +45,7 @@ pub fn read_pages(rt: HostRuntime, setting: &Setting<'_>) -> Result<RawLogs, Fau
 ///
 /// # Errors
 /// `Missing` if it isn't there, `Empty` if it has no byte.
-pub fn texts_of(
-    rt: HostRuntime,
-    setting: &Setting<'_>,
-    item: Item,
-) -> Result<Vec<Vec<u8>>, Fault> {
+pub fn texts_of(rt: HostRuntime, setting: &Setting<'_>, item: Item) -> Result<Vec<Vec<u8>>, Fault> {
     match bytes_of(rt, setting, item)? {
         Some(bytes) if bytes.is_empty() => Err(Fault::Empty(item)),
         Some(bytes) => Ok(texts_in(rt.alloc(), &bytes)?),

@@ -29,7 +29,12 @@ pub fn may_answer(
     checked(log, intent, line, verdict)
 }
 
-fn checked(log: &RunLog<'_>, intent: AttemptId, line: u64, verdict: Resolution) -> Result<(), Refusal>
+fn checked(
+    log: &RunLog<'_>,
+    intent: AttemptId,
+    line: u64,
+    verdict: Resolution,
+) -> Result<(), Refusal>
     ensures { result_err result ≡ refusal_of log.now.findings.now (map (λ journal. journal.items) log.now.journals.now) log.now.finals.now intent.worker intent.serial line verdict }
 {
     let AttemptId { worker, serial } = intent;

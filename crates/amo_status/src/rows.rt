@@ -74,7 +74,12 @@ fn is_listed_in(form: Form, state: State) -> bool
 }
 
 /// What stands before a line's text.
-fn row_head(alloc: Global, form: Form, line: u64, standing: &LineStatus) -> Result<String, AllocError>
+fn row_head(
+    alloc: Global,
+    form: Form,
+    line: u64,
+    standing: &LineStatus,
+) -> Result<String, AllocError>
     ensures { IfOk result (λ head. string_bytes head ≡ row_head form line standing.now) }
 {
     match form {

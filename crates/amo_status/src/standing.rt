@@ -32,7 +32,11 @@ const OPEN: LineStatus = LineStatus {
 
 /// Returns how each of the lines 1..count stands, in order. If several intents close a line, one that
 /// is running decides, else the first in the order of the journals.
-pub fn standings(alloc: Global, log: &RunLog<'_>, count: usize) -> Result<Vec<LineStatus>, AllocError>
+pub fn standings(
+    alloc: Global,
+    log: &RunLog<'_>,
+    count: usize,
+) -> Result<Vec<LineStatus>, AllocError>
     ensures exact { IfOk result (λ found. found.items ≡ standings_of log.now.findings.now (map (λ journal. journal.items) log.now.journals.now) log.now.finals.now count) }
     // A line stands open just where it is open.
     ensures just_open { IfOk result (λ found. map (λ s. is Open s.state) found.items ≡ map (is_open log.now.findings.now (map (λ journal. journal.items) log.now.journals.now)) (numbers count)) }

@@ -166,10 +166,7 @@ pub fn push_transition(out: &mut String, transition: &Transition) -> Result<(), 
 }
 
 /// Appends a line for each transition.
-pub fn push_transitions(
-    out: &mut String,
-    transitions: &[Transition],
-) -> Result<(), AllocError>
+pub fn push_transitions(out: &mut String, transitions: &[Transition]) -> Result<(), AllocError>
     ensures { OnOk result (string_bytes out.new ≡ string_bytes out.old ++ transition_lines transitions.now) }
 {
     for transition in transitions {

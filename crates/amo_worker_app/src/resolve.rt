@@ -4,8 +4,8 @@ use crate::snapshot::{Snapshot, look_behind};
 use amo_fs::FileDevice;
 use amo_journal::{DeviceError, PutError};
 use amo_run_dir::{
-    Fault, Item, Later, LockedJournal, OpenJournal, Setting, check_id, check_kept, had, lock_within,
-    settled,
+    Fault, Item, Later, LockedJournal, OpenJournal, Setting, check_id, check_kept, had,
+    lock_within, settled,
 };
 use amo_run_log::{Fault as Misread, Finding, Resolution};
 use amo_status::{Refusal, Said, may_answer, read_answers, untouched};

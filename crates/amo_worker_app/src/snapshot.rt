@@ -3,8 +3,8 @@ use amo_fs::is_at;
 use amo_givens::MAX_WORKERS;
 use amo_journal::texts_in;
 use amo_run_dir::{
-    Age, Fault, Item, RawLogs, RunState, Setting, Tried, attempts_of, bytes_of, had, known, lock_of,
-    lock_within, path_of, settled, texts_of, try_lock_of,
+    Age, Fault, Item, RawLogs, RunState, Setting, Tried, attempts_of, bytes_of, had, known,
+    lock_of, lock_within, path_of, settled, texts_of, try_lock_of,
 };
 use amo_run_log::pending;
 use amo_status::{AttemptId, LineStatus, standings};
