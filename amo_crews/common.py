@@ -1,6 +1,7 @@
-"""What the modules of amo_jobs and amo_share share: statuses, messages, files, locks, amo_worker.
+"""The common part of amo_jobs and amo_share: statuses, messages, files, locks, amo_worker.
 
-A message is `object: problem; remedy`. The operator reads it at night, and decides by it."""
+A message is `object: problem; remedy`. The operator reads it at night, and decides by it.
+"""
 
 from __future__ import annotations
 

@@ -307,10 +307,10 @@ def try_leftovers(bench):
     crew = scene.start()
     until(lambda: [it for it in scene.tales(5) if it[0] == "did"], "it goes on to the last line")
     want(scene.tale().count("something that it started still runs") == 3,
-         f"what is left behind isn't told: {scene.tale()}")
+         f"processes that are left behind aren't reported: {scene.tale()}")
     locks = [f"{scene.run}/command.{scene.tales(line)[0][1]}" for line in (1, 2, 3)]
     scene.let("go")
-    until(lambda: all(map(folder.is_free, locks)), "what was left behind ends")
+    until(lambda: all(map(folder.is_free, locks)), "all that was left behind ends")
     scene.let("over")
     scene.ends(crew, DONE)
     scene.audit()
@@ -320,7 +320,7 @@ def try_leftovers(bench):
     script = 'cd "$1"; (while [ -e jobs ] && ! [ -e over ]; do sleep 0.05; done) & echo $! > left'
     scene.ends(scene.start(command=["sh", "-c", script, "sh", scene.room]), DOUBTFUL)
     left = folder.read(f"{scene.room}/left").decode().strip()
-    want(f"process {left} (sh -c" in scene.tale(), f"who holds it isn't told: {scene.tale()}")
+    want(f"process {left} (sh -c" in scene.tale(), f"the process that holds it isn't named: {scene.tale()}")
     want(f"process {left} " in scene.call("status", status=DOUBTFUL), "the status names nobody")
     want(scene.call("doubts") == "", "it is listed while it runs")
     scene.call("answer", "1.1", "1", "stays", "not-done", status=LATER)

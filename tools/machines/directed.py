@@ -127,7 +127,7 @@ def try_other_list(bench):
     with open(scene.jobs, "a") as file:
         file.write("pay 5\n")
     first.start().ends(REFUSED)
-    want("what is shared is fixed" in first.tale(), f"it says {first.tale()}")
+    want("a list that is shared is fixed" in first.tale(), f"it says {first.tale()}")
     want(len(scene.tales()) == 4, f"performed: {scene.tales()}")
 
 
