@@ -1,10 +1,11 @@
 #!/usr/bin/env python3
-"""Worker P of M by lines, over one SQLite database that the partners of one machine share.
+"""Worker P of M by lines, over one SQLite database that the runners of one machine share.
 
   partner.py WORKER DATABASE P M BETA JOBS COMMAND..
 
-It performs line J of JOBS, which stays as it is, as COMMAND.. LINE: each line at most once. The table `journal` says what became of
-each. The status is that of the worker, or 75 where another process has number P. What can't be kept ends it, and the worker with it.
+It performs line J of JOBS, which stays as it is, as COMMAND.. LINE: each line at most once. The table
+`journal` holds what became of each line. The status is that of the worker, or 75 if another process has
+number P. If something can't be kept, the runner ends, and the worker with it.
 """
 
 import fcntl

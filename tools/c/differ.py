@@ -1,14 +1,17 @@
 #!/usr/bin/env python3
-"""Compares workers by amo_next and amo_batch, over one list of words, with the replay of the same schedule.
+"""Compares workers by amo_next and amo_batch, over one list of words, with the replay of the same
+schedule.
 
   differ.py LIBRARY REPLAY RUNS SEED
 
-REPLAY is the built amo, or bench/replay.rs, as it is started to replay a plan on standard input. Each run is a random plan: turns,
-bursts of turns, stops, leaves and rounds. A worker here has loaded its own words, all 0, before the schedule begins; then a turn
-is one access. Before each it asks by amo_next, and by amo_batch where nothing is left of the last batch, now and then though
-something is; amo_next has to tell the first access that is left of the batch. What was claimed, performed and filed, who ended
-when, and the counts of each worker have to be those of the report. The last line says how much was compared; the status is 0
-where all was the same.
+REPLAY is the built amo, or bench/replay.rs, as it is started to replay a plan on standard input.
+Each run is a random plan: turns, bursts of turns, stops, leaves and rounds. A worker here has
+loaded its own words, all 0, before the schedule begins. From then on a turn is one access. Before
+each turn the worker asks amo_next. It asks amo_batch if nothing is left of the last batch, and now
+and then though something is. amo_next must return the first access that is left of the batch. The
+jobs that were claimed, performed and filed, the workers that ended and when, and the counts of each
+worker must be those of the report. The last line states how much was compared; the status is 0 if
+all was the same.
 """
 
 import os
@@ -66,9 +69,9 @@ class Worker:
         told = self.told()
         if asks_anew or not self.items:
             batched, self.items = self.library.batch(self.number, self.heard)
-            want(bytes(batched) == bytes(told), "amo_batch and amo_next tell something else")
+            want(bytes(batched) == bytes(told), "amo_batch and amo_next return different accesses")
         want(as_access(self.items[0]) == (told.access, told.word, told.value), "another access is left of the batch")
-        want(told.doubt == 0 and (told.perform == 0) == (told.phase != amo.HOLDING), "what is to be performed")
+        want(told.doubt == 0 and (told.perform == 0) == (told.phase != amo.HOLDING), "another job is to be performed")
         if told.phase == amo.CLAIMING:
             self.job = self.words[self.library.calls.amo_announcement_word(self.library.givens, self.number)]
         if told.phase == amo.HOLDING:

@@ -1,11 +1,13 @@
 #!/usr/bin/env python3
-"""A store that answers badly, before any claim program.
+"""A store that answers badly, in front of any claim program.
 
-  faulty.py PERCENT COUNTS CMD WORDS..      so many claims in a hundred are dropped, are carried out with the answer lost, cut or
-                                            late, are carried out late, or are carried out again later
-  faulty.py first COUNTS CMD WORDS..        the first answer to each claim is lost
+  faulty.py PERCENT COUNTS CMD WORDS..   treats so many of a hundred claims badly: drops them,
+                                         loses, cuts or delays the answer, carries them out late,
+                                         or carries them out again later
+  faulty.py first COUNTS CMD WORDS..     loses the first answer to each claim
 
-What was done is appended to the file COUNTS, a word each. Other words than claim are handed on as they are.
+It appends a word for each call to the file COUNTS: how it treated that call. It passes on other
+words than claim as they are.
 """
 
 import os

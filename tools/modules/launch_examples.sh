@@ -71,7 +71,7 @@ compare_looks() {
   expect './look replay' 0 examples/three_jobs.report "$(lines "$looks")" looked ended
   expect './look stops 3' 1 /dev/null "$(lines "$looks" "$(cat examples/each_stop.stops_3.fault)")" looked faulted
   sed -n '/^job 1: a letter/,/^```$/p' docs/EMBEDDING.md | grep '^job ' >"$room/letters.page"
-  expect 'what EMBEDDING begins with' 0 "$room/letters.page" /dev/null cat "$room/embedded"
+  expect 'the first program of EMBEDDING' 0 "$room/letters.page" /dev/null cat "$room/embedded"
 }
 
 # A copy in which nothing is built, a path without the toolchain, and one with scripts in its place: `rt try` keeps the words and the
@@ -161,11 +161,11 @@ build_copies() {
   rm -r "$room/copy/crates/amo_plan/out"
   expect './amo_show, built now' 0 "$(lines '<trace>')" "$(lines "amo_show: $begun" 'amo_show: some are proved' \
     'amo_show: all are proved')" build_copy amo_show trace
-  expect 'what is kept before a change' 1 /dev/null /dev/null find_kept
+  expect 'proofs kept before a change' 1 /dev/null /dev/null find_kept
   echo >>"$room/copy/crates/amo_kk/src/lib.rt"
   expect './amo, a source changed' 0 "$(lines '<check>')" "$(lines "amo: $begun" 'amo: some are proved' 'amo: all are proved')" \
     build_copy amo check
-  expect 'what is kept after it' 0 /dev/null /dev/null find_kept
+  expect 'proofs kept after it' 0 /dev/null /dev/null find_kept
 }
 # The libraries that the prover has made more than once.
 made_again() { sort "$script/made" | uniq -d; }

@@ -47,7 +47,7 @@ try_smalls() {
     for size in {0..70} 85 100 128 150 200 256 300 400; do
       make_small "$size" $version
       if ! is_small_taken "$size"; then
-        fail "each command of a plan of size $size in version $version" 'another end' 'what it asks for'
+        fail "each command of a plan of size $size in version $version" 'another end' 'the end that it asks for'
         head -n 5 "$room/out" "$room/err"
         continue 2
       fi

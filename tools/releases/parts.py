@@ -1,9 +1,11 @@
 #!/usr/bin/env python3
-"""What of a release crates.txt and the toolchain tell, in the repository in which this file lies.
+"""Does the steps of a release that need crates.txt and the toolchain, in this file's repository.
 
   parts.py cut              leaves of its crates those that a release is built of
-  parts.py compile          proves the programs over the libraries that `rt ci` made, and compiles them anew
-  parts.py licences FOLDER  puts into FOLDER the licences of the toolchain's crates that are linked, and LIST, which names each
+  parts.py compile          proves the programs over the libraries that `rt ci` made, and compiles
+                            them anew
+  parts.py licences FOLDER  puts into FOLDER the licences of the toolchain's crates that are linked,
+                            and LIST, which names each
 """
 
 import os
@@ -19,14 +21,14 @@ sys.path.insert(0, f"{ROOT}/tools/modules")
 import crates as listing
 
 BUILT = ("amo", "amo_show", "amo_worker", "amo_c")
-# What a licence is called, by words that stand in no other.
+# The name of each licence, and words that stand in no other.
 LICENCES = (("Apache-2.0", "Apache License"), ("MIT", "Permission is hereby granted, free of charge"))
 HEAD = """\
 The crates of the toolchain that are linked into the programs and into c/libamo_c.a, and the files of their licences, each beside
-this one in a folder of the crate's name. What of two files holds, and of what of the crate, says the crate's own page in the
-toolchain. Of crates with `none` the toolchain has no licence, nor of its C files, libos_c.a, which is linked into the programs, and
-liblibc_c.a, which stands in c/ too, nor of what its linker adds to each program, as crti.o and libgcc.a. The C library, libc.so.6,
-is not part of this: the programs load that of the machine.
+this one in a folder of the crate's name. If a crate has two files, its own page in the toolchain states which one holds for which
+part. For crates with `none` the toolchain has no licence. It has none either for its C files, libos_c.a, which is linked into the
+programs, and liblibc_c.a, which stands in c/ too, and for the files that its linker adds to each program, such as crti.o and
+libgcc.a. The C library, libc.so.6, is not part of this: the programs load that of the machine.
 
 """
 

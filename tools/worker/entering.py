@@ -375,7 +375,7 @@ def try_locks_for_ever(bench):
             (working(beside), LATER,
              "another worker is beginning a round; start again in a second\n")]
     alive = other.call("status", other.run)[1].split("\n")[1]
-    want(alive == "alive 1 16", f"who has put nothing yet isn't alive: {alive}")
+    want(alive == "alive 1 16", f"a worker that has put nothing yet isn't alive: {alive}")
     for it, status, said in rows:
         ended, _, err = it.ended()
         want(ended == status and said in err, f"{it.words}: status {ended}, {err}")

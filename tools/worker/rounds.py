@@ -270,7 +270,7 @@ def try_stopped_in_a_round(bench):
     for _ in range(4):
         want(live(other) == LATER, f"status {other.statuses}")
     want(folder.record_of(scene.run) == record, "a round was begun beside a stopped worker")
-    want(not scene.doubts(), "what is stopped is a doubt")
+    want(not scene.doubts(), "a stopped worker's line is a doubt")
     del runner.perform
     runner.process.send_signal(signal.SIGCONT)
     runner.take(runner.lines[0])
