@@ -6,8 +6,8 @@ ghost use Rattle.amo_run_dir.specs.Rounds.{IsNextRound, round_after};
 
 use crate::error::{Fault, had};
 use crate::files::replaced;
-use crate::join::record_of;
 use crate::layout::Item;
+use crate::round::record_of;
 use crate::settings::{ListSettings as Asked, Setting};
 use crate::state::{RunState, known, read_pages};
 use amo_givens::{MAX_JOBS, MAX_WORKERS};
