@@ -3,7 +3,7 @@ ghost use Rattle.std.specs.Prelude.{◌≡◌, IfOk, IfErr};
 ghost use Rattle.amo_example_payments.specs.Payments.{IsReceiptOf, Answers};
 
 use crate::day::Payment;
-use crate::ledger::{Given, Intent, Ledger, Receipt};
+use crate::ledger::{Given, IntentToken, Ledger, Receipt};
 use amo_crew::Work;
 use amo_journal::Device;
 use std::alloc::Global;
@@ -75,7 +75,7 @@ impl<'a, D: Device + Drop, S: Write + Drop, R: Wait + Clock> Bank<'a, D, S, R> {
 
     /// Makes a payment whose intent is put, and counts it. The lock is that of the writer which stands for a bank: a real bank's
     /// call takes none.
-    fn pay(&self, intent: Intent) -> Result<Given, Payment>
+    fn pay(&self, intent: IntentToken) -> Result<Given, Payment>
         ensures given { IfOk result (λ g. g.payment ≡ intent.payment) }
         ensures back { IfErr result (λ p. p ≡ intent.payment) }
     {

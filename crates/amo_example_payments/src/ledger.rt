@@ -15,7 +15,7 @@ use std::collections::BTreeSet;
 
 mod order;
 
-pub(crate) use order::{Given, Intent, Receipt};
+pub(crate) use order::{Given, IntentToken, Receipt};
 
 /// The journal of a day, over a file that is settled. Once an entry could not be put it puts no more.
 #[derive(Drop)]
@@ -116,7 +116,7 @@ impl<D: Device + Drop> Ledger<D> {
 
     /// Puts the intent of the payment. Once this answers it, each crash leaves the intent. Where it can't be put, or an intent of
     /// the payment stands there already, the payment comes back, and must not be made: its intent may stand there now.
-    pub(crate) fn intend(&mut self, payment: Payment, time: u64) -> Result<Intent, Payment>
+    pub(crate) fn intend(&mut self, payment: Payment, time: u64) -> Result<IntentToken, Payment>
         // The journal had no intent of the payment that stands.
         ensures once { OnOk result (has_intent self.old.attempts.items payment.id ≡ false) }
         ensures shut { OnOk result (self.old.broken ≡ false) }
@@ -140,7 +140,7 @@ impl<D: Device + Drop> Ledger<D> {
             return Err(payment);
         }
         if self.put(Entry::Intent { serial, line, time }) {
-            Ok(Intent::new(payment, serial))
+            Ok(IntentToken::new(payment, serial))
         } else {
             Err(payment)
         }
