@@ -16,7 +16,8 @@ import tempfile
 
 HERE = os.path.dirname(os.path.realpath(__file__))
 ACT, EVER, AMO_JOBS = f"{HERE}/jobs_act", "1e9", [sys.executable, f"{HERE}/../amo_jobs"]
-# By what several workers are started: M, Python, a program, its first word, and all that stands behind the worker's number.
+# Starts several workers. Its arguments are M, Python, a program, its first argument, and all of its
+# arguments after the worker's number.
 CREW = ["sh", "-c", 'workers=$1 python=$2 program=$3 first=$4; shift 4; for p in $(seq "$workers"); do'
         ' "$python" "$program" "$first" "$p" "$@" & done; wait', "crew"]
 # One command of xargs, and its line in the log once it has ended: its status, and the text.

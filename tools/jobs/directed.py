@@ -10,21 +10,22 @@ WHO = ("runner", "worker", "command", "runner+worker", "runner+command", "worker
 STOPPED = ("~runner", "~worker", "~command", "runner+~worker", "runner+~command", "runner+worker+~command", "~runner+worker",
            "runner+~worker+~command", "~runner+~command")
 KINDS = ["slow", "amp", "fail"]
-# These leave no doubt, since an end that a runner saw isn't lost with its worker; but where a worker died before what it said came
-# to its runner, which then knows nothing.
+# Kills and stops that leave no doubt, since an end that a runner saw isn't lost with its worker. If a
+# worker died before its line came to its runner, the runner knows nothing, and a doubt may be left.
 LEAVE_NO_DOUBT = ("worker", "~runner", "~worker", "~command", "~runner+worker", "~runner+~command")
 
 
 def befall(bench, number, who, kinds, workers):
-    """One run in which this befalls these at this moment."""
+    """Runs once, with these kills and stops at this moment."""
     scene = bench.scene(kinds, workers)
     scene.see_out(scene.start(plan=f"{number}:{who}"))
     scene.audit()
     told = folder.read(f"{scene.room}/befallen").decode()
     bench.add("befallen", told.count("\n"))
-    # (who is killed as it hears of an end may have put its next intent before it dies, of which its runner hears nothing)
+    # (A worker that is killed as it gets an end may have put its next intent before it dies. Its
+    # runner doesn't learn of that intent.)
     unseen = {f"{worker}.{int(serial) + 1}" for worker, serial in re.findall(r"(\d+)\.(\d+) of line \d+ answered", told)}
-    # (and of what a command left behind no runner sees the end that has nothing else to do until then)
+    # (If a runner has nothing else to do, it doesn't see the end of what a command left behind.)
     unseen.update(re.findall(r"line \d+: attempt (\d+\.\d+) has ended, and something that it started still runs", scene.tale()))
     may_leave = who not in LEAVE_NO_DOUBT or "unsaid" in told or unseen.issuperset(scene.listed)
     want(may_leave or not scene.listed, f"a doubt though no runner or command was killed: {told.strip()}, {scene.listed}")

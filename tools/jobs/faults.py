@@ -26,8 +26,8 @@ LANES, BUILD = 4, 125
 #   ERRORS              each is tried. SHORT is no error: the write takes half of the bytes. `-` is
 #                       for a call that can give no error here; the rest of the row is the reason.
 #   STATUS              that of the crew in which the call fails.
-#   SAYS                a part of what this crew prints, in either case: % is the error's text, * is
-#                       any text, and NOT begins the message that line 1 can't be started.
+#   SAYS                a part of this crew's output, in either case. % is the error's text, * is any
+#                       text, and NOT begins the message that line 1 can't be started.
 #   DOUBTS              how many lines the operator is asked about, who answers truthfully.
 #   NEXT                how many lines the crews after it perform, in which no call fails.
 # If two ends are right, a `/` stands between them; the first of one column goes with the first of
@@ -242,8 +242,8 @@ waitpid again 1            | -                 | amo_jobs began it, and nobody e
 """
 
 # The command doesn't exist. Its child reports that and kills itself. If the report can't be
-# written or read, or if the child's end isn't known, the command counts as begun: its line is in
-# doubt, and is neither open nor done.
+# written or read, or if the child's end isn't known, the command counts as begun. Its line is in
+# doubt then, and is neither open nor done.
 MISSING = """
 write child:command 1      | EIO EPIPE         | 2     | 1 in doubt | 1 | 3
 read report 1              | EIO               | 2     | 1 in doubt | 1 | 3

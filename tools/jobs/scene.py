@@ -215,7 +215,8 @@ class Scene:
             self.person()
             if status == FAILED and again and "untouched" in self.look().kinds().values():
                 self.call("again")
-            # (lines that came after its start may be the next one's; and Python ends with 1 where a signal comes before it has begun)
+            # (Lines that came after its start may be the next one's. Python ends with 1 if a signal
+            # comes before it has begun.)
             elif status in (DONE, FAILED) and len(self.kinds) == self.known and os.path.exists(f"{self.run}/jobs"):
                 return status
             elif status == DOUBTFUL:
@@ -242,7 +243,8 @@ class Scene:
             want(is_kept, f"line {it.line} counts as {it.answer} by {it.name()}, which did it: {told}")
         counts = self.counts()
         want({it: counts[it] for it in found.counts()} == found.counts(found.final()), f"the status is {counts}")
-        # (who has a number removes the locks of its earlier commands, so those of numbers that nobody has any more stay)
+        # (A runner removes the locks of its number's earlier commands, so the locks of unused numbers
+        # stay.)
         locks = [it for it in os.listdir(self.run) if it.startswith("command.") and int(it.split(".")[1]) <= self.numbers]
         want(not locks, f"locks are left: {locks}")
 

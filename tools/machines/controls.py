@@ -7,7 +7,8 @@ from machines import directed, scene
 
 MARK = """f"{re.sub('[^A-Za-z0-9-]', '-', os.uname().nodename)[:40]}.{os.urandom(16).hex()}\""""
 TWICE, LOST = "performed twice", "lost unseen"
-# The mistake, what stands in amo_share and what in its place, by pairs, the test that has to show it, and what it has to say.
+# A row has the mistake, the texts of amo_share and their replacements, by pairs, the test that must
+# show it, and the message of that test.
 MISTAKES = [
     ("name_in_place_of_a_mark", [MARK, "os.path.basename(os.path.dirname(given.run))"], directed.try_lost_folder, TWICE),
     ("mark_outside_the_folder", [

@@ -1,5 +1,5 @@
-# What ./amo, ./amo_show and ./look do where there is a toolchain, where there is none and where a script is in its place, for
-# tools/examples, which reads this file: its calls are used here.
+# Tries ./amo, ./amo_show and ./look with the toolchain, without it, and with a script in its place.
+# tools/examples reads this file, which uses the functions of that tool.
 
 # ./amo and ./amo_show hand on words, streams and status.
 run_amo() {
@@ -14,8 +14,9 @@ on_terminal() (
   python3 -c 'import os, pty, sys; sys.exit(os.waitstatus_to_exitcode(pty.spawn(sys.argv[1:])))' "$@" </dev/null | tr -d '\r'
 )
 
-# The version of each program, the pages that stand for the help that two of them haven't, what these say to the same words beside
-# others and what ./amo check says first on a terminal.
+# Tries the version of each program, and the pages that stand for the help of two of them. Tries the
+# answers of these two if the same arguments come with others, and the first line of ./amo check on
+# a terminal.
 show_help() {
   local name word version
   read -r version <VERSION
@@ -51,14 +52,16 @@ looked() {
   return "$(cat "$room/$1.ended")"
 }
 
-# What docs/EMBEDDING.md has a reader do from nothing on, but for the last command, which proves.
+# The steps that docs/EMBEDDING.md gives a reader from nothing on, without the last command, which
+# proves.
 embed() {
   sed -n '/^AMO=/,/^rt try$/p' docs/EMBEDDING.md | sed "s|/tmp/letters|$room/letters|g" >"$room/embed"
   sh -e "$room/embed" </dev/null 2>"$room/embed.err" | grep '^job '
 }
 
-# Two looks with the toolchain itself, and that page. Each takes a minute or two, so they run beside all else, and are compared last.
-# RT_SECONDS gives a program more than the minute that `rt try` gives it, for a loaded machine.
+# Two looks with the toolchain itself, and that page. Each takes a minute or two, so they run at the
+# same time as all else, and are compared last. RT_SECONDS gives a program more than the minute that
+# `rt try` gives it, for a loaded machine.
 looks='look: the program runs with nothing proved, in a minute or two; to prove it first, use ./amo'
 begin_looks() {
   local -x RT_SECONDS=900
@@ -74,9 +77,11 @@ compare_looks() {
   expect 'the first program of EMBEDDING' 0 "$room/letters.page" /dev/null cat "$room/embedded"
 }
 
-# A copy in which nothing is built, a path without the toolchain, and one with scripts in its place: `rt try` keeps the words and the
-# input that it was given and writes the files out and err, `rt lib` and the prover make an empty library, the prover and the linker
-# a program that writes its words, and each library of the prover's is noted in the file made. The crate $UNPROVED is not proved.
+# Makes a copy in which nothing is built, a path without the toolchain, and one with scripts in its
+# place. Of the scripts, `rt try` keeps its arguments and its input and writes the files out and
+# err. `rt lib` and the prover make an empty library, and the prover and the linker a program that
+# writes its arguments. The file made lists each library of the prover's. The crate $UNPROVED is not
+# proved.
 set_apart() {
   local command
   mkdir -p "$room/copy" "$room/bare" "$room/kit/bin"
@@ -122,7 +127,8 @@ END
 without_rt() { PATH=$room/bare "$@"; }
 with_script() { PATH=$script:$PATH "$@"; }
 
-# Without the toolchain, what has to be built and what has to be proved says so in one line; what is built runs.
+# Without the toolchain, each script that must build or prove prints that in one line, and a built
+# program runs.
 do_without() {
   local name missing="\`rt\`: it is not on the path; install the toolchain, see 'Build and run' in README.md"
   expect './look without the toolchain' 125 /dev/null "$(lines "look: $missing")" \

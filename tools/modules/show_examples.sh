@@ -8,8 +8,9 @@ counted() {
       print "events", all + 0, "claimed", of["claimed"] + 0, "done", of["done"] + 0, "ended", of["ended"] + 0, "halted", of["halted"] + 0, "left", of["left"] + 0 }' "$1"
 }
 
-# make_history JOBS WORKERS [names]: a history of so many jobs, each claimed and done by the next of the workers, in history, and what
-# is judged of it, in lawful; with job 1 claimed once more at its end in unlawful.history and unlawful.
+# make_history JOBS WORKERS [names]: writes a history of so many jobs, each claimed and done by the
+# next of the workers, to the file history, and its verdict to lawful. Writes the history with job 1
+# claimed once more at its end to unlawful.history, and its verdict to unlawful.
 make_history() {
   awk -v jobs="$1" -v workers="$2" -v names="${3:+ names}" -v room="$room" 'BEGIN {
     first = "jobs " jobs " workers " workers " beta " workers names
@@ -42,8 +43,9 @@ judge_sizes() {
   expect "amo_show judge of a claim more after up to $jobs jobs${1:+ with $1}" 0 "$room/unlawful" /dev/null "$show" judge <"$room/unlawful.history"
 }
 
-# amo_show judge: each report's history is a run, that of the longest too; histories of all sizes; a log that was brought into that form;
-# what is no history; the longest text.
+# amo_show judge: each report's history is a run, that of the longest too. Further come histories of
+# all sizes, a log that was brought into that form, texts that aren't histories, and the longest
+# text.
 judge_runs() {
   local text log=examples/histories/celery
   for text in examples/*.report "$room/limits.report"; do
@@ -74,7 +76,8 @@ asked_for() {
         ", followed by " some(of["rounds"], "round") "." }'
 }
 
-# explained_first PLAN: the first line that is explained, where one to three lines more follow, of text each.
+# explained_first PLAN: prints the first line of an explanation, after which one to three lines of
+# text must follow.
 explained_first() {
   "$show" explain <"$1" | awk 'NR == 1 { print; next } /^.+$/ { more++ } END { exit !(more == NR - 1 && 1 <= more && more <= 3) }'
 }
@@ -124,8 +127,9 @@ expect_worst() {
   fi
 }
 
-# amo_show worst: the least that may be performed, for numbers of all sizes; the longest schedule, and one that is too long; a text
-# that is too long; what each key and each text comes to.
+# amo_show worst: the fewest jobs that may be performed, for numbers of all sizes. Further come the
+# longest schedule, one that is too long, a text that is too long, and the result of each key and
+# each text.
 worst_runs() {
   local jobs workers beta count
   for workers in 1 2 3 7 16; do

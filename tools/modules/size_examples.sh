@@ -1,8 +1,10 @@
-# Plans of each size up to 70 and of some above, for tools/examples, which reads this file: a call that gives up at a size between those
-# of the other tests shows. Its calls are used here, and so is `counted` of show_examples.sh.
+# Plans of each size up to 70 and of some above: a call that gives up at a size between those of the
+# other tests shows. tools/examples reads this file, which uses the functions of that tool, and
+# `counted` of show_examples.sh.
 
-# make_small SIZE VERSION: a plan in small.toml with so many jobs, so many moves and rounds, names and texts of so many bytes, and so many
-# numbers to add; and in small.check the line that checks it.
+# make_small SIZE VERSION: writes a plan to small.toml, and the line that checks it to small.check.
+# SIZE is its number of jobs, moves, rounds and numbers to add, and the bytes of its names and
+# texts.
 make_small() {
   awk -v size="$1" -v version="$2" -v workers=$(($1 % 16 + 1)) -v block=$(($1 % 9 + 1)) -v room="$room" '
     BEGIN {

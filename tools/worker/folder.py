@@ -14,7 +14,7 @@ ENTRY = re.compile(rb"(intent) N N N|(done) N N N|(doubt) N|(unbegun) N|(untouch
 FINDING = re.compile(rb"(done|not-done) N N N".replace(b"N", NUMBER))
 KINDS = "done failed doubt running untouched open".split()
 MOST_WORKERS = 16
-# What the door makes besides `id`, and what stands in it at first.
+# The files that the door makes in addition to `id`, with their first content.
 PARTS = {"lock.round": b"", "answers": b"-",
          **{f"journal.{p}": b"-" for p in range(1, MOST_WORKERS + 1)}}
 ID = re.compile(rb"[0-9a-f]{32}\n")

@@ -13,7 +13,8 @@ from worker.kills import Waiting, names_file, state_of
 from worker.power import life_points, settle_doubts
 from worker.scene import READ, REFUSED, WRITE, Runner, each, live, serve, want
 
-# From the first line that a process says, its calls are numbered: to say it, to hear the answer, and the four by which it is put.
+# The number of a process's calls from its first line on: to write it, to read the answer, and the
+# four by which the answer is put.
 NOTED = 6
 
 

@@ -17,7 +17,7 @@ from worker.power import settle_doubts
 from worker.scene import (DOOR, KILLED, LATER, OVER, READ, REFUSED, WRITE, Runner, Scene, each,
                           finish, live, serve, want)
 
-# What is there before the door comes, and the words by which it is told.
+# The state of the folder before the door comes, and the words by which it is named.
 BEFORE = ("missing", "users", "cut", "into")
 ANOTHER = "0123456789abcdef0123456789abcdef"
 MINE = {**dict.fromkeys(("notes", "list", "list.run-is", "journal.x"), b"mine\n"),

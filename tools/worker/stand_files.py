@@ -15,7 +15,8 @@ MISTAKES = ("intent_after_the_act pending_is_open guard_is_removed words_of_anot
 MISTAKE = os.environ.get("AMO_MISTAKE")
 MOST_JOBS, MOST_WORKERS, MOST_BYTES, VERSION = 4096, 16, 100000, b"amo-run 1"
 LATER, PATIENCE = 75, 2.0
-# What the door makes besides `id`, and all other names of files that amo makes in a run's folder.
+# The files that the door makes in addition to `id`, and all other names of files that amo makes in
+# a run's folder.
 PARTS = ["lock.round", "answers", *(f"journal.{p}" for p in range(1, MOST_WORKERS + 1))]
 
 
