@@ -1,8 +1,9 @@
 #!/bin/sh
 # act.sh ROOM TEXT: the command of the tests. TEXT is a number and what to do; what happens is appended to ROOM/effects/LINE, a
-# line each: `begun P.S PROCESS`, `did P.S`. The intent is the name of the lock that stands as standard input.
-# The first attempt at a line that waits does its work once a test has made the file ROOM/go. A line that stays goes on after that
-# until the test has made ROOM/over. So no test has to be faster than a command.
+# line each: `begun P.S PROCESS`, `did P.S`. The intent is the name of the lock that stands as
+# standard input. The first attempt at a line that waits does its work once a test has made the file
+# ROOM/go. A line that stays goes on after that until the test has made ROOM/over. So no test has to
+# be faster than a command.
 room=$1 what=${2#* } file=$1/effects/$AMO_LINE
 name=$(readlink "/proc/$$/fd/0") name=${name##*/command.}
 echo "begun $name $$" >> "$file"

@@ -10,8 +10,9 @@ WHO = ("runner", "worker", "command", "runner+worker", "runner+command", "worker
 STOPPED = ("~runner", "~worker", "~command", "runner+~worker", "runner+~command", "runner+worker+~command", "~runner+worker",
            "runner+~worker+~command", "~runner+~command")
 KINDS = ["slow", "amp", "fail"]
-# Kills and stops that leave no doubt, since an end that a runner saw isn't lost with its worker. If a
-# worker died before its line came to its runner, the runner knows nothing, and a doubt may be left.
+# Kills and stops that leave no doubt, since an end that a runner saw isn't lost with its worker. If
+# a worker died before its line came to its runner, the runner knows nothing, and a doubt may be
+# left.
 LEAVE_NO_DOUBT = ("worker", "~runner", "~worker", "~command", "~runner+worker", "~runner+~command")
 
 

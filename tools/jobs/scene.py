@@ -243,8 +243,8 @@ class Scene:
             want(is_kept, f"line {it.line} counts as {it.answer} by {it.name()}, which did it: {told}")
         counts = self.counts()
         want({it: counts[it] for it in found.counts()} == found.counts(found.final()), f"the status is {counts}")
-        # (A runner removes the locks of its number's earlier commands, so the locks of unused numbers
-        # stay.)
+        # (A runner removes the locks of its number's earlier commands, so the locks of unused
+        # numbers stay.)
         locks = [it for it in os.listdir(self.run) if it.startswith("command.") and int(it.split(".")[1]) <= self.numbers]
         want(not locks, f"locks are left: {locks}")
 

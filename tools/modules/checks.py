@@ -11,8 +11,8 @@ import stubs
 from crates import PARTS
 
 # A proved function may be listed as one that may wait. A closure may be listed as proved if its
-# callers give what it requires. Of holes there are those of stubs alone: a function has none, or rests
-# on some.
+# callers give what it requires. Of holes there are those of stubs alone: a function has none, or
+# rests on some.
 FUNCTION = re.compile(r"(?:fn|struct|enum|impl|trait|const) (\S+): (?:(proved|no holes|depends on a hole in )(?:,? .*|`.*)?|(.*))")
 PLACE = re.compile(r"(?:note: )?(?:\./)?(\S+?):(\d+):\d+: (.*)")
 # A function that calls one that isn't proved, passes it on, or is made of it.

@@ -59,8 +59,8 @@ class Body:
         """Whether the two can't stand in one copy."""
         same = set(map(id, self.functions)) & set(map(id, other.functions)) or self.lines.keys() & other.lines.keys()
         calls, called = self.may_call(other), other.may_call(self)
-        # (Two functions that call one another are a cycle, which is refused before any proof. Only a new
-        # call can make one.)
+        # (Two functions that call one another are a cycle, which is refused before any proof. Only
+        # a new call can make one.)
         is_cycle = calls and called and any(it.name in one.calls for one, two in ((self, other), (other, self)) for it in two.functions)
         return bool(same or is_cycle or calls and other.changes_head() or called and self.changes_head())
 

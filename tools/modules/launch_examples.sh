@@ -153,7 +153,8 @@ build_copy() {
   return $ended
 }
 
-# ./amo and ./amo_show prove the libraries below them and then their own crate; where either fails the status is 125.
+# ./amo and ./amo_show prove the libraries below them and then their own crate; where either fails
+# the status is 125.
 build_copies() {
   local begun='the program is proved and built first; that takes some minutes'
   local unbuilt='the program could not be built; correct what the lines above report'

@@ -1,4 +1,5 @@
-# What `amo_show` writes of plans and histories, for tools/examples, which reads this file: its calls are used here.
+# What `amo_show` writes of plans and histories, for tools/examples, which reads this file: its
+# calls are used here.
 
 # counted REPORT: what is judged of the history of this report, which is a run.
 counted() {
@@ -85,7 +86,8 @@ explained_first() {
 # expect_explained LINE PLAN: what is explained begins with this line.
 expect_explained() { expect "amo_show explain, $1" 0 "$(line "$1")" /dev/null explained_first "$2"; }
 
-# amo_show explain: of each plan that is taken what it asks for, of each other its fault; plans of all sizes.
+# amo_show explain: of each plan that is taken what it asks for, of each other its fault; plans of
+# all sizes.
 explain_runs() {
   local plan jobs workers
   for plan in examples/*.toml "$room"/{limits,crowd,crowd_blocks,wide_blocks,rows,few_moves,stops}.toml; do
