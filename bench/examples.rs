@@ -1,4 +1,4 @@
-//! The traces, pictures and reports of examples/, and traces that were worked out by hand. Run at the top:
+//! The traces, pictures and reports of examples/plans/, and traces that were worked out by hand. Run at the top:
 //! `rustc --test --edition 2021 -o bench/out/texts bench/show.rs && bench/out/texts`.
 use super::*;
 use std::fs;
@@ -38,10 +38,10 @@ fn check(plan: &str, file: &str, text: impl Fn(&Plan) -> Text) {
     assert_eq!(text, wanted, "{file}");
 }
 
-/// Wants this text of each plan of examples/ beside which a file with this ending lies.
+/// Wants this text of each plan of examples/plans/ beside which a file with this ending lies.
 fn check_all(ending: &str, text: impl Fn(&Plan) -> Text) {
     let mut found = 0;
-    for entry in fs::read_dir("examples").expect("this runs at the top") {
+    for entry in fs::read_dir("examples/plans").expect("this runs at the top") {
         let path = entry.expect("an entry").path();
         if path.extension().is_some_and(|extension| extension == ending) {
             let plan = path.with_extension("toml");
@@ -62,7 +62,7 @@ fn traces() {
 fn pictures() {
     check_all("svg", picture::drawn);
     check_all("svg_sum", |plan| sum(&picture::drawn(plan)));
-    check("examples/two_collide.toml", "docs/two_collide.svg", picture::drawn);
+    check("examples/plans/two_collide.toml", "docs/two_collide.svg", picture::drawn);
 }
 
 #[test]
@@ -72,12 +72,12 @@ fn reports() {
 
 #[test]
 fn stops() {
-    check("examples/each_stop.toml", "examples/each_stop.stops_1", |plan| replay::stops(plan, 1).into_bytes());
+    check("examples/plans/each_stop.toml", "examples/plans/each_stop.stops_1", |plan| replay::stops(plan, 1).into_bytes());
 }
 
 #[test]
 fn explored() {
-    check("examples/rounds.toml", "examples/rounds.explore_0_2_5", |plan| replay::explore(plan, 0, 2, 5).into_bytes());
+    check("examples/plans/rounds.toml", "examples/plans/rounds.explore_0_2_5", |plan| replay::explore(plan, 0, 2, 5).into_bytes());
 }
 
 /// A plan of one worker with this version, schedule and number of jobs.

@@ -7,11 +7,11 @@
 //!
 //! ```text
 //! rustc -O --edition 2021 -o bench/out/replay bench/replay.rs
-//! bench/out/replay < examples/three_jobs.toml
+//! bench/out/replay < examples/plans/three_jobs.toml
 //! ```
 //!
 //! It does the same work: sets of jobs are bit words, and each worker keeps the number of jobs that it could take.
-//! Of the plan it reads only what is written one key a line, as in most of `examples/`, and it tests nothing: a plan
+//! Of the plan it reads only what is written one key a line, as in most of `examples/plans/`, and it tests nothing: a plan
 //! that breaks a rule makes it panic or write nonsense.
 
 use std::fmt::Write as _;

@@ -7,7 +7,7 @@
 //!
 //! ```text
 //! rustc -O --edition 2021 -o bench/out/show bench/show.rs
-//! bench/out/show trace < examples/two_collide.toml
+//! bench/out/show trace < examples/plans/two_collide.toml
 //! ```
 //!
 //! A trace is written while the plan runs. Of a run that is drawn only what a picture shows is kept.

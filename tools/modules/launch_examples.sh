@@ -3,9 +3,9 @@
 
 # ./amo and ./amo_show hand on words, streams and status.
 run_amo() {
-  expect './amo explore 0 2 5' 0 examples/rounds.explore_0_2_5 /dev/null ./amo explore 0 2 5 <examples/rounds.toml
-  expect './amo_show trace' 0 examples/two_collide.trace /dev/null ./amo_show trace <examples/two_collide.toml
-  expect './amo stops 3' 1 /dev/null examples/each_stop.stops_3.fault ./amo stops 3 <examples/each_stop.toml
+  expect './amo explore 0 2 5' 0 examples/plans/rounds.explore_0_2_5 /dev/null ./amo explore 0 2 5 <examples/plans/rounds.toml
+  expect './amo_show trace' 0 examples/plans/two_collide.trace /dev/null ./amo_show trace <examples/plans/two_collide.toml
+  expect './amo stops 3' 1 /dev/null examples/plans/each_stop.stops_3.fault ./amo stops 3 <examples/plans/each_stop.toml
 }
 
 # on_terminal COMMAND..: runs it where its streams are a terminal, and gives what it wrote there, with its status.
@@ -35,9 +35,9 @@ show_help() {
     done
   done
   expect './amo check on a terminal' 0 \
-    "$(lines 'amo: to see what is wrong with a plan: ./amo_show explain < PLAN' "$(cat examples/three_jobs.check)")" /dev/null \
-    on_terminal sh -c './amo check <examples/three_jobs.toml'
-  expect './amo replay on a terminal' 0 examples/three_jobs.report /dev/null on_terminal sh -c './amo replay <examples/three_jobs.toml'
+    "$(lines 'amo: to see what is wrong with a plan: ./amo_show explain < PLAN' "$(cat examples/plans/three_jobs.check)")" /dev/null \
+    on_terminal sh -c './amo check <examples/plans/three_jobs.toml'
+  expect './amo replay on a terminal' 0 examples/plans/three_jobs.report /dev/null on_terminal sh -c './amo replay <examples/plans/three_jobs.toml'
 }
 
 # look_aside NAME WORDS..: ./look, whose texts and status become files of this name; and the same texts and status again.
@@ -65,14 +65,14 @@ embed() {
 looks='look: the program runs with nothing proved, in a minute or two; to prove it first, use ./amo'
 begin_looks() {
   local -x RT_SECONDS=900
-  look_aside ended replay <examples/three_jobs.toml &
-  look_aside faulted stops 3 <examples/each_stop.toml &
+  look_aside ended replay <examples/plans/three_jobs.toml &
+  look_aside faulted stops 3 <examples/plans/each_stop.toml &
   embed >"$room/embedded" &
 }
 compare_looks() {
   wait
-  expect './look replay' 0 examples/three_jobs.report "$(lines "$looks")" looked ended
-  expect './look stops 3' 1 /dev/null "$(lines "$looks" "$(cat examples/each_stop.stops_3.fault)")" looked faulted
+  expect './look replay' 0 examples/plans/three_jobs.report "$(lines "$looks")" looked ended
+  expect './look stops 3' 1 /dev/null "$(lines "$looks" "$(cat examples/plans/each_stop.stops_3.fault)")" looked faulted
   sed -n '/^job 1: a letter/,/^```$/p' docs/EMBEDDING.md | grep '^job ' >"$room/letters.page"
   expect 'the first program of EMBEDDING' 0 "$room/letters.page" /dev/null cat "$room/embedded"
 }
@@ -132,15 +132,15 @@ with_script() { PATH=$script:$PATH "$@"; }
 do_without() {
   local name missing="\`rt\`: it is not on the path; install the toolchain, see 'Build and run' in README.md"
   expect './look without the toolchain' 125 /dev/null "$(lines "look: $missing")" \
-    without_rt ./look replay <examples/three_jobs.toml
+    without_rt ./look replay <examples/plans/three_jobs.toml
   expect './test without the toolchain' 125 /dev/null "$(lines "test: $missing")" without_rt ./test
   for name in amo amo_show; do
     expect "./$name, to be built, without the toolchain" 125 /dev/null "$(lines "$name: $missing")" without_rt "$room/copy/$name"
   done
-  expect './amo, built, without the toolchain' 0 examples/three_jobs.report /dev/null \
-    without_rt ./amo replay <examples/three_jobs.toml
-  expect './amo_show, built, without the toolchain' 0 examples/two_collide.trace /dev/null \
-    without_rt ./amo_show trace <examples/two_collide.toml
+  expect './amo, built, without the toolchain' 0 examples/plans/three_jobs.report /dev/null \
+    without_rt ./amo replay <examples/plans/three_jobs.toml
+  expect './amo_show, built, without the toolchain' 0 examples/plans/two_collide.trace /dev/null \
+    without_rt ./amo_show trace <examples/plans/two_collide.toml
 }
 
 # build_copy NAME WORDS..: ./NAME of the copy. Of its lines that tell of a proved library there is one for all but the last, since
@@ -193,7 +193,7 @@ look_by_link() (
 
 # What ./look makes of each end that `rt try` can come to.
 translate_ends() {
-  local status report=examples/three_jobs.report plan=examples/three_jobs.toml why
+  local status report=examples/plans/three_jobs.report plan=examples/plans/three_jobs.toml why
   for status in 0 1 2 3 4; do
     tried $report "fault of $status" "checked: ended status=$status" 'races: not looked for' \
       "run=ended status=$status runners=1 races=unchecked proved=no"
@@ -224,15 +224,15 @@ hand_on() {
   local none='look: standard input: no plan can be read from it; give one, as in: ./look replay < PLAN'
   expect './look, its input not given' 125 /dev/null "$(lines "$none")" with_script ./look replay <examples
   expect './look, its input closed' 125 /dev/null "$(lines "$none")" with_script ./look replay <&-
-  tried examples/three_jobs.check 'checked: ended status=0' 'run=ended status=0 runners=1 proved=no'
-  expect './look, a plan of all bytes' 0 examples/three_jobs.check "$(lines "$looks")" \
+  tried examples/plans/three_jobs.check 'checked: ended status=0' 'run=ended status=0 runners=1 proved=no'
+  expect './look, a plan of all bytes' 0 examples/plans/three_jobs.check "$(lines "$looks")" \
     with_script ./look '' 'a b' -- --help <"$room/limits.toml"
   expect './look, the words' 0 "$(lines try -- '' 'a b' -- --help)" /dev/null cat "$script/words"
   expect './look, the plan' 0 "$room/limits.toml" /dev/null cat "$script/given"
-  expect './look, an input without an end' 0 examples/three_jobs.check "$(lines "$looks")" look_endlessly replay
+  expect './look, an input without an end' 0 examples/plans/three_jobs.check "$(lines "$looks")" look_endlessly replay
   yes | head -c 1048577 >"$room/beginning"
   expect './look, its beginning' 0 "$room/beginning" /dev/null cat "$script/given"
-  expect './look, by a link and from another folder' 0 examples/three_jobs.check "$(lines "$looks")" \
-    look_by_link check <examples/three_jobs.toml
-  expect './look, the same plan' 0 examples/three_jobs.toml /dev/null cat "$script/given"
+  expect './look, by a link and from another folder' 0 examples/plans/three_jobs.check "$(lines "$looks")" \
+    look_by_link check <examples/plans/three_jobs.toml
+  expect './look, the same plan' 0 examples/plans/three_jobs.toml /dev/null cat "$script/given"
 }

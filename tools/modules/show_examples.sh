@@ -49,7 +49,7 @@ judge_sizes() {
 # text.
 judge_runs() {
   local text log=examples/histories/celery
-  for text in examples/*.report "$room/limits.report"; do
+  for text in examples/plans/*.report "$room/limits.report"; do
     counted "$text" >"$room/counted"
     expect "amo_show judge of $text" 0 "$room/counted" /dev/null "$show" judge <"$text"
   done
@@ -90,7 +90,7 @@ expect_explained() { expect "amo_show explain, $1" 0 "$(line "$1")" /dev/null ex
 # all sizes.
 explain_runs() {
   local plan jobs workers
-  for plan in examples/*.toml "$room"/{limits,crowd,crowd_blocks,wide_blocks,rows,few_moves,stops}.toml; do
+  for plan in examples/plans/*.toml "$room"/{limits,crowd,crowd_blocks,wide_blocks,rows,few_moves,stops}.toml; do
     if "$program" check <"$plan" >/dev/null 2>"$room/fault"; then
       asked_for "$plan" >"$room/asked"
       expect "amo_show explain of $plan" 0 "$room/asked" /dev/null "$show" explain <"$plan"
@@ -155,7 +155,7 @@ worst_runs() {
   # 64 bytes of the lines above the jobs, 33 of each job
   expect 'amo_show worst of a text that grows too long' 0 \
     "$(lines refused 'the text would have 1320064 bytes, with 30 moves, and a plan has at most 1048576')" /dev/null "$show" worst <"$room/given.toml"
-  expect 'amo_show worst of two names' 1 /dev/null examples/two_names.fault "$show" worst <examples/two_names.toml
+  expect 'amo_show worst of two names' 1 /dev/null examples/plans/two_names.fault "$show" worst <examples/plans/two_names.toml
   printf 'version = 2\nworkers = 1\nbeta = 1\nblock = 3\nrounds = 7\nbudgets = [3]\nschedule = "1 l1"\n[[job]]\nname = "a"\nsay = "a\\"b\\\\\\u0000\\n\\u00e9"\n[[job]]\nname = "b"\nadd = []\n' >"$room/given.toml"
   "$show" worst <"$room/given.toml" >"$room/worst.toml"
   "$program" replay <"$room/worst.toml" | grep '^result' >"$room/results"
@@ -165,12 +165,12 @@ worst_runs() {
 
 # amo_show all: a word apart, two names, blocks; tools/all_worlds tries all givens.
 all_runs() {
-  expect 'amo_show all of two names' 1 /dev/null examples/two_names.fault "$show" all <examples/two_names.toml
+  expect 'amo_show all of two names' 1 /dev/null examples/plans/two_names.fault "$show" all <examples/plans/two_names.toml
   { printf 'version = 2\nblock = 2\nworkers = 3\nbeta = 3\n'; jobs_of 9; } >"$room/given.toml"
   expect 'amo_show all of too many blocks' 0 "$(lines refused 'with 3 workers at most 4 blocks are looked through, and the plan has 5')" \
     /dev/null "$show" all <"$room/given.toml"
   expect 'amo_show all, its input not given' 4 /dev/null "$(line 'fault read')" "$show" all <examples
-  program=$show expect 'amo_show all, its output not taken' 4 /dev/null "$(line 'fault write')" with_full_output all <examples/one_worker.toml
+  program=$show expect 'amo_show all, its output not taken' 4 /dev/null "$(line 'fault write')" with_full_output all <examples/plans/one_worker.toml
 }
 
 # amo_show: its words, its plans and its streams.
@@ -178,19 +178,19 @@ show_runs() {
   local words
   for words in '' traces --help -- 'trace x' 'trace trace' replay 'picture 0 2 5 6' 'picture x x x x x x x x x' explains 'judge judge' worse 'worst 1' al alls 'all all'; do
     # shellcheck disable=SC2086
-    expect "amo_show${words:+ }$words" 2 /dev/null "$(line 'fault words')" "$show" $words <examples/each_stop.toml
+    expect "amo_show${words:+ }$words" 2 /dev/null "$(line 'fault words')" "$show" $words <examples/plans/each_stop.toml
   done
-  expect "amo_show ''" 2 /dev/null "$(line 'fault words')" "$show" '' <examples/each_stop.toml
-  expect "amo_show trace ''" 2 /dev/null "$(line 'fault words')" "$show" trace '' <examples/each_stop.toml
-  expect 'amo_show and a word that is no text' 3 /dev/null "$(line 'fault memory')" "$show" $'\xff' <examples/each_stop.toml
+  expect "amo_show ''" 2 /dev/null "$(line 'fault words')" "$show" '' <examples/plans/each_stop.toml
+  expect "amo_show trace ''" 2 /dev/null "$(line 'fault words')" "$show" trace '' <examples/plans/each_stop.toml
+  expect 'amo_show and a word that is no text' 3 /dev/null "$(line 'fault memory')" "$show" $'\xff' <examples/plans/each_stop.toml
   program=$show refuse_more_words trace
   program=$show refuse_more_words explain
-  expect_picture docs/two_collide.svg examples/two_collide.toml
-  expect 'amo_show picture of two names' 1 /dev/null examples/two_names.fault "$show" picture <examples/two_names.toml
-  program=$show expect 'amo_show picture, its output not taken' 4 /dev/null "$(line 'fault write')" with_full_output picture <examples/each_stop.toml
-  expect 'amo_show trace of two names' 1 /dev/null examples/two_names.fault "$show" trace <examples/two_names.toml
+  expect_picture docs/two_collide.svg examples/plans/two_collide.toml
+  expect 'amo_show picture of two names' 1 /dev/null examples/plans/two_names.fault "$show" picture <examples/plans/two_names.toml
+  program=$show expect 'amo_show picture, its output not taken' 4 /dev/null "$(line 'fault write')" with_full_output picture <examples/plans/each_stop.toml
+  expect 'amo_show trace of two names' 1 /dev/null examples/plans/two_names.fault "$show" trace <examples/plans/two_names.toml
   expect 'amo_show trace, its input not given' 4 /dev/null "$(line 'fault read')" "$show" trace <examples
   expect 'amo_show trace, its input closed' 4 /dev/null "$(line 'fault read')" "$show" trace <&-
-  program=$show expect 'amo_show trace, its output not taken' 4 /dev/null "$(line 'fault write')" with_full_output trace <examples/each_stop.toml
-  program=$show expect 'amo_show trace, its output closed' 4 /dev/null "$(line 'fault write')" with_closed_output trace <examples/each_stop.toml
+  program=$show expect 'amo_show trace, its output not taken' 4 /dev/null "$(line 'fault write')" with_full_output trace <examples/plans/each_stop.toml
+  program=$show expect 'amo_show trace, its output closed' 4 /dev/null "$(line 'fault write')" with_closed_output trace <examples/plans/each_stop.toml
 }
