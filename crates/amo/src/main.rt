@@ -1,7 +1,8 @@
-//! Replays and runs plans, which are read from standard input. `amo replay` writes the report of the plan's replay, `amo run`
-//! what comes of its jobs where workers in threads perform them, `amo check` its check text, `amo explore FROM COUNT LENGTH`
-//! what numbered schedules of one length lead to, and `amo stops P` what becomes of the plan where worker P stops after
-//! each of its first moves.
+//! Replays and runs plans, which are read from standard input. `amo replay` writes the report of
+//! the plan's replay, `amo run` what comes of its jobs where workers in threads perform them, `amo
+//! check` its check text, `amo explore FROM COUNT LENGTH` what numbered schedules of one length
+//! lead to, and `amo stops P` what becomes of the plan where worker P stops after each of its first
+//! moves.
 #![tactic(auto)]
 
 use amo_cli::serve_words;

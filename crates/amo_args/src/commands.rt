@@ -72,7 +72,8 @@ fn text_at<'a>(id: &str, matches: &ArgMatches<'a>) -> Option<&'a str>
     matches.get_str(id)
 }
 
-/// The number at an id: the number whose decimal digits the text there is, where there is one within the range.
+/// The number at an id: the number whose decimal digits the text there is, where there is one
+/// within the range.
 #[tactic(auto, using(crate::proofs::Numbers::at_is_decimal))]
 fn number_at(low: u64, high: u64, id: &str, matches: &ArgMatches<'_>) -> Option<u64>
     requires { high ≤ HIGHEST_NUMBER }
@@ -149,8 +150,8 @@ fn whole_line<'a>(alloc: Global, words: &[&'a str]) -> Result<Vec<&'a str>, Allo
     Ok(line)
 }
 
-/// What the words after the program's name ask for. `NoCommand` comes only where they are no command, and
-/// `NoMemory` only where memory was refused.
+/// What the words after the program's name ask for. `NoCommand` comes only where they are no
+/// command, and `NoMemory` only where memory was refused.
 pub fn asked(alloc: Global, words: &[&str]) -> Result<Request, Fault>
     ensures request { IsAsked (asked (map (λ w. w.now) words.now)) result }
     ensures ranges { IfOk result IsWithinRanges }

@@ -1,4 +1,5 @@
-//! What the words of a command line ask of the program `amo`, by the meaning that `clap` gives them.
+//! What the words of a command line ask of the program `amo`, by the meaning that `clap` gives
+//! them.
 #![tactic(auto)]
 
 mod commands;

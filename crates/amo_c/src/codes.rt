@@ -84,7 +84,8 @@ impl PhaseCode {
     }
 }
 
-/// Why a call tells nothing. Where it tells something it answers 0, which is the number of no fault.
+/// Why a call tells nothing. Where it tells something it answers 0, which is the number of no
+/// fault.
 #[derive(Clone, Copy, Debug, PartialEq, Eq)]
 pub enum FaultCode {
     /// There are more than 4096 jobs.
@@ -99,11 +100,13 @@ pub enum FaultCode {
     BetaHigh = 5,
     /// The givens have no worker of this number.
     NoSuchWorker = 6,
-    /// A number was heard that can't come where the worker stands: the words or the list were spoiled.
+    /// A number was heard that can't come where the worker stands: the words or the list were
+    /// spoiled.
     NoSuchNumber = 7,
     /// No memory was to be had. The same call may be made again.
     NoMemory = 8,
-    /// The worker may not leave: its process is loading its own words, or it has a job in its hand, or it has ended.
+    /// The worker may not leave: its process is loading its own words, or it has a job in its hand,
+    /// or it has ended.
     MayNotLeave = 9,
 }
 

@@ -1,5 +1,6 @@
-//! What C calls. Pointers are aligned and not null, also that of an empty list, and what they point to is apart and isn't
-//! changed during the call. Calls that take memory ask `malloc` for it, and give it back before they end.
+//! What C calls. Pointers are aligned and not null, also that of an empty list, and what they point
+//! to is apart and isn't changed during the call. Calls that take memory ask `malloc` for it, and
+//! give it back before they end.
 ghost use Rattle.std.specs.Prelude.{◌≡◌, ◌≢◌, ◌<◌, ◌≤◌, true, Ok, Err, IfOk, IfErr, IsOkAnd, map, take, drop, length};
 ghost use Rattle.std.specs.List.{All};
 ghost use Rattle.amo_c.specs.Batch.{items_reply, item_told, IsBelow};
@@ -81,9 +82,10 @@ fn leaving_after(
     leave_by(worker, &standing)
 }
 
-/// What worker p does next whose process has heard these numbers since it began, in their order: what each load gave, and 0 of
-/// each store. The code is 0 where `next` was written, and else the number of a `FaultCode`. That no memory was to be had is
-/// never decided by the list: memory is asked for before it is looked at.
+/// What worker p does next whose process has heard these numbers since it began, in their order:
+/// what each load gave, and 0 of each store. The code is 0 where `next` was written, and else the
+/// number of a `FaultCode`. That no memory was to be had is never decided by the list: memory is
+/// asked for before it is looked at.
 #[unsafe(no_mangle)]
 pub extern "C" fn amo_next(
     alloc: Global,
@@ -107,9 +109,10 @@ pub extern "C" fn amo_next(
     }
 }
 
-/// What `amo_next` tells, and with it the worker's batch: all loads and stores that are known before anything more is heard, in
-/// their order. As many of its items are written as there are places, the first ones, and `count` says how many; the other
-/// places stay as they were. 2 * `workers` + 1 places are room for any batch. How much memory is asked for of a list that can
+/// What `amo_next` tells, and with it the worker's batch: all loads and stores that are known
+/// before anything more is heard, in their order. As many of its items are written as there are
+/// places, the first ones, and `count` says how many; the other places stay as they were. 2 *
+/// `workers` + 1 places are room for any batch. How much memory is asked for of a list that can
 /// come hangs on the givens alone here too.
 #[unsafe(no_mangle)]
 pub extern "C" fn amo_batch(
@@ -141,8 +144,9 @@ pub extern "C" fn amo_batch(
     }
 }
 
-/// The store by which worker p leaves whose process has heard these numbers since it began, as in `amo_next`. It is the last
-/// access of this process, and nothing more is asked with its list; another process may begin as the worker later.
+/// The store by which worker p leaves whose process has heard these numbers since it began, as in
+/// `amo_next`. It is the last access of this process, and nothing more is asked with its list;
+/// another process may begin as the worker later.
 #[unsafe(no_mangle)]
 pub extern "C" fn amo_leave(
     alloc: Global,
@@ -166,7 +170,8 @@ pub extern "C" fn amo_leave(
     }
 }
 
-/// How many shared words there are, or 0 where the numbers break a limit. All are 0 at first, and that at place 0 always.
+/// How many shared words there are, or 0 where the numbers break a limit. All are 0 at first, and
+/// that at place 0 always.
 #[unsafe(no_mangle)]
 pub extern "C" fn amo_words(givens: &AmoGivens) -> u64
     ensures { result ≡ words_in (givens_in givens.now) }
@@ -177,7 +182,8 @@ pub extern "C" fn amo_words(givens: &AmoGivens) -> u64
     }
 }
 
-/// Wherever a worker has ended at least so many jobs are filed. 0 also where the numbers break a limit.
+/// Wherever a worker has ended at least so many jobs are filed. 0 also where the numbers break a
+/// limit.
 #[unsafe(no_mangle)]
 pub extern "C" fn amo_bound(givens: &AmoGivens) -> u64
     ensures { result ≡ bound_in (givens_in givens.now) }
@@ -210,8 +216,8 @@ pub extern "C" fn amo_claims_word(givens: &AmoGivens, p: u64) -> u64
     }
 }
 
-/// The place of the k-th entry of worker p's row, or 0 where there is none. They go from 1 to `jobs` + 1, and the last of them
-/// is always 0.
+/// The place of the k-th entry of worker p's row, or 0 where there is none. They go from 1 to
+/// `jobs` + 1, and the last of them is always 0.
 #[unsafe(no_mangle)]
 pub extern "C" fn amo_entry_word(givens: &AmoGivens, p: u64, k: u64) -> u64
     ensures { result ≡ entry_in (worker_in (givens_in givens.now) p) k }

@@ -33,7 +33,8 @@ fn item_told(item: Item) -> AmoItem
     }
 }
 
-/// Writes as many items of the batch as there are places, and says how many. The other places stay as they were.
+/// Writes as many items of the batch as there are places, and says how many. The other places stay
+/// as they were.
 pub(crate) fn write_items(places: &mut [AmoItem], batch: &[Item]) -> usize
     ensures count { result ≤ length places.new }
     ensures told { take result places.new ≡ take (length places.old) (map item_told batch.now) }

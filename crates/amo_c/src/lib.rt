@@ -1,5 +1,5 @@
-//! Workers for programs in C: the load or store that a worker makes next, by what its process has heard since it began. No
-//! call keeps anything. The theorems stand in the module `laws`.
+//! Workers for programs in C: the load or store that a worker makes next, by what its process has
+//! heard since it began. No call keeps anything. The theorems stand in the module `laws`.
 #![tactic(auto)]
 
 mod codes;

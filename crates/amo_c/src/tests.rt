@@ -1,5 +1,6 @@
-//! Worked values of what C is told. They stand here, since no crate can stand on a static library. Words of 3 jobs and 2 workers:
-//! the announcements are 1 and 2, the counts of claims 3 and 4, the rows 5 to 8 and 9 to 12.
+//! Worked values of what C is told. They stand here, since no crate can stand on a static library.
+//! Words of 3 jobs and 2 workers: the announcements are 1 and 2, the counts of claims 3 and 4, the
+//! rows 5 to 8 and 9 to 12.
 use crate::exports::{
     amo_announcement_word, amo_batch, amo_bound, amo_claims_word, amo_entry_word, amo_leave,
     amo_next, amo_words,
@@ -86,7 +87,8 @@ fn batch_into(
     (code, count, next)
 }
 
-/// Sees that `amo_batch` tells these items, as many of them as there are places, and answers what it tells beside them.
+/// Sees that `amo_batch` tells these items, as many of them as there are places, and answers what
+/// it tells beside them.
 fn batch(
     rt: &impl Abort,
     alloc: Global,
@@ -253,8 +255,8 @@ fn the_longest_lists_are_taken(rt: HostRuntime) -> Result<(), Fail> {
 #[test]
 fn a_batch_of_16_workers_is_whole(rt: HostRuntime) {
     let crowd = givens_of(4096, 16, 16);
-    // worker 16 has loaded its own words, and then announced, passed 15 announcements and 15 rows, and claimed job
-    // 15 * 4081 / 16 + 1; next is job 15 * 4080 / 16 + 1 of those that are left
+    // worker 16 has loaded its own words, and then announced, passed 15 announcements and 15 rows,
+    // and claimed job 15 * 4081 / 16 + 1; next is job 15 * 4080 / 16 + 1 of those that are left
     let mut places = [UNTOLD_ITEM; 33];
     let (code, count, told) = batch_into(rt.alloc(), crowd, 16, &[0; 35], &mut places);
     assert!(&rt; code == 0 && count == 32 && told.perform == 3826);

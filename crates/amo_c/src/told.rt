@@ -28,7 +28,8 @@ pub struct AmoGivens {
 #[repr(C)]
 #[derive(Clone, Copy, Drop)]
 pub struct AmoNext {
-    /// What is to be done with the word: the number of an `AccessCode`, which is never that of a row.
+    /// What is to be done with the word: the number of an `AccessCode`, which is never that of a
+    /// row.
     pub access: u32,
     /// Where the worker stands: the number of a `PhaseCode`.
     pub phase: u32,

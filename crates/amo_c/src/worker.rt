@@ -47,7 +47,8 @@ pub(crate) fn worker_of(numbers: &AmoGivens, p: u64) -> Result<Worker, FaultCode
     })
 }
 
-/// Where the worker stands whose process has heard these numbers. Memory is asked for before they are looked at.
+/// Where the worker stands whose process has heard these numbers. Memory is asked for before they
+/// are looked at.
 pub(crate) fn standing_after(
     alloc: Global,
     worker: Worker,
@@ -64,8 +65,8 @@ pub(crate) fn standing_after(
     standing_of_new(worker, local, heard)
 }
 
-/// Returns how far the worker of this new machine has come after its process heard these numbers. It
-/// takes no memory. So a list that no process can hear is never reported as a want of memory.
+/// Returns how far the worker of this new machine has come after its process heard these numbers.
+/// It takes no memory. So a list that no process can hear is never reported as a want of memory.
 ///
 /// # Errors
 /// `NoSuchNumber`, if no process can hear these numbers.

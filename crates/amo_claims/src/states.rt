@@ -26,7 +26,8 @@ impl<P> Model for Ready<P> {
     ghost invariant = { λ r. IsReady r.worker };
 }
 
-/// A worker with a job in its hand, and the payload of that job as it was put in. The job is yet to be performed.
+/// A worker with a job in its hand, and the payload of that job as it was put in. The job is yet to
+/// be performed.
 #[derive(Drop)]
 pub struct Held<P> {
     worker: Worker<P>,
@@ -42,7 +43,8 @@ impl<P> Model for Held<P> {
     ghost invariant = { λ h. Holds h.worker h.job h.payload };
 }
 
-/// A worker with a job in its hand that is performed, and the answer of that performance. It is yet to be filed.
+/// A worker with a job in its hand that is performed, and the answer of that performance. It is yet
+/// to be filed.
 #[derive(Drop)]
 pub struct Performed<P, Out> {
     worker: Worker<P>,

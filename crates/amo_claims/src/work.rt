@@ -6,7 +6,8 @@ pub trait Work<P> {
     /// What a performance gives.
     type Out;
 
-    /// Which answers belong to a worker, a job and the job's payload. Each implementation says so of its own.
+    /// Which answers belong to a worker, a job and the job's payload. Each implementation says so
+    /// of its own.
     ghost related: { Self → ℕ → ℕ → P → Self.Out → Type 0 };
 
     /// Performs a job for a worker. The numbers may be any.

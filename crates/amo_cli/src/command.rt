@@ -12,10 +12,11 @@ use crate::fault::Fault;
 use amo_io::{Sink, Source};
 use std::alloc::Global;
 
-/// A command of a program, which reads a plan and writes one text. `R` is what it needs to run by: a command that starts no
-/// thread takes any.
+/// A command of a program, which reads a plan and writes one text. `R` is what it needs to run by:
+/// a command that starts no thread takes any.
 pub trait Command<R: Sync>: Drop + Sized {
-    /// What all words that the program is given ask for, its own name first, or nothing where they are no command.
+    /// What all words that the program is given ask for, its own name first, or nothing where they
+    /// are no command.
     ghost asked: { List (List ℕ) → Option Self };
 
     /// Whether its numbers are within their ranges.
@@ -30,13 +31,14 @@ pub trait Command<R: Sync>: Drop + Sized {
     /// What it writes where a thread was refused.
     ghost others: { Self → Left };
 
-    /// What these words ask for, the program's name first: a command whose numbers are within their ranges, or `NoCommand`, or
-    /// `NoMemory`.
+    /// What these words ask for, the program's name first: a command whose numbers are within their
+    /// ranges, or `NoCommand`, or `NoMemory`.
     fn of_words(alloc: Global, words: &[String]) -> Result<Self, Fault>
         ensures answer { IsAsked (asked (map string_bytes words.now)) result }
         ensures ranges { IfOk result (λ c. fits c) };
 
-    /// Does it. That threads may share what it runs by is asked here, since a trait's method has no bound of its own that says so.
+    /// Does it. That threads may share what it runs by is asked here, since a trait's method has no
+    /// bound of its own that says so.
     fn carry_out<S: Source, W: Sink>(
         &self,
         rt: &R,

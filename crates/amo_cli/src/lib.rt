@@ -1,4 +1,5 @@
-//! A program over plans: what a command is, what the system gives it, the line that tells of a fault, and the exit status.
+//! A program over plans: what a command is, what the system gives it, the line that tells of a
+//! fault, and the exit status.
 #![tactic(auto)]
 
 mod command;

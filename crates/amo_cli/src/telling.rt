@@ -15,7 +15,8 @@ fn say<E: Sink>(err: &mut E, line: &str)
     let _ = write_all(err, line.as_bytes());
 }
 
-/// Tells of the fault, or of memory having run out where there is none for its line, and answers the status.
+/// Tells of the fault, or of memory having run out where there is none for its line, and answers
+/// the status.
 #[tactic(auto, using(crate::proofs::Endings::told))]
 pub fn refuse<E: Sink>(alloc: Global, err: &mut E, fault: Fault) -> u8
     ensures told { IsTold fault (change (E.contents err.old) (E.contents err.new) (E.failed err.new)) result }

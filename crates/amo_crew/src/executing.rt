@@ -92,13 +92,15 @@ where
     }
 }
 
-/// Executes the jobs in threads, one for each worker, until each has ended or its steps equal its budget. Payload j is the
-/// one at place j, from 1. A worker whose budget is used up with a job in its hand doesn't perform it. May wait.
+/// Executes the jobs in threads, one for each worker, until each has ended or its steps equal its
+/// budget. Payload j is the one at place j, from 1. A worker whose budget is used up with a job in
+/// its hand doesn't perform it. May wait.
 ///
-/// The outcome says of each job what became of it. Refusals, in this order: WrongCount, where there are not as many payloads
-/// as jobs; NoMemory, before any thread was started; both give the payloads back in their order. ThreadRefused, where a thread
-/// could not be started: the outcome holds for the others. Unsettled, where memory was refused at the settling, whatever went
-/// before. The plan has to be for these givens.
+/// The outcome says of each job what became of it. Refusals, in this order: WrongCount, where there
+/// are not as many payloads as jobs; NoMemory, before any thread was started; both give the
+/// payloads back in their order. ThreadRefused, where a thread could not be started: the outcome
+/// holds for the others. Unsettled, where memory was refused at the settling, whatever went before.
+/// The plan has to be for these givens.
 pub fn execute<P: Send + Drop, W: Work<P> + Sync, R: Threads + Wait + Sync>(
     rt: &R,
     alloc: Global,

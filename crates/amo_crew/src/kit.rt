@@ -8,13 +8,14 @@ use amo_givens::Givens;
 use amo_mailbox::{Inlet, Outlet, Queue, outlets};
 use std::alloc::{AllocError, Global};
 
-/// What a run needs beside floor and book: the mailbox, and lists with room for all that comes, so that once a thread was started
-/// nothing wants memory before the settling.
+/// What a run needs beside floor and book: the mailbox, and lists with room for all that comes, so
+/// that once a thread was started nothing wants memory before the settling.
 #[derive(Drop)]
 pub(crate) struct Kit<P, Out> {
     pub queue: Queue<Out>,
     pub inlet: Inlet<Out>,
-    /// Those of the workers that are still to be hired, from worker 1 on. Those that ran come back into this list.
+    /// Those of the workers that are still to be hired, from worker 1 on. Those that ran come back
+    /// into this list.
     pub outlets: Vec<Outlet<Out>>,
     pub crew: Vec<Member<P, Out>>,
     pub finishes: Vec<Finish<P, Out>>,

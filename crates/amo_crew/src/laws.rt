@@ -19,7 +19,8 @@ pub fn settled_later<P, W: Work<P>>(_work: &W)
         → IsUnsettled (W.related _work.now) g payloads budgets u → IsSettledOf u o → IsOutcome (W.related _work.now) g payloads budgets o }
 {}
 
-/// Each outcome has lists and ends for each worker, and its lists and outputs name jobs and workers alone.
+/// Each outcome has lists and ends for each worker, and its lists and outputs name jobs and workers
+/// alone.
 pub fn outcome_fits<P, W: Work<P>>(_work: &W)
     ensures fits { (g : Givens) (payloads : List P) (budgets : List ℕ) (o : Outcome P W.Out)
         → IsOutcome (W.related _work.now) g payloads budgets o → FitsGivens g o }
@@ -27,7 +28,8 @@ pub fn outcome_fits<P, W: Work<P>>(_work: &W)
         → IsOutcome (W.related _work.now) g payloads budgets o → All (λ (x : Output W.Out). IsWorker g x.worker) o.outputs.items }
 {}
 
-/// In each outcome no job has two answers, none that has an answer is in a hand, and none of these is free.
+/// In each outcome no job has two answers, none that has an answer is in a hand, and none of these
+/// is free.
 pub fn each_job_is_answered_once<P, W: Work<P>>(_work: &W)
     ensures once { (g : Givens) (payloads : List P) (budgets : List ℕ) (o : Outcome P W.Out)
         → IsOutcome (W.related _work.now) g payloads budgets o → AreDistinct (answered o) }
@@ -39,9 +41,10 @@ pub fn each_job_is_answered_once<P, W: Work<P>>(_work: &W)
         → IsOutcome (W.related _work.now) g payloads budgets o → has (in_hand o) j ≡ true → has (free_jobs o) j ≡ false }
 {}
 
-/// Nothing vanishes: each job is answered, in a hand, free, or was claimed by a worker whose thread could not be started;
-/// so where each thread was started it is one of the first three. In each outcome no job is in two hands, none is free twice,
-/// and the jobs of the outputs of a worker whose thread was started are the dones that the settlement has of it, in their order.
+/// Nothing vanishes: each job is answered, in a hand, free, or was claimed by a worker whose thread
+/// could not be started; so where each thread was started it is one of the first three. In each
+/// outcome no job is in two hands, none is free twice, and the jobs of the outputs of a worker
+/// whose thread was started are the dones that the settlement has of it, in their order.
 pub fn each_job_has_a_place<P, W: Work<P>>(_work: &W)
     ensures place { (g : Givens) (payloads : List P) (budgets : List ℕ) (o : Outcome P W.Out) (j : ℕ)
         → IsOutcome (W.related _work.now) g payloads budgets o → AllStarted o.ends.items → IsJob g j → HasAPlace o j }

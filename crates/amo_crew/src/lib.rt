@@ -1,8 +1,9 @@
 //! Jobs executed in threads, each at most once.
 //!
-//! `execute` hires a worker for each thread, runs each through the typed states of `amo_claims` on one floor until it has
-//! ended or its budget of steps is used up, and settles: the outcome says of every job what became of it. The outputs
-//! come through a mailbox (`amo_mailbox`). Only `execute` may wait.
+//! `execute` hires a worker for each thread, runs each through the typed states of `amo_claims` on
+//! one floor until it has ended or its budget of steps is used up, and settles: the outcome says of
+//! every job what became of it. The outputs come through a mailbox (`amo_mailbox`). Only `execute`
+//! may wait.
 #![tactic(auto)]
 
 mod executing;

@@ -1,4 +1,5 @@
-//! What workers leave: it is collected after their threads, or called off before these, and then settled.
+//! What workers leave: it is collected after their threads, or called off before these, and then
+//! settled.
 mod calling_off;
 mod collecting;
 mod unsettled;

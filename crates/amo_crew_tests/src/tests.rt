@@ -42,7 +42,8 @@ fn payloads_for(alloc: Global, jobs: u32) -> Result<Vec<u32>, AllocError> {
     Ok(payloads)
 }
 
-/// In how many ways the outcome tells of a job: it was done, or is in hand, or is free, each with its own payload.
+/// In how many ways the outcome tells of a job: it was done, or is in hand, or is free, each with
+/// its own payload.
 fn ways_of(outcome: &Outcome<u32, u32>, job: u32) -> usize {
     let payload = job.wrapping_add(10_000);
     let done = outcome

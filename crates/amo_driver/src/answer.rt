@@ -31,7 +31,8 @@ pub enum Way {
 pub enum Reply {
     /// Of the intent of this serial number: what became of its job.
     Answered(u64, JobResult, Way),
-    /// Of the intent of this serial number: its job still runs, and what became of it is to be asked for later.
+    /// Of the intent of this serial number: its job still runs, and what became of it is to be
+    /// asked for later.
     Running(u64, Way),
     /// Something that is no answer.
     Garbled,
@@ -51,7 +52,8 @@ pub(crate) enum Heard {
 }
 
 impl Reply {
-    /// What this says of the intent of this serial number. What became of another intent is no answer to it.
+    /// What this says of the intent of this serial number. What became of another intent is no
+    /// answer to it.
     pub(crate) fn heard_of(self, serial: u64) -> Result<Heard, Stop>
         ensures { result ≡ heard_of serial self }
     {

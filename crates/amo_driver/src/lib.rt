@@ -1,5 +1,6 @@
-//! The work of one worker that is a process of its own: what it does outside of itself, in which order, and where it ends. Words,
-//! journal and partner are behind one trait, `Outside`, so what is promised of the order holds however each call turns out.
+//! The work of one worker that is a process of its own: what it does outside of itself, in which
+//! order, and where it ends. Words, journal and partner are behind one trait, `Outside`, so what is
+//! promised of the order holds however each call turns out.
 #![tactic(auto)]
 
 mod answer;

@@ -27,7 +27,8 @@ pub(crate) struct Life {
 }
 
 impl Life {
-    /// A process of worker p that has done nothing, in whose journal the next intent has this serial number.
+    /// A process of worker p that has done nothing, in whose journal the next intent has this
+    /// serial number.
     pub(crate) fn new(
         alloc: Global,
         givens: Givens,

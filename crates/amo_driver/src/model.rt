@@ -16,7 +16,8 @@ pub enum Try {
     Perform(u64, u32),
     /// To put into the journal what became of the intent of this serial number.
     Note(u64, JobResult),
-    /// To ask what became of the intent of this serial number, left by a former process, of this line.
+    /// To ask what became of the intent of this serial number, left by a former process, of this
+    /// line.
     Ask(u64, u64),
 }
 
@@ -31,11 +32,13 @@ pub enum Deed {
     Found(u32),
     /// The intent of this serial number, to have this job performed, is in the journal.
     Intended(u64, u32),
-    /// The partner was told to perform this job, by the intent of this serial number, and this came in answer.
+    /// The partner was told to perform this job, by the intent of this serial number, and this came
+    /// in answer.
     Performed(u64, u32, Reply),
     /// What became of the intent of this serial number is in the journal.
     Noted(u64, JobResult),
-    /// It has asked what became of the intent of this serial number, of this line, and this came in answer.
+    /// It has asked what became of the intent of this serial number, of this line, and this came in
+    /// answer.
     Asked(u64, u64, Reply),
     /// This was tried and has failed: it may or may not have come about.
     Fell(Try),

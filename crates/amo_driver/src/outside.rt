@@ -16,7 +16,8 @@ pub struct Failed;
 pub trait Outside {
     /// What was done, in its order, where that is known. No file tells it: there it is `None`.
     ghost deeds: { Self → Option (List Deed) };
-    /// What may be tried. Each call asks for it, so a process that is killed in a call was doing what it might.
+    /// What may be tried. Each call asks for it, so a process that is killed in a call was doing
+    /// what it might.
     ghost may: { Self → Try → Type 0 };
 
     /// Loads a shared word.
@@ -31,13 +32,15 @@ pub trait Outside {
         ensures done { OnOk result (deeds self.new ≡ with_deed (deeds self.old) (Stored word value)) }
         ensures fails { OnErr result (deeds self.new ≡ with_deed (deeds self.old) (Fell (Store word value))) };
 
-    /// Hears that the worker's own words show this job claimed and not filed. It is filed next, and never performed.
+    /// Hears that the worker's own words show this job claimed and not filed. It is filed next, and
+    /// never performed.
     fn found(&mut self, job: u32) -> Result<(), Failed>
         requires { may self.old (Find job) }
         ensures done { OnOk result (deeds self.new ≡ with_deed (deeds self.old) (Found job)) }
         ensures fails { OnErr result (deeds self.new ≡ with_deed (deeds self.old) (Fell (Find job))) };
 
-    /// Puts into the journal that this job is about to be performed, so that every crash from now on leaves it there.
+    /// Puts into the journal that this job is about to be performed, so that every crash from now
+    /// on leaves it there.
     fn intend(&mut self, serial: u64, job: u32) -> Result<(), Failed>
         requires { may self.old (Intend serial job) }
         ensures done { OnOk result (deeds self.new ≡ with_deed (deeds self.old) (Intended serial job)) }
@@ -49,7 +52,8 @@ pub trait Outside {
         ensures done { IfOk result (λ reply. deeds self.new ≡ with_deed (deeds self.old) (Performed serial job reply)) }
         ensures fails { OnErr result (deeds self.new ≡ with_deed (deeds self.old) (Fell (Perform serial job))) };
 
-    /// Puts into the journal what became of an intent, so that every crash from now on leaves it there.
+    /// Puts into the journal what became of an intent, so that every crash from now on leaves it
+    /// there.
     fn note(&mut self, serial: u64, answer: JobResult) -> Result<(), Failed>
         requires { may self.old (Note serial answer) }
         ensures done { OnOk result (deeds self.new ≡ with_deed (deeds self.old) (Noted serial answer)) }

@@ -25,13 +25,16 @@ pub struct Intent {
 pub enum Asked {
     /// Each was asked for, and what became of it is noted, unless it still runs.
     All,
-    /// The worker is to leave. What became of the last that was asked for is noted, unless it still runs.
+    /// The worker is to leave. What became of the last that was asked for is noted, unless it still
+    /// runs.
     Dismissed,
-    /// Nothing came in answer for the intent of this serial number, and nothing will. It stays pending.
+    /// Nothing came in answer for the intent of this serial number, and nothing will. It stays
+    /// pending.
     Cut(u64),
 }
 
-/// A journal, and a partner who may know what became of its intents. After a call has failed no other is made.
+/// A journal, and a partner who may know what became of its intents. After a call has failed no
+/// other is made.
 pub trait Past {
     /// What was done, in its order, where that is known.
     ghost deeds: { Self → Option (List Deed) };
@@ -44,16 +47,18 @@ pub trait Past {
         ensures done { IfOk result (λ reply. deeds self.new ≡ with_deed (deeds self.old) (AskedDeed serial line reply)) }
         ensures fails { OnErr result (deeds self.new ≡ with_deed (deeds self.old) (Fell (Ask serial line))) };
 
-    /// Puts into the journal what became of an intent, so that every crash from now on leaves it there.
+    /// Puts into the journal what became of an intent, so that every crash from now on leaves it
+    /// there.
     fn note(&mut self, serial: u64, answer: JobResult) -> Result<(), Failed>
         requires { may self.old (Note serial answer) }
         ensures done { OnOk result (deeds self.new ≡ with_deed (deeds self.old) (Noted serial answer)) }
         ensures fails { OnErr result (deeds self.new ≡ with_deed (deeds self.old) (Fell (Note serial answer))) };
 }
 
-/// Asks for each of these intents, in their order, and notes what became of it before the next is asked for. Of one that still
-/// runs nothing is noted. After an answer that tells the worker to leave it is noted, and no other is asked for. After
-/// anything has failed, and after something else than the answer that was awaited, nothing is asked for or noted.
+/// Asks for each of these intents, in their order, and notes what became of it before the next is
+/// asked for. Of one that still runs nothing is noted. After an answer that tells the worker to
+/// leave it is noted, and no other is asked for. After anything has failed, and after something
+/// else than the answer that was awaited, nothing is asked for or noted.
 pub fn ask_pending<P: Past>(pending: &[Intent], past: &mut P) -> Result<Asked, Stop>
     requires begins { Stands (Asking pending.now) (P.deeds past.old) (Asking pending.now) }
     requires served { (o : _) (t : Try) → MayTry (Asking pending.now) (P.deeds o) t → P.may o t }
@@ -109,7 +114,7 @@ fn hear<P: Past>(
     }
 }
 
-/// Whether the asking ends with an answer that says this.
+/// Returns true if the asking ends with an answer that says this.
 fn asked_after(way: Way) -> Option<Asked>
     ensures { result ≡ asked_after way }
 {

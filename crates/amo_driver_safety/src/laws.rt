@@ -18,15 +18,17 @@ ghost use Rattle.amo_driver_safety.specs.Tries.{worker_of, tried_in, NoneBegins}
 ghost use Rattle.amo_driver_safety.specs.declared.model.Moment.{Moment};
 ghost use Rattle.amo_driver_safety.specs.declared.model.Moment.TheVariants.{Does, Loses};
 
-/// Over any number of processes, which die at any point and begin again, and whose accesses are interleaved in any way over one
-/// list of words, each job is handed to a partner at most once, whether the partner answers, the call fails, or the process
-/// dies in it; and so it is performed at most once.
+/// Over any number of processes, which die at any point and begin again, and whose accesses are
+/// interleaved in any way over one list of words, each job is handed to a partner at most once,
+/// whether the partner answers, the call fails, or the process dies in it; and so it is performed
+/// at most once.
 pub fn jobs_are_performed_once()
     ensures { (g : Givens) (ms : List Moment) → IsHistory g ms → AreDistinct (handed_jobs ms) }
 {}
 
-/// Of each job one intent is tried at most, whether it comes about or not, and none once the job was handed over. Who hands it over
-/// is the process that has tried its intent, by that very intent: no later process of that worker does so, and no other worker.
+/// Of each job one intent is tried at most, whether it comes about or not, and none once the job
+/// was handed over. Who hands it over is the process that has tried its intent, by that very
+/// intent: no later process of that worker does so, and no other worker.
 pub fn a_job_is_handed_over_by_its_intent()
     ensures one { (g : Givens) (before mid : List Moment) (x y : Moment) (n m j : ℕ) → IsHistory g (before ++ x ∷ mid ++ y ∷ [])
         → tried_in x ≡ Some (Intend n j) → tried_in y ≡ Some (Intend m j) → ⊥ }
@@ -36,13 +38,15 @@ pub fn a_job_is_handed_over_by_its_intent()
         → tried_in x ≡ Some (Intend n j) → tried_in y ≡ Some (Perform m j) → (worker_of x ≡ worker_of y) × (n ≡ m) × NoneBegins (worker_of x) mid }
 {}
 
-/// Where a process stands in a history is where what it has done since it began leads, each deed of which was due.
+/// Where a process stands in a history is where what it has done since it began leads, each deed of
+/// which was due.
 pub fn stages_are_courses()
     ensures { (g : Givens) (ms : List Moment) (p : ℕ) → IsHistory g ms → IsWorker g p → StandsBy g p (log_of p ms) (stage_at (scene_of g ms) p) }
 {}
 
-/// What the contract of `work` says of a log is what a history asks of its worker: a call that it may make may come about,
-/// also where the process dies in it, and a deed that was due, and is true of the words, may be done.
+/// What the contract of `work` says of a log is what a history asks of its worker: a call that it
+/// may make may come about, also where the process dies in it, and a deed that was due, and is true
+/// of the words, may be done.
 pub fn workers_do_right()
     ensures calls { (g : Givens) (ms : List Moment) (p : ℕ) (l : Log) (t : Try) → IsHistory g ms → IsWorker g p → log_of p ms ≡ Some l
         → MayTry (first_stage g p l.serial) (Some l.deeds) t → MayBe g (scene_of g ms) (Loses p t) }
@@ -50,51 +54,56 @@ pub fn workers_do_right()
         → AreDue (first_stage g p l.serial) (l.deeds ++ d ∷ []) → IsTrue (scene_of g ms).words d → MayBe g (scene_of g ms) (Does p d) }
 {}
 
-/// There are histories in which jobs are performed, in which one is handed to a partner while its process dies, and in which a
-/// store comes about that its process never hears of.
+/// There are histories in which jobs are performed, in which one is handed to a partner while its
+/// process dies, and in which a store comes about that its process never hears of.
 pub fn histories_there_are()
     ensures { (g : Givens) × (ms : List Moment) × IsHistory g ms × (handed_jobs ms ≡ 1 ∷ 2 ∷ []) }
 {}
 
-/// Nothing follows a failure, nor a stage at which nothing is due: so nothing a number that can't be, something else than the
-/// answer that was awaited, or leaving.
+/// Nothing follows a failure, nor a stage at which nothing is due: so nothing a number that can't
+/// be, something else than the answer that was awaited, or leaving.
 pub fn courses_end_there()
     ensures ended { (s : Stage) (before after : List Deed) → AreDue s (before ++ after) → due (stage_after_all s before) ≡ None → after ≡ [] }
     ensures fell { (s : Stage) (before after : List Deed) (t : Try) → AreDue s (before ++ Fell t ∷ after) → after ≡ [] }
 {}
 
-/// In one course no job is handed to the partner twice, whether the partner has answered or the call has failed. That holds
-/// whatever the loads of the course have given: of the other workers nothing is supposed.
+/// In one course no job is handed to the partner twice, whether the partner has answered or the
+/// call has failed. That holds whatever the loads of the course have given: of the other workers
+/// nothing is supposed.
 pub fn courses_perform_once()
     ensures { (g : Givens) (p s : ℕ) (deeds : List Deed) → IsWorker g p → AreDue (first_stage g p s) deeds → AreDistinct (handed_by_deeds deeds) }
 {}
 
-/// Before a job is handed to the partner, also where that fails, its intent was put, and right before the intent its claim was
-/// stored: the worker's count of claims, in its place, which is what the machine wanted. The store is one of this course: a claim
-/// that a former process has left doesn't do.
+/// Before a job is handed to the partner, also where that fails, its intent was put, and right
+/// before the intent its claim was stored: the worker's count of claims, in its place, which is
+/// what the machine wanted. The store is one of this course: a claim that a former process has left
+/// doesn't do.
 pub fn performances_follow_intents()
     ensures { (g : Givens) (p s n j : ℕ) (before after : List Deed) (d : Deed) → try_of d ≡ Perform n j
         → AreDue (first_stage g p s) (before ++ d ∷ after) → HasJustIntended g p (first_stage g p s) before n j }
 {}
 
-/// A job that the worker's own words show claimed and not filed when its process begins isn't handed to the partner in this
-/// course, neither before that is said nor after it, also where the saying fails. So what a former process of the worker may
-/// have had performed isn't performed again in it.
+/// A job that the worker's own words show claimed and not filed when its process begins isn't
+/// handed to the partner in this course, neither before that is said nor after it, also where the
+/// saying fails. So what a former process of the worker may have had performed isn't performed
+/// again in it.
 pub fn what_is_found_is_not_performed()
     ensures { (g : Givens) (p s j : ℕ) (before after : List Deed) (d : Deed) → IsWorker g p → try_of d ≡ Find j
         → AreDue (first_stage g p s) (before ++ d ∷ after) → has (handed_by_deeds (before ++ d ∷ after)) j ≡ false }
 {}
 
-/// What is noted, also where that fails, is what the partner has answered right before, to that very intent. So nothing is noted
-/// that wasn't answered in this course, and no answer is noted twice.
+/// What is noted, also where that fails, is what the partner has answered right before, to that
+/// very intent. So nothing is noted that wasn't answered in this course, and no answer is noted
+/// twice.
 pub fn notes_say_what_was_answered()
     ensures { (g : Givens) (p s n : ℕ) (a : JobResult) (before after : List Deed) (d : Deed) → try_of d ≡ Note n a
         → AreDue (first_stage g p s) (before ++ d ∷ after) → HasJustAnswered before n a }
 {}
 
-/// After an answer that tells the worker to leave, the process does nothing but this, in this order, each at most once, and as
-/// far as it comes: it notes the answer, unless the job still runs, files the job at its place of the row, and takes the
-/// worker's announcement back. It loads nothing any more, claims nothing, and hands over no other job.
+/// After an answer that tells the worker to leave, the process does nothing but this, in this
+/// order, each at most once, and as far as it comes: it notes the answer, unless the job still
+/// runs, files the job at its place of the row, and takes the worker's announcement back. It loads
+/// nothing any more, claims nothing, and hands over no other job.
 pub fn who_is_told_to_leave_leaves()
     ensures { (g : Givens) (p s n j : ℕ) (reply : Reply) (before after : List Deed) → tells_to_leave reply ≡ true
         → AreDue (first_stage g p s) (before ++ Performed n j reply ∷ after) → TakesLeave g p (first_stage g p s) before n j reply after }

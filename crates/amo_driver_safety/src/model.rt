@@ -6,9 +6,10 @@ use amo_driver::{Deed, Try};
 pub enum Moment {
     /// The process of the worker has done this, and knows it. Where it fell, it has not come about.
     Does(u32, Deed),
-    /// What the process of the worker tries comes about, and the process never hears of it: the call fails, or it dies in it.
+    /// What the process of the worker tries comes about, and the process never hears of it: the
+    /// call fails, or it dies in it.
     Loses(u32, Try),
-    /// The process of the worker, if there was one, is dead, and another begins, which has done nothing. The second number is
-    /// the serial number of its first intent.
+    /// The process of the worker, if there was one, is dead, and another begins, which has done
+    /// nothing. The second number is the serial number of its first intent.
     Begins(u32, u64),
 }

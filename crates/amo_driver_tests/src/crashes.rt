@@ -1,5 +1,6 @@
-//! Lives of three workers over eight lines, in three rounds. Each is killed at some call, and the power is cut at one call of a
-//! disk: what was written or cut since the last sync is torn then. What was performed is counted, and the files are read by eye.
+//! Lives of three workers over eight lines, in three rounds. Each is killed at some call, and the
+//! power is cut at one call of a disk: what was written or cut since the last sync is torn then.
+//! What was performed is counted, and the files are read by eye.
 ghost use Rattle.std.specs.Prelude.{None, ⊤};
 
 use amo_driver::{
@@ -36,7 +37,7 @@ impl Chance {
         (self.state >> 33) & 255
     }
 
-    /// Whether it is heads.
+    /// Returns true if it is heads.
     fn coin(&mut self) -> bool {
         self.next() < 128
     }
@@ -84,7 +85,8 @@ struct Run {
     disk_calls: u64,
     /// The call of a disk at which the power is cut, once, counted from 0.
     cut_at: u64,
-    /// Whether an intent is put when it is asked for, as it has to be, or only once its performance has been answered.
+    /// Whether an intent is put when it is asked for, as it has to be, or only once its performance
+    /// has been answered.
     is_prompt: bool,
     /// The intent that is still to be put.
     late: Option<Entry>,
@@ -169,7 +171,7 @@ impl Run {
         }
     }
 
-    /// Whether the intent of this serial number was performed.
+    /// Returns true if the intent of this serial number was performed.
     fn was_performed(&self, serial: u64) -> bool {
         self.performed.iter().any(|(worker, one, _)| *worker == self.worker && *one == serial)
     }
@@ -324,7 +326,8 @@ impl Run {
         Ok(())
     }
 
-    /// Whether no line was performed twice, and the ledger says of the files what the eye sees in them.
+    /// Returns true if no line was performed twice, and the ledger says of the files what the eye
+    /// sees in them.
     fn is_sound(&self) -> Result<bool, Fail> {
         let mut open = Vec::new(self.alloc);
         for line in 1..=LINES {
@@ -392,7 +395,7 @@ fn pending_by_eye(alloc: Global, file: &[u8]) -> Result<usize, Fail> {
     Ok((2 * intents).saturating_sub(texts.len()))
 }
 
-/// Whether each intent of this line in a file was answered as not begun.
+/// Returns true if each intent of this line in a file was answered as not begun.
 fn is_open_by_eye(alloc: Global, file: &[u8], line: u64) -> Result<bool, Fail> {
     let texts = texts_by_eye(alloc, file)?;
     let line = format!(in alloc; "{line}")?;
@@ -425,7 +428,8 @@ fn torn(alloc: Global, disk: &Disk, chance: &mut Chance) -> Result<Vec<u8>, Allo
     disk.image_after(alloc, disk.calls().len(), &fronts)
 }
 
-/// What came to the disk of a call that wasn't synced: of its bytes a front, some of which are gates in their place.
+/// What came to the disk of a call that wasn't synced: of its bytes a front, some of which are
+/// gates in their place.
 fn came_of(alloc: Global, call: &Call, chance: &mut Chance) -> Result<Vec<u8>, AllocError> {
     let mut came = Vec::new(alloc);
     let bytes = match call {
@@ -473,7 +477,8 @@ fn no_line_is_performed_twice_wherever_the_power_is_cut(rt: HostRuntime) -> Resu
     Ok(())
 }
 
-// The audit can fail: where an intent is put only after its performance was answered, lines are performed twice.
+// The audit can fail: where an intent is put only after its performance was answered, lines are
+// performed twice.
 #[test]
 fn late_intents_let_lines_be_performed_twice(rt: HostRuntime) -> Result<(), Fail> {
     let mut unsound = 0u64;

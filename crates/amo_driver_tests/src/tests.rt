@@ -125,7 +125,8 @@ fn done(serial: u64) -> Reply {
     Reply::Answered(serial, JobResult::Done(7), Way::Go)
 }
 
-/// One life of the only worker of two jobs over these words: how it ended, the words after it, and what it did.
+/// One life of the only worker of two jobs over these words: how it ended, the words after it, and
+/// what it did.
 fn live<A: Abort>(
     rt: &A,
     alloc: Global,

@@ -17,8 +17,8 @@ use std::time::{Clock, SystemTime, UNIX_EPOCH};
 pub(crate) enum BankReply {
     /// The payment was made, and its receipt stands in the journal.
     Paid(Receipt),
-    /// There is no receipt: its intent could not be put, and then it was not made; or nobody knows whether the bank has it; or it
-    /// was made, and its receipt could not be put.
+    /// There is no receipt: its intent could not be put, and then it was not made; or nobody knows
+    /// whether the bank has it; or it was made, and its receipt could not be put.
     Unpaid(Payment),
 }
 
@@ -34,7 +34,8 @@ pub(crate) struct Bank<'a, D: Device + Drop, S: Drop, R> {
     pub(crate) stop: &'a AtomicBool,
 }
 
-/// The time in seconds since 1970, or 0 where the clock can't be read: it is noted for persons and decides nothing.
+/// The time in seconds since 1970, or 0 where the clock can't be read: it is noted for persons and
+/// decides nothing.
 fn now<R: Clock>(rt: &R) -> u64 {
     match SystemTime::now(rt) {
         Ok(time) => match time.duration_since(UNIX_EPOCH) {
@@ -46,7 +47,8 @@ fn now<R: Clock>(rt: &R) -> u64 {
 }
 
 impl<'a, D: Device + Drop, S: Write + Drop, R: Wait + Clock> Bank<'a, D, S, R> {
-    /// A bank with this journal, which tells its orders to the writer, and sets the flag once so many payments were made.
+    /// A bank with this journal, which tells its orders to the writer, and sets the flag once so
+    /// many payments were made.
     pub(crate) fn new(
         rt: &'a R,
         alloc: Global,
@@ -73,8 +75,8 @@ impl<'a, D: Device + Drop, S: Write + Drop, R: Wait + Clock> Bank<'a, D, S, R> {
         self.ledger.into_inner().into_device()
     }
 
-    /// Makes a payment whose intent is put, and counts it. The lock is that of the writer which stands for a bank: a real bank's
-    /// call takes none.
+    /// Makes a payment whose intent is put, and counts it. The lock is that of the writer which
+    /// stands for a bank: a real bank's call takes none.
     fn pay(&self, intent: IntentToken) -> Result<Given, Payment>
         ensures given { IfOk result (λ g. g.payment ≡ intent.payment) }
         ensures back { IfErr result (λ p. p ≡ intent.payment) }
@@ -87,7 +89,8 @@ impl<'a, D: Device + Drop, S: Write + Drop, R: Wait + Clock> Bank<'a, D, S, R> {
         Ok(given)
     }
 
-    /// Puts the intent, makes the payment, and puts its receipt. No other thread waits for the journal while a payment is made.
+    /// Puts the intent, makes the payment, and puts its receipt. No other thread waits for the
+    /// journal while a payment is made.
     fn make(&self, job: u32, payment: Payment) -> Result<Receipt, Payment>
         ensures receipt { IfOk result (IsReceiptOf job payment) }
         ensures back { IfErr result (λ p. p ≡ payment) }

@@ -68,15 +68,15 @@ fn lines_of(alloc: Global, text: &str) -> Result<Vec<&str>, AllocError>
     text.lines().collect(alloc)
 }
 
-/// Whether the last line of the text has its end.
+/// Returns true if the last line of the text has its end.
 fn is_ended(text: &str) -> bool
     ensures { result ≡ is_ended text.now }
 {
     text.is_empty() || text.ends_with('\n')
 }
 
-/// The day that a text says. A line that is none, or whose end is missing, refuses the whole day: it may be half a payment, and
-/// the journal knows payments by their places among the others.
+/// The day that a text says. A line that is none, or whose end is missing, refuses the whole day:
+/// it may be half a payment, and the journal knows payments by their places among the others.
 fn day_of(alloc: Global, text: &str) -> Result<Day, Fault>
     ensures day { IfOk result (IsDayOf text.now) }
     ensures line { result ≡ Err BrokenLine → has_broken_line text.now ≡ true }
@@ -98,8 +98,9 @@ fn day_of(alloc: Global, text: &str) -> Result<Day, Fault>
     Ok(day)
 }
 
-/// Reads all of the input, and the day that it says. A line that is none, or whose end is missing, refuses the whole day, as
-/// does a crew that is outside its ranges. Input is refused where it can't be read, or is no text.
+/// Reads all of the input, and the day that it says. A line that is none, or whose end is missing,
+/// refuses the whole day, as does a crew that is outside its ranges. Input is refused where it
+/// can't be read, or is no text.
 pub(crate) fn read_day<B: Read>(alloc: Global, input: &mut B) -> Result<Day, Fault>
     ensures day { IfOk result (λ day. IfSome (B.remaining input.old) (λ text. IsDayOf text day)) }
     ensures fit { IfOk result (λ day. is_fit day.crew ≡ true) }

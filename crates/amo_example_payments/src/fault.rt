@@ -15,12 +15,14 @@ pub enum Fault {
     Line,
     /// The input can't be read.
     Input,
-    /// The crew that the input says is outside its ranges: from 1 to 16 workers, and at most 10,000,000 steps.
+    /// The crew that the input says is outside its ranges: from 1 to 16 workers, and at most
+    /// 10,000,000 steps.
     Crew,
     /// The journal can't be settled: its disk failed.
     Journal,
-    /// The entry of this number in the journal, from 1, is none, or may not stand there. So it is where the day has no payment
-    /// of the number that an intent says: the journal is that of another day.
+    /// The entry of this number in the journal, from 1, is none, or may not stand there. So it is
+    /// where the day has no payment of the number that an intent says: the journal is that of
+    /// another day.
     Entry(usize),
     /// The report can't be written.
     Output,

@@ -17,7 +17,8 @@ mod order;
 
 pub(crate) use order::{Given, IntentToken, Receipt};
 
-/// The journal of a day, over a file that is settled. Once an entry could not be put it puts no more.
+/// The journal of a day, over a file that is settled. Once an entry could not be put it puts no
+/// more.
 #[derive(Drop)]
 pub(crate) struct Ledger<D: Device> {
     alloc: Global,
@@ -48,8 +49,8 @@ impl<D: Device + Drop> Ledger<D> {
     ghost use Rattle.amo_example_payments.specs.Ledgers.{AreKept};
     ghost use Rattle.amo_example_payments.specs.Payments.{IsReceiptOf};
 
-    /// Settles the journal in a file, an empty one too, and reads it as that of a day of so many payments. What is no journal
-    /// of such a day is refused.
+    /// Settles the journal in a file, an empty one too, and reads it as that of a day of so many
+    /// payments. What is no journal of such a day is refused.
     pub(crate) fn open(alloc: Global, device: D, lines: u64) -> Result<Ledger<D>, Fault>
         requires { MaySettle D.seen D.may_leave D.stale device }
         ensures known { IfOk result (λ l. journal_in lines (D.seen device) ≡ Some l.attempts.items) }
@@ -79,7 +80,8 @@ impl<D: Device + Drop> Ledger<D> {
         &self.attempts
     }
 
-    /// Puts an entry that may follow those that stand there. Where it may not, or the put fails, no more is put.
+    /// Puts an entry that may follow those that stand there. Where it may not, or the put fails, no
+    /// more is put.
     fn put(&mut self, entry: Entry) -> bool
         ensures kept { (entries : List EntryView) → entries_of (D.seen self.old.journal.device) ≡ Some entries
             → result ≡ true → AreKept D.seen D.may_leave self.new.journal.device (entries ++ entry ∷ []) }
@@ -114,8 +116,9 @@ impl<D: Device + Drop> Ledger<D> {
         }
     }
 
-    /// Puts the intent of the payment. Once this answers it, each crash leaves the intent. Where it can't be put, or an intent of
-    /// the payment stands there already, the payment comes back, and must not be made: its intent may stand there now.
+    /// Puts the intent of the payment. Once this answers it, each crash leaves the intent. Where it
+    /// can't be put, or an intent of the payment stands there already, the payment comes back, and
+    /// must not be made: its intent may stand there now.
     pub(crate) fn intend(&mut self, payment: Payment, time: u64) -> Result<IntentToken, Payment>
         // The journal had no intent of the payment that stands.
         ensures once { OnOk result (has_intent self.old.attempts.items payment.id ≡ false) }
@@ -127,7 +130,8 @@ impl<D: Device + Drop> Ledger<D> {
         ensures kept { (entries : List EntryView) → entries_of (D.seen self.old.journal.device) ≡ Some entries
             → IfOk result (λ i. AreKept D.seen D.may_leave self.new.journal.device (entries ++ IntentEntry i.serial payment.id time ∷ [])) }
 
-        // A kill, or a crash at any moment of the call, leaves the entries from before it, with the intent or without.
+        // A kill, or a crash at any moment of the call, leaves the entries from before it, with the
+        // intent or without.
         ensures read { (entries : List EntryView) → entries_of (D.seen self.old.journal.device) ≡ Some entries
             → StandsForOneMoreOrNot entries (IntentEntry (length self.old.attempts.items + 1) payment.id time) (D.seen self.new.journal.device) }
         ensures any_moment { (entries : List EntryView) → self.old.broken ≡ false → entries_of (D.seen self.old.journal.device) ≡ Some entries
@@ -146,8 +150,8 @@ impl<D: Device + Drop> Ledger<D> {
         }
     }
 
-    /// Puts the receipt of a payment that was given to the bank, and answers it. Where that fails the payment comes back: it was
-    /// made, and is in doubt, unless the receipt stands there now.
+    /// Puts the receipt of a payment that was given to the bank, and answers it. Where that fails
+    /// the payment comes back: it was made, and is in doubt, unless the receipt stands there now.
     pub(crate) fn note(&mut self, given: Given, job: u32, time: u64) -> Result<Receipt, Payment>
         ensures receipt { IfOk result (IsReceiptOf job given.payment) }
         ensures back { IfErr result (λ p. p ≡ given.payment) }

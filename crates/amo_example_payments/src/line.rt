@@ -38,8 +38,8 @@ fn line_of_word(word: &str, rest: &str) -> Option<Line>
     }
 }
 
-/// What the line says, or None where it is none of these: then nobody may go on, since it may be a broken payment, and each one
-/// behind it would have another number than the journal gives it.
+/// What the line says, or None where it is none of these: then nobody may go on, since it may be a
+/// broken payment, and each one behind it would have another number than the journal gives it.
 pub(crate) fn line_of(text: &str) -> Option<Line>
     ensures { result ≡ line_in text.now }
 {

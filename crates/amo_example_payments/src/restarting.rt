@@ -17,13 +17,15 @@ use std::collections::BTreeSet;
 pub(crate) struct Restart {
     /// Those with a receipt. They were made.
     pub(crate) made: Vec<Payment>,
-    /// Those with an intent and no receipt. Nobody knows whether they were made, so a person has to ask the bank.
+    /// Those with an intent and no receipt. Nobody knows whether they were made, so a person has to
+    /// ask the bank.
     pub(crate) in_doubt: Vec<Payment>,
-    /// Those of which the journal says nothing. They were not made, since an intent is written first.
+    /// Those of which the journal says nothing. They were not made, since an intent is written
+    /// first.
     pub(crate) untried: Vec<Payment>,
 }
 
-/// Whether it is known that a payment was made.
+/// Returns true if it is known that a payment was made.
 fn is_made(answer: Option<Outcome>) -> bool
     ensures { result ≡ is_made answer }
 {
@@ -78,8 +80,9 @@ fn add(numbers: &mut BTreeSet<u64>, id: u64) -> Result<(), AllocError>
     Ok(())
 }
 
-/// Has the set follow an entry that the journal is given: it is that of the payments whose intents stand. False where memory is
-/// refused, and where the entry is an answer by which its payment was not begun: a day puts none.
+/// Has the set follow an entry that the journal is given: it is that of the payments whose intents
+/// stand. False where memory is refused, and where the entry is an answer by which its payment was
+/// not begun: a day puts none.
 pub(crate) fn follow(intents: &mut BTreeSet<u64>, entry: Entry) -> bool
     ensures { result ≡ true → (lines : ℕ) (old new : List AttemptView) → noted lines old entry ≡ Some new
         → ((id : ℕ) → contains nat_cmp intents.old id ≡ has_intent old id) → (id : ℕ) → contains nat_cmp intents.new id ≡ has_intent new id }
@@ -110,8 +113,9 @@ impl Restart {
     }
 }
 
-/// Parts the payments by what the journal says of them. Nothing else is known of earlier runs. Where memory is refused the
-/// payments are dropped: nothing was paid, and the day has to end. It goes through the journal once.
+/// Parts the payments by what the journal says of them. Nothing else is known of earlier runs.
+/// Where memory is refused the payments are dropped: nothing was paid, and the day has to end. It
+/// goes through the journal once.
 pub(crate) fn part(
     alloc: Global,
     payments: Vec<Payment>,

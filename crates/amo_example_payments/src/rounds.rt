@@ -35,7 +35,7 @@ pub(crate) struct Crew {
 }
 
 impl Crew {
-    /// Whether both numbers are within their ranges.
+    /// Returns true if both numbers are within their ranges.
     pub(crate) fn is_fit(self) -> bool
         ensures { result ≡ is_fit self }
     {
@@ -46,15 +46,19 @@ impl Crew {
 /// Why a round gives no sorted jobs.
 #[derive(Drop)]
 pub(crate) enum RoundFault {
-    /// Nothing was paid, and the payments come back in their order: there was no memory, or the crew is outside its ranges.
+    /// Nothing was paid, and the payments come back in their order: there was no memory, or the
+    /// crew is outside its ranges.
     Unpaid(Vec<Payment>),
-    /// Memory was refused where the round was to be settled, twice. What it left can be settled later.
+    /// Memory was refused where the round was to be settled, twice. What it left can be settled
+    /// later.
     Unsettled(Unsettled<Payment, BankReply>),
-    /// Memory was refused where the outcome of the round was to be sorted, twice. It can be sorted later.
+    /// Memory was refused where the outcome of the round was to be sorted, twice. It can be sorted
+    /// later.
     Unsorted(Outcome<Payment, BankReply>),
 }
 
-/// Takes the next round off the payments: their first 4096, or all. Where memory is refused they stay as they are.
+/// Takes the next round off the payments: their first 4096, or all. Where memory is refused they
+/// stay as they are.
 pub(crate) fn next_round(payments: &mut Vec<Payment>) -> Result<Vec<Payment>, AllocError>
     ensures round { IfOk result (λ round. payments.old.items ≡ round.items ++ payments.new.items) }
     ensures size { IfOk result (λ round. vec_len round ≡ min (vec_len payments.old) MAX_JOBS) }
@@ -65,8 +69,8 @@ pub(crate) fn next_round(payments: &mut Vec<Payment>) -> Result<Vec<Payment>, Al
     Ok(mem::replace(payments, rest))
 }
 
-/// A plan for so many jobs that halts each worker after the crew's steps, or None where the crew is outside its ranges or
-/// memory is refused.
+/// A plan for so many jobs that halts each worker after the crew's steps, or None where the crew is
+/// outside its ranges or memory is refused.
 fn plan_of(alloc: Global, jobs: usize, crew: Crew) -> Option<StopPlan>
     ensures count { IfSome result (λ plan. plan.givens.jobs ≡ jobs) }
     ensures givens { IfSome result (λ plan. givens_of jobs crew.workers crew.workers ≡ Ok plan.givens) }
@@ -129,8 +133,8 @@ fn settle_again<D: Device + Drop, S: Write + Drop, R: Wait + Clock>(
     }
 }
 
-/// Executes one round. Where a thread could not be started the others have paid, and where memory was refused at the settling
-/// it is settled again, once.
+/// Executes one round. Where a thread could not be started the others have paid, and where memory
+/// was refused at the settling it is settled again, once.
 fn run_round<D: Device + Drop + Send, S: Write + Drop + Send, R: Threads + Wait + Clock + Sync>(
     rt: &R,
     alloc: Global,
@@ -178,8 +182,9 @@ pub(crate) fn pay_round<
     }
 }
 
-/// Adds the payments that nobody began, in their order: what a new floor is made of. What was in a worker's hand is not
-/// among them. Where memory is refused they are dropped, and the journal has no entry of them.
+/// Adds the payments that nobody began, in their order: what a new floor is made of. What was in a
+/// worker's hand is not among them. Where memory is refused they are dropped, and the journal has
+/// no entry of them.
 pub(crate) fn add_free(free: Vec<(u32, Payment)>, list: &mut Vec<Payment>) -> Result<(), AllocError>
     ensures { OnOk result (list.new.items ≡ list.old.items ++ map (λ t. t.1) free.items) }
 {

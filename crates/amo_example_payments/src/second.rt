@@ -26,14 +26,16 @@ pub(crate) struct Leftover<P, Out> {
 pub(crate) enum LeftoverFault<P: Drop, Out> {
     /// Nothing was performed, and the payloads come back in their order: there was no memory.
     Untried(Vec<P>),
-    /// Memory was refused to hire the worker. Nothing was begun: the floor and its book come back as they were opened.
+    /// Memory was refused to hire the worker. Nothing was begun: the floor and its book come back
+    /// as they were opened.
     Unhired(Floor<P>, Book<P>),
-    /// Memory was refused at the settling. The floor and its book come back, to be settled later, and the answers.
+    /// Memory was refused at the settling. The floor and its book come back, to be settled later,
+    /// and the answers.
     Unsettled(Floor<P>, Book<P>, Vec<Output<Out>>),
 }
 
-/// Hires worker 1 of an open floor of one worker and runs it until the flag is set, then settles. Where memory is
-/// refused floor and book come back.
+/// Hires worker 1 of an open floor of one worker and runs it until the flag is set, then settles.
+/// Where memory is refused floor and book come back.
 fn run_one<P: Drop, W: Work<P>>(
     alloc: Global,
     flag: &AtomicBool,
@@ -64,8 +66,8 @@ where
     }
 }
 
-/// Opens a floor of these payloads, of which there have to be at most 4096, and runs one worker there until it has ended,
-/// or the flag is set.
+/// Opens a floor of these payloads, of which there have to be at most 4096, and runs one worker
+/// there until it has ended, or the flag is set.
 pub(crate) fn run_alone<P: Drop, W: Work<P>>(
     alloc: Global,
     flag: &AtomicBool,

@@ -31,7 +31,8 @@ impl<D: Device + Drop + Send, S: Write + Drop + Send, R: Threads + Wait + Clock 
     S,
     R,
 > {
-    /// Pays one round off the payments, writes what is certain of it, and adds what nobody began to the list.
+    /// Pays one round off the payments, writes what is certain of it, and adds what nobody began to
+    /// the list.
     fn pay_next<O: Write>(
         &self,
         out: &mut O,
@@ -69,8 +70,8 @@ impl<D: Device + Drop + Send, S: Write + Drop + Send, R: Threads + Wait + Clock 
         Ok(free)
     }
 
-    /// Opens one floor of one worker for payments off the list, writes what it has made, and adds what it has not begun to the
-    /// other list.
+    /// Opens one floor of one worker for payments off the list, writes what it has made, and adds
+    /// what it has not begun to the other list.
     fn try_next<O: Write>(
         &self,
         out: &mut O,
@@ -107,8 +108,8 @@ impl<D: Device + Drop + Send, S: Write + Drop + Send, R: Threads + Wait + Clock 
     }
 }
 
-/// Pays what the journal says nothing of: first in rounds, and then what nobody began on floors of one worker, until the flag is
-/// set. Writes what became of each payment.
+/// Pays what the journal says nothing of: first in rounds, and then what nobody began on floors of
+/// one worker, until the flag is set. Writes what became of each payment.
 fn pay_day<
     D: Device + Drop + Send,
     S: Write + Drop + Send,
@@ -130,11 +131,12 @@ fn pay_day<
     Ok(bank.into_device())
 }
 
-/// Reads a day and its journal, which stands in a file that nobody else writes, and pays what the journal says nothing of. It
-/// tells the orders to `orders`, and writes to `out` what became of each payment. Where the input says no day, or the file is no
-/// journal of it, nothing is written and nothing is paid. After another fault a beginning of the report was written, and the
-/// journal alone says what was paid. What it holds at the end no clause says, but those of `Ledger` say it of each call. Gives
-/// back the file. May wait.
+/// Reads a day and its journal, which stands in a file that nobody else writes, and pays what the
+/// journal says nothing of. It tells the orders to `orders`, and writes to `out` what became of
+/// each payment. Where the input says no day, or the file is no journal of it, nothing is written
+/// and nothing is paid. After another fault a beginning of the report was written, and the journal
+/// alone says what was paid. What it holds at the end no clause says, but those of `Ledger` say it
+/// of each call. Gives back the file. May wait.
 pub fn serve<
     B: Read,
     D: Device + Drop + Send,

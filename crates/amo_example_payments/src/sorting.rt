@@ -16,21 +16,23 @@ use amo_crew::{Outcome, Output};
 use std::alloc::{AllocError, Global};
 use std::collections::BTreeSet;
 
-/// The jobs of a run, sorted by what is certain of their payments. Each job has a receipt among the answers, or is free, or
-/// is in doubt, and just one of these.
+/// The jobs of a run, sorted by what is certain of their payments. Each job has a receipt among the
+/// answers, or is free, or is in doubt, and just one of these.
 #[derive(Drop)]
 pub(crate) struct Sorted {
-    /// What came of those that were performed. Where it is a receipt the payment was made, and there is nothing left to do.
+    /// What came of those that were performed. Where it is a receipt the payment was made, and
+    /// there is nothing left to do.
     pub(crate) answers: Vec<Output<BankReply>>,
     /// Those that nobody began, each with its payment. They may be handed to a new floor.
     pub(crate) free: Vec<(u32, Payment)>,
-    /// All others, each with its payment's number, to be shown to a person. They must not be made again.
+    /// All others, each with its payment's number, to be shown to a person. They must not be made
+    /// again.
     pub(crate) in_doubt: Vec<(u32, u64)>,
     /// The payments that came back of those in doubt, with worker and job.
     pub(crate) in_hand: Vec<(u32, u32, Payment)>,
 }
 
-/// Whether the answer is a receipt.
+/// Returns true if the answer is a receipt.
 fn is_paid(answer: &BankReply) -> bool
     ensures { result ≡ is_paid answer.now }
 {
@@ -105,8 +107,9 @@ fn list_unsure(
     }
 }
 
-/// Sorts the jobs of a run of payments with these numbers, at most 4096, by what is certain of each. Where memory is refused
-/// the outcome comes back as it was. It goes through the answers and the free jobs once.
+/// Sorts the jobs of a run of payments with these numbers, at most 4096, by what is certain of
+/// each. Where memory is refused the outcome comes back as it was. It goes through the answers and
+/// the free jobs once.
 pub(crate) fn sort_out(
     alloc: Global,
     ids: &[u64],

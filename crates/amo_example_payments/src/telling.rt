@@ -90,7 +90,8 @@ pub(crate) fn tell_each<O: Write>(
     write_out(out, text.as_str())
 }
 
-/// Writes a line for each answer: `done` with a receipt, and `doubt` without. Where memory is refused nothing is written.
+/// Writes a line for each answer: `done` with a receipt, and `doubt` without. Where memory is
+/// refused nothing is written.
 pub(crate) fn tell_answers<O: Write>(
     alloc: Global,
     out: &mut O,
@@ -106,8 +107,8 @@ pub(crate) fn tell_answers<O: Write>(
     write_out(out, text.as_str())
 }
 
-/// Writes a line for each payment of a round that is not free: `done` with a receipt, and `doubt` without. Where memory is
-/// refused nothing is written.
+/// Writes a line for each payment of a round that is not free: `done` with a receipt, and `doubt`
+/// without. Where memory is refused nothing is written.
 pub(crate) fn tell_round<O: Write>(alloc: Global, out: &mut O, sorted: &Sorted) -> Result<(), Fault>
     ensures whole { OnOk result (Appends (O.contents out.old) (O.contents out.new) (round_text sorted.now)) }
     ensures front { OnErr result (AppendsFront (O.contents out.old) (O.contents out.new) (round_text sorted.now)) }

@@ -7,7 +7,8 @@ ghost use Rattle.amo_example_payments.specs.Lines.{line};
 use std::alloc::AllocError;
 use std::io::Write;
 
-/// Writes all of the text. Where the writer fails a beginning of it was taken, and this answers false.
+/// Writes all of the text. Where the writer fails a beginning of it was taken, and this answers
+/// false.
 pub(crate) fn write_text<O: Write>(out: &mut O, text: &str) -> bool
     ensures whole { result ≡ true → Appends (O.contents out.old) (O.contents out.new) text.now }
     ensures front { result ≡ false → AppendsFront (O.contents out.old) (O.contents out.new) text.now }

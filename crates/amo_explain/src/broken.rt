@@ -51,7 +51,7 @@ fn kind_of(message: &str) -> Option<ErrorKind> {
     None
 }
 
-/// Whether the character is a word of its own.
+/// Returns true if the character is a word of its own.
 fn is_mark(c: char) -> bool {
     matches!(c, '{' | '}' | '[' | ']' | ',' | '=' | ':' | '#')
 }

@@ -30,7 +30,8 @@ fn refused(alloc: Global, bytes: &[u8], fault: &PlanFault) -> Result<String, All
     Ok(text)
 }
 
-/// What the bytes of a plan ask for, or why they are none, in plain words. The only error is want of memory.
+/// What the bytes of a plan ask for, or why they are none, in plain words. The only error is want
+/// of memory.
 pub fn explanation(alloc: Global, bytes: &[u8]) -> Result<String, AllocError>
     ensures head { IfOk result (λ s. BeginsWith (explanation_head (plan_of bytes.now)) (string_bytes s)) }
 {

@@ -34,7 +34,7 @@ pub(crate) fn push_two_names(
     out.push_str(". Give each job a name of its own.\n")
 }
 
-/// Whether the character may stand in a name.
+/// Returns true if the character may stand in a name.
 fn is_of_name(c: char) -> bool {
     c.is_ascii_alphanumeric() || c == '_' || c == '-' || c == '.'
 }

@@ -16,7 +16,7 @@ const JOB_KEYS: [&str; 3] = ["name", "say", "add"];
 /// A longer key is near none.
 const LONGEST_NEAR: usize = 40;
 
-/// Whether these keys have the key.
+/// Returns true if these keys have the key.
 fn has(keys: &[&str], key: &str) -> bool {
     keys.iter().any(|known| *known == key)
 }
@@ -26,7 +26,7 @@ fn keys_of(job: u32) -> &'static [&'static str] {
     if job == 0 { &TOP_KEYS } else { &JOB_KEYS }
 }
 
-/// Whether the key is one there, in the version of the document.
+/// Returns true if the key is one there, in the version of the document.
 fn is_key(document: &Document<'_>, job: u32, key: &str) -> bool {
     has(keys_of(job), key) && (key != "block" || document.natural("version") == Some(2))
 }

@@ -17,7 +17,8 @@ fn push_no_natural(out: &mut String, value: &Value) -> Result<(), AllocError> {
     }
 }
 
-/// Appends that the value at a key of the top level is no whole number, and how it is written, as in the example.
+/// Appends that the value at a key of the top level is no whole number, and how it is written, as
+/// in the example.
 fn push_number(
     out: &mut String,
     document: &Document<'_>,
@@ -72,7 +73,7 @@ fn push_block(out: &mut String, document: &Document<'_>) -> Result<bool, AllocEr
     Ok(true)
 }
 
-/// Whether the text has a header `[job]`.
+/// Returns true if the text has a header `[job]`.
 fn has_table_of_job(document: &Document<'_>) -> bool {
     document.names.iter().any(|name| name.form == Form::Table
         && name.job == 0

@@ -1,7 +1,8 @@
 //! What a text that is to be a plan says, or what is wrong with it, in plain words.
 //!
-//! `explanation` begins with the line `taken`, or with the line of the fault; that is proved. The sentences below that line name
-//! the place and the word that the fault leaves out: they are looked for again in the tree and in the text, and are only tested.
+//! `explanation` begins with the line `taken`, or with the line of the fault; that is proved. The
+//! sentences below that line name the place and the word that the fault leaves out: they are looked
+//! for again in the tree and in the text, and are only tested.
 #![tactic(auto)]
 
 mod asked;

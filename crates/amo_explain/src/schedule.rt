@@ -4,7 +4,7 @@ use crate::wording::{push_count, push_line, push_quoted};
 use amo_plan::{HIGHEST_IN_WORD, number_within};
 use std::alloc::{AllocError, Global};
 
-/// Whether the byte parts words.
+/// Returns true if the byte parts words.
 fn is_space(byte: u8) -> bool {
     matches!(byte, b' ' | b'\t' | b'\n' | b'\r')
 }
@@ -67,7 +67,7 @@ fn worker_of(version: Option<u64>, word: &str) -> Option<u64> {
     }
 }
 
-/// Whether the text has digits alone.
+/// Returns true if the text has digits alone.
 fn is_digits(text: &str) -> bool {
     !text.is_empty() && text.bytes().all(|byte| byte.is_ascii_digit())
 }

@@ -71,7 +71,8 @@ fn after_text(alloc: Global, text: &str) -> Result<&str, AllocError> {
     }
 }
 
-/// Whether the byte ends a value that no bracket is open in. 0 stands for the end of the text.
+/// Returns true if the byte ends a value that no bracket is open in. 0 stands for the end of the
+/// text.
 fn ends_value(byte: u8) -> bool {
     matches!(byte, 0 | b'\n' | b'\r' | b',' | b']' | b'}' | b'#')
 }
@@ -144,7 +145,8 @@ fn after_brackets(text: &str, form: Form) -> &str {
     }
 }
 
-/// A walk over a text: the keys that it came by, whose keys come next, how many jobs have begun, and what is left of the text.
+/// A walk over a text: the keys that it came by, whose keys come next, how many jobs have begun,
+/// and what is left of the text.
 #[derive(Drop)]
 struct Walk<'a> {
     alloc: Global,
@@ -271,7 +273,8 @@ impl<'a> Walk<'a> {
     }
 }
 
-/// The keys that a text names, in its order. A text that TOML doesn't read is walked over as far as it can be.
+/// The keys that a text names, in its order. A text that TOML doesn't read is walked over as far as
+/// it can be.
 pub(crate) fn names_in(alloc: Global, text: &str) -> Result<Vec<Named>, AllocError> {
     let mut walk = Walk::new(alloc, text);
     for _step in 0..text.len() {

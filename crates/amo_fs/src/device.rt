@@ -10,9 +10,10 @@ use std::io;
 use std::io::Read;
 use std::os::unix::fs::FileExt;
 
-/// A file of the system, open to read and write, which nobody else writes. What was read of it as it was opened, and written
-/// since, is kept in memory, and that is what a read returns. What a crash leaves of a file nothing here says: the device claims
-/// nothing of it, so what a journal promises of crashes is supposed of each file.
+/// A file of the system, open to read and write, which nobody else writes. What was read of it as
+/// it was opened, and written since, is kept in memory, and that is what a read returns. What a
+/// crash leaves of a file nothing here says: the device claims nothing of it, so what a journal
+/// promises of crashes is supposed of each file.
 #[derive(Drop)]
 pub struct FileDevice {
     file: File,
@@ -21,7 +22,8 @@ pub struct FileDevice {
 }
 
 impl FileDevice {
-    /// The device over a file, all of which it reads. An error is the system's, or a want of memory.
+    /// The device over a file, all of which it reads. An error is the system's, or a want of
+    /// memory.
     pub fn open(alloc: Global, mut file: File) -> io::Result<FileDevice> {
         let mut bytes = Vec::new(alloc);
         file.read_to_end(&mut bytes)?;
@@ -32,7 +34,8 @@ impl FileDevice {
         })
     }
 
-    /// Counts a fault of the disk, and tells of it. After 2^64 - 1 of them it says that there is no memory.
+    /// Counts a fault of the disk, and tells of it. After 2^64 - 1 of them it says that there is no
+    /// memory.
     fn failed(&mut self) -> DeviceError
         ensures bytes { self.new.bytes ≡ self.old.bytes }
         ensures later { self.old.faults ≤ self.new.faults }

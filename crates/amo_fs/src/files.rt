@@ -4,8 +4,8 @@ use std::io::{ErrorKind, Write};
 use std::os::unix::fs::{DirBuilderExt, MetadataExt, OpenOptionsExt};
 use std::{fs, io};
 
-/// What a file holds, or nothing where there is none of this name. Any other error is the system's: a file that can't be read is
-/// never taken for one that isn't there.
+/// What a file holds, or nothing where there is none of this name. Any other error is the system's:
+/// a file that can't be read is never taken for one that isn't there.
 pub fn read_file<R: Files + AllocGlobal>(rt: &R, path: &str) -> io::Result<Option<Vec<u8>>> {
     match fs::read(rt, path) {
         Ok(bytes) => Ok(Some(bytes)),
@@ -14,7 +14,8 @@ pub fn read_file<R: Files + AllocGlobal>(rt: &R, path: &str) -> io::Result<Optio
     }
 }
 
-/// Opens a file to read and write, and makes it where there is none, for its owner alone. The folder isn't synced.
+/// Opens a file to read and write, and makes it where there is none, for its owner alone. The
+/// folder isn't synced.
 pub fn create_private<R: Files>(rt: &R, path: &str) -> io::Result<R::File> {
     let mut options = OpenOptions::new();
     options.read(true).write(true).create(true).mode(0o600);
@@ -28,7 +29,8 @@ pub fn open_private<R: Files>(rt: &R, path: &str) -> io::Result<R::File> {
     options.open(rt, path)
 }
 
-/// Makes a folder for its owner alone. An error of the kind `AlreadyExists` says that something has this name.
+/// Makes a folder for its owner alone. An error of the kind `AlreadyExists` says that something has
+/// this name.
 pub fn make_folder<R: Files>(rt: &R, path: &str) -> io::Result<()> {
     let mut builder = DirBuilder::new();
     builder.mode(0o700);
@@ -40,9 +42,10 @@ pub fn sync_folder<R: Files<File = File>>(rt: &R, path: &str) -> io::Result<()> 
     fs::open(rt, path)?.sync_all()
 }
 
-/// Puts a file with these bytes in the place of one, or where there is none: makes it whole under the name `beside`, and
-/// renames it, so that who opens it meanwhile finds the one or the other. With `synced` the bytes are on the disk before they
-/// have the name, and the name before this answers; then a power cut leaves the old file or the new one.
+/// Puts a file with these bytes in the place of one, or where there is none: makes it whole under
+/// the name `beside`, and renames it, so that who opens it meanwhile finds the one or the other.
+/// With `synced` the bytes are on the disk before they have the name, and the name before this
+/// answers; then a power cut leaves the old file or the new one.
 pub fn replace_file<R: Files<File = File>>(
     rt: &R,
     folder: &str,
@@ -117,7 +120,7 @@ pub fn names_in<R: Files + AllocGlobal + Clone + Drop>(
     Ok(names)
 }
 
-/// Whether this process's user owns what has this name, itself no link.
+/// Returns true if this process's user owns what has this name, itself no link.
 pub fn is_mine<R: Files>(rt: &R, path: &str) -> io::Result<bool> {
     let found = fs::symlink_metadata(rt, path)?;
     let mine = fs::metadata(rt, "/proc/self")?;

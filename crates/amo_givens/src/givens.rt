@@ -25,8 +25,8 @@ pub enum GivensFault {
     BetaHigh,
 }
 
-/// The three numbers of a run, within their limits: jobs are 1..=jobs, workers 1..=workers, and a worker ends
-/// once it sees fewer than `beta` jobs that it could take.
+/// The three numbers of a run, within their limits: jobs are 1..=jobs, workers 1..=workers, and a
+/// worker ends once it sees fewer than `beta` jobs that it could take.
 #[derive(Clone, Copy, Debug, PartialEq, Eq)]
 pub struct Givens {
     /// How many jobs there are, 0 to 4096.
@@ -88,16 +88,16 @@ impl Givens {
         self.beta
     }
 
-    /// At least so many jobs are performed wherever a worker has ended: jobs - (beta + workers - 2), or 0 where
-    /// that is negative.
+    /// At least so many jobs are performed wherever a worker has ended: jobs - (beta + workers -
+    /// 2), or 0 where that is negative.
     pub fn bound(&self) -> u32
         ensures { result ≡ bound self.now }
     {
         self.jobs.saturating_sub(self.beta + self.workers - 2)
     }
 
-    /// A worker that isn't gone claims a job or ends within so many turns of its own, with no other move between
-    /// them: 6 * workers + jobs.
+    /// A worker that isn't gone claims a job or ends within so many turns of its own, with no other
+    /// move between them: 6 * workers + jobs.
     pub fn lone_bound(&self) -> u32
         ensures { result ≡ lone_bound self.now }
     {

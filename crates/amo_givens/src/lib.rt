@@ -1,4 +1,5 @@
-//! What a run is given: how many jobs and workers there are, the threshold, their limits, and the moves of a schedule.
+//! What a run is given: how many jobs and workers there are, the threshold, their limits, and the
+//! moves of a schedule.
 #![tactic(auto)]
 
 mod givens;

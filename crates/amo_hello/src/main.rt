@@ -24,7 +24,8 @@ impl Work<Letter> for Post {
     }
 }
 
-/// Job and house of each letter that was sent, by a worker or at last here. None where memory is refused.
+/// Job and house of each letter that was sent, by a worker or at last here. None where memory is
+/// refused.
 fn send<R: Threads + Wait + Sync + AllocGlobal>(rt: &R, all: Vec<Letter>) -> Option<Vec<(u32, u32)>>
     ensures once { IfSome result (λ sent. AreDistinct (map (λ t. t.0) sent.items)) }
 {

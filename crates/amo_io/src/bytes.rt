@@ -34,7 +34,8 @@ impl Source for Bytes<'_> {
 
     ghost failed = { λ _. false };
 
-    /// Reads as many bytes as there are and as the buffer has room for. It takes no memory and never fails.
+    /// Reads as many bytes as there are and as the buffer has room for. It takes no memory and
+    /// never fails.
     fn read(&mut self, buf: &mut [u8]) -> Result<usize, Failed>
         ensures bound { ReadsAtMost result buf.new }
         ensures bytes { ReadConsumes (Some self.old) (Some self.new) result buf.new }

@@ -20,8 +20,8 @@ pub enum ReadFault {
 /// so many bytes are returned.
 ///
 /// # Errors
-/// `Failed` if the source failed, `NoMemory` if memory was refused. Some bytes may be taken from the
-/// source then.
+/// `Failed` if the source failed, `NoMemory` if memory was refused. Some bytes may be taken from
+/// the source then.
 pub fn read_at_most<R: Source>(
     alloc: Global,
     reader: &mut R,

@@ -1,5 +1,5 @@
-//! Sources and sinks: what gives bytes and what takes them, over memory and over the readers and writers of std, with
-//! what is known of their bytes where one fails.
+//! Sources and sinks: what gives bytes and what takes them, over memory and over the readers and
+//! writers of std, with what is known of their bytes where one fails.
 #![tactic(auto)]
 
 mod bytes;

@@ -8,8 +8,8 @@ use crate::streams::{Failed, Sink};
 use std::alloc::{AllocError, Global};
 use std::marker::Model;
 
-/// A sink over a vector of fixed room, which fails just where it is full. Contracts see what it holds, its room,
-/// and whether a write has failed.
+/// A sink over a vector of fixed room, which fails just where it is full. Contracts see what it
+/// holds, its room, and whether a write has failed.
 #[derive(Drop)]
 pub struct Room {
     bytes: Vec<u8>,
@@ -67,8 +67,8 @@ impl Sink for Room {
 
     ghost failed = { λ s. s.failed };
 
-    /// Takes as many bytes as there is room for. It takes no memory, and fails just where it is full and is given
-    /// some bytes.
+    /// Takes as many bytes as there is room for. It takes no memory, and fails just where it is
+    /// full and is given some bytes.
     fn write(&mut self, buf: &[u8]) -> Result<usize, Failed>
         ensures bound { WritesAtMost result buf.now }
         ensures some { IfOk result (λ n. 0 < length buf.now → 0 < n) }

@@ -8,9 +8,9 @@ use std::io;
 use std::io::{Read, Write};
 use std::marker::Model;
 
-/// A reader or a writer of std, with a mark whether bytes that were written wait for a flush, and one whether it has
-/// failed: any of its errors is a failure, as is a write that takes none of some bytes. Contracts see the reader or the
-/// writer, and the marks.
+/// A reader or a writer of std, with a mark whether bytes that were written wait for a flush, and
+/// one whether it has failed: any of its errors is a failure, as is a write that takes none of some
+/// bytes. Contracts see the reader or the writer, and the marks.
 #[derive(Drop)]
 pub struct Streamed<S> {
     inner: S,
@@ -50,7 +50,8 @@ impl<S> Streamed<S> {
         inner
     }
 
-    /// What the reader or the writer answered, as a source or sink tells it: it has failed just where that is an error.
+    /// What the reader or the writer answered, as a source or sink tells it: it has failed just
+    /// where that is an error.
     fn answered<T>(&mut self, answer: io::Result<T>) -> Result<T, Failed>
         ensures value { IfOk result (λ x. answer ≡ Ok x) }
         ensures fails { is_err result ≡ is_err answer }

@@ -15,8 +15,8 @@ pub trait Source {
     /// Whether a read has failed.
     ghost failed: { Self → Bool };
 
-    /// Reads some bytes into the front of the buffer and answers how many: none only at the end, or where the
-    /// buffer has no room. `Failed` takes no byte from what remains.
+    /// Reads some bytes into the front of the buffer and answers how many: none only at the end, or
+    /// where the buffer has no room. `Failed` takes no byte from what remains.
     fn read(&mut self, buf: &mut [u8]) -> Result<usize, Failed>
         ensures bound { ReadsAtMost result buf.new }
         ensures bytes { ReadConsumes (remaining self.old) (remaining self.new) result buf.new }
@@ -34,8 +34,8 @@ pub trait Sink {
     /// Whether a write or a flush has failed.
     ghost failed: { Self → Bool };
 
-    /// Takes bytes from the front of the buffer and answers how many: at least one where the buffer has one.
-    /// `Failed` takes none.
+    /// Takes bytes from the front of the buffer and answers how many: at least one where the buffer
+    /// has one. `Failed` takes none.
     fn write(&mut self, buf: &[u8]) -> Result<usize, Failed>
         ensures bound { WritesAtMost result buf.now }
         ensures some { IfOk result (λ n. 0 < length buf.now → 0 < n) }

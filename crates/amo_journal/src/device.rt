@@ -33,8 +33,9 @@ impl<T: Drop> From<AllocFailed<T>> for DeviceError {
     }
 }
 
-/// One file of a disk. A read returns what was written, kept or not. A crash, which is the loss of power, leaves one of the
-/// contents that are possible at its moment. A kill leaves what a read returns.
+/// One file of a disk. A read returns what was written, kept or not. A crash, which is the loss of
+/// power, leaves one of the contents that are possible at its moment. A kill leaves what a read
+/// returns.
 pub trait Device {
     /// The bytes that a read returns.
     ghost seen: { Self → List ℕ };
@@ -42,8 +43,8 @@ pub trait Device {
     /// What a crash at this moment may leave.
     ghost may_leave: { Self → List ℕ → Type 0 };
 
-    /// The places where the disk may have another byte than a read returns, though no sync is going to write it: a sync failed,
-    /// here or in a process before. A write there ends that.
+    /// The places where the disk may have another byte than a read returns, though no sync is going
+    /// to write it: a sync failed, here or in a process before. A write there ends that.
     ghost stale: { Self → ℕ → Type 0 };
 
     /// The moment, as a number that doesn't fall.
@@ -64,8 +65,9 @@ pub trait Device {
         ensures time { Elapses (moment self.old) (moment self.new) (left_since self.old) (left_since self.new) (may_leave self.new) }
         ensures cause { HasCause (faults self.old) (faults self.new) result };
 
-    /// Writes over what is there, and past the end. Until a sync, a crash may leave any bytes in the range, save that a byte
-    /// that stands on the disk as it is read stays. At an error a front of the bytes is written, or none.
+    /// Writes over what is there, and past the end. Until a sync, a crash may leave any bytes in
+    /// the range, save that a byte that stands on the disk as it is read stays. At an error a front
+    /// of the bytes is written, or none.
     fn write_at(&mut self, at: usize, bytes: &[u8]) -> Result<(), DeviceError>
         requires { at ≤ length (seen self.old) }
         ensures written { OnOk result (Holds (seen self.old) at bytes.now (seen self.new)) }
@@ -87,8 +89,8 @@ pub trait Device {
         ensures time { Elapses (moment self.old) (moment self.new) (left_since self.old) (left_since self.new) (may_leave self.new) }
         ensures cause { HasCause (faults self.old) (faults self.new) result };
 
-    /// After it, a crash leaves what a read returns, but for stale places. At an error each place where the disk may have
-    /// another byte may be stale from now on.
+    /// After it, a crash leaves what a read returns, but for stale places. At an error each place
+    /// where the disk may have another byte may be stale from now on.
     fn sync(&mut self) -> Result<(), DeviceError>
         ensures durable { OnOk result ((c : List ℕ) → may_leave self.new c → AgreesBut (stale self.old) (seen self.old) c) }
         ensures seen { seen self.new ≡ seen self.old }

@@ -16,7 +16,8 @@ const MAX_BYTES: usize = 1 << 60;
 /// Why a text wasn't put.
 #[derive(Clone, Copy, Debug, PartialEq, Eq, Drop, Error)]
 pub enum PutError {
-    /// The device didn't do what it was asked for. The text may stand in the journal or not: settle it.
+    /// The device didn't do what it was asked for. The text may stand in the journal or not: settle
+    /// it.
     #[error("the journal can't be written: {0}")]
     Device(DeviceError),
     /// The file would have 2^60 bytes. Nothing was done.
@@ -49,9 +50,10 @@ impl<D: Device> Journal<D> {
         Journal { device, gate: 0 }
     }
 
-    /// Makes sure that what is read is on the disk, and answers the texts. What is read need not be: after a kill, or a sync that
-    /// failed, the last gate may be open in memory and closed on the disk. So it writes that gate again, and syncs; cuts what
-    /// stands behind the blocks and the place of their gate, and syncs; and closes that gate, and syncs. At an error it may be
+    /// Makes sure that what is read is on the disk, and answers the texts. What is read need not
+    /// be: after a kill, or a sync that failed, the last gate may be open in memory and closed on
+    /// the disk. So it writes that gate again, and syncs; cuts what stands behind the blocks and
+    /// the place of their gate, and syncs; and closes that gate, and syncs. At an error it may be
     /// settled again.
     pub fn settle(&mut self, alloc: Global) -> Result<Vec<Vec<u8>>, DeviceError>
         // The disk may hold what is read with its last gate open or closed.
@@ -81,8 +83,9 @@ impl<D: Device> Journal<D> {
         Ok(texts)
     }
 
-    /// Adds a text. At `Ok` it is acknowledged: from then on each crash leaves a file that has it. At an error of the device
-    /// the journal has to be settled before anything else is put: until then the text is there or not.
+    /// Adds a text. At `Ok` it is acknowledged: from then on each crash leaves a file that has it.
+    /// At an error of the device the journal has to be settled before anything else is put: until
+    /// then the text is there or not.
     pub fn put(&mut self, alloc: Global, text: &[u8]) -> Result<(), PutError>
         requires settled { IsSettled D.seen D.may_leave D.stale self.old }
         requires one_line { IsOneLine text.now }
@@ -90,11 +93,13 @@ impl<D: Device> Journal<D> {
         ensures settled { OnOk result (IsSettled D.seen D.may_leave D.stale self.new) }
         ensures acknowledged { OnOk result (texts_in (D.seen self.new.device) ≡ texts_in (D.seen self.old.device) ++ text.now ∷ []) }
 
-        // A crash at any moment of the call leaves the texts from before it, with the new one or without.
+        // A crash at any moment of the call leaves the texts from before it, with the new one or
+        // without.
         ensures any_moment { LeavesOnly D.moment D.left_since self.old.device self.new.device
             (IsBeforeOrAfter (texts_in (D.seen self.old.device)) text.now) }
 
-        // So does a kill: a read returns the texts with the new one or without, and the journal can be settled.
+        // So does a kill: a read returns the texts with the new one or without, and the journal can
+        // be settled.
         ensures read { IsBeforeOrAfter (texts_in (D.seen self.old.device)) text.now (D.seen self.new.device) }
         ensures again { OnErr result (MaySettle D.seen D.may_leave D.stale self.new.device) }
 

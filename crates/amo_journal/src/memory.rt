@@ -7,8 +7,8 @@ ghost use Rattle.amo_journal.specs.Past.{HadBeen, only_bytes};
 use crate::{Device, DeviceError};
 use std::alloc::{AllocError, Global};
 
-/// A file in memory. Each call is done at once, so a crash leaves what a read returns. It never fails but for want of memory, and
-/// takes memory at each write and cut.
+/// A file in memory. Each call is done at once, so a crash leaves what a read returns. It never
+/// fails but for want of memory, and takes memory at each write and cut.
 #[derive(Drop)]
 pub struct MemoryDevice {
     alloc: Global,

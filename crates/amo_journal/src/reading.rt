@@ -4,8 +4,8 @@ ghost use Rattle.amo_journal.specs.Texts.{texts_in, blocks, IsOneLine};
 
 use std::alloc::{AllocError, Global};
 
-/// The texts of a journal, from its bytes, up to the first gate that is closed. Who reads beside a writer needs no more. No bytes
-/// are an empty journal.
+/// The texts of a journal, from its bytes, up to the first gate that is closed. Who reads beside a
+/// writer needs no more. No bytes are an empty journal.
 pub fn texts_in(alloc: Global, bytes: &[u8]) -> Result<Vec<Vec<u8>>, AllocError>
     ensures exact { IfOk result (λ texts. map (λ text. text.items) texts.items ≡ texts_in bytes.now) }
 {

@@ -50,7 +50,8 @@ pub(crate) fn cut_and_sync<D: Device>(device: &mut D, len: usize) -> Result<(), 
     device.sync()
 }
 
-/// Writes the last gate again, the same byte, and syncs, where there is a text. From then on each crash leaves the texts.
+/// Writes the last gate again, the same byte, and syncs, where there is a text. From then on each
+/// crash leaves the texts.
 pub(crate) fn open_again<D: Device>(
     device: &mut D,
     texts: &[Vec<u8>],
@@ -82,9 +83,9 @@ fn kept_len(end: usize, len: usize) -> usize
     if end < len { end + 1 } else { len }
 }
 
-/// Cuts what stands behind the blocks, and closes the gate behind them. The cut has to be on the disk first: behind a gate that is
-/// torn open, what was there would count. A byte in the place of that gate stays until it is written over, so that the file is
-/// never left without one.
+/// Cuts what stands behind the blocks, and closes the gate behind them. The cut has to be on the
+/// disk first: behind a gate that is torn open, what was there would count. A byte in the place of
+/// that gate stays until it is written over, so that the file is never left without one.
 pub(crate) fn close_end<D: Device>(
     device: &mut D,
     end: usize,

@@ -5,7 +5,7 @@ ghost use Rattle.amo_judge.specs.Why.{is_end_of, is_claim_of, end_of, claim_of, 
 
 use amo_kk::Event;
 
-/// Whether worker p is gone by this event.
+/// Returns true if worker p is gone by this event.
 fn is_end_of(p: u32, event: Event) -> bool
     ensures { result ≡ is_end_of p event }
 {
@@ -15,7 +15,7 @@ fn is_end_of(p: u32, event: Event) -> bool
     }
 }
 
-/// Whether job j is claimed by this event.
+/// Returns true if job j is claimed by this event.
 fn is_claim_of(j: u32, event: Event) -> bool
     ensures { result ≡ is_claim_of j event }
 {

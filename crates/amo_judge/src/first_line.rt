@@ -40,7 +40,7 @@ fn with_bound(givens: Givens, said: u64) -> Result<bool, Wrong>
     Ok(false)
 }
 
-/// Whether there are names, by what stands behind the threshold.
+/// Returns true if there are names, by what stands behind the threshold.
 fn ending_of(givens: Givens, words: &[&[u8]]) -> Result<bool, Wrong>
     ensures { result ≡ ending_of givens (map (λ word. word.now) words.now) }
 {

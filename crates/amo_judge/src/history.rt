@@ -30,7 +30,7 @@ impl<'a> Model for History<'a> {
     ghost view = { λ h. record { givens = h.givens; workers = h.workers; jobs = h.jobs; events = h.events.items } };
 }
 
-/// Whether this is the number of the event that is due.
+/// Returns true if this is the number of the event that is due.
 fn due_in(due: usize, word: &[u8]) -> Result<u64, Wrong>
     ensures { result ≡ due_in due word.now }
 {
@@ -41,7 +41,7 @@ fn due_in(due: usize, word: &[u8]) -> Result<u64, Wrong>
     Ok(number)
 }
 
-/// Whether there are so many words, and the second is this one.
+/// Returns true if there are so many words, and the second is this one.
 fn has_word(words: &[&[u8]], count: usize, word: &[u8]) -> bool
     requires { 2 ≤ count }
     ensures { result ≡ has_word count word.now (map (λ word. word.now) words.now) }

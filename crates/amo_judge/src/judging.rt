@@ -128,9 +128,10 @@ fn judge_lines(alloc: Global, bytes: &[u8]) -> Result<String, AllocError>
     answer(alloc, read)
 }
 
-/// The answer to a text: `lawful`, if it is a history whose events are a run, and how many there are of each kind; `unlawful`, if
-/// they aren't, and which is the first that is no step, and why; or `refused`, if it is no history, and which line is wrong in
-/// what way, or that it is longer than 1,048,576 bytes. The only error is out of memory.
+/// The answer to a text: `lawful`, if it is a history whose events are a run, and how many there
+/// are of each kind; `unlawful`, if they aren't, and which is the first that is no step, and why;
+/// or `refused`, if it is no history, and which line is wrong in what way, or that it is longer
+/// than 1,048,576 bytes. The only error is out of memory.
 pub fn judgement(alloc: Global, bytes: &[u8]) -> Result<String, AllocError>
     ensures text { IfOk result (λ text. string_bytes text ≡ judgement bytes.now) }
 {

@@ -36,7 +36,7 @@ pub(crate) fn words_of(alloc: Global, line: &[u8]) -> Result<Vec<&[u8]>, AllocEr
     line.split(|b| *b == b' ').collect(alloc)
 }
 
-/// Whether the word at this place is this one.
+/// Returns true if the word at this place is this one.
 pub(crate) fn says_at(words: &[&[u8]], place: usize, text: &[u8]) -> bool
     requires { place < length words.now }
     ensures { result ≡ says_at (map (λ word. word.now) words.now) place text.now }
@@ -44,7 +44,7 @@ pub(crate) fn says_at(words: &[&[u8]], place: usize, text: &[u8]) -> bool
     words[place] == text
 }
 
-/// Whether the line ends the history.
+/// Returns true if the line ends the history.
 fn ends_history(line: &[u8]) -> bool
     ensures { result ≡ ends_history line.now }
 {

@@ -29,7 +29,7 @@ pub(crate) enum Reason {
     Early(usize, u32),
 }
 
-/// Whether k is in 1..=n.
+/// Returns true if k is in 1..=n.
 fn is_within(n: u32, k: u32) -> bool
     ensures { result ≡ is_within n k }
 {

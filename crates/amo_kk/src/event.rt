@@ -1,7 +1,7 @@
 //! What happens: the events of a history, and what a worker's step shows.
 
-/// An entry of a history: the worker, and the job where there is one. It is also a step of the sequential set
-/// of unclaimed jobs with which a history is compared.
+/// An entry of a history: the worker, and the job where there is one. It is also a step of the
+/// sequential set of unclaimed jobs with which a history is compared.
 #[derive(Clone, Copy, Debug, PartialEq, Eq)]
 pub enum Event {
     /// The worker has claimed the job.

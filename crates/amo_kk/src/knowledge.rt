@@ -14,9 +14,9 @@ use amo_sets::JobSet;
 use std::alloc::{AllocError, Global};
 use std::marker::Model;
 
-/// What a worker knows of the jobs: which it knows to be performed, and which it has seen announced in this
-/// attempt. Jobs that aren't known are free, and free jobs that were not seen announced are open. How many are
-/// open is kept, so that the threshold is tested without a walk.
+/// What a worker knows of the jobs: which it knows to be performed, and which it has seen announced
+/// in this attempt. Jobs that aren't known are free, and free jobs that were not seen announced are
+/// open. How many are open is kept, so that the threshold is tested without a walk.
 #[derive(Drop)]
 pub(crate) struct Knowledge {
     free: JobSet,
@@ -38,8 +38,8 @@ impl Model for Knowledge {
     ghost invariant = { λ k. record { same_range : length k.tried ≡ length k.free; opens : k.open_count ≡ count (length k.free) (is_without k.free k.tried) } };
 }
 
-/// Which of the open jobs worker p wants where so many jobs are free: the workers are spread evenly over them,
-/// if there is room.
+/// Which of the open jobs worker p wants where so many jobs are free: the workers are spread evenly
+/// over them, if there is room.
 fn wanted_rank(givens: Givens, p: u32, free: u32) -> u32
     requires worker { IsWorker givens p }
     requires free { free ≤ givens.jobs }
@@ -70,7 +70,8 @@ fn open_without(free: &JobSet, tried: &JobSet, open_count: u32, j: u32) -> u32
 }
 
 impl Knowledge {
-    /// Nothing is known of so many jobs, and none was seen announced. The only error is out of memory.
+    /// Nothing is known of so many jobs, and none was seen announced. The only error is out of
+    /// memory.
     pub(crate) fn new(alloc: Global, jobs: u32) -> Result<Knowledge, AllocError>
         ensures { IfOk result (λ k. k ≡ record { range = jobs; known = []; tried = [] }) }
     {
@@ -83,7 +84,7 @@ impl Knowledge {
         })
     }
 
-    /// Whether j is known to be performed.
+    /// Returns true if j is known to be performed.
     pub(crate) fn knows(&self, j: u32) -> bool
         requires low { 1 ≤ j }
         requires high { j ≤ self.now.range }
@@ -92,7 +93,7 @@ impl Knowledge {
         !self.free.has(j)
     }
 
-    /// Whether j was seen announced in this attempt.
+    /// Returns true if j was seen announced in this attempt.
     pub(crate) fn tried(&self, j: u32) -> bool
         requires low { 1 ≤ j }
         requires high { j ≤ self.now.range }
@@ -123,8 +124,8 @@ impl Knowledge {
         self.free.take_out(j);
     }
 
-    /// The choice of worker p: over where fewer than beta jobs are open, else an announcement of an open job, and
-    /// nothing counts as seen announced any more.
+    /// The choice of worker p: over where fewer than beta jobs are open, else an announcement of an
+    /// open job, and nothing counts as seen announced any more.
     pub(crate) fn choose(&mut self, givens: Givens, p: u32) -> Phase
         requires worker { IsWorker givens p }
         requires range { self.old.range ≡ givens.jobs }
@@ -142,7 +143,8 @@ impl Knowledge {
         Phase::Announcing(job)
     }
 
-    /// The check of j by worker p: it is to be claimed where it is open, else there is a new choice.
+    /// The check of j by worker p: it is to be claimed where it is open, else there is a new
+    /// choice.
     fn check(&mut self, givens: Givens, p: u32, j: u32) -> Phase
         requires worker { IsWorker givens p }
         requires job { IsJob givens j }
@@ -170,7 +172,8 @@ impl Knowledge {
         Phase::Reading(j, q)
     }
 
-    /// In an attempt on j, on to the announcement of q, or to the first row where there is no worker q.
+    /// In an attempt on j, on to the announcement of q, or to the first row where there is no
+    /// worker q.
     pub(crate) fn to_announcement(&mut self, givens: Givens, p: u32, j: u32, q: u32) -> Phase
         requires worker { IsWorker givens p }
         requires job { IsJob givens j }

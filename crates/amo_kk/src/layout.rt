@@ -1,12 +1,13 @@
-//! Where each shared word stands, wherever the words are kept. Word 0 is the book word, which no worker touches: in threads
-//! a split and a join of seats load it.
+//! Where each shared word stands, wherever the words are kept. Word 0 is the book word, which no
+//! worker touches: in threads a split and a join of seats load it.
 ghost use Rattle.std.specs.Prelude.{◌≡◌, ◌≤◌, ◌+◌};
 ghost use Rattle.amo_givens.specs.Givens.{IsWorker};
 ghost use Rattle.amo_kk.specs.Words.{word_count, next_word, claim_word, done_word};
 
 use amo_givens::Givens;
 
-/// How many words there are: the book word, and for each worker its announcement, its count of claims and its row.
+/// How many words there are: the book word, and for each worker its announcement, its count of
+/// claims and its row.
 pub fn word_count(givens: Givens) -> usize
     ensures { result ≡ word_count givens }
 {

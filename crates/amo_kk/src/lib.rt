@@ -1,6 +1,7 @@
-//! The algorithm KK-beta of Kentros and Kiayias: the local machine of a worker, and the definitions of what all workers
-//! together do. The headline is proved over those definitions in the module `laws`; `layout` has the places of the shared
-//! words. What a run is given stands in `amo_givens`, and is handed on.
+//! The algorithm KK-beta of Kentros and Kiayias: the local machine of a worker, and the definitions
+//! of what all workers together do. The headline is proved over those definitions in the module
+//! `laws`; `layout` has the places of the shared words. What a run is given stands in `amo_givens`,
+//! and is handed on.
 #![tactic(auto)]
 
 mod event;

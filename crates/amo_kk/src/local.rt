@@ -208,7 +208,7 @@ impl Local {
         shown(before, self.phase)
     }
 
-    /// Whether the worker may leave: it goes on, and has nothing in its hand.
+    /// Returns true if the worker may leave: it goes on, and has nothing in its hand.
     pub fn can_leave(&self) -> bool
         ensures { result ≡ can_leave self.now.state.phase }
     {
@@ -232,21 +232,21 @@ impl Local {
         Shown::Left
     }
 
-    /// Whether the worker has ended by its own choice.
+    /// Returns true if the worker has ended by its own choice.
     pub fn ended(&self) -> bool
         ensures { result ≡ is_over self.now.state.phase }
     {
         self.phase.is_over()
     }
 
-    /// Whether the worker has left.
+    /// Returns true if the worker has left.
     pub fn has_left(&self) -> bool
         ensures { result ≡ true ↔ self.now.state.phase ≡ Phase.Left }
     {
         matches!(self.phase, Phase::Left)
     }
 
-    /// Whether the worker knows that j is done.
+    /// Returns true if the worker knows that j is done.
     pub fn knows(&self, j: u32) -> bool
         requires { IsJob self.now.givens j }
         ensures { result ≡ has self.now.state.known j }
@@ -254,7 +254,7 @@ impl Local {
         self.knowledge.knows(j)
     }
 
-    /// Whether the worker has seen j announced in this attempt.
+    /// Returns true if the worker has seen j announced in this attempt.
     pub fn tried(&self, j: u32) -> bool
         requires { IsJob self.now.givens j }
         ensures { result ≡ has self.now.state.tried j }

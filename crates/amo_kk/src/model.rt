@@ -1,10 +1,11 @@
-//! The values of which the definitions speak. No code makes one: contracts see the code's own types as these.
+//! The values of which the definitions speak. No code makes one: contracts see the code's own types
+//! as these.
 use crate::event::Event;
 use crate::phase::Phase;
 use std::collections::LinkedList;
 
-/// The state of the sequential object: the unclaimed jobs in rising order, for each worker the job in its hand
-/// or 0, the performed pairs of worker and job, and for each worker whether it is gone.
+/// The state of the sequential object: the unclaimed jobs in rising order, for each worker the job
+/// in its hand or 0, the performed pairs of worker and job, and for each worker whether it is gone.
 pub struct Object {
     /// The unclaimed jobs, in rising order.
     pub unclaimed: LinkedList<u32>,

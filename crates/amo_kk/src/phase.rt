@@ -27,14 +27,15 @@ impl Phase {
     ghost use Rattle.amo_kk.specs.Record.{is_over, wants_nothing};
     ghost use Rattle.amo_kk.specs.Answer.{leaving};
 
-    /// Whether a worker in this phase has ended by its own choice.
+    /// Returns true if a worker in this phase has ended by its own choice.
     pub fn is_over(self) -> bool
         ensures { result ≡ is_over self }
     {
         matches!(self, Phase::Over)
     }
 
-    /// Whether a worker in this phase takes no step of its own any more: it has ended, or left.
+    /// Returns true if a worker in this phase takes no step of its own any more: it has ended, or
+    /// left.
     pub fn wants_nothing(self) -> bool
         ensures { result ≡ wants_nothing self }
     {

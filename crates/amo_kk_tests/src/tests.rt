@@ -42,7 +42,8 @@ fn the_limits_are_those_of_givens(rt: HostRuntime) {
     }
 }
 
-/// The places of the last announcement, count of claims and entry of a row, and how many words there are.
+/// The places of the last announcement, count of claims and entry of a row, and how many words
+/// there are.
 fn last_places(givens: Givens) -> (usize, usize, usize, usize) {
     let last = givens.workers();
     (
@@ -164,7 +165,7 @@ fn event(rt: &impl Abort, local: &mut Local, v: u64) -> Shown {
     }
 }
 
-/// Whether the worker knows j, and whether it has seen j announced.
+/// Returns true if the worker knows j, and whether it has seen j announced.
 fn sight(rt: &impl Abort, local: &Local, j: u32) -> (bool, bool) {
     let jobs = local.givens().jobs();
     assert!(rt; 1 <= j && j <= jobs);
@@ -179,22 +180,22 @@ fn front(rt: &impl Abort, local: &Local, q: u32) -> u32 {
     local.read_of(q)
 }
 
-/// Whether the worker wants this, and its next event, in which a load gives v, shows that.
+/// Returns true if the worker wants this, and its next event, in which a load gives v, shows that.
 fn makes(rt: &impl Abort, local: &mut Local, v: u64, want: Want, shown: Shown) -> bool {
     local.want() == want && event(rt, local, v) == shown
 }
 
-/// Whether the worker has ended by itself.
+/// Returns true if the worker has ended by itself.
 fn is_at_its_end(local: &Local) -> bool {
     local.phase() == Phase::Over && local.want() == Want::Nothing && local.ended()
 }
 
-/// Whether the worker can't leave, nor has left.
+/// Returns true if the worker can't leave, nor has left.
 fn stays(local: &Local) -> bool {
     !local.has_left() && !local.can_leave()
 }
 
-/// Whether the worker has claimed and done these jobs, in this order and so many events.
+/// Returns true if the worker has claimed and done these jobs, in this order and so many events.
 fn has_performed(local: &Local, jobs: &[u32], steps: u64) -> bool {
     local.claims() == jobs && local.dones() == jobs && local.steps() == steps
 }
@@ -292,8 +293,8 @@ fn refused_machine(rt: HostRuntime) {
     }
 }
 
-/// Worker p of these givens that begins again by its own words: the announcement, the count of claims, and the entries of
-/// the row.
+/// Worker p of these givens that begins again by its own words: the announcement, the count of
+/// claims, and the entries of the row.
 fn begun_again(
     alloc: Global,
     rt: &impl Abort,
@@ -370,7 +371,8 @@ fn the_longest_rows_are_taken_up(rt: HostRuntime) -> Result<(), Fail> {
     Ok(())
 }
 
-/// Whether the first worker of two on 4 jobs, with a last look and its leaving, does what it has to.
+/// Returns true if the first worker of two on 4 jobs, with a last look and its leaving, does what
+/// it has to.
 fn performs_one_and_leaves(rt: &impl Abort, local: &mut Local) -> bool {
     for heard in [0, 0, 3, 0, 0, 0] {
         let _shown = event(rt, local, heard);

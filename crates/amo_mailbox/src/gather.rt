@@ -99,9 +99,10 @@ fn take_rest<Out: Drop, R: Wait>(
 }
 
 impl<Out: Drop> Inlet<Out> {
-    /// Takes the rest, drops what is of no outlet handed in, and adds what the outlets kept, by rising worker: of each of
-    /// these outlets just what it was given, in order, and nothing else. The queue and the outlets have to be the inlet's own,
-    /// and to have been given together no more outputs than there are jobs. Takes no memory; may wait.
+    /// Takes the rest, drops what is of no outlet handed in, and adds what the outlets kept, by
+    /// rising worker: of each of these outlets just what it was given, in order, and nothing else.
+    /// The queue and the outlets have to be the inlet's own, and to have been given together no
+    /// more outputs than there are jobs. Takes no memory; may wait.
     pub fn gather<R: Wait>(
         self,
         rt: &R,

@@ -28,8 +28,9 @@ impl<Out> Inlet<Out> {
     ghost use Rattle.amo_mailbox.specs.Endpoints.{IsInletOf};
     ghost use Rattle.amo_mailbox.specs.declared.output.Output.{Output};
 
-    /// Takes the front of the queue, which has to be the inlet's own. False where as many were taken as there are jobs, or
-    /// the queue was found empty. Takes no memory; may wait while another thread is in the queue.
+    /// Takes the front of the queue, which has to be the inlet's own. False where as many were
+    /// taken as there are jobs, or the queue was found empty. Takes no memory; may wait while
+    /// another thread is in the queue.
     pub fn take<R: Wait>(&mut self, rt: &R, queue: &Queue<Out>) -> bool
         requires belong { IsInletOf queue.now self.old }
         ensures belong { IsInletOf queue.now self.new }

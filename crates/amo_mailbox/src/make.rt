@@ -38,8 +38,8 @@ fn outlets_for<Out: Drop>(
     Ok((queue, inlet, outlets))
 }
 
-/// A queue of 64 places, an inlet, and an outlet for each worker in the order of their numbers, each with room for as many
-/// outputs as there are jobs. The one error is want of memory.
+/// A queue of 64 places, an inlet, and an outlet for each worker in the order of their numbers,
+/// each with room for as many outputs as there are jobs. The one error is want of memory.
 pub fn outlets<Out: Drop>(
     alloc: Global,
     givens: Givens,

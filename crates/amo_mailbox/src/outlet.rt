@@ -56,9 +56,10 @@ impl<Out: Drop> Outlet<Out> {
         }
     }
 
-    /// Puts an output of the outlet's worker into the queue, which has to be the outlet's own. The outlet has to have been given
-    /// fewer outputs than there are jobs. From the first that the queue gives back on, it and all later ones are kept. Takes
-    /// no memory; may wait while another thread is in the queue.
+    /// Puts an output of the outlet's worker into the queue, which has to be the outlet's own. The
+    /// outlet has to have been given fewer outputs than there are jobs. From the first that the
+    /// queue gives back on, it and all later ones are kept. Takes no memory; may wait while another
+    /// thread is in the queue.
     pub fn put<R: Wait>(&mut self, rt: &R, queue: &Queue<Out>, output: Output<Out>)
         requires belong { IsOutletOf queue.now self.old }
         requires worker { output.worker ≡ self.old.worker }
@@ -86,7 +87,7 @@ impl<Out: Drop> Outlet<Out> {
         self.worker
     }
 
-    /// Whether it may be given one more: fewer than the number of jobs were put.
+    /// Returns true if it may be given one more: fewer than the number of jobs were put.
     pub fn has_room(&self) -> bool
         ensures room { result ≡ nat_lt self.now.put_count self.now.room }
     {

@@ -4,7 +4,8 @@ use crate::pass_state::PassState;
 use crossbeam_queue::protocol::{Join, Lesson, Outcome, Protocol, Split};
 use crossbeam_queue::{Pass, RuledArrayQueue};
 
-/// What the inlet took, and then what stands in the queue, is for each worker what its outlet sent, in order.
+/// What the inlet took, and then what stands in the queue, is for each worker what its outlet sent,
+/// in order.
 pub(crate) struct InOrder;
 
 impl<Out> Protocol<Output<Out>, PassState<Out>> for InOrder {
@@ -17,7 +18,8 @@ impl<Out> Protocol<Output<Out>, PassState<Out>> for InOrder {
     ghost first = { Gets [] 0 [] };
 }
 
-/// How passes are made and come back: the inlet's makes an outlet's, an outlet's moves whole, the inlet's takes it in.
+/// How passes are made and come back: the inlet's makes an outlet's, an outlet's moves whole, the
+/// inlet's takes it in.
 pub(crate) struct Passes;
 
 impl<Out> Split<PassState<Out>> for Passes {

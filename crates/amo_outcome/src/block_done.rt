@@ -52,7 +52,7 @@ fn sets_of(alloc: Global, jobs: u32, lists: &[Vec<u32>]) -> Result<Vec<JobSet>, 
     Ok(sets)
 }
 
-/// Whether the set with this number, from 1, has the job.
+/// Returns true if the set with this number, from 1, has the job.
 fn is_in(sets: &[JobSet], number: u32, job: u32) -> bool
     ensures { result ≡ is_in sets.now number job }
 {
@@ -75,7 +75,8 @@ fn kept(earlier: Option<BlockDone>, later: BlockDone) -> BlockDone
     }
 }
 
-/// Notes an output at its job, unless there is no such job, or an output of the same or of a lesser worker is noted.
+/// Notes an output at its job, unless there is no such job, or an output of the same or of a lesser
+/// worker is noted.
 fn note(filed: &mut [Option<BlockDone>], job: u32, output: BlockDone)
     ensures { filed.new ≡ put filed.old job (Some (kept (numbered None filed.old job) output)) }
 {

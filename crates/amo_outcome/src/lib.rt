@@ -1,4 +1,5 @@
-//! A run of a plan, from the plan's bytes to the text of what came of it: its jobs are executed in threads, block by block.
+//! A run of a plan, from the plan's bytes to the text of what came of it: its jobs are executed in
+//! threads, block by block.
 #![tactic(auto)]
 
 mod block_done;

@@ -144,8 +144,8 @@ fn noted<T: Copy>(items: &[Option<T>], place: usize) -> Option<T>
     }
 }
 
-/// What is noted of the blocks of an outcome: of each the output that says that it is done, and the worker that has
-/// claimed it.
+/// What is noted of the blocks of an outcome: of each the output that says that it is done, and the
+/// worker that has claimed it.
 #[derive(Drop)]
 pub(crate) struct Notes<'a> {
     pub(crate) outputs: &'a [Output<Vec<Answer>>],

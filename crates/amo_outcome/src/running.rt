@@ -69,8 +69,9 @@ fn run_blocks<R: Threads + Wait + Sync>(
     }
 }
 
-/// Executes the jobs of a plan in threads. The text of what came of it, and whether each thread was started; where one
-/// wasn't, the text is that of what the others did. The only error is out of memory.
+/// Executes the jobs of a plan in threads. The text of what came of it, and whether each thread was
+/// started; where one wasn't, the text is that of what the others did. The only error is out of
+/// memory.
 fn run_text<R: Threads + Wait + Sync>(
     rt: &R,
     alloc: Global,
@@ -87,9 +88,10 @@ fn run_text<R: Threads + Wait + Sync>(
     Ok((text, executed.started))
 }
 
-/// Reads a plan to the end of the reader, executes its jobs in threads, and writes the text of what came of it and nothing
-/// else. Answers whether each thread was started; where one wasn't, the text is that of what the others did. Neither
-/// stream may have failed. What each fault leaves is said at `ReplayFault`. May wait.
+/// Reads a plan to the end of the reader, executes its jobs in threads, and writes the text of what
+/// came of it and nothing else. Answers whether each thread was started; where one wasn't, the text
+/// is that of what the others did. Neither stream may have failed. What each fault leaves is said
+/// at `ReplayFault`. May wait.
 #[tactic(auto, using(crate::proofs::RunTexts::writes, crate::proofs::RunTexts::writes_front))]
 pub fn run_plan<R: Threads + Wait + Sync, S: Source, W: Sink>(
     rt: &R,

@@ -1,6 +1,7 @@
-//! Makes the payments of a day, each at most once: `amo_payments JOURNAL BANK < DAY` reads them from standard input, keeps their
-//! journal in the file JOURNAL, and writes to standard output what became of each. BANK is a file that stands for a bank: each
-//! payment that is given adds a line to it. All that it does with them stands in `amo_example_payments`.
+//! Makes the payments of a day, each at most once: `amo_payments JOURNAL BANK < DAY` reads them
+//! from standard input, keeps their journal in the file JOURNAL, and writes to standard output what
+//! became of each. BANK is a file that stands for a bank: each payment that is given adds a line to
+//! it. All that it does with them stands in `amo_example_payments`.
 #![tactic(auto)]
 
 ghost use Rattle.std.specs.Prelude.{◌≡◌, ◌≤◌};
@@ -26,7 +27,8 @@ use std::{env, fs};
 /// Why no day is begun.
 #[derive(Debug, Drop)]
 enum Refusal {
-    /// A standard stream is closed: the first file that is opened would take its place, and a report come into the journal.
+    /// A standard stream is closed: the first file that is opened would take its place, and a
+    /// report come into the journal.
     Streams,
     /// There are other words than two files.
     Words,
@@ -38,8 +40,9 @@ enum Refusal {
     Bank,
 }
 
-/// Serves a day on these streams and files, and answers the program's exit status: 0 where all of its report was written, else 1,
-/// after a line of the fault to `err`. That this line can't be written changes nothing.
+/// Serves a day on these streams and files, and answers the program's exit status: 0 where all of
+/// its report was written, else 1, after a line of the fault to `err`. That this line can't be
+/// written changes nothing.
 fn serve_streams<
     B: Read,
     D: Device + Drop + Send,
@@ -63,7 +66,7 @@ fn serve_streams<
     }
 }
 
-/// Whether the standard streams are open, all three.
+/// Returns true if the standard streams are open, all three.
 fn has_streams(rt: HostRuntime) -> bool {
     let streams = ["/proc/self/fd/0", "/proc/self/fd/1", "/proc/self/fd/2"];
     streams
@@ -92,7 +95,8 @@ fn folder_of(path: &str) -> &str {
     }
 }
 
-/// Opens the journal, which is made where there is none, and takes its lock, which is kept until the process ends.
+/// Opens the journal, which is made where there is none, and takes its lock, which is kept until
+/// the process ends.
 fn open_journal(rt: HostRuntime, path: &str) -> Result<FileDevice, Refusal> {
     let file = create_private(&rt, path).map_err(|_| Refusal::Journal)?;
     if !try_exclusive(&file).map_err(|_| Refusal::Journal)? {

@@ -23,8 +23,8 @@ fn sum_of(numbers: &[u64]) -> u64
     numbers.iter().sum()
 }
 
-/// What the task gives: the text that it says, or the sum of its numbers. It takes no memory. The task has to
-/// fit, as each of a plan does.
+/// What the task gives: the text that it says, or the sum of its numbers. It takes no memory. The
+/// task has to fit, as each of a plan does.
 pub fn answer_of(task: Task) -> Answer
     requires { IsTrue (fits task) }
     ensures { result ≡ answer_of task }

@@ -66,8 +66,8 @@ fn take_tasks(
     Ok(taken)
 }
 
-/// The tasks in blocks of so many, the last of which may have fewer; no tasks give no blocks. Once out of memory
-/// the tasks are gone.
+/// The tasks in blocks of so many, the last of which may have fewer; no tasks give no blocks. Once
+/// out of memory the tasks are gone.
 pub fn blocks_of(alloc: Global, tasks: Vec<Task>, block: u32) -> Result<Vec<Block>, AllocError>
     requires some { 1 ≤ block }
     requires few { block ≤ MOST_IN_BLOCK }
@@ -83,8 +83,8 @@ pub fn blocks_of(alloc: Global, tasks: Vec<Task>, block: u32) -> Result<Vec<Bloc
     Ok(blocks)
 }
 
-/// What each task of the block gives, in their order: a task that doesn't fit the largest number. It takes no
-/// memory.
+/// What each task of the block gives, in their order: a task that doesn't fit the largest number.
+/// It takes no memory.
 pub fn answer_block(block: Block) -> Vec<Answer>
     ensures { result.items ≡ map capped_answer block }
 {

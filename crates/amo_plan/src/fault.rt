@@ -6,8 +6,9 @@ use amo_givens::GivensFault;
 use std::alloc::{AllocError, AllocFailed};
 use thiserror::Error;
 
-/// The first test that a text fails, or out of memory. Jobs and words are numbered from 1, and 0 is the top
-/// level; a number above 4294967295, which no text that is short enough reaches, is given as that.
+/// The first test that a text fails, or out of memory. Jobs and words are numbered from 1, and 0 is
+/// the top level; a number above 4294967295, which no text that is short enough reaches, is given
+/// as that.
 #[derive(Clone, Copy, Debug, PartialEq, Eq, Error)]
 pub enum PlanFault {
     /// The text is no TOML document, or isn't UTF-8.

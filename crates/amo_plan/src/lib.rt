@@ -1,8 +1,9 @@
 //! Plans: a text that names jobs and a schedule, read from bytes, and the results of its jobs.
 //!
-//! `read_plan` gives the plan of a text, or the first test that the text fails. What a plan is, and which tests
-//! there are in which order, is the definition `plan_of` in specs/Plan.antt, a function of the bytes. The module
-//! `laws` has the theorems over the definitions: which texts are numbers, and what each plan keeps.
+//! `read_plan` gives the plan of a text, or the first test that the text fails. What a plan is, and
+//! which tests there are in which order, is the definition `plan_of` in specs/Plan.antt, a function
+//! of the bytes. The module `laws` has the theorems over the definitions: which texts are numbers,
+//! and what each plan keeps.
 #![tactic(auto)]
 
 mod answer;

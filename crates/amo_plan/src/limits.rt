@@ -52,7 +52,8 @@ fn are_small(budgets: &[u64]) -> bool
     budgets.iter().all(|budget| *budget <= MAX_STEPS)
 }
 
-/// The budgets of the workers, `USUAL_BUDGET` steps each where none are named, if rounds and budgets keep their limits.
+/// The budgets of the workers, `USUAL_BUDGET` steps each where none are named, if rounds and
+/// budgets keep their limits.
 #[tactic(auto, unfolding(crate::specs::Limits::budgets_within))]
 pub(crate) fn budgets_within(
     alloc: Global,

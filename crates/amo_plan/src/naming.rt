@@ -39,8 +39,8 @@ fn is_name(name: &str) -> bool
     1 <= name.len() && name.len() <= MOST_IN_NAME && has_name_bytes(name.as_bytes())
 }
 
-/// The job in this place, whose name may be taken by an earlier one, has a proper name of its own and a task
-/// that fits.
+/// The job in this place, whose name may be taken by an earlier one, has a proper name of its own
+/// and a task that fits.
 #[tactic(auto, unfolding(crate::specs::Jobs::fine_job))]
 fn check_job(is_taken: bool, place: u32, job: &Job) -> Result<(), PlanFault>
     ensures { Gives (λ x. x) result (fine_job is_taken place job.now) }

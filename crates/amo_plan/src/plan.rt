@@ -14,7 +14,8 @@ use amo_givens::{Givens, Move};
 pub struct Heads {
     /// The version of the format, 1 or 2.
     pub version: u32,
-    /// How many jobs make a block, which is claimed and performed as one: 1 in version 1, else 1 to 4096.
+    /// How many jobs make a block, which is claimed and performed as one: 1 in version 1, else 1 to
+    /// 4096.
     pub block: u32,
     /// The givens of the algorithm, whose jobs are the blocks.
     pub givens: Givens,
@@ -28,9 +29,9 @@ pub struct Heads {
     pub budgets: Items<u64>,
 }
 
-/// A plan: jobs with names and tasks, and how workers take turns at them. It keeps as many names as tasks, a
-/// budget for each worker, moves of its own workers alone, and tasks that fit; its givens are of as many jobs as
-/// its jobs make blocks.
+/// A plan: jobs with names and tasks, and how workers take turns at them. It keeps as many names as
+/// tasks, a budget for each worker, moves of its own workers alone, and tasks that fit; its givens
+/// are of as many jobs as its jobs make blocks.
 #[derive(Debug, Drop)]
 pub struct Plan {
     /// All but the tasks.

@@ -92,9 +92,10 @@ fn plan_in(alloc: Global, table: &Table) -> Result<Plan, PlanFault>
 
 /// The plan of a text, or why it is none, or out of memory.
 ///
-/// `plan_of` gives for each text either a plan or the first test that the text fails. `Ok` comes only where it
-/// gives just that plan, and a fault other than `NoMemory` only where it gives that fault. A text that is too long is
-/// refused before any memory is taken. After a fault nothing is left behind.
+/// `plan_of` gives for each text either a plan or the first test that the text fails. `Ok` comes
+/// only where it gives just that plan, and a fault other than `NoMemory` only where it gives that
+/// fault. A text that is too long is refused before any memory is taken. After a fault nothing is
+/// left behind.
 #[tactic(auto, unfolding(crate::specs::Plan::plan_of))]
 pub fn read_plan(alloc: Global, bytes: &[u8]) -> Result<Plan, PlanFault>
     ensures plan { Gives plan_seen result (plan_of bytes.now) }

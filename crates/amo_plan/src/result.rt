@@ -15,8 +15,8 @@ fn sum_text(alloc: Global, numbers: &[u64]) -> Result<String, AllocError>
     total.to_string(alloc)
 }
 
-/// The text of a task's result: what it says, or its sum in decimal digits; or out of memory. The task has to
-/// fit, as each of a plan does.
+/// The text of a task's result: what it says, or its sum in decimal digits; or out of memory. The
+/// task has to fit, as each of a plan does.
 pub fn result_of(alloc: Global, task: &Task) -> Result<String, AllocError>
     requires { IsTrue (fits task.now) }
     ensures { IfOk result (λ s. string_bytes s ≡ result_text task.now) }

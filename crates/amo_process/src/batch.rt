@@ -11,15 +11,16 @@ use amo_givens::Givens;
 use amo_kk::{Local, Want};
 use std::alloc::{AllocError, Global};
 
-/// One thing that a process is told to do in a batch. It notes each number that it loads, and 0 for a store.
+/// One thing that a process is told to do in a batch. It notes each number that it loads, and 0 for
+/// a store.
 #[derive(Clone, Copy, Debug, PartialEq, Eq)]
 pub enum Item {
     /// To store the second number to the word.
     Store(u64, u64),
     /// To load the word.
     Load(u64),
-    /// To load the word and those above it, one after the other, up to the first that is 0. The second is the last of
-    /// these words, where always 0 stands.
+    /// To load the word and those above it, one after the other, up to the first that is 0. The
+    /// second is the last of these words, where always 0 stands.
     LoadUntilZero(u64, u64),
 }
 
@@ -138,8 +139,8 @@ pub(crate) fn items_beginning(givens: Givens, p: u32, word: u64, mut items: Vec<
     items
 }
 
-/// The batch of worker p that stands so: all that is known of its next loads and stores before anything more is heard. All its
-/// memory is asked for at once, and only that may be wanting.
+/// The batch of worker p that stands so: all that is known of its next loads and stores before
+/// anything more is heard. All its memory is asked for at once, and only that may be wanting.
 pub fn items_of(
     alloc: Global,
     givens: Givens,

@@ -19,8 +19,8 @@ use std::alloc::{AllocError, Global};
 use std::marker::Model;
 use std::mem;
 
-/// A process of a worker, that is told what each of its accesses gave. It stands where the list of all that it was told
-/// says, and keeps no such list.
+/// A process of a worker, that is told what each of its accesses gave. It stands where the list of
+/// all that it was told says, and keeps no such list.
 #[derive(Drop)]
 pub struct Process {
     givens: Givens,
@@ -47,7 +47,8 @@ impl Model for Process {
 }
 
 impl Process {
-    /// A process of worker p that has heard nothing. All its memory is asked for here, and only that may be wanting.
+    /// A process of worker p that has heard nothing. All its memory is asked for here, and only
+    /// that may be wanting.
     pub fn new(alloc: Global, givens: Givens, p: u32) -> Result<Process, AllocError>
         requires worker { IsWorker givens p }
         ensures { IfOk result (λ a. a ≡ new_process givens p) }
@@ -89,9 +90,10 @@ impl Process {
         }
     }
 
-    /// All that is known of its next accesses before it hears more, to a filing and no further: since a store lets nothing be
-    /// heard, `stored` may be told of a filing and the next batch asked for before both are carried out. Of each item all that
-    /// it gave is told, number by number. All its memory is asked for at once, and only that may be wanting.
+    /// All that is known of its next accesses before it hears more, to a filing and no further:
+    /// since a store lets nothing be heard, `stored` may be told of a filing and the next batch
+    /// asked for before both are carried out. Of each item all that it gave is told, number by
+    /// number. All its memory is asked for at once, and only that may be wanting.
     pub fn batch(&self, alloc: Global) -> Result<Vec<Item>, AllocError>
         ensures { IfOk result (λ v. v.items ≡ items_to_filing self.now.givens self.now.number self.now.standing) }
     {
@@ -107,8 +109,8 @@ impl Process {
         Ok(items)
     }
 
-    /// The access that it makes next was made: it gave v, which is 0 for a store. Where v can't come it is refused, and from
-    /// then on the process wants nothing and refuses each number.
+    /// The access that it makes next was made: it gave v, which is 0 for a store. Where v can't
+    /// come it is refused, and from then on the process wants nothing and refuses each number.
     pub fn told(&mut self, v: u64) -> Result<(), NoSuchNumber>
         ensures process { self.new ≡ process_after self.old v }
         ensures goes_on { IfOk result (λ _. is_refused self.new.standing ≡ false) }
@@ -141,8 +143,8 @@ impl Process {
         }
     }
 
-    /// The job in doubt, if there is one: its own words show it claimed and not filed. It may or may not have been performed,
-    /// and is never to be performed; the next access files it.
+    /// The job in doubt, if there is one: its own words show it claimed and not filed. It may or
+    /// may not have been performed, and is never to be performed; the next access files it.
     pub fn in_doubt(&self) -> Option<u32>
         ensures { option_to_list result ≡ one_or_none (doubted_by self.now.standing) }
     {
@@ -152,7 +154,7 @@ impl Process {
         }
     }
 
-    /// Whether the worker has ended by its own choice.
+    /// Returns true if the worker has ended by its own choice.
     pub fn has_ended(&self) -> bool
         ensures { result ≡ has_ended self.now.standing }
     {
@@ -162,7 +164,7 @@ impl Process {
         }
     }
 
-    /// Whether the worker may leave: it goes on, and has nothing in its hand.
+    /// Returns true if the worker may leave: it goes on, and has nothing in its hand.
     pub fn may_leave(&self) -> bool
         ensures { result ≡ may_leave self.now.standing }
     {
@@ -172,7 +174,8 @@ impl Process {
         }
     }
 
-    /// The worker leaves: this store is the last access of the process, which is gone. Another may begin later.
+    /// The worker leaves: this store is the last access of the process, which is gone. Another may
+    /// begin later.
     pub fn leave(self) -> Access
         requires { may_leave self.standing ≡ true }
         ensures { result ≡ Store (next_word self.number) 0 }

@@ -31,7 +31,7 @@ impl From<NoSuchWords> for NoSuchNumber {
     }
 }
 
-/// Whether v can be what this load or store gave.
+/// Returns true if v can be what this load or store gave.
 fn can_hear(givens: Givens, v: u64, want: Want) -> bool
     ensures { result ≡ can_hear givens v want }
 {
@@ -62,7 +62,8 @@ pub(crate) fn hear(local: &mut Local, v: u64) -> bool
     true
 }
 
-/// Lets the machine hear these numbers, one after the other. False where one can't come where it stands.
+/// Lets the machine hear these numbers, one after the other. False where one can't come where it
+/// stands.
 fn hear_all(local: &mut Local, heard: &[u64]) -> bool
     ensures heard { result ≡ true → record_after_all local.old.givens local.old.number local.old.state heard.now ≡ Some local.new.state }
     ensures stays { result ≡ true → local.new ≡ record local.old { state = local.new.state } }
@@ -100,7 +101,8 @@ pub fn done_word(givens: Givens, q: u32, k: u32) -> u64
     2 * workers + (q as u64).saturating_sub(1) * (jobs + 1) + k as u64
 }
 
-/// Where the worker of this machine stands that has loaded its announcement, its count of claims, and then this.
+/// Where the worker of this machine stands that has loaded its announcement, its count of claims,
+/// and then this.
 fn standing_in(
     local: Local,
     announced: u64,
@@ -127,8 +129,9 @@ fn standing_in(
     Ok(Standing::Going(local, rest.is_empty()))
 }
 
-/// Where the worker of this new machine stands whose process has heard these numbers since it began, in their order: what
-/// each load gave, and 0 of each store. The machine is gone where it is still loading its own words, or refused.
+/// Where the worker of this new machine stands whose process has heard these numbers since it
+/// began, in their order: what each load gave, and 0 of each store. The machine is gone where it is
+/// still loading its own words, or refused.
 pub fn standing_of(local: Local, heard: &[u64]) -> Result<Standing, NoSuchNumber>
     requires new { local.state ≡ first_record local.givens local.number }
     ensures standing { IfOk result (λ s. standing_of local.givens local.number heard.now ≡ Some s) }

@@ -1,4 +1,5 @@
-//! Worked values of processes: what each load and store is, and what comes of words that a dead process has left.
+//! Worked values of processes: what each load and store is, and what comes of words that a dead
+//! process has left.
 use amo_givens::Givens;
 use amo_kk::Local;
 use amo_process::{

@@ -3,7 +3,8 @@ ghost use Rattle.std.specs.Prelude.{◌≡◌, ◌≢◌, ◌<◌, ◌^◌, ℕ,
 ghost use Rattle.amo_journal.specs.Texts.{IsOneLine};
 ghost use Rattle.amo_protocol.specs.Sayings.{perform_text, was_text, IsOneEndedLine};
 
-/// No two lines to the partner are the same that don't say the same: one word, one serial number, one line and one text.
+/// No two lines to the partner are the same that don't say the same: one word, one serial number,
+/// one line and one text.
 pub fn lines_are_told_apart()
     ensures perform { (serial line other_serial other_line : ℕ) (text other : List ℕ) → serial < 2 ^ 64 → line < 2 ^ 64 → other_serial < 2 ^ 64 → other_line < 2 ^ 64
         → perform_text serial line text ≡ perform_text other_serial other_line other → (serial ≡ other_serial) × (line ≡ other_line) × (text ≡ other) }

@@ -1,6 +1,7 @@
-//! The wire format between a worker and its runner, one line a message, and the driver's world over such lines alone. Start
-//! with `perform_text` and `reply_in`; `Lines` is for a runner that keeps registers and journal too. The theorems stand in
-//! `laws`: a message is one line, and different messages are different lines.
+//! The wire format between a worker and its runner, one line a message, and the driver's world over
+//! such lines alone. Start with `perform_text` and `reply_in`; `Lines` is for a runner that keeps
+//! registers and journal too. The theorems stand in `laws`: a message is one line, and different
+//! messages are different lines.
 #![tactic(auto)]
 
 pub mod laws;

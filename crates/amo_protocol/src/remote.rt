@@ -12,7 +12,8 @@ use amo_driver::{Failed, JobResult, Outside, Reply, Try};
 pub struct Lines<W: Wire> {
     /// Where its lines go.
     pub wire: W,
-    /// The line that came last, without its end; none where nothing more came, or a line that was cut.
+    /// The line that came last, without its end; none where nothing more came, or a line that was
+    /// cut.
     pub said: Option<Vec<u8>>,
 }
 

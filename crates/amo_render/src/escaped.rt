@@ -4,7 +4,7 @@ ghost use Rattle.amo_render.specs.Escaped.{is_plain, hex_digit, escaped_byte, es
 
 use std::alloc::AllocError;
 
-/// Whether a byte is printed as it is.
+/// Returns true if a byte is printed as it is.
 fn is_plain(byte: u8) -> bool
     ensures { result ≡ is_plain byte }
 {

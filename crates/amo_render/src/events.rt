@@ -45,7 +45,7 @@ pub fn state_of(worker: usize, history: &[Event]) -> &'static str
     "running"
 }
 
-/// Whether the event is a claim of the worker.
+/// Returns true if the event is a claim of the worker.
 fn is_claim_of(worker: usize, event: &Event) -> bool
     ensures { result ≡ is_claim_of worker event.now }
 {
@@ -55,7 +55,7 @@ fn is_claim_of(worker: usize, event: &Event) -> bool
     }
 }
 
-/// Whether the event is a performance of the worker.
+/// Returns true if the event is a performance of the worker.
 fn is_done_of(worker: usize, event: &Event) -> bool
     ensures { result ≡ is_done_of worker event.now }
 {
@@ -102,8 +102,8 @@ fn push_worker(
     writeln!(out, " claimed {claims} done {dones}")
 }
 
-/// Appends a line for each worker, given how many turns each has had. The only error is out of memory. What the text is
-/// then isn't said: a caller drops it.
+/// Appends a line for each worker, given how many turns each has had. The only error is out of
+/// memory. What the text is then isn't said: a caller drops it.
 pub fn push_workers(out: &mut String, history: &[Event], turns: &[u64]) -> Result<(), AllocError>
     ensures { OnOk result (string_bytes out.new ≡ string_bytes out.old ++ worker_lines history.now 1 turns.now) }
 {

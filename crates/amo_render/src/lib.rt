@@ -1,5 +1,5 @@
-//! What the texts of plans have in common: their lines, the line of each fault, and how a text is made of the plan that a source
-//! holds and written to a sink.
+//! What the texts of plans have in common: their lines, the line of each fault, and how a text is
+//! made of the plan that a source holds and written to a sink.
 #![tactic(auto)]
 
 mod counting;

@@ -32,8 +32,8 @@ pub fn push_numbers(out: &mut String, heads: &Heads) -> Result<(), AllocError>
     write!(out, " workers {workers} beta {beta}")
 }
 
-/// Appends the words of the first line of a report: these numbers and the bound. The only error is out of memory. What the
-/// text is then isn't said: a caller drops it.
+/// Appends the words of the first line of a report: these numbers and the bound. The only error is
+/// out of memory. What the text is then isn't said: a caller drops it.
 #[tactic(auto, unfolding(crate::specs::Numbers::first_words))]
 pub fn push_first_words(out: &mut String, heads: &Heads) -> Result<(), AllocError>
     ensures { OnOk result (string_bytes out.new ≡ string_bytes out.old
@@ -44,8 +44,8 @@ pub fn push_first_words(out: &mut String, heads: &Heads) -> Result<(), AllocErro
     write!(out, " bound {bound}")
 }
 
-/// Appends the first line of a report: these words. The only error is out of memory. What the text is then isn't said: a
-/// caller drops it.
+/// Appends the first line of a report: these words. The only error is out of memory. What the text
+/// is then isn't said: a caller drops it.
 #[tactic(auto, unfolding(crate::specs::Numbers::first_line))]
 pub fn push_first_line(out: &mut String, heads: &Heads) -> Result<(), AllocError>
     ensures { OnOk result (string_bytes out.new ≡ string_bytes out.old

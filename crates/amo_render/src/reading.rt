@@ -13,8 +13,8 @@ pub const MOST_READ: usize = MOST_BYTES + 1;
 /// Reads to the end of the source, or `MOST_READ` bytes if it has so many.
 ///
 /// # Errors
-/// `Failed` if the source failed, `NoMemory` if memory was refused. Some bytes may be taken from the
-/// source then.
+/// `Failed` if the source failed, `NoMemory` if memory was refused. Some bytes may be taken from
+/// the source then.
 pub fn read_all<R: Source>(alloc: Global, reader: &mut R) -> Result<Vec<u8>, ReadFault>
     ensures ok { IfOk result (λ v. Consumes (R.remaining reader.old) (R.remaining reader.new) v.items) }
     ensures most { IfOk result (λ v. vec_len v ≤ MOST_READ) }

@@ -54,7 +54,8 @@ fn push_tasks(
     Ok(())
 }
 
-/// What jobs in a row have, of a slice that has something for each job: `count` of them, after `before` others.
+/// What jobs in a row have, of a slice that has something for each job: `count` of them, after
+/// `before` others.
 fn part<T>(items: &[T], before: usize, count: usize) -> &[T]
     ensures { result.now ≡ take count (drop before items.now) }
 {

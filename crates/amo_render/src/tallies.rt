@@ -74,7 +74,8 @@ pub fn push_tally(out: &mut String, version: u32, dones: usize, jobs: u64) -> Re
     out.push_str("\n")
 }
 
-/// Appends what a history performs. The only error is out of memory. What the text is then isn't said: a caller drops it.
+/// Appends what a history performs. The only error is out of memory. What the text is then isn't
+/// said: a caller drops it.
 pub fn push_performed_words(
     out: &mut String,
     heads: &Heads,
@@ -88,8 +89,8 @@ pub fn push_performed_words(
     push_tally_words(out, heads.version, dones, done_jobs)
 }
 
-/// Appends the line of what a history performs. The only error is out of memory. What the text is then isn't said: a caller
-/// drops it.
+/// Appends the line of what a history performs. The only error is out of memory. What the text is
+/// then isn't said: a caller drops it.
 #[tactic(auto, unfolding(crate::specs::Tallies::tally_line))]
 pub fn push_performed(out: &mut String, heads: &Heads, history: &[Event]) -> Result<(), AllocError>
     requires { length history.now < 2 ^ 32 }

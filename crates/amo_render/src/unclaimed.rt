@@ -60,7 +60,8 @@ fn push_unclaimed_jobs(
     push_unmarked(out, &marks)
 }
 
-/// Appends the line of the jobs, of so many, that nobody has claimed. The only error is out of memory.
+/// Appends the line of the jobs, of so many, that nobody has claimed. The only error is out of
+/// memory.
 #[tactic(auto, unfolding(crate::specs::Tallies::unclaimed_line))]
 pub fn push_unclaimed(
     alloc: Global,

@@ -20,8 +20,8 @@ fn push_check(out: &mut String, plan: &Plan) -> Result<(), AllocError>
     writeln!(out, " moves {moves} rounds {rounds}")
 }
 
-/// The line that says that a plan is one, with its numbers: `ok jobs N workers M beta B moves K rounds R`, and
-/// from version 2 on the numbers of blocks. The only error is out of memory.
+/// The line that says that a plan is one, with its numbers: `ok jobs N workers M beta B moves K
+/// rounds R`, and from version 2 on the numbers of blocks. The only error is out of memory.
 pub fn check_text(alloc: Global, plan: &Plan) -> Result<String, AllocError>
     ensures { IfOk result (λ s. string_bytes s ≡ check_of (plan_seen plan.now)) }
 {

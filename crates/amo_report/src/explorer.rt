@@ -56,8 +56,8 @@ fn push_schedule(
     writeln!(out)
 }
 
-/// Appends the line of a numbered schedule, which is run in a world of its own, and tells how many performances it
-/// has.
+/// Appends the line of a numbered schedule, which is run in a world of its own, and tells how many
+/// performances it has.
 fn push_explored(
     alloc: Global,
     out: &mut String,
@@ -75,12 +75,13 @@ fn push_explored(
     Ok(count_performances(history))
 }
 
-/// The text of the explorer: for each of `count` schedules of `length` turns, from number `from` on, a fresh world is
-/// run through the schedule and the plan's rounds, and its line says how much was claimed and performed, how many
-/// workers ended, and what the judge says, which is always `lawful`. Turn i, from 0, of schedule s is one of worker
-/// s / workers ^ i % workers + 1. The last line has the least number of performances. The plan's own schedule isn't
-/// used. `from` is at most `MOST_FIRST`, `count` 1 to `MOST_COUNT`, `length` at most `MOST_TURNS`. The only error is
-/// want of memory.
+/// The text of the explorer: for each of `count` schedules of `length` turns, from number `from`
+/// on, a fresh world is run through the schedule and the plan's rounds, and its line says how much
+/// was claimed and performed, how many workers ended, and what the judge says, which is always
+/// `lawful`. Turn i, from 0, of schedule s is one of worker s / workers ^ i % workers + 1. The last
+/// line has the least number of performances. The plan's own schedule isn't used. `from` is at most
+/// `MOST_FIRST`, `count` 1 to `MOST_COUNT`, `length` at most `MOST_TURNS`. The only error is want
+/// of memory.
 #[tactic(auto, using(amo_render::proofs::Least::pieces_more, amo_render::proofs::Least::least_more))]
 pub fn explore(
     alloc: Global,

@@ -1,5 +1,5 @@
-//! What becomes of a plan: the report of its replay, the text of a check, what numbered schedules lead to, and what stops of a
-//! worker lead to.
+//! What becomes of a plan: the report of its replay, the text of a check, what numbered schedules
+//! lead to, and what stops of a worker lead to.
 #![tactic(auto)]
 
 mod checking;

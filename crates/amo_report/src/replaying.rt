@@ -9,8 +9,9 @@ use amo_io::{Sink, Source};
 use amo_render::{ReplayFault, write_of};
 use std::alloc::Global;
 
-/// Reads a plan to the end of the reader, runs its schedule and its rounds in the opening world, and writes the report
-/// and nothing else. Neither stream may have failed. What each fault leaves is said at `ReplayFault`.
+/// Reads a plan to the end of the reader, runs its schedule and its rounds in the opening world,
+/// and writes the report and nothing else. Neither stream may have failed. What each fault leaves
+/// is said at `ReplayFault`.
 pub fn replay<R: Source, W: Sink>(
     alloc: Global,
     reader: &mut R,

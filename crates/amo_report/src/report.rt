@@ -66,8 +66,9 @@ fn history_report(
     Ok(out)
 }
 
-/// The report of a plan in a world of the plan's givens: its numbers, the history, how each worker went, the results
-/// of what was performed, and which jobs nobody has claimed. The only error is out of memory.
+/// The report of a plan in a world of the plan's givens: its numbers, the history, how each worker
+/// went, the results of what was performed, and which jobs nobody has claimed. The only error is
+/// out of memory.
 pub fn report_text(alloc: Global, plan: &Plan, world: &World) -> Result<String, AllocError>
     requires { world.now.givens ≡ plan.now.heads.givens }
     ensures { IfOk result (λ s. string_bytes s ≡ report_in (plan_seen plan.now) world.now.world) }

@@ -37,7 +37,8 @@ pub enum Wanted {
     },
 }
 
-/// The report of a plan, in the world after its schedule and its rounds. The only error is out of memory.
+/// The report of a plan, in the world after its schedule and its rounds. The only error is out of
+/// memory.
 fn plan_report(alloc: Global, plan: &Plan) -> Result<String, AllocError>
     ensures { IfOk result (λ s. string_bytes s ≡ report_of (plan_seen plan.now)) }
 {
@@ -45,8 +46,8 @@ fn plan_report(alloc: Global, plan: &Plan) -> Result<String, AllocError>
     report_text(alloc, plan, &world)
 }
 
-/// What `stops_text` makes of a plan. Where the plan has no worker p this is `Plan(NoSuchWorker(0))`, else where it has
-/// more than `MOST_STOPS` moves `Plan(TooLong)`.
+/// What `stops_text` makes of a plan. Where the plan has no worker p this is
+/// `Plan(NoSuchWorker(0))`, else where it has more than `MOST_STOPS` moves `Plan(TooLong)`.
 #[tactic(auto, unfolding(crate::specs::Stops::stops_in))]
 fn plan_stops(alloc: Global, plan: &Plan, p: u32) -> Result<String, ReplayFault>
     requires { 1 ≤ p }
@@ -69,8 +70,9 @@ impl PlanText for Wanted {
 
     ghost made = { text_of };
 
-    /// The text. Where the stops of a worker are wanted that the plan doesn't have, this is `Plan(NoSuchWorker(0))`, else where it
-    /// has more than `MOST_STOPS` moves `Plan(TooLong)`; of each other text the only error is out of memory.
+    /// The text. Where the stops of a worker are wanted that the plan doesn't have, this is
+    /// `Plan(NoSuchWorker(0))`, else where it has more than `MOST_STOPS` moves `Plan(TooLong)`; of
+    /// each other text the only error is out of memory.
     fn make(&self, alloc: Global, plan: &Plan) -> Result<String, ReplayFault> {
         match *self {
             Wanted::Report => Ok(plan_report(alloc, plan)?),

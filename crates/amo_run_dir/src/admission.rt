@@ -99,7 +99,7 @@ pub fn look_to_read(rt: HostRuntime, setting: &Setting<'_>) -> Result<Age, Fault
     }
 }
 
-/// Whether the folder that is there is a run's, and one's own.
+/// Returns true if the folder that is there is a run's, and one's own.
 fn look_at(rt: HostRuntime, setting: &Setting<'_>) -> Result<(), Fault> {
     let found = had(Item::Run, fs::symlink_metadata(&rt, setting.run))?;
     if !found.is_dir() {
@@ -112,7 +112,7 @@ fn look_at(rt: HostRuntime, setting: &Setting<'_>) -> Result<(), Fault> {
     check_version(rt, setting)
 }
 
-/// Whether the jobs' file can be that of this run.
+/// Returns true if the jobs' file can be that of this run.
 pub fn check_jobs(
     rt: HostRuntime,
     setting: &Setting<'_>,
@@ -125,7 +125,7 @@ pub fn check_jobs(
     Ok(())
 }
 
-/// Whether something has the folder's name, a link that leads nowhere too.
+/// Returns true if something has the folder's name, a link that leads nowhere too.
 pub fn is_there(rt: HostRuntime, setting: &Setting<'_>) -> Result<bool, Fault> {
     match fs::symlink_metadata(&rt, setting.run) {
         Ok(_) => Ok(true),

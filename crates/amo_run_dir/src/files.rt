@@ -61,7 +61,8 @@ pub fn sync(rt: HostRuntime, setting: &Setting<'_>) -> Result<(), Fault> {
     written(Item::Run, sync_folder(&rt, setting.run))
 }
 
-/// Puts a file with these bytes in the place of one of the run. With `synced` they are on the disk when this answers.
+/// Puts a file with these bytes in the place of one of the run. With `synced` they are on the disk
+/// when this answers.
 pub fn replaced(
     rt: HostRuntime,
     setting: &Setting<'_>,

@@ -64,7 +64,8 @@ pub fn check_kept(rt: HostRuntime, setting: &Setting<'_>) -> Result<(), Fault> {
     }
 }
 
-/// Refuses a folder in which a file is missing that was made with the id, or has lost all its bytes.
+/// Refuses a folder in which a file is missing that was made with the id, or has lost all its
+/// bytes.
 ///
 /// # Errors
 /// `Missing` or `Empty`, by the file's name.

@@ -1,6 +1,7 @@
-//! The folder of a run: its files by name, its identity, how it is made and admitted, its locks, its journals and registers,
-//! and how a round is begun and joined. Start with `admission`. What is decided is decided by the crates below; this one opens,
-//! locks, reads and writes the files in the order that the promises rest on.
+//! The folder of a run: its files by name, its identity, how it is made and admitted, its locks,
+//! its journals and registers, and how a round is begun and joined. Start with `admission`. What is
+//! decided is decided by the crates below; this one opens, locks, reads and writes the files in the
+//! order that the promises rest on.
 #![tactic(auto)]
 
 mod admission;

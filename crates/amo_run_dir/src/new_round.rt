@@ -32,8 +32,8 @@ struct Found {
     more: bool,
 }
 
-/// Begins the next round, or answers where all lines stand, if none is open. Whatever there is of an earlier round is as nothing:
-/// the journals alone say which lines are open.
+/// Begins the next round, or answers where all lines stand, if none is open. Whatever there is of
+/// an earlier round is as nothing: the journals alone say which lines are open.
 pub fn begin(
     rt: HostRuntime,
     setting: &Setting<'_>,
@@ -77,8 +77,9 @@ fn over(alloc: Global, found: &Found) -> Result<Counts, Fault> {
     counted(alloc, &found.books)
 }
 
-/// The bytes of the jobs' file, all of them on the disk: else a power cut might take from it what the run knows. What is synced is
-/// the file that was read, also where another has come into its place meanwhile.
+/// The bytes of the jobs' file, all of them on the disk: else a power cut might take from it what
+/// the run knows. What is synced is the file that was read, also where another has come into its
+/// place meanwhile.
 fn list_of(rt: HostRuntime, asked: &Asked<'_>) -> Result<Vec<u8>, Fault> {
     let mut file = had(Item::List, fs::open(&rt, asked.list))?;
     let mut bytes = Vec::new(rt.alloc());
@@ -87,8 +88,8 @@ fn list_of(rt: HostRuntime, asked: &Asked<'_>) -> Result<Vec<u8>, Fault> {
     Ok(bytes)
 }
 
-/// The jobs of the file, which begins with what the run knows. Once a round was begun, a last line without its end is left out:
-/// its writer may be at it.
+/// The jobs of the file, which begins with what the run knows. Once a round was begun, a last line
+/// without its end is left out: its writer may be at it.
 pub fn grown(alloc: Global, known: &Jobs, list: &[u8], cut: bool) -> Result<Jobs, Fault> {
     if let Some(line) = first_difference(known.bytes(), list) {
         return Err(Fault::Changed(line));
@@ -116,7 +117,8 @@ fn open_of(alloc: Global, books: &RunState) -> Result<Vec<u64>, Fault>
     Ok(open_lines(alloc, &books.findings, &books.journals, count)?)
 }
 
-/// How many lines stand where. Nobody holds an intent that is pending here, but its command may run.
+/// How many lines stand where. Nobody holds an intent that is pending here, but its command may
+/// run.
 fn counted(alloc: Global, books: &RunState) -> Result<Counts, Fault> {
     let count = books.jobs.count() as usize;
     let all = standings(alloc, &books.log(&[]), count)?;
@@ -170,7 +172,8 @@ fn first_lines(alloc: Global, lines: &[u64]) -> Result<Vec<u64>, AllocError>
     }
 }
 
-/// Makes record and words. The words are all 0, and never synced: after a power cut they are of another boot.
+/// Makes record and words. The words are all 0, and never synced: after a power cut they are of
+/// another boot.
 fn make(rt: HostRuntime, setting: &Setting<'_>, record: &RoundHeader) -> Result<(), Fault> {
     let Some(mut words) = head_of(rt.alloc(), record)? else {
         return Err(Fault::Refused(Item::Boot));

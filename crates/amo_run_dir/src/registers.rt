@@ -12,8 +12,8 @@ use std::io::ErrorKind;
 use std::os::unix::fs::FileExt;
 use std::rt::HostRuntime;
 
-/// No round has a word beyond this one: it has word 0, and of each worker an announcement, a claim, and a row with an entry more than
-/// it has jobs.
+/// No round has a word beyond this one: it has word 0, and of each worker an announcement, a claim,
+/// and a row with an entry more than it has jobs.
 const MOST_WORDS: u64 = MAX_WORKERS as u64 * (MAX_JOBS as u64 + 3) + 1;
 
 /// The words, by the file that has them.
@@ -33,7 +33,8 @@ impl Words {
         }
     }
 
-    /// The first bytes of the file, as many as `front` has, and how long it is; or nothing where it is shorter.
+    /// The first bytes of the file, as many as `front` has, and how long it is; or nothing where it
+    /// is shorter.
     pub fn front(&self, front: &mut [u8]) -> Result<Option<u64>, Fault> {
         let len = had(Item::Words, self.file.metadata())?.len();
         if len < front.len() as u64 {

@@ -30,8 +30,8 @@ pub struct RawLogs {
     pub journals: Vec<Vec<Vec<u8>>>,
 }
 
-/// The texts as they can be read now: first what persons found out, then the journals, so that nothing is read of an intent that
-/// isn't read itself.
+/// The texts as they can be read now: first what persons found out, then the journals, so that
+/// nothing is read of an intent that isn't read itself.
 pub fn read_pages(rt: HostRuntime, setting: &Setting<'_>) -> Result<RawLogs, Fault> {
     let answers = texts_of(rt, setting, Item::Answers)?;
     let mut journals = Vec::new(rt.alloc());

@@ -2,8 +2,8 @@
 ghost use Rattle.std.specs.Prelude.{◌≡◌, ◌-◌, ◌≤◌, IfSome, IfNone};
 ghost use Rattle.amo_run_files.specs.Lines.{first_lines, BeginsWith};
 
-/// Whether the file begins with what is known, byte for byte: then `None`. Else the number, from 1, of the first line of what is
-/// known that isn't there as it was.
+/// Returns true if the file begins with what is known, byte for byte: then `None`. Else the number,
+/// from 1, of the first line of what is known that isn't there as it was.
 pub fn first_difference(known: &[u8], file: &[u8]) -> Option<usize>
     ensures none { IfNone result (BeginsWith known.now file.now) }
     ensures some { IfSome result (λ _. ¬ (BeginsWith known.now file.now)) }

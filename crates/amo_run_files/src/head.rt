@@ -11,8 +11,9 @@ use std::alloc::{AllocError, Global};
 /// How many bytes stand before the first word.
 pub(crate) const HEAD_LEN: usize = 512;
 
-/// The `HEAD_LEN` bytes at the front of the words of the round that has this record: which round it is of, and behind it blanks and a
-/// line feed. `None` where the boot id is so long that it doesn't fit.
+/// The `HEAD_LEN` bytes at the front of the words of the round that has this record: which round it
+/// is of, and behind it blanks and a line feed. `None` where the boot id is so long that it doesn't
+/// fit.
 pub fn head_of(alloc: Global, recorded: &RoundHeader) -> Result<Option<Vec<u8>>, AllocError>
     ensures exact { IfOk result (λ head. option_map (λ bytes. bytes.items) head ≡ head_of (said_by recorded.now)) }
     ensures size { IfOk result (λ head. IfSome head (λ bytes. length bytes.items ≡ HEAD_LEN)) }

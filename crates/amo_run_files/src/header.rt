@@ -149,7 +149,7 @@ fn record_of(alloc: Global, texts: &[Vec<u8>]) -> Result<Option<RoundHeader>, Al
     record_behind(alloc, round, boot, givens, workers, &texts[5..])
 }
 
-/// Whether a record begins so that is read here.
+/// Returns true if a record begins so that is read here.
 fn is_version(text: &[u8]) -> bool
     ensures { result ≡ bytes_eq text.now (codes "amo-run 1") }
 {
@@ -253,7 +253,7 @@ fn is_sound(candidate: &RoundHeader) -> bool
                 && (1 <= candidate.first && candidate.first <= candidate.workers)))
 }
 
-/// Whether each line is greater than the one before it, and the first than 0.
+/// Returns true if each line is greater than the one before it, and the first than 0.
 fn ascends(lines: &[u64]) -> bool
     ensures { result ≡ ascends_from 0 lines.now }
 {

@@ -11,7 +11,8 @@ use crate::lines::{ends_in, last_end, line_at};
 use std::alloc::Global;
 use std::marker::Model;
 
-/// The jobs that a run knows, a line each. A contract sees the list of the lines, without their ends.
+/// The jobs that a run knows, a line each. A contract sees the list of the lines, without their
+/// ends.
 #[derive(Debug, Drop)]
 pub struct Jobs {
     /// The lines, each with its line feed.
@@ -33,14 +34,15 @@ impl Model for Jobs {
 }
 
 impl Jobs {
-    /// The jobs of a jobs' file. Where `cut` is true, what stands behind its last line feed is left out, whatever it is; else the
-    /// file is refused if anything stands there.
+    /// The jobs of a jobs' file. Where `cut` is true, what stands behind its last line feed is left
+    /// out, whatever it is; else the file is refused if anything stands there.
     pub fn read(alloc: Global, mut bytes: Vec<u8>, cut: bool) -> Result<Jobs, JobsFault>
         // The file is taken just where no line is refused; else the first that is refused is told.
         ensures taken { OnOk result (IsTaken bytes.items cut) }
         ensures refused { IfErr result (IsRefused bytes.items cut) }
 
-        // The jobs are all its lines, and with their ends they are the file but for what was left out.
+        // The jobs are all its lines, and with their ends they are the file but for what was left
+        // out.
         ensures lines { IfOk result (λ jobs. jobs ≡ lines_in bytes.items) }
         ensures front { IfOk result (λ jobs. ended jobs ++ remainder_in bytes.items ≡ bytes.items) }
         ensures whole { cut ≡ false → IfOk result (λ jobs. ended jobs ≡ bytes.items) }

@@ -14,8 +14,8 @@ use std::str;
 /// A line with more bytes is refused.
 pub(crate) const MAX_LINE: usize = 100_000;
 
-/// Refuses the first line that may not stand behind those before it. Then what stands behind the last line feed is refused, unless
-/// it is cut off.
+/// Refuses the first line that may not stand behind those before it. Then what stands behind the
+/// last line feed is refused, unless it is cut off.
 pub(crate) fn check(alloc: Global, bytes: &[u8], ends: &[usize], cut: bool) -> Result<(), JobsFault>
     requires { ends.now ≡ ends_of 0 (lines_in bytes.now) }
     ensures taken { OnOk result (IsTaken bytes.now cut) }
@@ -28,7 +28,8 @@ pub(crate) fn check(alloc: Global, bytes: &[u8], ends: &[usize], cut: bool) -> R
     }
 }
 
-/// The lines, if each may stand behind those before it. They are kept in order, not by a hash: so no lines make it slow.
+/// The lines, if each may stand behind those before it. They are kept in order, not by a hash: so
+/// no lines make it slow.
 fn known_lines<'a>(
     alloc: Global,
     bytes: &'a [u8],
@@ -64,7 +65,8 @@ fn why_remainder<'a>(
     Ok(why.or(Some(Why::NoEnd)))
 }
 
-/// Why the line may not stand behind those that are known, if it may not. If it may, it is known from now on.
+/// Why the line may not stand behind those that are known, if it may not. If it may, it is known
+/// from now on.
 fn why_not<'a>(known: &mut BTreeSet<&'a [u8]>, line: &'a [u8]) -> Result<Option<Why>, AllocError>
     ensures exact { (before : List (List ℕ)) → HasJust known.old before → IfOk result (λ why. why ≡ why_not before line.now) }
     ensures known { (before : List (List ℕ)) → HasJust known.old before

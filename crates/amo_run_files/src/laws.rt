@@ -13,8 +13,8 @@ ghost use Rattle.amo_run_files.specs.Jobs.{IsLine, AreJobs};
 ghost use Rattle.amo_run_files.specs.Refusals.{IsTaken, why_not};
 ghost use Rattle.amo_run_files.specs.Words.{offset_of, word_count, words_len};
 
-/// A file is its lines, each with a line feed behind it, and what stands behind them. Neither they nor it have a line feed, and
-/// nothing else is a file's lines.
+/// A file is its lines, each with a line feed behind it, and what stands behind them. Neither they
+/// nor it have a line feed, and nothing else is a file's lines.
 pub fn a_file_is_its_lines()
     ensures whole { (file : List ℕ) → ended (lines_in file) ++ remainder_in file ≡ file }
     ensures lines { (file : List ℕ) → AllByRecursion (AllByRecursion (λ b. b ≢ 10)) (lines_in file) }
@@ -29,8 +29,8 @@ pub fn what_first_lines_are()
     ensures whole { (count : ℕ) (file : List ℕ) → length (lines_in file) < count → first_lines count file ≡ file }
 {}
 
-/// A line may stand behind others just where it is text of at most 100,000 bytes, at least one of them, without NUL and carriage
-/// return, and none of the others is equal to it.
+/// A line may stand behind others just where it is text of at most 100,000 bytes, at least one of
+/// them, without NUL and carriage return, and none of the others is equal to it.
 pub fn what_may_stand()
     ensures is { (before : List (List ℕ)) (line : List ℕ) → why_not before line ≡ None → IsLine line × ¬ (Contains before line) }
     ensures only { (before : List (List ℕ)) (line : List ℕ) → IsLine line → ¬ (Contains before line) → why_not before line ≡ None }
@@ -46,14 +46,15 @@ pub fn lines_keep_their_numbers()
     ensures { (known file : List ℕ) → BeginsWith known file → take (length (lines_in known)) (lines_in file) ≡ lines_in known }
 {}
 
-/// A head is that of one round alone: of two records with the same head all is the same that the words rest on.
+/// A head is that of one round alone: of two records with the same head all is the same that the
+/// words rest on.
 pub fn a_head_is_of_one_round()
     ensures { (one other : RecordView) (head : List ℕ) → IsRecord one → IsRecord other → head_of one ≡ Some head → head_of other ≡ Some head
         → (one.round ≡ other.round) × (one.boot ≡ other.boot) × (one.givens ≡ other.givens) }
 {}
 
-/// The words are as many as a round's workers have, whose rows have an entry more than there are jobs; and they stand side by
-/// side up to the end of the file.
+/// The words are as many as a round's workers have, whose rows have an entry more than there are
+/// jobs; and they stand side by side up to the end of the file.
 pub fn words_fill_their_file()
     ensures many { (givens : GivensView) (workers : List Worker) → length workers ≡ givens.workers → All (λ worker. length worker.row ≡ givens.jobs + 1) workers
         → length (words_of workers) ≡ word_count givens }
@@ -61,7 +62,8 @@ pub fn words_fill_their_file()
     ensures within { (givens : GivensView) (word : ℕ) → word < word_count givens → offset_of word + 8 ≤ words_len givens }
 {}
 
-/// In a round no two workers act as one number, each number up to those that share is some worker's, and who began acts as 1.
+/// In a round no two workers act as one number, each number up to those that share is some
+/// worker's, and who began acts as 1.
 pub fn who_has_which_seat()
     ensures one_each { (one other first workers shared seat : ℕ) → first ≤ workers
         → seat_of one first workers shared ≡ Some seat → seat_of other first workers shared ≡ Some seat → one ≡ other }

@@ -1,5 +1,6 @@
-//! The files of a round: the header with its parameters and seats, the job list that the run knows, and the layout of the
-//! register file. Start with `RoundHeader` and `Jobs`. The theorems stand in the module `laws`.
+//! The files of a round: the header with its parameters and seats, the job list that the run knows,
+//! and the layout of the register file. Start with `RoundHeader` and `Jobs`. The theorems stand in
+//! the module `laws`.
 #![tactic(auto)]
 
 mod difference;

@@ -2,7 +2,8 @@
 ghost use Rattle.std.specs.Prelude.{◌≡◌, ◌+◌, ◌*◌, ◌<◌, ◌≤◌, ◌^◌};
 ghost use Rattle.amo_run_files.specs.Rounds.{bound_of, givens_of, turn_of, seat_of, threshold};
 
-/// With what a round is begun: so many jobs, the workers that share them, and the threshold at which a worker stops.
+/// With what a round is begun: so many jobs, the workers that share them, and the threshold at
+/// which a worker stops.
 #[derive(Clone, Copy, Debug, PartialEq, Eq)]
 pub struct RoundParams {
     pub jobs: u64,
@@ -10,7 +11,8 @@ pub struct RoundParams {
     pub beta: u64,
 }
 
-/// The givens of a round of these jobs, of at most so many workers, with this threshold where it fits.
+/// The givens of a round of these jobs, of at most so many workers, with this threshold where it
+/// fits.
 pub fn givens_of(jobs: u64, workers: u64, beta: u64) -> RoundParams
     requires some_worker { 1 ≤ workers }
     requires few_workers { workers < 2 ^ 32 }
@@ -45,8 +47,8 @@ fn threshold(jobs: u64, shared: u64, beta: u64) -> u64
     }
 }
 
-/// As which number a worker acts in a round that worker `first` began, of at most `workers`, and that `shared` of them share.
-/// No number where it has no seat in this round.
+/// As which number a worker acts in a round that worker `first` began, of at most `workers`, and
+/// that `shared` of them share. No number where it has no seat in this round.
 pub fn seat_of(worker: u64, first: u64, workers: u64, shared: u64) -> Option<u64>
     requires first_in_round { (1 ≤ first) × (first ≤ workers) }
     requires few { workers < 2 ^ 32 }

@@ -120,7 +120,7 @@ pub fn read_findings(alloc: Global, texts: &[Vec<u8>]) -> Result<Vec<Finding>, F
     read_each(alloc, texts)
 }
 
-/// Whether the intent of this worker and serial number was found not done.
+/// Returns true if the intent of this worker and serial number was found not done.
 pub fn is_undone(findings: &[Finding], worker: u64, serial: u64) -> bool
     ensures { result ≡ is_undone findings.now worker serial }
 {
@@ -137,8 +137,8 @@ pub fn is_not_done(verdict: Resolution) -> bool
     }
 }
 
-/// The number, from 1, of the first finding that may not stand where it does: it is of no intent, or of one of which a finding
-/// before it is. The journals are those of the workers 1, 2 and so on.
+/// The number, from 1, of the first finding that may not stand where it does: it is of no intent,
+/// or of one of which a finding before it is. The journals are those of the workers 1, 2 and so on.
 pub fn first_misplaced(journals: &[Vec<Attempt>], findings: &[Finding]) -> Option<usize>
     ensures none { IfNone result (AreInPlace (map (λ journal. journal.items) journals.now) findings.now) }
     ensures found { IfSome result (IsOutOfPlace (map (λ journal. journal.items) journals.now) findings.now) }
@@ -153,7 +153,7 @@ pub fn first_misplaced(journals: &[Vec<Attempt>], findings: &[Finding]) -> Optio
     None
 }
 
-/// Whether a finding may stand behind those before it.
+/// Returns true if a finding may stand behind those before it.
 fn may_join(journals: &[Vec<Attempt>], before: &[Finding], finding: &Finding) -> bool
     ensures { result ≡ may_join (map (λ journal. journal.items) journals.now) before.now finding.now }
 {
@@ -161,7 +161,7 @@ fn may_join(journals: &[Vec<Attempt>], before: &[Finding], finding: &Finding) ->
         && !has_finding(before, finding.worker, finding.serial)
 }
 
-/// Whether there is an intent of this worker and serial number.
+/// Returns true if there is an intent of this worker and serial number.
 fn is_intent(journals: &[Vec<Attempt>], worker: u64, serial: u64) -> bool
     ensures { result ≡ is_intent (map (λ journal. journal.items) journals.now) worker serial }
 {

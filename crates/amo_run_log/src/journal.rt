@@ -10,7 +10,8 @@ use crate::fault::Fault;
 use crate::reading::read_each;
 use std::alloc::{AllocError, Global};
 
-/// An intent, with its answer where it has one. Its serial number is its place in the journal, from 1.
+/// An intent, with its answer where it has one. Its serial number is its place in the journal, from
+/// 1.
 #[derive(Clone, Copy, Debug, PartialEq, Eq)]
 pub struct Attempt {
     /// The line of the jobs' file, from 1.
@@ -29,8 +30,9 @@ pub fn read_entries(alloc: Global, texts: &[Vec<u8>]) -> Result<Vec<Entry>, Faul
     read_each(alloc, texts)
 }
 
-/// The journal that the entries are, of a jobs' file that has so many lines. The first entry that may not follow those before it
-/// is refused, by its number: a serial number out of turn, a line that there is not, an answer to what is not pending.
+/// The journal that the entries are, of a jobs' file that has so many lines. The first entry that
+/// may not follow those before it is refused, by its number: a serial number out of turn, a line
+/// that there is not, an answer to what is not pending.
 pub fn journal_of(alloc: Global, count: u64, entries: &[Entry]) -> Result<Vec<Attempt>, Fault>
     ensures exact { IfOk result (λ attempts. journal_of count entries.now ≡ Some attempts.items) }
     ensures refused { IfErr result (IsRefused count entries.now) }
@@ -44,8 +46,8 @@ pub fn journal_of(alloc: Global, count: u64, entries: &[Entry]) -> Result<Vec<At
     Ok(attempts)
 }
 
-/// Notes one entry more, and says whether it may follow those that were noted. An entry that may not changes nothing, and
-/// neither does a want of memory.
+/// Notes one entry more, and says whether it may follow those that were noted. An entry that may
+/// not changes nothing, and neither does a want of memory.
 pub fn note(count: u64, attempts: &mut Vec<Attempt>, entry: Entry) -> Result<bool, AllocError>
     ensures noted { IfOk result (λ noted. NotesOrNot count noted attempts.old.items entry attempts.new.items) }
     ensures refused { OnErr result (attempts.new.items ≡ attempts.old.items) }
@@ -78,7 +80,7 @@ fn begin(
     Ok(true)
 }
 
-/// Whether it is one of the lines 1..count.
+/// Returns true if it is one of the lines 1..count.
 fn is_line(count: u64, line: u64) -> bool
     ensures { result ≡ is_line count line }
 {

@@ -1,4 +1,5 @@
-//! What follows for texts, journals and open lines, each as the contract of a function that does nothing.
+//! What follows for texts, journals and open lines, each as the contract of a function that does
+//! nothing.
 ghost use Rattle.std.specs.Prelude.{◌≡◌, ◌≤◌, ◌+◌, ◌++◌, [], ◌∷◌, ℕ, true, false, List, Some, length, map};
 ghost use Rattle.std.specs.List.{AllByRecursion};
 ghost use Rattle.amo_run_log.specs.declared.entry.Entry.{Entry as EntryView};
@@ -29,7 +30,8 @@ pub fn what_is_a_journal()
     ensures only { (count : ℕ) (entries : List EntryView) → IsJournal count entries → (attempts : List AttemptView) × (journal_of count entries ≡ Some attempts) }
 {}
 
-/// What it is to be open: each intent of the line, in each journal, is answered by one that opens it, or was found not done.
+/// What it is to be open: each intent of the line, in each journal, is answered by one that opens
+/// it, or was found not done.
 pub fn what_is_open()
     ensures is { (findings : List FindingView) (journals : List (List AttemptView)) (line : ℕ)
         → is_open findings journals line ≡ true → IsOpen findings journals line }
@@ -65,8 +67,8 @@ pub fn missed_answers_open_none()
         → is_open findings (before ++ attempts ∷ after) line ≡ true → is_open findings (before ++ next ∷ after) line ≡ true }
 {}
 
-/// After its intent a line is closed, whatever else is noted, there and in other journals, until that very intent is answered
-/// by one that opens it, or a person finds it not done.
+/// After its intent a line is closed, whatever else is noted, there and in other journals, until
+/// that very intent is answered by one that opens it, or a person finds it not done.
 pub fn an_intent_closes()
     ensures { (count : ℕ) (findings : List FindingView) (before after : List (List AttemptView)) (attempts mid next : List AttemptView) (serial line time : ℕ) (entries : List EntryView)
         → noted count attempts (Intent serial line time) ≡ Some mid → NoneOpens serial entries → journal_from count mid entries ≡ Some next
@@ -80,7 +82,8 @@ pub fn missed_findings_open_none()
         → is_open findings journals line ≡ true → is_open (findings ++ more) journals line ≡ true }
 {}
 
-/// An intent that was put closes its line, and goes on to where an entry that doesn't open it is put behind it.
+/// An intent that was put closes its line, and goes on to where an entry that doesn't open it is
+/// put behind it.
 pub fn an_intent_stays()
     ensures first { (entries : List EntryView) (serial line time : ℕ) → HasIntent serial line (entries ++ Intent serial line time ∷ []) }
     ensures later { (entries : List EntryView) (serial line : ℕ) (entry : EntryView)

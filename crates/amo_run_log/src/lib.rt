@@ -1,5 +1,5 @@
-//! What the lines in the journals of a run mean: which lines of the jobs' file are open, with what a round is begun, and who
-//! acts as which of its workers. The theorems stand in the module `laws`.
+//! What the lines in the journals of a run mean: which lines of the jobs' file are open, with what
+//! a round is begun, and who acts as which of its workers. The theorems stand in the module `laws`.
 #![tactic(auto)]
 
 mod entry;

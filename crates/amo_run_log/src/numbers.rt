@@ -5,7 +5,8 @@ ghost use Rattle.amo_run_log.specs.Numbers.{two_in, three_in};
 use amo_decimal::number;
 use std::str;
 
-/// The three numbers that a text says, one blank between each two and nothing else. Each is read as by `number`.
+/// The three numbers that a text says, one blank between each two and nothing else. Each is read as
+/// by `number`.
 pub(crate) fn three(text: &str) -> Option<(u64, u64, u64)>
     ensures { result ≡ three_in text.now }
 {
@@ -15,7 +16,8 @@ pub(crate) fn three(text: &str) -> Option<(u64, u64, u64)>
     Some((a, b, c))
 }
 
-/// The two numbers that a text says, one blank between them and nothing else. Each is read as by `number`.
+/// The two numbers that a text says, one blank between them and nothing else. Each is read as by
+/// `number`.
 pub(crate) fn two(text: &str) -> Option<(u64, u64)>
     ensures { result ≡ two_in text.now }
 {

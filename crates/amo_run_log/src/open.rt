@@ -77,7 +77,7 @@ pub fn reopens(answer: Option<Outcome>) -> bool
     }
 }
 
-/// Whether an answer opens the line again: only that it was not begun.
+/// Returns true if an answer opens the line again: only that it was not begun.
 pub fn opens(answer: Outcome) -> bool
     ensures { result ≡ opens answer }
 {

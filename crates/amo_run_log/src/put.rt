@@ -16,9 +16,9 @@ use crate::finding::Finding;
 use amo_journal::{Device, DeviceError, Journal, PutError};
 use std::alloc::Global;
 
-/// Adds an entry to a journal that is settled. At `Ok` it is acknowledged: from then on each crash leaves a file that has it. At
-/// an error of the device, memory too, the journal has to be settled before anything else is put: until then the entry is there
-/// or not.
+/// Adds an entry to a journal that is settled. At `Ok` it is acknowledged: from then on each crash
+/// leaves a file that has it. At an error of the device, memory too, the journal has to be settled
+/// before anything else is put: until then the entry is there or not.
 pub fn put_entry<D: Device>(
     journal: &mut Journal<D>,
     alloc: Global,
@@ -31,7 +31,8 @@ pub fn put_entry<D: Device>(
     ensures acknowledged { (entries : List EntryView) → entries_of (D.seen journal.old.device) ≡ Some entries
         → OnOk result (entries_of (D.seen journal.new.device) ≡ Some (entries ++ entry ∷ [])) }
 
-    // A crash at any moment of the call leaves the entries from before it, with the new one or without.
+    // A crash at any moment of the call leaves the entries from before it, with the new one or
+    // without.
     ensures any_moment { (entries : List EntryView) → entries_of (D.seen journal.old.device) ≡ Some entries
         → LeavesOnly D.moment D.left_since journal.old.device journal.new.device (StandsForOneMoreOrNot entries entry) }
 
@@ -39,7 +40,8 @@ pub fn put_entry<D: Device>(
     ensures read { (entries : List EntryView) → entries_of (D.seen journal.old.device) ≡ Some entries
         → StandsForOneMoreOrNot entries entry (D.seen journal.new.device) }
 
-    // Once an intent is put, each crash leaves a journal by which its line is closed, whatever the other journals hold.
+    // Once an intent is put, each crash leaves a journal by which its line is closed, whatever the
+    // other journals hold.
     ensures closes { (count : ℕ) (findings : List FindingView) (before after : List (List AttemptView)) (serial line time : ℕ) (entries : List EntryView)
         → entry ≡ Intent serial line time → entries_of (D.seen journal.old.device) ≡ Some entries → is_undone findings (length before + 1) serial ≡ false
         → OnOk result ((c : List ℕ) → D.may_leave journal.new.device c → IsClosedIn count findings before after line c) }
@@ -60,9 +62,10 @@ pub fn put_entry<D: Device>(
     journal.put(alloc, text.as_bytes())
 }
 
-/// Adds what a person found out to a journal of findings that is settled. At `Ok` it is acknowledged: from then on each crash
-/// leaves a file that says it. At an error of the device, memory too, the journal has to be settled before anything else is put:
-/// until then the finding is there or not. Whether it may stand there (`first_misplaced`) is not asked.
+/// Adds what a person found out to a journal of findings that is settled. At `Ok` it is
+/// acknowledged: from then on each crash leaves a file that says it. At an error of the device,
+/// memory too, the journal has to be settled before anything else is put: until then the finding is
+/// there or not. Whether it may stand there (`first_misplaced`) is not asked.
 pub fn put_finding<D: Device>(
     journal: &mut Journal<D>,
     alloc: Global,
@@ -75,7 +78,8 @@ pub fn put_finding<D: Device>(
     ensures acknowledged { (findings : List FindingView) → findings_of (D.seen journal.old.device) ≡ Some findings
         → OnOk result (findings_of (D.seen journal.new.device) ≡ Some (findings ++ finding ∷ [])) }
 
-    // A crash at any moment of the call leaves the findings from before it, with the new one or without.
+    // A crash at any moment of the call leaves the findings from before it, with the new one or
+    // without.
     ensures any_moment { (findings : List FindingView) → findings_of (D.seen journal.old.device) ≡ Some findings
         → LeavesOnly D.moment D.left_since journal.old.device journal.new.device (SaysOneMoreOrNot findings finding) }
 

@@ -23,42 +23,45 @@ ghost use Rattle.amo_run_safety.specs.Fewer.{IsOverButForProcesses, IsOverButFor
 
 use amo_journal::Device;
 
-/// However often rounds are begun, whichever processes die at whichever points, and whenever the machine stops: each line of the
-/// jobs' file is performed at most once, if no intent was performed of which it was noted that it wasn't begun, or of which a
-/// person has said that it wasn't done.
+/// However often rounds are begun, whichever processes die at whichever points, and whenever the
+/// machine stops: each line of the jobs' file is performed at most once, if no intent was performed
+/// of which it was noted that it wasn't begun, or of which a person has said that it wasn't done.
 pub fn each_line_is_performed_at_most_once()
     ensures { (performed : ℕ → ℕ → Bool) (es : List Event) → IsRun es → AreUnperformed performed (openings es)
         → AreDistinct (performed_lines performed (handings es)) }
 {}
 
-/// No line is handed to a partner again, unless each intent by which it was handed over before was said not to have been begun or
-/// done. Nothing is supposed of what is said.
+/// No line is handed to a partner again, unless each intent by which it was handed over before was
+/// said not to have been begun or done. Nothing is supposed of what is said.
 pub fn a_line_is_handed_over_again_only_when_opened()
     ensures { (before after : List Event) (e : Event) (earlier later : Handing) → IsRun (before ++ e ∷ after)
         → IsOneOf (handings before) earlier → IsOneOf (handings_by (site_of before) e) later → earlier.line ≡ later.line
         → is_among (openings before) earlier.worker earlier.serial ≡ true }
 {}
 
-/// Exactly, whatever is said: a line is handed over at most once more than it is said of intents, by which it was handed over, that
-/// they weren't begun or done.
+/// Exactly, whatever is said: a line is handed over at most once more than it is said of intents,
+/// by which it was handed over, that they weren't begun or done.
 pub fn a_line_is_handed_over_once_more_than_opened()
     ensures { (es : List Event) (line : ℕ) → IsRun es
         → length (names_of_line line (handings es)) ≤ length (common (names_of_line line (handings es)) (openings es)) + 1 }
 {}
 
-/// The intent by which a line was handed over stays in its journal, whatever happens then: no stop of the machine takes it.
+/// The intent by which a line was handed over stays in its journal, whatever happens then: no stop
+/// of the machine takes it.
 pub fn what_is_handed_over_is_kept()
     ensures { (es : List Event) (handing : Handing) → IsRun es → IsOneOf (handings es) handing → IsKept (site_of es) handing }
 {}
 
-/// No intent is handed over twice, and no two that are handed over, ever, have one worker and one serial number. So what is said of
-/// an intent is said of one command at most: the number of an intent is given again only where a stop has taken it while it was put,
-/// before it was handed over.
+/// No intent is handed over twice, and no two that are handed over, ever, have one worker and one
+/// serial number. So what is said of an intent is said of one command at most: the number of an
+/// intent is given again only where a stop has taken it while it was put, before it was handed
+/// over.
 pub fn an_intent_is_handed_over_once()
     ensures { (es : List Event) → IsRun es → AreDifferent (names_of (handings es)) }
 {}
 
-/// What happens in a round is a history of its workers over one list of words: so each law of histories is one of rounds.
+/// What happens in a round is a history of its workers over one list of words: so each law of
+/// histories is one of rounds.
 pub fn rounds_are_histories()
     ensures { (es : List Event) (k : ℕ) (r : Round) → IsRun es → (site_of es).rounds k ≡ Some r → IsHistory r.givens r.moments }
 {}
@@ -68,30 +71,34 @@ pub fn no_two_have_one_seat()
     ensures { (es : List Event) (p o k q : ℕ) → IsRun es → (site_of es).whereabouts p ≡ Inside k q → (site_of es).whereabouts o ≡ Inside k q → p ≡ o }
 {}
 
-/// Who is in a round is in the last one that was begun: so nobody works in a round while another is begun, or afterwards.
+/// Who is in a round is in the last one that was begun: so nobody works in a round while another is
+/// begun, or afterwards.
 pub fn nobody_is_in_a_former_round()
     ensures { (es : List Event) (p k q : ℕ) → IsRun es → (site_of es).whereabouts p ≡ Inside k q → k ≡ (site_of es).last }
 {}
 
-/// There are runs in which the machine stops while an intent is put, so that it is lost; in which a process dies while its partner
-/// has a line, a person says that the line wasn't done, and a process of another worker hands it over again, in another round; and
-/// what is supposed of what is said is so.
+/// There are runs in which the machine stops while an intent is put, so that it is lost; in which a
+/// process dies while its partner has a line, a person says that the line wasn't done, and a
+/// process of another worker hands it over again, in another round; and what is supposed of what is
+/// said is so.
 pub fn runs_there_are()
     ensures { (performed : ℕ → ℕ → Bool) × (es : List Event) × IsRun es × AreUnperformed performed (openings es)
         × (names_of (handings es) ≡ (1, 1) ∷ (2, 1) ∷ []) × (performed_lines performed (handings es) ≡ 1 ∷ []) }
 {}
 
-/// However often rounds are begun, whichever processes, runners and commands die, and whenever the machine stops: commands perform
-/// each line of the jobs' file at most once. It is supposed that whoever says of an intent that it wasn't begun or done says so once
-/// it is over, and truly of what was performed until then. That nothing performs it afterwards isn't supposed: it follows. And no
-/// command begins twice, whatever is said.
+/// However often rounds are begun, whichever processes, runners and commands die, and whenever the
+/// machine stops: commands perform each line of the jobs' file at most once. It is supposed that
+/// whoever says of an intent that it wasn't begun or done says so once it is over, and truly of
+/// what was performed until then. That nothing performs it afterwards isn't supposed: it follows.
+/// And no command begins twice, whatever is said.
 pub fn commands_perform_each_line_at_most_once()
     ensures lines { (actions : List Action) → AreActions actions → IsTruthful actions → AreDistinct (lines_in (yard_of actions).performed) }
     ensures commands { (actions : List Action) → AreActions actions → AreDifferent (names_of (yard_of actions).begun) }
 {}
 
-/// Once an intent was listed as in doubt, no command of its line may begin, and nothing of one is left: not until it is said of that
-/// intent, by a `not-done` or an `unbegun`, that it may. So who does the job by hand, and then says `done`, does it alone.
+/// Once an intent was listed as in doubt, no command of its line may begin, and nothing of one is
+/// left: not until it is said of that intent, by a `not-done` or an `unbegun`, that it may. So who
+/// does the job by hand, and then says `done`, does it alone.
 pub fn a_listed_doubt_is_final()
     ensures { (p n line : ℕ) (before after : List Action) (h : Handing) → AreActions (before ++ Lists p n line ∷ after)
         → IsOneOf ((yard_of (before ++ Lists p n line ∷ after)).waiting ++ (yard_of (before ++ Lists p n line ∷ after)).running) h → h.line ≡ line
@@ -103,15 +110,17 @@ pub fn commands_stand_over_runs()
     ensures { (actions : List Action) → AreActions actions → IsRun (events_of actions) × ((yard_of actions).site ≡ site_of (events_of actions)) }
 {}
 
-/// There are such actions: in the run of `runs_there_are` the first command begins and does nothing, its intent is listed as in doubt,
-/// and a person says truly that it wasn't done; then another worker's command performs the line.
+/// There are such actions: in the run of `runs_there_are` the first command begins and does
+/// nothing, its intent is listed as in doubt, and a person says truly that it wasn't done; then
+/// another worker's command performs the line.
 pub fn commands_there_are()
     ensures { (actions : List Action) × AreActions actions × IsTruthful actions × (names_of (yard_of actions).begun ≡ (1, 1) ∷ (2, 1) ∷ [])
         × (names_of (yard_of actions).performed ≡ (2, 1) ∷ []) }
 {}
 
-/// None of the three locks can be done without: by the other two a line is performed twice, though all that is said is true when it
-/// is said. Nor can the truth: by all three a line is performed twice where a person says of what was performed that it wasn't.
+/// None of the three locks can be done without: by the other two a line is performed twice, though
+/// all that is said is true when it is said. Nor can the truth: by all three a line is performed
+/// twice where a person says of what was performed that it wasn't.
 pub fn each_lock_is_needed()
     ensures journal { (actions : List Action) × AreActionsBy IsOverButForProcesses actions × IsTruthful actions × (lines_in (yard_of actions).performed ≡ 1 ∷ 1 ∷ []) }
     ensures runner { (actions : List Action) × AreActionsBy IsOverButForRunners actions × IsTruthful actions × (lines_in (yard_of actions).performed ≡ 1 ∷ 1 ∷ []) }
@@ -119,8 +128,9 @@ pub fn each_lock_is_needed()
     ensures truth { (actions : List Action) × AreActions actions × (lines_in (yard_of actions).performed ≡ 1 ∷ 1 ∷ []) }
 {}
 
-/// What the contract of `work` says of a log is what a run asks of a process that is in a round: a call that it may make may come
-/// about, also where the process dies in it, and a deed that was due, and is true of the words, may be done.
+/// What the contract of `work` says of a log is what a run asks of a process that is in a round: a
+/// call that it may make may come about, also where the process dies in it, and a deed that was
+/// due, and is true of the words, may be done.
 pub fn processes_do_right()
     ensures calls { (es : List Event) (p k q : ℕ) (r : Round) (l : Log) (t : Try) → IsRun es → (site_of es).whereabouts p ≡ Inside k q → (site_of es).rounds k ≡ Some r
         → log_of q r.moments ≡ Some l → MayTry (first_stage r.givens q l.serial) (Some l.deeds) t → MayMiss (site_of es).rounds (Inside k q) t }
@@ -129,21 +139,23 @@ pub fn processes_do_right()
         → MayAct (site_of es).rounds (Inside k q) d }
 {}
 
-/// Where a process stands that is in no round is where what it has done since it began leads, each deed of which was due. So what
-/// the contract of `ask_pending` says is what a run asks of it: it has begun with all intents that are pending in its journal.
+/// Where a process stands that is in no round is where what it has done since it began leads, each
+/// deed of which was due. So what the contract of `ask_pending` says is what a run asks of it: it
+/// has begun with all intents that are pending in its journal.
 pub fn who_asks_does_right()
     ensures { (es : List Event) (p : ℕ) (s : Stage) (a : Asker) → IsRun es → (site_of es).whereabouts p ≡ Before s → asker_of p es ≡ Some a
         → Stands (Asking (left_in a.attempts)) (Some a.deeds) s }
 {}
 
-/// A journal that is settled has all its entries kept: what is read says them, and so does what each crash leaves.
+/// A journal that is settled has all its entries kept: what is read says them, and so does what
+/// each crash leaves.
 pub fn settled_journals_are_kept<D: Device>()
     ensures { (device : _) (entries : List Entry) → IsAtRest D.seen D.may_leave D.stale device → entries_of (D.seen device) ≡ Some entries
         → IsShownBy D.seen D.may_leave device (all_kept entries) }
 {}
 
-/// What a crash at any moment of `put_entry` or `put_finding` leaves, by their contracts, is what a stop leaves where nobody heard of
-/// the put.
+/// What a crash at any moment of `put_entry` or `put_finding` leaves, by their contracts, is what a
+/// stop leaves where nobody heard of the put.
 pub fn puts_are_there_or_not()
     ensures entry { (entries : List Entry) (entry : Entry) (file : List ℕ) → StandsForOneMoreOrNot entries entry file
         → (n : ℕ) × (entries_of file ≡ Some (read_of (after_stop n (with_unheard (all_kept entries) (entry ∷ []))))) }
@@ -151,8 +163,9 @@ pub fn puts_are_there_or_not()
         → (n : ℕ) × (findings_of file ≡ Some (read_of (after_stop n (with_unheard (all_kept findings) (finding ∷ []))))) }
 {}
 
-/// Once `put_entry` has ended, whatever it answers, the journal shows what an event leaves: by its contract the entry is kept, as the
-/// law above says of a journal that is settled; or it isn't read, and a stop may leave it; or it is read, and a stop may take it.
+/// Once `put_entry` has ended, whatever it answers, the journal shows what an event leaves: by its
+/// contract the entry is kept, as the law above says of a journal that is settled; or it isn't
+/// read, and a stop may leave it; or it is read, and a stop may take it.
 pub fn ended_puts_are_events<D: Device>()
     ensures { (old new : _) (entries : List Entry) (entry : Entry) → StandsForOneMoreOrNot entries entry (D.seen new)
         → LeavesOnly D.moment D.left_since old new (StandsForOneMoreOrNot entries entry)
@@ -160,8 +173,9 @@ pub fn ended_puts_are_events<D: Device>()
         ⊎ IsShownBy D.seen D.may_leave new (with_unheard (all_kept entries) (entry ∷ [])) }
 {}
 
-/// What a crash at any moment of settling a journal leaves, by the contract of `Journal::settle`, is what a stop leaves of it as it was
-/// read: all, where each crash before would have left all; else all, or all but the last entry.
+/// What a crash at any moment of settling a journal leaves, by the contract of `Journal::settle`,
+/// is what a stop leaves of it as it was read: all, where each crash before would have left all;
+/// else all, or all but the last entry.
 pub fn settling_takes_what_a_stop_takes<D: Device>()
     ensures kept { (old new : _) (entries : List Entry) (left : List ℕ) → entries_of (D.seen old) ≡ Some entries
         → LeavesOnly D.moment D.left_since old new (λ c. texts_in c ≡ texts_in (D.seen old)) → D.left_since new (D.moment old) left

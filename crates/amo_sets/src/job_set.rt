@@ -8,9 +8,11 @@ use crate::lists::filled;
 use std::alloc::{AllocError, Global};
 use std::marker::Model;
 
-/// A set of jobs within `1..=n`. Contracts see, for each of these jobs in order, whether it is a member.
+/// A set of jobs within `1..=n`. Contracts see, for each of these jobs in order, whether it is a
+/// member.
 ///
-/// Only the three makers take memory. Adding and taking out, tests and the number of members take constant time.
+/// Only the three makers take memory. Adding and taking out, tests and the number of members take
+/// constant time.
 #[derive(Drop)]
 pub struct JobSet {
     words: Vec<u64>,
@@ -87,14 +89,14 @@ impl JobSet {
         self.range
     }
 
-    /// Whether the job is one of `1..=n`, a member or not.
+    /// Returns true if the job is one of `1..=n`, a member or not.
     pub fn covers(&self, j: u32) -> bool
         ensures { IsTrue result ↔ ((1 ≤ j) × (j ≤ length self.now)) }
     {
         1 <= j && j <= self.range
     }
 
-    /// Whether the job is a member.
+    /// Returns true if the job is a member.
     pub fn has(&self, j: u32) -> bool
         requires low { 1 ≤ j }
         requires high { j ≤ length self.now }
@@ -111,7 +113,7 @@ impl JobSet {
         self.len
     }
 
-    /// Whether there is no member.
+    /// Returns true if there is no member.
     pub fn is_empty(&self) -> bool
         ensures { IsTrue result ↔ (count (length self.now) (numbered false self.now) ≡ 0) }
     {
@@ -139,8 +141,8 @@ impl JobSet {
         total
     }
 
-    /// The member of rank i, from 1, among those that the other set lacks: it and just i - 1 smaller ones are
-    /// members that the other lacks. None where i is 0 or above their count.
+    /// The member of rank i, from 1, among those that the other set lacks: it and just i - 1
+    /// smaller ones are members that the other lacks. None where i is 0 or above their count.
     pub fn rank_without(&self, other: &JobSet, i: u32) -> Option<u32>
         requires { length self.now ≡ length other.now }
         ensures none { IsNone result ↔ ((i ≡ 0) ⊎ (count (length self.now) (is_without self.now other.now) < i)) }
@@ -162,8 +164,8 @@ impl JobSet {
         None
     }
 
-    /// The bits, n / 64 rounded up words: job j is bit (j - 1) mod 64 of word floor((j - 1) / 64). All other
-    /// bits are 0.
+    /// The bits, n / 64 rounded up words: job j is bit (j - 1) mod 64 of word floor((j - 1) / 64).
+    /// All other bits are 0.
     pub fn words(&self) -> &[u64]
         ensures len { length result.now ≡ (length self.now + 63) / 64 }
         ensures bits { (j : ℕ) → bit result.now j ≡ numbered false self.now j }
@@ -206,8 +208,9 @@ impl JobSet {
     }
 }
 
-/// Where the byte of the word begins that has its i-th bit that is 1, the lowest first, and how many bits of that
-/// byte up to it are 1. Where there is no such byte, the number of bits, and how many bits are wanting.
+/// Where the byte of the word begins that has its i-th bit that is 1, the lowest first, and how
+/// many bits of that byte up to it are 1. Where there is no such byte, the number of bits, and how
+/// many bits are wanting.
 fn byte_of(word: u64, i: u32) -> (u32, u32)
     requires { 1 ≤ i }
     ensures within { result.0 ≤ 64 }

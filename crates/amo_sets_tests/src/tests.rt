@@ -139,7 +139,8 @@ fn call_often(rt: &impl Abort, alloc: Global, n: u32, times: u32) -> Result<(), 
 
 #[test]
 fn calls_of_constant_time_do_not_go_through_the_set(rt: HostRuntime) -> Result<(), Fail> {
-    // a million and a half words, which take a millisecond: gone through so often they would take hours
+    // a million and a half words, which take a millisecond: gone through so often they would take
+    // hours
     Ok(call_often(&rt, rt.alloc(), 100_000_000, 1_000_000)?)
 }
 

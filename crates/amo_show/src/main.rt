@@ -1,7 +1,8 @@
-//! Shows what becomes of a plan, which is read from standard input: `amo_show trace` writes a line for each move of its run,
-//! `amo_show picture` a picture of it, `amo_show worst` the plan that leaves the fewest of its jobs performed, `amo_show all` what all
-//! orders of turns and stops lead to, `amo_show explain` what it asks for or what is wrong with it. `amo_show judge` reads a history and
-//! writes whether it is a run.
+//! Shows what becomes of a plan, which is read from standard input: `amo_show trace` writes a line
+//! for each move of its run, `amo_show picture` a picture of it, `amo_show worst` the plan that
+//! leaves the fewest of its jobs performed, `amo_show all` what all orders of turns and stops lead
+//! to, `amo_show explain` what it asks for or what is wrong with it. `amo_show judge` reads a
+//! history and writes whether it is a run.
 #![tactic(auto)]
 
 use amo_cli::serve_words;

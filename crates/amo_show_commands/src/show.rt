@@ -24,7 +24,8 @@ pub enum Show {
     Judge,
     /// To write the plan that leaves the fewest jobs of the one that is read performed.
     Worst,
-    /// To write what all worlds come to that the jobs and workers of the plan that is read can reach.
+    /// To write what all worlds come to that the jobs and workers of the plan that is read can
+    /// reach.
     All,
 }
 
@@ -67,7 +68,8 @@ impl<R: Sync> Command<R> for Show {
 
     ghost others = { others };
 
-    /// What the words ask for, or `NoCommand` where they are no command. It takes no memory, and so never answers `NoMemory`.
+    /// What the words ask for, or `NoCommand` where they are no command. It takes no memory, and so
+    /// never answers `NoMemory`.
     fn of_words(_alloc: Global, words: &[String]) -> Result<Show, Fault>
         ensures { result ≡ ok_or (asked_after_name (map string_bytes words.now)) NoCommand }
     {

@@ -11,7 +11,8 @@ pub enum Call {
     Read,
     /// Nothing was read.
     FailedRead,
-    /// These bytes were written over what was there, from the byte of this number on, and past the end.
+    /// These bytes were written over what was there, from the byte of this number on, and past the
+    /// end.
     Write {
         at: usize,
         bytes: Vec<u8>,
@@ -26,18 +27,20 @@ pub enum Call {
     Cut {
         len: usize,
     },
-    /// Nothing was cut that is read, but a crash may leave the file cut to this length, or to some length above.
+    /// Nothing was cut that is read, but a crash may leave the file cut to this length, or to some
+    /// length above.
     FailedCut {
         len: usize,
     },
     /// What is read was brought to the disk, but for stale places.
     Sync,
-    /// Nothing was brought to the disk, and each place where it may have another byte than is read is stale from then on.
+    /// Nothing was brought to the disk, and each place where it may have another byte than is read
+    /// is stale from then on.
     FailedSync,
 }
 
 impl Call {
-    /// Whether the disk failed at it.
+    /// Returns true if the disk failed at it.
     pub fn has_failed(&self) -> bool
         ensures { result ≡ has_failed self.now }
     {

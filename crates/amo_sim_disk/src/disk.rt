@@ -8,9 +8,10 @@ use crate::tearing::image_of;
 use amo_journal::{Device, DeviceError};
 use std::alloc::{AllocError, Global};
 
-/// A disk in memory that tears and fails, for tests. What is read of it is what was written. What a crash may leave is any image
-/// that a device may leave after the calls that were made. One call may be planned to fail: then a read reads nothing, a write
-/// writes half its bytes, rounded down, a cut cuts nothing that is read, and a sync leaves stale places.
+/// A disk in memory that tears and fails, for tests. What is read of it is what was written. What a
+/// crash may leave is any image that a device may leave after the calls that were made. One call
+/// may be planned to fail: then a read reads nothing, a write writes half its bytes, rounded down,
+/// a cut cuts nothing that is read, and a sync leaves stale places.
 #[derive(Drop)]
 pub struct Disk {
     alloc: Global,
@@ -26,8 +27,9 @@ impl Disk {
     ghost use Rattle.amo_journal.specs.Device.{Only};
     ghost use Rattle.amo_sim_disk.specs.Disk.{disk_calls, disk_failing, disk_story, disk_story_after};
 
-    /// A disk that has these bytes and no others. The call of the number that is given fails, where the first call has the number
-    /// 0, and reads, writes, cuts and syncs count alike. A call that there was no memory for doesn't count, and changes nothing.
+    /// A disk that has these bytes and no others. The call of the number that is given fails, where
+    /// the first call has the number 0, and reads, writes, cuts and syncs count alike. A call that
+    /// there was no memory for doesn't count, and changes nothing.
     pub fn new(alloc: Global, bytes: &[u8], failing: Option<usize>) -> Result<Self, AllocError>
         ensures read { IfOk result (λ disk. read_in (disk_story disk) ≡ bytes.now) }
         ensures durable { IfOk result (λ disk. Only bytes.now (OutcomeIn (disk_story disk))) }
@@ -52,7 +54,8 @@ impl Disk {
         &self.bytes
     }
 
-    /// The calls that were made, in their order. That of the number which was given failed, and no other.
+    /// The calls that were made, in their order. That of the number which was given failed, and no
+    /// other.
     pub fn calls(&self) -> &[Call]
         ensures calls { result.now ≡ disk_calls self.now }
         ensures failed { FailsAsPlanned (disk_failing self.now) result.now }
@@ -60,11 +63,13 @@ impl Disk {
         &self.calls
     }
 
-    /// An image that a crash might have left after so many of the calls, or after all where there were fewer, by what had come to
-    /// the disk of each. `came` has, at the number of a write, the bytes that stand where the first of those that it was asked to
-    /// write were to stand, right or wrong; but a byte stays that stood there as it is read from then on, and nothing comes where
-    /// the image ends before that place. At the number of a cut it has as many bytes as stay behind the length. A sync that
-    /// succeeded leaves what is read. Past the end of `came`, no byte comes or stays.
+    /// An image that a crash might have left after so many of the calls, or after all where there
+    /// were fewer, by what had come to the disk of each. `came` has, at the number of a write, the
+    /// bytes that stand where the first of those that it was asked to write were to stand, right or
+    /// wrong; but a byte stays that stood there as it is read from then on, and nothing comes where
+    /// the image ends before that place. At the number of a cut it has as many bytes as stay behind
+    /// the length. A sync that succeeded leaves what is read. Past the end of `came`, no byte comes
+    /// or stays.
     pub fn image_after(
         &self,
         alloc: Global,
@@ -84,7 +89,7 @@ impl Disk {
         Ok(image)
     }
 
-    /// Whether the next call is the one that fails.
+    /// Returns true if the next call is the one that fails.
     fn fails_next(&self) -> bool
         ensures { result ≡ fails_next (disk_story self.now) }
     {
@@ -132,7 +137,8 @@ impl Device for Disk {
 
     ghost only_now = { λ disk. now_alone (disk_story disk) };
 
-    // What a device ensures follows from these clauses: each says what the call leaves, and that time goes on.
+    // What a device ensures follows from these clauses: each says what the call leaves, and that
+    // time goes on.
 
     fn read(&mut self, alloc: Global) -> Result<Vec<u8>, DeviceError>
         ensures ends { Leaves (λ fails call. call ≡ read_call fails) (disk_story self.old) (disk_story self.new) result }

@@ -6,7 +6,8 @@ ghost use Rattle.amo_sim_disk.specs.Replay.{OutcomeIn, Story, noted, read_in};
 use crate::call::{Call, written_over};
 use std::alloc::{AllocError, Global};
 
-/// What a crash after the call may leave, where these bytes were read before it and a crash might have left this image.
+/// What a crash after the call may leave, where these bytes were read before it and a crash might
+/// have left this image.
 pub(crate) fn image_of(
     alloc: Global,
     call: &Call,
@@ -28,7 +29,8 @@ pub(crate) fn image_of(
     }
 }
 
-/// What a write of so many bytes may leave of an image, where this is read after it and these bytes came.
+/// What a write of so many bytes may leave of an image, where this is read after it and these bytes
+/// came.
 fn torn(
     alloc: Global,
     at: usize,

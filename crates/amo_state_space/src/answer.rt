@@ -10,7 +10,8 @@ use amo_render::{BytesText, ReplayFault, plan_of_bytes};
 use amo_worst_case::{fewest, worst_schedule};
 use std::alloc::{AllocError, Global};
 
-/// The most jobs with one worker whose worlds are looked through; with each worker more they are half as many.
+/// The most jobs with one worker whose worlds are looked through; with each worker more they are
+/// half as many.
 pub const MOST_ALONE: u32 = 16;
 
 /// The most jobs with so many workers whose worlds are looked through.
@@ -89,10 +90,12 @@ fn push_found(
     )
 }
 
-/// What is said of the plans of a version that have these givens. Where the jobs, or in version 2 the blocks, are at most 16 with one
-/// worker, 8 with two, 4 with three, and so on: how many worlds turns in any order lead to, and stops of all workers but one at most;
-/// how few jobs are performed at least, once all are gone, with a schedule after which no more are; and how many turns a run may have,
-/// with the schedule of such a run. Else a line that says `refused`, and one that says why. The only error is out of memory.
+/// What is said of the plans of a version that have these givens. Where the jobs, or in version 2
+/// the blocks, are at most 16 with one worker, 8 with two, 4 with three, and so on: how many worlds
+/// turns in any order lead to, and stops of all workers but one at most; how few jobs are performed
+/// at least, once all are gone, with a schedule after which no more are; and how many turns a run
+/// may have, with the schedule of such a run. Else a line that says `refused`, and one that says
+/// why. The only error is out of memory.
 pub fn all_text(alloc: Global, version: u32, givens: Givens) -> Result<String, AllocError>
     ensures { IfOk result (λ s. IsAllOf version givens (string_bytes s)) }
 {
@@ -117,8 +120,9 @@ impl BytesText for AllWorlds {
 
     ghost is_refused = { λ _. AreNoPlan };
 
-    /// The text, in which nothing of the plan but its version and its givens has a part. `Plan(f)` comes just where the bytes are
-    /// no plan, for the fault f; the only other one is out of memory.
+    /// The text, in which nothing of the plan but its version and its givens has a part. `Plan(f)`
+    /// comes just where the bytes are no plan, for the fault f; the only other one is out of
+    /// memory.
     fn make(&self, alloc: Global, bytes: &[u8]) -> Result<String, ReplayFault> {
         let plan = plan_of_bytes(alloc, bytes)?;
         Ok(all_text(alloc, plan.heads.version, plan.heads.givens)?)

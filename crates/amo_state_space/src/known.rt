@@ -51,9 +51,10 @@ fn push_dones(key: &mut Vec<u32>, local: &Local) -> Result<(), AllocError> {
     Ok(())
 }
 
-/// Numbers that two worlds of the same givens have in common just where they are the same but for their histories and their counts
-/// of steps: of each worker whether it is gone, its announcement, its phase, its sets, how far it has read the row of each other, and
-/// the jobs that it has performed.
+/// Numbers that two worlds of the same givens have in common just where they are the same but for
+/// their histories and their counts of steps: of each worker whether it is gone, its announcement,
+/// its phase, its sets, how far it has read the row of each other, and the jobs that it has
+/// performed.
 pub(crate) fn key_of(alloc: Global, world: &World) -> Result<Vec<u32>, AllocError> {
     let mut key = Vec::new(alloc);
     for before in 0..world.givens().workers {

@@ -1,5 +1,6 @@
-//! All worlds that turns lead to, and stops while not all workers but one are stopped: how many they are, for few jobs and workers, how
-//! few jobs are performed in the end, and how long a run may be. The module `laws` has the theorems over the runs that are shown.
+//! All worlds that turns lead to, and stops while not all workers but one are stopped: how many
+//! they are, for few jobs and workers, how few jobs are performed in the end, and how long a run
+//! may be. The module `laws` has the theorems over the runs that are shown.
 #![tactic(auto)]
 
 mod answer;

@@ -28,7 +28,8 @@ fn first_here(world: &World) -> Option<u32>
     None
 }
 
-/// Whose turn comes next on a longest way from a world that the search looked at; nobody's where all are gone.
+/// Whose turn comes next on a longest way from a world that the search looked at; nobody's where
+/// all are gone.
 fn next_turn(alloc: Global, search: &Search, world: &World) -> Result<Option<u32>, AllocError>
     ensures { IfOk result (λ next. IsNext world.now.givens world.now.world next) }
 {
@@ -51,8 +52,9 @@ fn longest_turns(alloc: Global, search: &Search, givens: Givens) -> Result<Vec<u
     Ok(turns)
 }
 
-/// What is found from the opening world of these givens on. Where there are fewer jobs than the threshold, all workers have ended
-/// from birth, so there is no other world. The only error is out of memory.
+/// What is found from the opening world of these givens on. Where there are fewer jobs than the
+/// threshold, all workers have ended from birth, so there is no other world. The only error is out
+/// of memory.
 pub(crate) fn find(alloc: Global, givens: Givens) -> Result<Found, AllocError>
     ensures whole { IfOk result (λ found. IsWholeRun givens (map Turn found.turns.items)) }
     ensures one { IfOk result (λ found. givens.jobs < givens.beta → found.worlds ≡ 1) }

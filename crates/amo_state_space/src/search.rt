@@ -23,8 +23,9 @@ pub(crate) struct Longest {
 }
 
 impl Longest {
-    /// This one, or the one that begins with this turn and goes on so, whichever is longer. A stop is no turn, and no way is longer
-    /// for one: who is stopped could as well wait until all others are gone.
+    /// This one, or the one that begins with this turn and goes on so, whichever is longer. A stop
+    /// is no turn, and no way is longer for one: who is stopped could as well wait until all others
+    /// are gone.
     fn or_after(self, one: Move, after: Longest) -> Longest {
         match one {
             Move::Turn(p) if self.turns <= after.turns => Longest {
@@ -79,7 +80,8 @@ impl Search {
         }
     }
 
-    /// Whether this move is a turn of a worker that isn't gone, or its stop and fewer were stopped than all others.
+    /// Returns true if this move is a turn of a worker that isn't gone, or its stop and fewer were
+    /// stopped than all others.
     fn allows(&self, one: Move, stops: u32) -> bool
         requires worker { IsWorker self.now.givens (worker_of one) }
         requires few { stops ≤ 15 }
@@ -130,8 +132,8 @@ impl Search {
         Ok(self.known.get(&key).and_then(|longest| longest.first))
     }
 
-    /// The longest way on from this world, over turns, once each world that turns lead to, and stops while not all others are
-    /// stopped, is known. So many were stopped so far.
+    /// The longest way on from this world, over turns, once each world that turns lead to, and
+    /// stops while not all others are stopped, is known. So many were stopped so far.
     pub(crate) fn look(&mut self, alloc: Global, stops: u32) -> Result<Longest, AllocError>
         requires stops { length (stopped self.old.moves) ≡ stops }
         requires few { stops ≤ 15 }

@@ -6,8 +6,8 @@ use crate::state::AttemptId;
 use amo_run_log::{Attempt, Finding, Outcome, has_finding};
 use std::alloc::{AllocError, Global};
 
-/// The intents that are answered untouched and that no person answered, in the order of the journals: who wants their lines tried
-/// again answers each of them not done.
+/// The intents that are answered untouched and that no person answered, in the order of the
+/// journals: who wants their lines tried again answers each of them not done.
 pub fn untouched(
     alloc: Global,
     findings: &[Finding],
@@ -40,7 +40,7 @@ fn push_untouched(
     Ok(())
 }
 
-/// Whether it did nothing.
+/// Returns true if it did nothing.
 fn is_idle(answer: Option<Outcome>) -> bool
     ensures { result ≡ is_idle answer }
 {

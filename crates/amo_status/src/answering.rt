@@ -10,11 +10,12 @@ use crate::standing::standing_of;
 use crate::state::{AttemptId, State, is_found_done, state_of};
 use amo_run_log::{Attempt, Finding, Resolution, is_undone};
 
-/// Whether a person's answer to the intent of this worker and serial number, said to be of this line, may be taken. It may only
-/// where a person is asked about that intent, so that it is noted as doubt, as untouched or by a code other than 0, or has no
-/// answer and is among the finals; where no person answered it; and where the line is closed by it now. Several reasons against
-/// it are told in this order: there is no such intent, it is of another line, it was answered, nobody is asked, it runs, another
-/// intent closes the line.
+/// Returns true if a person's answer to the intent of this worker and serial number, said to be of
+/// this line, may be taken. It may only where a person is asked about that intent, so that it is
+/// noted as doubt, as untouched or by a code other than 0, or has no answer and is among the
+/// finals; where no person answered it; and where the line is closed by it now. Several reasons
+/// against it are told in this order: there is no such intent, it is of another line, it was
+/// answered, nobody is asked, it runs, another intent closes the line.
 pub fn may_answer(
     log: &RunLog<'_>,
     worker: u64,
@@ -77,7 +78,7 @@ fn attempt_of(journals: &[Vec<Attempt>], worker: u64, serial: u64) -> Option<Att
     Some(journal[(serial - 1) as usize])
 }
 
-/// Whether a person said so of the intent.
+/// Returns true if a person said so of the intent.
 fn is_said(findings: &[Finding], worker: u64, serial: u64, verdict: Resolution) -> bool
     ensures { result ≡ is_said findings.now worker serial verdict }
 {
@@ -96,7 +97,7 @@ fn contrary(verdict: Resolution) -> Resolution
     }
 }
 
-/// Whether it is by this intent that the line is closed now.
+/// Returns true if it is by this intent that the line is closed now.
 fn is_closed_by(log: &RunLog<'_>, intent: AttemptId, line: u64) -> bool
     ensures { result ≡ is_closed_by log.now.findings.now (map (λ journal. journal.items) log.now.journals.now) log.now.finals.now intent.worker intent.serial line }
 {

@@ -20,7 +20,8 @@ ghost use Rattle.amo_status.specs.Said.{SaidView, FitsSaid, lines_in, said_in, s
 ghost use Rattle.amo_status.specs.Standings.{open_standing, standing_of, IsByIntent};
 ghost use Rattle.amo_status.specs.States.{is, state_of};
 
-/// A closed line stands by an intent of it that closes it, and by one that runs if there is one. An open line stands by none.
+/// A closed line stands by an intent of it that closes it, and by one that runs if there is one. An
+/// open line stands by none.
 pub fn by_which_intent_a_line_stands()
     ensures closed { (findings : List FindingView) (journals : List (List AttemptView)) (finals : List IntentView) (line : ℕ)
         → is_open findings journals line ≡ false → IsByIntent findings journals finals line (standing_of findings journals finals line) }
@@ -31,8 +32,9 @@ pub fn by_which_intent_a_line_stands()
         → is Running (standing_of findings journals finals line).state ≡ true }
 {}
 
-/// Once an answer that may be taken is noted, its line stands done by the same intent, or is closed by that intent no more. The
-/// same answer again is refused as one that was given so, and the contrary one as one that was given otherwise.
+/// Once an answer that may be taken is noted, its line stands done by the same intent, or is closed
+/// by that intent no more. The same answer again is refused as one that was given so, and the
+/// contrary one as one that was given otherwise.
 pub fn an_answer_settles()
     ensures done { (findings : List FindingView) (journals : List (List AttemptView)) (finals : List IntentView) (worker serial line time : ℕ)
         → MayBeTaken findings journals finals worker serial line
@@ -48,14 +50,16 @@ pub fn an_answer_settles()
         → refusal_of (with_answer findings verdict worker serial time) journals finals worker serial line (contrary verdict) ≡ Some AnsweredOtherwise }
 {}
 
-/// Answers that are written a line each are read back as themselves, and what is read was written so.
+/// Answers that are written a line each are read back as themselves, and what is read was written
+/// so.
 pub fn answers_are_read_back()
     ensures back { (answers : List SaidView) → AllByRecursion FitsSaid answers → AllByRecursion (λ s. AllByRecursion (λ b. b ≢ 10) s.text) answers
         → read_all said_in (lines_in (ended (map said_text answers))) ≡ Some answers }
     ensures written { (file : List ℕ) (answers : List SaidView) → read_all said_in (lines_in file) ≡ Some answers → map said_text answers ≡ lines_in file }
 {}
 
-/// The row of a closed line among those of its kind, with a tab and a verdict behind it, is an answer to its intent.
+/// The row of a closed line among those of its kind, with a tab and a verdict behind it, is an
+/// answer to its intent.
 pub fn rows_are_answers()
     ensures { (kind : StateView) (line : ℕ) (s : StandingView) (text : List ℕ) (v : VerdictView) → is Open s.state ≡ false → is kind s.state ≡ true
         → (row : List ℕ) × (kind_row kind line s text ≡ row ++ line_end)

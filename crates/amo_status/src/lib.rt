@@ -1,5 +1,6 @@
-//! Where each line of a run stands, by what the journals, the answers of persons and the locks say: whether it is open, done,
-//! failed, in doubt, untouched or running, and by which intent; which answers of persons are taken; and all that as texts.
+//! Where each line of a run stands, by what the journals, the answers of persons and the locks say:
+//! whether it is open, done, failed, in doubt, untouched or running, and by which intent; which
+//! answers of persons are taken; and all that as texts.
 #![tactic(auto)]
 
 mod again;

@@ -9,8 +9,9 @@ use crate::standing::LineStatus;
 use crate::state::State;
 use std::alloc::{AllocError, Global};
 
-/// The status of a run: the counts, a line of the workers that are alive, and a row for each line that is in doubt, untouched or
-/// running, `STATE P.S LINE TEXT`. The text of the line k + 1 stands at k, without an end.
+/// The status of a run: the counts, a line of the workers that are alive, and a row for each line
+/// that is in doubt, untouched or running, `STATE P.S LINE TEXT`. The text of the line k + 1 stands
+/// at k, without an end.
 pub fn status_text(
     alloc: Global,
     counts: &Counts,
@@ -29,8 +30,9 @@ pub fn status_text(
     Ok(text)
 }
 
-/// A row for each line that stands so: the intent as `P.S`, or `-` where the line is open, the line's number, and its text, a tab
-/// between each two. Such a row with a tab and `done` or `not-done` behind it is what `read_answers` reads.
+/// A row for each line that stands so: the intent as `P.S`, or `-` where the line is open, the
+/// line's number, and its text, a tab between each two. Such a row with a tab and `done` or
+/// `not-done` behind it is what `read_answers` reads.
 pub fn lines_text(
     alloc: Global,
     kind: State,

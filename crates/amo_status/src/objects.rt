@@ -12,8 +12,9 @@ use serde_json::Value;
 use std::alloc::{AllocError, Global};
 use std::str;
 
-/// The status of a run, as an object and a line feed: the counts, the workers that are alive, and an object for each line that is
-/// in doubt, untouched or running. The text of the line k + 1 stands at k. One that is no text is written as `null`.
+/// The status of a run, as an object and a line feed: the counts, the workers that are alive, and
+/// an object for each line that is in doubt, untouched or running. The text of the line k + 1
+/// stands at k. One that is no text is written as `null`.
 pub fn status_json(
     alloc: Global,
     counts: &Counts,
@@ -35,7 +36,8 @@ pub fn status_json(
     Ok(text)
 }
 
-/// The lines that are in doubt, as a list of such objects, each with the time at which it was begun, and a line feed.
+/// The lines that are in doubt, as a list of such objects, each with the time at which it was
+/// begun, and a line feed.
 pub fn doubts_json(
     alloc: Global,
     standings: &[LineStatus],
@@ -117,14 +119,14 @@ fn push_json_row(
     push_parts(text, head.as_bytes(), middle.as_bytes(), tail.as_bytes())
 }
 
-/// Whether an object stands there, after this line.
+/// Returns true if an object stands there, after this line.
 fn is_later(later: bool, timed: bool, state: State) -> bool
     ensures { result ≡ (later || is_shown timed state) }
 {
     later || is_shown(timed, state)
 }
 
-/// Whether a line that stands so is shown.
+/// Returns true if a line that stands so is shown.
 fn is_shown(timed: bool, state: State) -> bool
     ensures { result ≡ is_shown timed state }
 {

@@ -62,7 +62,7 @@ fn push_row(
     push_parts(text, head.as_bytes(), job, tail.as_bytes())
 }
 
-/// Whether a line that stands so is listed in this form.
+/// Returns true if a line that stands so is listed in this form.
 fn is_listed_in(form: Form, state: State) -> bool
     ensures { result ≡ is_listed_in form state }
 {
@@ -149,7 +149,7 @@ pub(crate) fn state_word(state: State) -> &'static str
     }
 }
 
-/// Whether the status lists a line that stands so.
+/// Returns true if the status lists a line that stands so.
 pub(crate) fn is_listed(state: State) -> bool
     ensures { result ≡ is_listed state }
 {

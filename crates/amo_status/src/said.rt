@@ -12,7 +12,8 @@ use amo_run_log::{Fault, Resolution};
 use std::alloc::{AllocError, Global};
 use std::mem;
 
-/// An answer as it was said: to the intent of this worker and serial number, of this line, whose text was this.
+/// An answer as it was said: to the intent of this worker and serial number, of this line, whose
+/// text was this.
 #[derive(Debug, PartialEq, Eq, Drop)]
 pub struct Said {
     pub worker: u64,
@@ -22,9 +23,9 @@ pub struct Said {
     pub verdict: Resolution,
 }
 
-/// The answers that a file says, a line each: the intent as `P.S`, the number of its line, the line's text, and `done` or
-/// `not-done`, a tab between each two. The text may hold tabs. The last line may lack its end. The first line that says no answer
-/// is refused, by its number.
+/// The answers that a file says, a line each: the intent as `P.S`, the number of its line, the
+/// line's text, and `done` or `not-done`, a tab between each two. The text may hold tabs. The last
+/// line may lack its end. The first line that says no answer is refused, by its number.
 pub fn read_answers(alloc: Global, bytes: &[u8]) -> Result<Vec<Said>, Fault>
     ensures exact { IfOk result (λ said. read_all said_in (lines_in bytes.now) ≡ Some (map said_by said.items)) }
     ensures refused { IfErr result (IsRefused (lines_in bytes.now)) }
@@ -95,7 +96,8 @@ fn said_of(alloc: Global, bytes: &[u8]) -> Result<Option<Said>, AllocError>
     }))
 }
 
-/// The answer that three words of a command say: the intent as `P.S`, the number of its line, and `done` or `not-done`.
+/// The answer that three words of a command say: the intent as `P.S`, the number of its line, and
+/// `done` or `not-done`.
 pub fn read_one(intent: &str, line: &str, verdict: &str) -> Option<(AttemptId, u64, Resolution)>
     ensures exact { result ≡ words_in intent.now line.now verdict.now }
     // What is read was printed so.

@@ -30,8 +30,8 @@ const OPEN: LineStatus = LineStatus {
     time: 0,
 };
 
-/// Returns how each of the lines 1..count stands, in order. If several intents close a line, one that
-/// is running decides, else the first in the order of the journals.
+/// Returns how each of the lines 1..count stands, in order. If several intents close a line, one
+/// that is running decides, else the first in the order of the journals.
 pub fn standings(
     alloc: Global,
     log: &RunLog<'_>,

@@ -65,14 +65,14 @@ fn state_in(answer: Outcome) -> State
     }
 }
 
-/// Whether a person found that what was intended was done.
+/// Returns true if a person found that what was intended was done.
 pub(crate) fn is_found_done(findings: &[Finding], worker: u64, serial: u64) -> bool
     ensures { result ≡ is_found_done findings.now worker serial }
 {
     findings.iter().any(|f| !is_not_done(f.verdict) && (f.worker == worker && f.serial == serial))
 }
 
-/// Whether the intent of this worker and serial number is among these.
+/// Returns true if the intent of this worker and serial number is among these.
 fn is_among(intents: &[AttemptId], worker: u64, serial: u64) -> bool
     ensures { result ≡ is_among intents.now worker serial }
 {
@@ -81,7 +81,7 @@ fn is_among(intents: &[AttemptId], worker: u64, serial: u64) -> bool
         .any(|i| i.worker == worker && i.serial == serial)
 }
 
-/// Whether it is this state.
+/// Returns true if it is this state.
 pub(crate) fn is(kind: State, state: State) -> bool
     ensures { result ≡ is kind state }
 {

@@ -1,5 +1,5 @@
-//! Writes what stands above and below the columns of a picture of jobs: the numbers of jobs, and the band that says who has claimed
-//! which job.
+//! Writes what stands above and below the columns of a picture of jobs: the numbers of jobs, and
+//! the band that says who has claimed which job.
 ghost use Rattle.std.specs.Prelude.{◌≡◌, ◌++◌, ◌<◌, ◌≤◌, ◌^◌, OnOk, string_bytes};
 ghost use Rattle.amo_svg.specs.Band.{axis_mark, axis, axes, band_lane, free_marks, free_title, free_lane};
 

@@ -182,7 +182,8 @@ pub(crate) fn push_stroke(
     out.push_str("\"/>\n")
 }
 
-/// Appends a straight line of this width from a place: the way is `v`, so far down, or `h`, so far to the right.
+/// Appends a straight line of this width from a place: the way is `v`, so far down, or `h`, so far
+/// to the right.
 pub(crate) fn push_straight(
     out: &mut String,
     class: &str,

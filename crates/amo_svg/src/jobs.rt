@@ -1,4 +1,5 @@
-//! Writes what the picture of a long run has besides its frame: a column for each job, and a narrow lane for each worker.
+//! Writes what the picture of a long run has besides its frame: a column for each job, and a narrow
+//! lane for each worker.
 ghost use Rattle.std.specs.Prelude.{◌≡◌, ◌++◌, ◌<◌, ◌≤◌, ◌^◌, OnOk, string_bytes};
 ghost use Rattle.amo_plan.specs.PlanSeen.{plan_seen};
 ghost use Rattle.amo_svg.specs.Jobs.{worker_paths, going, going_shape, lifeline, lane_number, lane_numbers, worker_title, worker_drawn, workers_drawn, grid_line, grid, jobs_head, columns_of, jobs_width, band_end, jobs_ground};

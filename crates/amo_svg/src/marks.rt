@@ -187,35 +187,35 @@ pub(crate) fn lane(worker: u32) -> u128
     (176 * worker as u128).saturating_sub(100)
 }
 
-/// Whether the transition stores to the worker's announcement.
+/// Returns true if the transition stores to the worker's announcement.
 pub(crate) fn is_announcement(transition: &Transition) -> bool
     ensures { result ≡ is_announcement (mark_of transition.now) }
 {
     matches!(mark_of(transition), Mark::Announcement(_) | Mark::Leave)
 }
 
-/// Whether the transition stores a claim.
+/// Returns true if the transition stores a claim.
 pub(crate) fn is_claim(transition: &Transition) -> bool
     ensures { result ≡ is_claim (mark_of transition.now) }
 {
     matches!(mark_of(transition), Mark::Claim(_))
 }
 
-/// Whether the transition stores a performance.
+/// Returns true if the transition stores a performance.
 pub(crate) fn is_filing(transition: &Transition) -> bool
     ensures { result ≡ is_filing (mark_of transition.now) }
 {
     matches!(mark_of(transition), Mark::Filing(_))
 }
 
-/// Whether the transition is the worker's, and stores to its announcement.
+/// Returns true if the transition is the worker's, and stores to its announcement.
 fn announces(worker: u32, transition: &Transition) -> bool
     ensures { result ≡ ((transition.now.worker == worker) && is_announcement (mark_of transition.now)) }
 {
     transition.worker == worker && is_announcement(transition)
 }
 
-/// Whether the transition is the worker's, and stores a performance.
+/// Returns true if the transition is the worker's, and stores a performance.
 fn files(worker: u32, transition: &Transition) -> bool
     ensures { result ≡ ((transition.now.worker == worker) && is_filing (mark_of transition.now)) }
 {
@@ -305,7 +305,8 @@ fn apart(number: usize, rows: usize) -> u128
     row(number + rows).saturating_sub(row(number))
 }
 
-/// Appends what leads up to a mark in the row with this number, the transitions after it being these.
+/// Appends what leads up to a mark in the row with this number, the transitions after it being
+/// these.
 #[tactic(auto, unfolding(crate::specs::Marks::lead_at))]
 pub(crate) fn push_lead(
     out: &mut String,

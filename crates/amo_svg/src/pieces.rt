@@ -26,7 +26,7 @@ pub(crate) enum Kind {
     Crosses,
 }
 
-/// Whether the transition has a piece of this kind.
+/// Returns true if the transition has a piece of this kind.
 fn is_drawn(kind: Kind, worker: u32, transition: &Transition) -> bool
     ensures { result ≡ is_drawn kind worker transition.now }
 {

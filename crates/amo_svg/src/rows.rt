@@ -9,7 +9,7 @@ use crate::marks::{RULED_ROWS, class_of, lane, mark_of, push_label, push_lead, p
 use amo_trace::{Act, Transition, push_transition};
 use std::alloc::{AllocError, Global};
 
-/// Whether the transition changes something.
+/// Returns true if the transition changes something.
 pub(crate) fn changes(transition: &Transition) -> bool
     ensures { result ≡ acts transition.now.act }
 {
@@ -142,7 +142,8 @@ fn push_ruler_below(
     push_ruler(out, workers, row(number) + 18, transition.number)
 }
 
-/// Appends a row for each transition, and the rulers between them, across the lanes of so many workers.
+/// Appends a row for each transition, and the rulers between them, across the lanes of so many
+/// workers.
 pub(crate) fn push_rows(
     alloc: Global,
     out: &mut String,
@@ -159,7 +160,7 @@ pub(crate) fn push_rows(
     Ok(())
 }
 
-/// Whether the transition is the worker's, which is gone after it.
+/// Returns true if the transition is the worker's, which is gone after it.
 fn goes(worker: u32, transition: &Transition) -> bool
     ensures { result ≡ ((transition.now.worker == worker) && transition.now.gone) }
 {

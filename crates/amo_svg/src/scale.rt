@@ -24,7 +24,8 @@ pub(crate) fn at(last: usize, number: usize) -> u128
     72 + 960 * number as u128 / last as u128
 }
 
-/// How far down what a transition ends goes: so far below its move, or to the foot where there is none.
+/// How far down what a transition ends goes: so far below its move, or to the foot where there is
+/// none.
 pub(crate) fn end_of(last: usize, below: u128, end: Option<Transition>) -> u128
     requires last { 1 ≤ last }
     requires near { below ≤ 2 }
@@ -90,7 +91,8 @@ pub(crate) fn narrow_lane(worker: u32) -> u128
     848 + 36 * worker as u128
 }
 
-/// How far down the marks of the jobs stand that a worker has claimed; those of the jobs of nobody follow the last worker's.
+/// How far down the marks of the jobs stand that a worker has claimed; those of the jobs of nobody
+/// follow the last worker's.
 pub(crate) fn band(worker: u32) -> u128
     ensures value { result ≡ band worker }
     ensures near { result < 2 ^ 40 }

@@ -8,7 +8,7 @@ ghost use Rattle.amo_render.specs.Happened.{unclaimed_jobs};
 use amo_world::World;
 use std::alloc::{AllocError, Global};
 
-/// Whether nobody has claimed the job.
+/// Returns true if nobody has claimed the job.
 fn is_unclaimed(world: &World, job: u32) -> bool
     requires { IsJob world.now.givens job }
     ensures { result ≡ not (has (claimed_jobs world.now.world.history) job) }

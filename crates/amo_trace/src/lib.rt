@@ -1,5 +1,6 @@
-//! What each move of a plan's run does, and the text that prints the moves, the trace. Start with `transitions_of`. The module
-//! `laws` has the theorem over these transitions: when an attempt fails.
+//! What each move of a plan's run does, and the text that prints the moves, the trace. Start with
+//! `transitions_of`. The module `laws` has the theorem over these transitions: when an attempt
+//! fails.
 #![tactic(auto)]
 
 pub mod laws;

@@ -67,7 +67,7 @@ pub fn job_of(phase: Phase) -> u32
     }
 }
 
-/// Whether the act is a load.
+/// Returns true if the act is a load.
 fn loads(act: Act) -> bool
     ensures { result ≡ loads act }
 {
@@ -113,7 +113,8 @@ pub fn transition_at(transitions: &[Transition], place: usize) -> Option<Transit
 }
 
 impl Transition {
-    /// Whether its attempt has failed: after a load the worker is about to announce another job, or has ended.
+    /// Returns true if its attempt has failed: after a load the worker is about to announce another
+    /// job, or has ended.
     pub fn fails(&self) -> bool
         ensures { result ≡ fails self.now }
     {

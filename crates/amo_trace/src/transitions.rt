@@ -13,7 +13,7 @@ use amo_plan::Plan;
 use amo_world::World;
 use std::alloc::{AllocError, Global};
 
-/// Whether all workers are gone.
+/// Returns true if all workers are gone.
 fn all_gone(world: &World) -> bool
     ensures { result ≡ all_gone world.now.givens world.now.world }
 {
@@ -71,8 +71,8 @@ fn make_move(world: &mut World, number: usize, one: Move) -> Transition
     }
 }
 
-/// Makes these moves until all workers are gone, from when on moves change nothing, and answers their transitions. The only
-/// error is out of memory.
+/// Makes these moves until all workers are gone, from when on moves change nothing, and answers
+/// their transitions. The only error is out of memory.
 fn make_moves(
     alloc: Global,
     world: &mut World,
@@ -135,8 +135,8 @@ pub fn run_of(alloc: Global, plan: &Plan) -> Result<TracedRun, AllocError>
     Ok(TracedRun { transitions, world })
 }
 
-/// The transitions of a plan: what each move of its schedule and its rounds does, until all workers are gone. The only error is
-/// out of memory.
+/// The transitions of a plan: what each move of its schedule and its rounds does, until all workers
+/// are gone. The only error is out of memory.
 pub fn transitions_of(alloc: Global, plan: &Plan) -> Result<Vec<Transition>, AllocError>
     ensures { IfOk result (λ v. v.items ≡ transitions_of (plan_seen plan.now)) }
 {

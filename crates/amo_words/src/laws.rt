@@ -1,4 +1,5 @@
-//! The theorems over the rule and the book that callers may lean on. Nothing here runs: each function's contract is a law.
+//! The theorems over the rule and the book that callers may lean on. Nothing here runs: each
+//! function's contract is a law.
 ghost use Rattle.std.specs.Prelude.{◌≡◌, ◌≢◌, ◌≤◌, ◌++◌, ℕ, List, [], get_or, true, false, Option};
 ghost use mathlib.Core.Option.{some};
 ghost use lib.ListN.{get_elem?};
@@ -23,11 +24,12 @@ ghost use Rattle.amo_words.specs.Logs.{machine_after, moves_of, AreOwn, StartsWi
 ghost use Rattle.amo_words.specs.Rule.{AllStand, Has, HasWhole, IsOpen, SlotsFit, spent_view};
 ghost use Rattle.amo_words.specs.Looking.{IsBack, back_count};
 
-/// What the rule says of an open table: its words are those of a lawful world, reached by a list of turns and leavings.
-/// Some seat has seen, or had from a worker, that whole list, and what any other has seen is a beginning of it. Each worker's
-/// machine is in the view of one seat alone, as it is in that world; a worker that is out has seen all its own moves. All views
-/// but spent ones have the floor's givens and payloads, and what they had from a worker is a beginning of the list too. The
-/// slot of a job is at home, with its payload, just until the job is claimed.
+/// What the rule says of an open table: its words are those of a lawful world, reached by a list of
+/// turns and leavings. Some seat has seen, or had from a worker, that whole list, and what any
+/// other has seen is a beginning of it. Each worker's machine is in the view of one seat alone, as
+/// it is in that world; a worker that is out has seen all its own moves. All views but spent ones
+/// have the floor's givens and payloads, and what they had from a worker is a beginning of the list
+/// too. The slot of a job is at home, with its payload, just until the job is claimed.
 pub fn floors_show_worlds<P>()
     ensures world { (k : Key P) (s : State (Option P) (View P)) (h : IsOpen k s)
         → (s.words ≡ words_of (world_of k.givens h.log).processes) × IsLawful k.givens (world_of k.givens h.log) × AreOwn k.givens h.log }
@@ -46,7 +48,8 @@ pub fn floors_show_worlds<P>()
     ensures slots { (k : Key P) (s : State (Option P) (View P)) (h : IsOpen k s) → SlotsFit (world_of k.givens h.log) k.payloads.value.items s.homes }
 {}
 
-/// The workers that have come back to a book stand in one lawful world, and no job is claimed by two of them.
+/// The workers that have come back to a book stand in one lawful world, and no job is claimed by
+/// two of them.
 pub fn met_workers_agree()
     ensures lawful { (g : Givens) (log : List Move) → IsLawful g (world_of g log) }
     ensures stand { (g : Givens) (log : List Move) (spots : List Spot) (p : ℕ) (l : LocalView)
@@ -62,23 +65,25 @@ pub fn met_workers_do_each_job_once()
     ensures { (g : Givens) (log : List Move) (spots : List Spot) → AllStand g log spots → back_count spots ≤ g.jobs }
 {}
 
-/// Where a worker that has come back had ended by its own choice, all workers together have done at least `bound` jobs.
+/// Where a worker that has come back had ended by its own choice, all workers together have done at
+/// least `bound` jobs.
 pub fn met_ends_come_late()
     ensures { (g : Givens) (log : List Move) (spots : List Spot) (p : ℕ) (l : LocalView)
         → AllStand g log spots → IsBack spots p l → is_over l.state.phase ≡ true → bound g ≤ done_count (world_of g log) }
 {}
 
-/// What a collected worker had seen is a beginning of what the book has seen ever after: the calls of all who came back
-/// stand in the book's list, those of each in the order in which it saw them. And each beginning of a list of turns and
-/// leavings of workers is such a list, so also the one with which a settlement begins.
+/// What a collected worker had seen is a beginning of what the book has seen ever after: the calls
+/// of all who came back stand in the book's list, those of each in the order in which it saw them.
+/// And each beginning of a list of turns and leavings of workers is such a list, so also the one
+/// with which a settlement begins.
 pub fn seen_lists_begin()
     ensures later { (log seen first : List Move) → StartsWith log seen → StartsWith seen first → StartsWith log first }
     ensures turns { (g : Givens) (log seen : List Move) → AreOwn g log → StartsWith log seen → AreOwn g seen }
 {}
 
-/// What a settlement that was read from a closed floor says of each worker is what its words said as they stood: so of one
-/// that is lost its row up to the first 0, and its announcement as a claim where its count of claims is one more. Of a
-/// worker whose words are 0 it says nothing.
+/// What a settlement that was read from a closed floor says of each worker is what its words said
+/// as they stood: so of one that is lost its row up to the first 0, and its announcement as a claim
+/// where its count of claims is one more. Of a worker whose words are 0 it says nothing.
 pub fn settlements_say_what_words_say<P>()
     ensures dones { (c : ClosedView P) (s : Settlement P) (p : ℕ) → IsReadFrom c s → IsWorker c.givens p → settled_dones s p ≡ row_in c.givens c.words p }
     ensures claims { (c : ClosedView P) (s : Settlement P) (p : ℕ) → IsReadFrom c s → IsWorker c.givens p

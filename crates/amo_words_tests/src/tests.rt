@@ -1,4 +1,5 @@
-//! Worked rows on one thread, floors at the limits, calls without memory, and two threads that share a floor.
+//! Worked rows on one thread, floors at the limits, calls without memory, and two threads that
+//! share a floor.
 ghost use Rattle.std.specs.Prelude.{◌≡◌, IfOk};
 
 use amo_givens::Givens;
@@ -56,7 +57,8 @@ fn open<P: Drop>(
     (floor, book)
 }
 
-/// A floor for these numbers of jobs and workers and that threshold, with letters as payloads, and its book.
+/// A floor for these numbers of jobs and workers and that threshold, with letters as payloads, and
+/// its book.
 fn open_letters(
     rt: &impl Abort,
     alloc: Global,

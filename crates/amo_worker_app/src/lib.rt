@@ -1,5 +1,6 @@
-//! The program `amo_worker`: its command line, the life of a worker process, the session with its runner, and what an operator
-//! asks of a run. Start with `serve`, or with the module `worker` for the life of a worker.
+//! The program `amo_worker`: its command line, the life of a worker process, the session with its
+//! runner, and what an operator asks of a run. Start with `serve`, or with the module `worker` for
+//! the life of a worker.
 #![tactic(auto)]
 
 mod args;

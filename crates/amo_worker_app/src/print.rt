@@ -12,7 +12,8 @@ use std::alloc::{AllocError, Global};
 use std::io::Write;
 use std::rt::HostRuntime;
 
-/// Writes how all lines stand. What was held of the run is let go of before: who reads may take his time.
+/// Writes how all lines stand. What was held of the run is let go of before: who reads may take his
+/// time.
 pub(crate) fn show_status(
     rt: HostRuntime,
     setting: &Setting<'_>,

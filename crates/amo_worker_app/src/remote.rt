@@ -1,4 +1,5 @@
-//! The life of a worker by lines: its partner, on standard input and output, has the words and the journal too.
+//! The life of a worker by lines: its partner, on standard input and output, has the words and the
+//! journal too.
 ghost use Rattle.std.specs.Prelude.{◌≡◌, None};
 
 use crate::runner::{Runner, shown};
@@ -47,8 +48,9 @@ impl Wire for Streams {
     }
 }
 
-/// Works as this worker to the end of this process: each word that it loads or stores, each intent, each job and each note is a line
-/// to the partner. Ends well where the worker wants nothing more; every other end is a fault.
+/// Works as this worker to the end of this process: each word that it loads or stores, each intent,
+/// each job and each note is a line to the partner. Ends well where the worker wants nothing more;
+/// every other end is a fault.
 pub(crate) fn work_by_lines(rt: HostRuntime, asked: ByLines) -> Result<(), Fault> {
     let Ok(givens) = Givens::try_new(asked.jobs, asked.workers, asked.beta) else {
         return Err(Fault::NoWay);

@@ -18,8 +18,9 @@ const TRIES: u32 = 20;
 
 const PAUSE: u64 = 100;
 
-/// Takes an answer of a person. It is refused where the rules of [`may_answer`] say so, or where the text isn't that of the line.
-/// One that was given so already is taken again, and nothing is written.
+/// Takes an answer of a person. It is refused where the rules of [`may_answer`] say so, or where
+/// the text isn't that of the line. One that was given so already is taken again, and nothing is
+/// written.
 pub(crate) fn answer(rt: HostRuntime, setting: &Setting<'_>, said: Said) -> Result<(), Fault> {
     let all = vec![in rt.alloc(); said]?;
     take_all(rt, setting, &all)

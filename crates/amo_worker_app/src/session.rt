@@ -13,7 +13,8 @@ use amo_run_log::{Entry, Outcome as Noted};
 use std::rt::HostRuntime;
 use std::time::{SystemTime, UNIX_EPOCH};
 
-/// A journal whose guard this process has, and a partner. After a call has failed the fault says why.
+/// A journal whose guard this process has, and a partner. After a call has failed the fault says
+/// why.
 #[derive(Drop)]
 pub(crate) struct Session {
     pub(crate) rt: HostRuntime,
@@ -27,7 +28,8 @@ pub(crate) struct Session {
     pub(crate) fault: Option<Fault>,
 }
 
-/// The time in seconds since 1970, or 0 where the clock can't be read: it is noted for persons and decides nothing.
+/// The time in seconds since 1970, or 0 where the clock can't be read: it is noted for persons and
+/// decides nothing.
 pub(crate) fn now(rt: HostRuntime) -> u64 {
     match SystemTime::now(&rt) {
         Ok(time) => match time.duration_since(UNIX_EPOCH) {
@@ -97,7 +99,7 @@ impl Session {
     }
 }
 
-/// Whether a reply tells to leave.
+/// Returns true if a reply tells to leave.
 fn dismisses(reply: Reply) -> bool
     ensures { result ≡ dismisses reply }
 {

@@ -1,4 +1,5 @@
-//! To look at a run, as a person does: with what nobody is at any more held, so that it stays so while it is looked at.
+//! To look at a run, as a person does: with what nobody is at any more held, so that it stays so
+//! while it is looked at.
 use amo_fs::is_at;
 use amo_givens::MAX_WORKERS;
 use amo_journal::texts_in;
@@ -18,7 +19,8 @@ pub(crate) struct Snapshot {
     pub(crate) books: RunState,
     /// The workers whose journals others hold.
     pub(crate) alive: Vec<u64>,
-    /// Pending intents that nobody can answer any more: their journal, their runner's lock and their command's are held here.
+    /// Pending intents that nobody can answer any more: their journal, their runner's lock and
+    /// their command's are held here.
     pub(crate) finals: Vec<AttemptId>,
     /// The locks that are kept as long as this is.
     held: Vec<File>,
@@ -29,7 +31,8 @@ pub(crate) struct Snapshot {
 struct Corner {
     texts: Vec<Vec<u8>>,
     alive: bool,
-    /// Whether an intent is pending and nobody runs this worker, so that its commands may be looked at.
+    /// Whether an intent is pending and nobody runs this worker, so that its commands may be looked
+    /// at.
     idle: bool,
 }
 
@@ -44,9 +47,10 @@ impl Corner {
     }
 }
 
-/// Looks at a run: first at what persons found out, then at the journals, then at the jobs. Who looks holds the lock of what
-/// persons found out meanwhile, so that one doesn't find what another holds and take it for a worker's. Where that lock isn't got it
-/// looks all the same: it may then say of a worker that nobody runs that it is at work, and of a doubt that its command runs.
+/// Looks at a run: first at what persons found out, then at the journals, then at the jobs. Who
+/// looks holds the lock of what persons found out meanwhile, so that one doesn't find what another
+/// holds and take it for a worker's. Where that lock isn't got it looks all the same: it may then
+/// say of a worker that nobody runs that it is at work, and of a doubt that its command runs.
 pub(crate) fn look(rt: HostRuntime, setting: &Setting<'_>, age: Age) -> Result<Snapshot, Fault> {
     let lock = among_readers(rt, setting, age)?;
     let answers = match age {
@@ -141,8 +145,9 @@ fn corner_of(
     }
 }
 
-/// Looks at the journal behind its lock, so that nobody is this worker. Where an intent is pending and nobody runs this worker, both
-/// locks are kept, and the journal is settled, so that what is read is on the disk.
+/// Looks at the journal behind its lock, so that nobody is this worker. Where an intent is pending
+/// and nobody runs this worker, both locks are kept, and the journal is settled, so that what is
+/// read is on the disk.
 fn corner_behind(
     rt: HostRuntime,
     setting: &Setting<'_>,
@@ -207,7 +212,7 @@ fn old_texts_of(rt: HostRuntime, setting: &Setting<'_>, item: Item) -> Result<Ve
     }
 }
 
-/// Whether somebody else has the lock on a file. One that isn't there has none.
+/// Returns true if somebody else has the lock on a file. One that isn't there has none.
 fn is_held(rt: HostRuntime, setting: &Setting<'_>, item: Item) -> Result<bool, Fault> {
     match try_lock_of(rt, setting, item)? {
         Tried::Held => Ok(true),
@@ -215,7 +220,7 @@ fn is_held(rt: HostRuntime, setting: &Setting<'_>, item: Item) -> Result<bool, F
     }
 }
 
-/// Whether an intent of the journal has no answer.
+/// Returns true if an intent of the journal has no answer.
 fn has_pending(alloc: Global, item: Item, texts: &[Vec<u8>]) -> Result<bool, Fault> {
     let attempts = attempts_of(alloc, item, u64::MAX, texts)?;
     Ok(!pending(alloc, &attempts)?.is_empty())
@@ -259,7 +264,8 @@ fn push_finals(
     Ok(())
 }
 
-/// Whether a command has ended: its lock is got, and kept, or its file is gone, which is removed only once its lock was got.
+/// Returns true if a command has ended: its lock is got, and kept, or its file is gone, which is
+/// removed only once its lock was got.
 fn has_ended(
     rt: HostRuntime,
     setting: &Setting<'_>,

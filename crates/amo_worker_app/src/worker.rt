@@ -19,9 +19,9 @@ use std::rt::HostRuntime;
 /// The longest id of a boot.
 const LONGEST_BOOT: usize = 200;
 
-/// Lives as this worker: takes its number, asks what became of the intents that its journal has pending, begins a round where nobody
-/// is at work, and works in it. Answers where all lines stand where none is open; every other end is a fault, `Later` where there is
-/// more to do.
+/// Lives as this worker: takes its number, asks what became of the intents that its journal has
+/// pending, begins a round where nobody is at work, and works in it. Answers where all lines stand
+/// where none is open; every other end is a fault, `Later` where there is more to do.
 pub(crate) fn work(
     rt: HostRuntime,
     setting: &Setting<'_>,
@@ -34,7 +34,8 @@ pub(crate) fn work(
     live(rt, setting, jobs, worker, &boot, guarded)
 }
 
-/// The same from there on where this process has the number. The lock on the journal is kept to the end.
+/// The same from there on where this process has the number. The lock on the journal is kept to the
+/// end.
 fn live(
     rt: HostRuntime,
     setting: &Setting<'_>,
@@ -66,7 +67,8 @@ fn live(
     Err(work_in(rt.alloc(), talk, joined, serial))
 }
 
-/// Begins a round, where nobody is at work in another. Answers where all lines stand, if none is open.
+/// Begins a round, where nobody is at work in another. Answers where all lines stand, if none is
+/// open.
 fn begun(
     rt: HostRuntime,
     setting: &Setting<'_>,
@@ -94,7 +96,8 @@ fn boot_id(rt: HostRuntime, setting: &Setting<'_>) -> Result<Vec<u8>, Fault> {
     Ok(bytes)
 }
 
-/// Asks what became of each pending intent of the worker's journal. Answers the serial number of the next intent.
+/// Asks what became of each pending intent of the worker's journal. Answers the serial number of
+/// the next intent.
 fn ask_past(alloc: Global, talk: &mut Session, texts: &[Vec<u8>]) -> Result<u64, Fault> {
     let item = Item::Journal(talk.worker);
     let attempts = attempts_of(alloc, item, talk.jobs.count(), texts)?;

@@ -45,8 +45,8 @@ impl Outside for WorkerIo {
         }
     }
 
-    // Either the job's line has an intent in the journal, which was asked for before the round was joined, or it was surely not
-    // begun and stays open. Nothing is noted.
+    // Either the job's line has an intent in the journal, which was asked for before the round was
+    // joined, or it was surely not begun and stays open. Nothing is noted.
     fn found(&mut self, _job: u32) -> Result<(), Failed> {
         Ok(())
     }

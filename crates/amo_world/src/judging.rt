@@ -10,9 +10,10 @@ use amo_givens::Givens;
 use amo_kk::Event;
 use std::alloc::{AllocError, Global};
 
-/// Whether the events are a run of the one sequential set of unclaimed jobs, from its first state: `Lawful`, or the
-/// place of the first event that is no step. The events may name any numbers; with a worker outside 1..=workers or
-/// a job outside 1..=jobs an event is never a step. The only error is that memory for one state was refused.
+/// Returns true if the events are a run of the one sequential set of unclaimed jobs, from its first
+/// state: `Lawful`, or the place of the first event that is no step. The events may name any
+/// numbers; with a worker outside 1..=workers or a job outside 1..=jobs an event is never a step.
+/// The only error is that memory for one state was refused.
 pub fn judge(alloc: Global, givens: Givens, events: &[Event]) -> Result<Verdict, AllocError>
     ensures verdict { IfOk result (λ v. v ≡ verdict givens events.now) }
     ensures run { IfOk result (λ v. (v ≡ Verdict.Lawful) ↔ IsRun givens (first_object givens) events.now) }

@@ -1,5 +1,5 @@
-//! All workers of a run in one thread: one step at a time, in whatever order the caller chooses, and the history
-//! of what has happened, which is a run of one sequential set of unclaimed jobs.
+//! All workers of a run in one thread: one step at a time, in whatever order the caller chooses,
+//! and the history of what has happened, which is a run of one sequential set of unclaimed jobs.
 #![tactic(auto)]
 
 mod answer;

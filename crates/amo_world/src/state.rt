@@ -10,8 +10,8 @@ use amo_kk::Event;
 use std::alloc::{AllocError, Global};
 use std::marker::Model;
 
-/// Which jobs are unclaimed, the job in each worker's hand or 0, the performed pairs of worker and job, and which
-/// workers are gone.
+/// Which jobs are unclaimed, the job in each worker's hand or 0, the performed pairs of worker and
+/// job, and which workers are gone.
 #[derive(Drop)]
 pub(crate) struct State {
     givens: Givens,
@@ -60,21 +60,21 @@ impl State {
         })
     }
 
-    /// Whether p is a worker that isn't gone.
+    /// Returns true if p is a worker that isn't gone.
     fn is_here(&self, p: u32) -> bool
         ensures { result ≡ is_here self.now.givens self.now.object p }
     {
         1 <= p && p <= self.givens.workers && !self.gone[p as usize - 1]
     }
 
-    /// Whether j is a job.
+    /// Returns true if j is a job.
     fn is_job(&self, j: u32) -> bool
         ensures { result ≡ is_within self.now.givens.jobs j }
     {
         1 <= j && j <= self.givens.jobs
     }
 
-    /// Whether job j is unclaimed.
+    /// Returns true if job j is unclaimed.
     fn is_unclaimed(&self, j: u32) -> bool
         requires { IsJob self.now.givens j }
         ensures { result ≡ has self.now.object.unclaimed j }
@@ -82,7 +82,7 @@ impl State {
         self.unclaimed[j as usize - 1]
     }
 
-    /// Whether the event is a step from this state.
+    /// Returns true if the event is a step from this state.
     pub(crate) fn allows(&self, event: Event) -> bool
         ensures { result ≡ is_step self.now.givens self.now.object event }
     {

@@ -5,7 +5,7 @@ ghost use Rattle.amo_kk.specs.Run.{claimed_jobs, done_jobs};
 
 use amo_kk::Event;
 
-/// Whether job j was claimed.
+/// Returns true if job j was claimed.
 pub(crate) fn has_claim(history: &[Event], j: u32) -> bool
     ensures { result ≡ has (claimed_jobs history.now) j }
 {

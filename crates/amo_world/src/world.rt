@@ -26,8 +26,8 @@ use amo_kk::{Event, Leaving, Local, Shown, Want};
 use std::alloc::{AllocError, Global};
 use std::marker::Model;
 
-/// All workers of some givens with their shared words, and the history of what has happened. No call but `new`
-/// takes memory.
+/// All workers of some givens with their shared words, and the history of what has happened. No
+/// call but `new` takes memory.
 #[derive(Drop)]
 pub struct World {
     givens: Givens,
@@ -48,9 +48,10 @@ impl Model for World {
 }
 
 impl World {
-    /// The opening world of these givens: no worker has taken a step. Where there are fewer jobs than the threshold
-    /// each worker has ended, and the history begins with the ends of 1, 2, .. in this order; else it is empty.
-    /// The room for all that can happen is made here, and the only error is that memory for it was refused.
+    /// The opening world of these givens: no worker has taken a step. Where there are fewer jobs
+    /// than the threshold each worker has ended, and the history begins with the ends of 1, 2, ..
+    /// in this order; else it is empty. The room for all that can happen is made here, and the only
+    /// error is that memory for it was refused.
     pub fn new(alloc: Global, givens: Givens) -> Result<World, AllocError>
         ensures { IfOk result (λ w. w ≡ record { givens = givens; world = opening_world givens }) }
     {
@@ -63,8 +64,9 @@ impl World {
         })
     }
 
-    /// The next step of worker p, in 1..=workers, and what it was: `Idle`, and nothing changes, where p is gone.
-    /// The history gains the claim, the performance and the end that the answer names, in this order.
+    /// The next step of worker p, in 1..=workers, and what it was: `Idle`, and nothing changes,
+    /// where p is gone. The history gains the claim, the performance and the end that the answer
+    /// names, in this order.
     pub fn turn(&mut self, p: u32) -> Turned
         requires { IsWorker self.old.givens p }
         ensures answer { result ≡ turn_answer self.old.givens self.old.world p }
@@ -91,8 +93,8 @@ impl World {
         turned(shown)
     }
 
-    /// Halts worker p, in 1..=workers. True, and the history gains `Halted`, where p was not gone; else false, and
-    /// nothing changes.
+    /// Halts worker p, in 1..=workers. True, and the history gains `Halted`, where p was not gone;
+    /// else false, and nothing changes.
     pub fn halt(&mut self, p: u32) -> bool
         requires { IsWorker self.old.givens p }
         ensures answer { result ≡ not (process self.old.world p).gone }
@@ -106,8 +108,9 @@ impl World {
         true
     }
 
-    /// Worker p, in 1..=workers, takes its announcement back and is gone; the history gains `Left`. It stays where it
-    /// has a job in its hand, and nothing changes there nor where it is gone already, whatever is in its hand.
+    /// Worker p, in 1..=workers, takes its announcement back and is gone; the history gains `Left`.
+    /// It stays where it has a job in its hand, and nothing changes there nor where it is gone
+    /// already, whatever is in its hand.
     pub fn leave(&mut self, p: u32) -> Leaving
         requires { IsWorker self.old.givens p }
         ensures answer { result ≡ leave_answer self.old.world p }
@@ -124,8 +127,8 @@ impl World {
         answer
     }
 
-    /// Turns of worker p, which isn't gone, and of nobody else, until one claims a job or ends p. There are at most
-    /// `lone_bound` of them, in at most three attempts.
+    /// Turns of worker p, which isn't gone, and of nobody else, until one claims a job or ends p.
+    /// There are at most `lone_bound` of them, in at most three attempts.
     pub fn run_alone(&mut self, p: u32) -> Alone
         requires { (process self.old.world p).gone ≡ false }
         ensures givens { self.new.givens ≡ self.old.givens }
@@ -142,8 +145,8 @@ impl World {
         }
     }
 
-    /// Makes these moves in their order, whose workers are all in 1..=workers, as `in_range` tells. What a move would
-    /// have answered is not kept; the history has what was done.
+    /// Makes these moves in their order, whose workers are all in 1..=workers, as `in_range` tells.
+    /// What a move would have answered is not kept; the history has what was done.
     pub fn run(&mut self, moves: &[Move])
         requires { are_in_range self.old.givens moves.now ≡ true }
         ensures { self.new ≡ record { givens = self.old.givens; world = world_after_moves self.old.givens self.old.world moves.now } }
@@ -171,7 +174,7 @@ impl World {
         }
     }
 
-    /// Whether the worker of each move is in 1..=workers.
+    /// Returns true if the worker of each move is in 1..=workers.
     pub fn in_range(&self, moves: &[Move]) -> bool
         ensures { result ≡ are_in_range self.now.givens moves.now }
     {
@@ -224,7 +227,7 @@ impl World {
         }
     }
 
-    /// Whether worker p, in 1..=workers, is gone: it has ended, was halted or has left.
+    /// Returns true if worker p, in 1..=workers, is gone: it has ended, was halted or has left.
     pub fn is_gone(&self, p: u32) -> bool
         requires { IsWorker self.now.givens p }
         ensures { result ≡ (process self.now.world p).gone }
@@ -248,7 +251,8 @@ impl World {
         &self.process(p).local
     }
 
-    /// How many steps worker p, in 1..=workers, has taken, its leaving among them. A turn that was `Idle` is none.
+    /// How many steps worker p, in 1..=workers, has taken, its leaving among them. A turn that was
+    /// `Idle` is none.
     pub fn turns_of(&self, p: u32) -> u64
         requires { IsWorker self.now.givens p }
         ensures { result ≡ (process self.now.world p).local.steps }
@@ -256,9 +260,10 @@ impl World {
         self.process(p).local.steps()
     }
 
-    /// What has happened, in its order: a run of the one sequential set of unclaimed jobs, whose last state agrees
-    /// with all workers. So no job is claimed or performed twice, each performance comes after a claim of the same
-    /// worker, and where a worker has ended, at least `bound` jobs were performed before.
+    /// What has happened, in its order: a run of the one sequential set of unclaimed jobs, whose
+    /// last state agrees with all workers. So no job is claimed or performed twice, each
+    /// performance comes after a claim of the same worker, and where a worker has ended, at least
+    /// `bound` jobs were performed before.
     pub fn history(&self) -> &[Event]
         ensures events { result.now ≡ self.now.world.history }
         ensures lawful { IsLawful self.now.givens self.now.world }
@@ -275,7 +280,7 @@ impl World {
         &self.history
     }
 
-    /// Whether no worker has claimed job j, in 1..=jobs.
+    /// Returns true if no worker has claimed job j, in 1..=jobs.
     pub fn is_unclaimed(&self, j: u32) -> bool
         requires { IsJob self.now.givens j }
         ensures { result ≡ has (object_of self.now.givens self.now.world).unclaimed j }

@@ -94,7 +94,8 @@ fn events_of(alloc: Global, parts: &[Part]) -> Result<Vec<Event>, AllocError> {
     Ok(events)
 }
 
-/// A schedule, and the world that it leads to from the opening world of so many jobs, workers and that threshold.
+/// A schedule, and the world that it leads to from the opening world of so many jobs, workers and
+/// that threshold.
 #[derive(Drop)]
 struct Row<'a> {
     givens: (u64, u64, u64),

@@ -5,8 +5,8 @@ ghost use Rattle.amo_bounds.specs.Worst.{lone_turns, worst_moves};
 
 use amo_givens::Givens;
 
-/// How many jobs are done at least, wherever a worker has ended: none where there are fewer jobs than the threshold, else the bound,
-/// but at least one.
+/// How many jobs are done at least, wherever a worker has ended: none where there are fewer jobs
+/// than the threshold, else the bound, but at least one.
 pub fn fewest(givens: Givens) -> u32
     ensures { result ≡ fewest givens }
 {

@@ -1,5 +1,6 @@
-//! The plan that has the jobs of another and leaves as few of them performed as any schedule and stops can. The module `laws` has
-//! the theorems over it: that its moves are such moves, and that its schedule says them.
+//! The plan that has the jobs of another and leaves as few of them performed as any schedule and
+//! stops can. The module `laws` has the theorems over it: that its moves are such moves, and that
+//! its schedule says them.
 #![tactic(auto)]
 
 mod answer;

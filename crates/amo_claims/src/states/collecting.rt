@@ -7,7 +7,8 @@ use crate::states::Gone;
 use amo_words::{Book, Floor};
 
 impl<P> Gone<P> {
-    /// How many steps the worker has taken, its leaving among them; at most 18446744073709551615, where it stays.
+    /// How many steps the worker has taken, its leaving among them; at most 18446744073709551615,
+    /// where it stays.
     pub fn steps(&self) -> u64
         ensures steps { result ≡ (machine self.now).state.steps }
     {
@@ -16,8 +17,8 @@ impl<P> Gone<P> {
 }
 
 impl<P: Drop> Gone<P> {
-    /// The worker's machine goes into the book as it is. Waits for nobody, and takes no memory. Both have to be of this
-    /// floor.
+    /// The worker's machine goes into the book as it is. Waits for nobody, and takes no memory.
+    /// Both have to be of this floor.
     pub fn collect(self, floor: &Floor<P>, book: &mut Book<P>)
         requires book_table { book.old.table_id ≡ floor.now.table_id }
         requires worker_table { self.table_id ≡ floor.now.table_id }

@@ -17,8 +17,9 @@ impl<P, Out> Performed<P, Out> {
 }
 
 impl<P: Drop, Out> Performed<P, Out> {
-    /// Files the job in the worker's hand as performed, by one store, and gives the answer back. It is Over just where the
-    /// worker has ended with it. Waits for nobody, and takes no memory. The floor has to be the worker's own.
+    /// Files the job in the worker's hand as performed, by one store, and gives the answer back. It
+    /// is Over just where the worker has ended with it. Waits for nobody, and takes no memory. The
+    /// floor has to be the worker's own.
     pub fn file(self, floor: &Floor<P>) -> (After<P>, Out)
         requires table { self.worker.table_id ≡ floor.now.table_id }
         ensures files { Files self.worker result.0 }

@@ -8,7 +8,8 @@ ghost use Rattle.amo_claims.specs.Calls.{state_of, Goes, GoesOn, HasGone};
 use crate::states::{After, Go, Gone, Held, Ready};
 use amo_words::{Floor, Step, Worker};
 
-/// The state of a worker that has nothing in its hand: it goes on, unless it has ended or left. The worker stays as it is.
+/// The state of a worker that has nothing in its hand: it goes on, unless it has ended or left. The
+/// worker stays as it is.
 pub fn begin<P>(worker: Worker<P>) -> After<P>
     requires empty { jobs_in_hand (machine worker).state.phase ≡ [] }
     ensures state { result ≡ state_of worker }
@@ -39,9 +40,9 @@ impl<P> Ready<P> {
 }
 
 impl<P: Drop> Ready<P> {
-    /// One step of the worker: its one load or store. It is Got just where the step claims a job, and Over just where the
-    /// worker has ended with it. Threads may share the floor, which has to be the worker's own. Waits for nobody, and
-    /// takes no memory.
+    /// One step of the worker: its one load or store. It is Got just where the step claims a job,
+    /// and Over just where the worker has ended with it. Threads may share the floor, which has to
+    /// be the worker's own. Waits for nobody, and takes no memory.
     pub fn go(self, floor: &Floor<P>) -> Go<P>
         requires table { self.table_id ≡ floor.now.table_id }
         ensures goes { Goes self result }
@@ -60,8 +61,8 @@ impl<P: Drop> Ready<P> {
         }
     }
 
-    /// The worker takes back its announcement by one store and goes, so that the job which it had announced is free to
-    /// others. Takes no memory. The floor has to be the worker's own.
+    /// The worker takes back its announcement by one store and goes, so that the job which it had
+    /// announced is free to others. Takes no memory. The floor has to be the worker's own.
     pub fn leave(self, floor: &Floor<P>) -> Gone<P>
         requires table { self.table_id ≡ floor.now.table_id }
         ensures left { HasGone self result }

@@ -22,8 +22,8 @@ impl<P> Held<P> {
         self.worker.steps()
     }
 
-    /// Performs the job in the worker's hand, on its payload: this is no step of the worker. The answer belongs to the
-    /// worker, the job and the payload.
+    /// Performs the job in the worker's hand, on its payload: this is no step of the worker. The
+    /// answer belongs to the worker, the job and the payload.
     pub fn perform<W: Work<P>>(self, work: &W) -> Performed<P, W::Out>
         ensures same { (result.worker ≡ self.worker) × (result.job ≡ self.job) }
         ensures holds { Holds self.worker self.job self.payload }
@@ -39,7 +39,8 @@ impl<P> Held<P> {
         Performed { worker, job, out }
     }
 
-    /// Halts the worker, which makes no access for it. The job stays claimed and not done, and its payload comes back.
+    /// Halts the worker, which makes no access for it. The job stays claimed and not done, and its
+    /// payload comes back.
     pub fn halt(self) -> (Gone<P>, P)
         ensures same { (result.0 ≡ self.worker) × (result.1 ≡ self.payload) }
         ensures holds { Holds self.worker self.job self.payload }

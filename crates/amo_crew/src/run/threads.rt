@@ -43,7 +43,8 @@ pub(crate) fn take_all<Out: Drop, R: Wait>(rt: &R, queue: &Queue<Out>, inlet: &m
     unreachable!()
 }
 
-/// Starts a thread for the last member, runs those before it, takes what stands in the queue, and joins the thread.
+/// Starts a thread for the last member, runs those before it, takes what stands in the queue, and
+/// joins the thread.
 fn run_from<'s, E, P: Send + Drop + 's, W: Work<P> + Sync + 's, R: Threads + Wait + Sync + 's>(
     rt: &'s R,
     scope: &Scope<'s, E>,

@@ -74,8 +74,8 @@ pub(crate) fn none_started(workers: u32, mut ends: Vec<End>) -> Vec<End>
     ends
 }
 
-/// What is refused where a worker could not be hired: nothing was started, and the payloads come back where the floor
-/// can be settled.
+/// What is refused where a worker could not be hired: nothing was started, and the payloads come
+/// back where the floor can be settled.
 pub(crate) fn call_off<P: Drop, Out: Drop>(
     alloc: Global,
     floor: Floor<P>,

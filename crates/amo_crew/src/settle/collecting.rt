@@ -55,8 +55,8 @@ fn collect_one<P: Drop, Out: Drop>(
     }
 }
 
-/// Collects the workers whose threads ran, in the order of their numbers, and tells of each worker how it ended: each one
-/// whose thread ran is back, with the end that it came back with.
+/// Collects the workers whose threads ran, in the order of their numbers, and tells of each worker
+/// how it ended: each one whose thread ran is back, with the end that it came back with.
 pub(crate) fn collect_all<P: Drop, W: Work<P>>(
     floor: &Floor<P>,
     book: &mut Book<P>,

@@ -11,8 +11,8 @@ mod showing;
 
 pub(crate) use settling::conclude;
 
-/// What a run left whose settling wanted memory: its floor, which is closed, what became of the threads, their outputs, and
-/// what was in hand. It can be settled later.
+/// What a run left whose settling wanted memory: its floor, which is closed, what became of the
+/// threads, their outputs, and what was in hand. It can be settled later.
 #[derive(Drop)]
 pub struct Unsettled<P: Drop, Out> {
     floor: ClosedFloor<P>,

@@ -10,7 +10,8 @@ pub(super) trait Waits {
     fn wait(&self, begun: &[AtomicU64], worker: u32);
 }
 
-/// Gives the payload back. Counts the jobs that each worker begins, and has it wait in its first one.
+/// Gives the payload back. Counts the jobs that each worker begins, and has it wait in its first
+/// one.
 #[derive(Drop)]
 pub(super) struct Counting<W> {
     begun: Vec<AtomicU64>,

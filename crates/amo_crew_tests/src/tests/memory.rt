@@ -28,7 +28,8 @@ fn refused_outlets(rt: HostRuntime) -> Result<(), Fail> {
     Ok(())
 }
 
-/// What a run left that wanted memory at its settling. Where no thread was started nothing is told of any job.
+/// What a run left that wanted memory at its settling. Where no thread was started nothing is told
+/// of any job.
 fn expect_unsettled(rt: &impl Abort, rest: &Unsettled<u32, u32>) {
     assert_eq!(rt; rest.ends().len(), 2);
     if rest.ends().iter().all(|end| *end == End::NotStarted) {
@@ -36,13 +37,15 @@ fn expect_unsettled(rt: &impl Abort, rest: &Unsettled<u32, u32>) {
     }
 }
 
-/// Whether a request for memory is granted. Where one was refused and this is, what was refused has to succeed now.
+/// Returns true if a request for memory is granted. Where one was refused and this is, what was
+/// refused has to succeed now.
 fn has_memory(alloc: Global) -> bool {
     Vec::<u32>::with_capacity(alloc, 1).is_ok()
 }
 
-/// Settles what a run of four jobs left: not while there is no memory, and then it is as it was. Where no thread was
-/// started, a hire was refused and then the settling too, so there is no memory now.
+/// Settles what a run of four jobs left: not while there is no memory, and then it is as it was.
+/// Where no thread was started, a hire was refused and then the settling too, so there is no memory
+/// now.
 fn settle_again(rt: &impl Abort, alloc: Global, rest: Unsettled<u32, u32>) {
     expect_unsettled(rt, &rest);
     let has_memory = has_memory(alloc);
@@ -92,7 +95,8 @@ fn expect_payloads(rt: &impl Abort, back: &[u32], jobs: usize) {
     }
 }
 
-/// Settles what a run of 20 jobs left: where there is memory now nothing is lacking, whatever was refused before.
+/// Settles what a run of 20 jobs left: where there is memory now nothing is lacking, whatever was
+/// refused before.
 fn settle_once_there_is_memory(rt: &impl Abort, alloc: Global, rest: Unsettled<u32, u32>) {
     let hands = rest.in_hand().len();
     let has_memory = has_memory(alloc);
@@ -128,8 +132,8 @@ fn refused_twice_in_a_run(rt: HostRuntime) -> Result<(), Fail> {
     Ok(())
 }
 
-/// Makes a queue. Where it is used, more is put than goes into it, one output goes through it, and the others are left to be
-/// gathered.
+/// Makes a queue. Where it is used, more is put than goes into it, one output goes through it, and
+/// the others are left to be gathered.
 fn use_queue<R: Abort + Wait>(rt: &R, alloc: Global, used: bool) -> Result<(), Fail> {
     let (queue, mut inlet, mut ends) = outlets::<u32>(alloc, Givens::try_new(71, 1, 1)?)?;
     if used {

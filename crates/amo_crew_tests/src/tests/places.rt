@@ -89,7 +89,8 @@ fn send_rounds<R: Abort + Wait>(
     }
 }
 
-/// The inlet has taken 4096 outputs, so many of each worker, by falling worker, and the jobs of each from 1 on.
+/// The inlet has taken 4096 outputs, so many of each worker, by falling worker, and the jobs of
+/// each from 1 on.
 fn expect_all_taken(rt: &impl Abort, inlet: &Inlet<u32>, of_each: usize) {
     assert_eq!(rt; inlet.taken().len(), 4096);
     let mut job: u32 = 0;

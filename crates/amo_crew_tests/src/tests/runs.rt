@@ -25,7 +25,8 @@ impl Gate {
 }
 
 impl Waits for Gate {
-    /// Waits until all have begun, with a limit of looks. Once that was reached nobody waits any more.
+    /// Waits until all have begun, with a limit of looks. Once that was reached nobody waits any
+    /// more.
     fn wait(&self, _begun: &[AtomicU64], _worker: u32) {
         self.count.fetch_add(1, Ordering::SeqCst);
         if self.late.load(Ordering::SeqCst) != 0 {
@@ -91,7 +92,8 @@ fn all_threads_are_started_before_one_is_joined(rt: HostRuntime) -> Result<(), F
     Ok(())
 }
 
-/// One worker with a budget of so many steps for two jobs: its end, the job in its hand, and how many it has done.
+/// One worker with a budget of so many steps for two jobs: its end, the job in its hand, and how
+/// many it has done.
 fn expect_one<R: Threads + Wait + Abort + Sync>(
     rt: &R,
     alloc: Global,

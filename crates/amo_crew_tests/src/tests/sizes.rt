@@ -1,4 +1,5 @@
-//! Runs of all sizes, where there is memory, and workers that are stopped with a job in their hands.
+//! Runs of all sizes, where there is memory, and workers that are stopped with a job in their
+//! hands.
 
 use super::runs::run;
 use super::*;
@@ -82,8 +83,9 @@ fn runs_of_sizes_in_between_are_settled(rt: HostRuntime) -> Result<(), Fail> {
     Ok(())
 }
 
-/// So many workers have budgets by which each comes just to its first claim: an announcement, a load of each other's, one of each
-/// other's row, and the claim. The first jobs are far apart, so no attempt fails.
+/// So many workers have budgets by which each comes just to its first claim: an announcement, a
+/// load of each other's, one of each other's row, and the claim. The first jobs are far apart, so
+/// no attempt fails.
 fn expect_all_in_hand<R: Threads + Wait + Abort + Sync>(
     rt: &R,
     alloc: Global,

@@ -11,8 +11,9 @@ const SECOND: u64 = 60;
 /// The most looks of a worker at how far another one is.
 const MOST_LOOKS: u64 = 1_000_000_000;
 
-/// Three workers, one after the other: worker 3 goes on once all three have a job in hand, worker 2 once that begins its last job,
-/// worker 1 once worker 2 begins its own. Each looks around before it goes on, while the calling thread does its part.
+/// Three workers, one after the other: worker 3 goes on once all three have a job in hand, worker 2
+/// once that begins its last job, worker 1 once worker 2 begins its own. Each looks around before
+/// it goes on, while the calling thread does its part.
 #[derive(Drop)]
 struct Relay {
     looks: u64,
@@ -45,15 +46,16 @@ impl Waits for Relay {
     }
 }
 
-/// How many outputs of worker 2 stand before that of worker 1, where each looks around so many times.
+/// How many outputs of worker 2 stand before that of worker 1, where each looks around so many
+/// times.
 fn run_relay<R: Threads + Wait + Abort + Sync>(
     rt: &R,
     alloc: Global,
     looks: u64,
 ) -> Result<usize, Fail> {
     let relay = Counting::new(alloc, Relay { looks })?;
-    // a job takes an announcement, two loads of announcements, two of rows, the claim and its filing; worker 2 reads all of
-    // worker 3's row too
+    // a job takes an announcement, two loads of announcements, two of rows, the claim and its
+    // filing; worker 2 reads all of worker 3's row too
     let budgets = [7, 7 * SECOND + THIRD, 7 * THIRD];
     let outcome = run(rt, alloc, (600, 3, 3), &budgets, &relay)?;
     expect_each_once(rt, &outcome, 600);
@@ -70,9 +72,10 @@ fn run_relay<R: Threads + Wait + Abort + Sync>(
 
 #[test]
 fn what_stands_in_the_queue_is_taken_before_each_join(rt: HostRuntime) -> Result<(), Fail> {
-    // The queue is full of worker 3's outputs where that ends. If it is emptied before worker 2 is joined, all of that one's go
-    // in, and stand before worker 1's; else some are kept, and then those of worker 1 come before them. So one run that shows
-    // the order is enough, and where the calling thread came late the next one gives it more time.
+    // The queue is full of worker 3's outputs where that ends. If it is emptied before worker 2 is
+    // joined, all of that one's go in, and stand before worker 1's; else some are kept, and then
+    // those of worker 1 come before them. So one run that shows the order is enough, and where the
+    // calling thread came late the next one gives it more time.
     for looks in [1_000_000, 10_000_000, 100_000_000, 300_000_000] {
         if run_relay(&rt, rt.alloc(), looks)? == SECOND as usize {
             return Ok(());

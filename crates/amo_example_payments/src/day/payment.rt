@@ -1,8 +1,8 @@
 //! A payment.
 ghost use Rattle.std.specs.Prelude.{◌≡◌};
 
-/// An amount that goes to an account. It has no copy, and only a line of a day makes one: who holds it is the only one who
-/// can make it.
+/// An amount that goes to an account. It has no copy, and only a line of a day makes one: who holds
+/// it is the only one who can make it.
 #[derive(Debug, PartialEq, Drop)]
 pub(crate) struct Payment {
     id: u64,

@@ -1,4 +1,5 @@
-//! What a payment passes through: its intent stands in the journal, it is given to the bank, and it has its receipt.
+//! What a payment passes through: its intent stands in the journal, it is given to the bank, and it
+//! has its receipt.
 ghost use Rattle.std.specs.Prelude.{◌≡◌, IfOk, IfErr, OnOk, OnErr};
 ghost use Rattle.std.specs.Io.KnownBytes.{Appends};
 ghost use Rattle.amo_io.specs.Streams.{AppendsFront};
@@ -9,7 +10,8 @@ use crate::writing::write_text;
 use std::alloc::Global;
 use std::io::Write;
 
-/// A payment whose intent stands in the journal, on the disk. Only such a payment can be given to the bank.
+/// A payment whose intent stands in the journal, on the disk. Only such a payment can be given to
+/// the bank.
 #[derive(Drop)]
 pub(crate) struct IntentToken {
     payment: Payment,
@@ -40,9 +42,10 @@ impl IntentToken {
         IntentToken { payment, serial }
     }
 
-    /// Gives the payment to the bank. A real bank's call stands here: it sends the order, and answers once the bank has taken
-    /// it. In its place a line goes to a writer. Where that fails nobody knows whether the bank has all of it, and the payment
-    /// comes back, never to be given again.
+    /// Gives the payment to the bank. A real bank's call stands here: it sends the order, and
+    /// answers once the bank has taken it. In its place a line goes to a writer. Where that fails
+    /// nobody knows whether the bank has all of it, and the payment comes back, never to be given
+    /// again.
     pub(crate) fn give<S: Write>(self, alloc: Global, bank: &mut S) -> Result<Given, Payment>
         ensures whole { OnOk result (Appends (S.contents bank.old) (S.contents bank.new) (order_line self.payment)) }
         ensures front { OnErr result (AppendsFront (S.contents bank.old) (S.contents bank.new) (order_line self.payment)) }

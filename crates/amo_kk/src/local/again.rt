@@ -20,7 +20,7 @@ use thiserror::Error;
 #[error("own words: impossible values; stop all workers, and start a new round")]
 pub struct NoSuchWords;
 
-/// Whether j is a job that isn't known.
+/// Returns true if j is a job that isn't known.
 fn is_new(givens: Givens, knowledge: &Knowledge, j: u64) -> bool
     requires { knowledge.now.range ≡ givens.jobs }
     ensures { result ≡ (is_within givens.jobs j && not (has knowledge.now.known j)) }
@@ -28,8 +28,8 @@ fn is_new(givens: Givens, knowledge: &Knowledge, j: u64) -> bool
     j >= 1 && j <= givens.jobs as u64 && !knowledge.knows(j as u32)
 }
 
-/// Takes up the entries of a row, where nothing is known yet: they are claimed, done and known. False where they can't
-/// be those of a row.
+/// Takes up the entries of a row, where nothing is known yet: they are claimed, done and known.
+/// False where they can't be those of a row.
 fn take_row(
     givens: Givens,
     knowledge: &mut Knowledge,
@@ -63,9 +63,10 @@ fn take_row(
 }
 
 impl Local {
-    /// A new machine, before its first step, begins again by its worker's own words: what it has announced, how many
-    /// claims it has counted, and the entries of its row. Where one claim more was counted than there are entries, the
-    /// announced job is in its hand, and in doubt. Words that no worker can have left are refused, and the machine is gone.
+    /// A new machine, before its first step, begins again by its worker's own words: what it has
+    /// announced, how many claims it has counted, and the entries of its row. Where one claim more
+    /// was counted than there are entries, the announced job is in its hand, and in doubt. Words
+    /// that no worker can have left are refused, and the machine is gone.
     pub fn again(self, announced: u64, counted: u64, row: &[u64]) -> Result<Local, NoSuchWords>
         requires new { self.state ≡ first_record self.givens self.number }
         ensures machine { IfOk result (λ l. l ≡ record self { state = record_again self.givens self.number announced counted row.now }) }

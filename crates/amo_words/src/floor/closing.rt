@@ -11,8 +11,8 @@ use amo_kk::layout::{claim_word, done_word, next_word};
 use std::alloc::Global;
 
 impl<P: Drop> Floor<P> {
-    /// Closes the floor: nobody has it any more, so its words stand as they are. Takes no memory. The book has to be this
-    /// floor's.
+    /// Closes the floor: nobody has it any more, so its words stand as they are. Takes no memory.
+    /// The book has to be this floor's.
     pub fn close(self, book: Book<P>) -> ClosedFloor<P>
         requires { book.table_id ≡ self.table_id }
         ensures floor { result.givens ≡ self.givens }

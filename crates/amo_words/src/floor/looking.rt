@@ -55,7 +55,7 @@ impl<P> Book<P> {
         self.back(p).steps()
     }
 
-    /// Whether worker p, which is Back, has ended by its own choice.
+    /// Returns true if worker p, which is Back, has ended by its own choice.
     pub fn ended_of(&self, p: u32) -> bool
         requires { (l : LocalView) × IsBack (spots self.now) p l }
         ensures { (l : LocalView) → IsBack (spots self.now) p l → result ≡ is_over l.state.phase }

@@ -20,7 +20,8 @@ impl<P> Worker<P> {
         self.local.number()
     }
 
-    /// How many steps it has taken, its leaving among them; at most 18446744073709551615, where it stays.
+    /// How many steps it has taken, its leaving among them; at most 18446744073709551615, where it
+    /// stays.
     pub fn steps(&self) -> u64
         ensures { result ≡ (machine self.now).state.steps }
     {
@@ -34,14 +35,14 @@ impl<P> Worker<P> {
         self.local.in_hand()
     }
 
-    /// Whether it has left. It then takes no further step.
+    /// Returns true if it has left. It then takes no further step.
     pub fn has_left(&self) -> bool
         ensures { result ≡ true ↔ (machine self.now).state.phase ≡ Phase.Left }
     {
         self.local.has_left()
     }
 
-    /// Whether it has ended by its own choice. It then takes no further step.
+    /// Returns true if it has ended by its own choice. It then takes no further step.
     pub fn ended(&self) -> bool
         ensures { result ≡ is_over (machine self.now).state.phase }
     {

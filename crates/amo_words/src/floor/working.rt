@@ -22,7 +22,8 @@ use amo_kk::{Leaving, Shown, Want};
 pub enum Step<P> {
     /// The worker has made its load or store, and goes on.
     Moved,
-    /// It has claimed the job, and hands over its payload as it was put in. The job is in its hand until it is filed.
+    /// It has claimed the job, and hands over its payload as it was put in. The job is in its hand
+    /// until it is filed.
     Claimed(u32, P),
     /// With this step it has ended by its own choice.
     Ended,
@@ -95,8 +96,9 @@ impl<P> Worker<P> {
         self.local.told(found)
     }
 
-    /// Stores the count of claims, which takes the slot of j, and takes the payload out of it. No other worker can have taken
-    /// it: after this store the world is lawful, and in such a world no job is claimed by two.
+    /// Stores the count of claims, which takes the slot of j, and takes the payload out of it. No
+    /// other worker can have taken it: after this store the world is lawful, and in such a world no
+    /// job is claimed by two.
     fn claim(&mut self, words: &Words<P>, count: u32, j: u32) -> P
         requires table { self.old.table_id ≡ words.now.table_id }
         requires wants { want (machine self.old).state ≡ Wanted.StoreClaim count j }
@@ -140,8 +142,9 @@ impl<P> Worker<P> {
 }
 
 impl<P: Drop> Worker<P> {
-    /// One turn of the worker, which has nothing in its hand: the one load or store that its machine wants. Threads may share
-    /// the floor, which has to be the worker's own. Waits for nobody, and takes no memory.
+    /// One turn of the worker, which has nothing in its hand: the one load or store that its
+    /// machine wants. Threads may share the floor, which has to be the worker's own. Waits for
+    /// nobody, and takes no memory.
     pub fn step(&mut self, floor: &Floor<P>) -> Step<P>
         requires table { self.old.table_id ≡ floor.now.table_id }
         requires empty { jobs_in_hand (machine self.old).state.phase ≡ [] }
@@ -162,8 +165,8 @@ impl<P: Drop> Worker<P> {
         }
     }
 
-    /// Files the job in the worker's hand as performed, by one store: its caller has performed it. Waits for nobody, and
-    /// takes no memory. The floor has to be the worker's own.
+    /// Files the job in the worker's hand as performed, by one store: its caller has performed it.
+    /// Waits for nobody, and takes no memory. The floor has to be the worker's own.
     pub fn file(&mut self, floor: &Floor<P>) -> Filed
         requires table { self.old.table_id ≡ floor.now.table_id }
         requires in_hand { (j : ℕ) × (jobs_in_hand (machine self.old).state.phase ≡ j ∷ []) }
@@ -181,9 +184,10 @@ impl<P: Drop> Worker<P> {
         }
     }
 
-    /// The worker takes back its announcement by one store and goes, so that the job which it had announced is free to
-    /// others. Where a job is in its hand it stays (`InHand`), and where it had ended or left before it is `Gone`: then there
-    /// is no access and nothing changes. Takes no memory. The floor has to be the worker's own.
+    /// The worker takes back its announcement by one store and goes, so that the job which it had
+    /// announced is free to others. Where a job is in its hand it stays (`InHand`), and where it
+    /// had ended or left before it is `Gone`: then there is no access and nothing changes. Takes no
+    /// memory. The floor has to be the worker's own.
     pub fn leave(&mut self, floor: &Floor<P>) -> Leaving
         requires table { self.old.table_id ≡ floor.now.table_id }
         ensures table { self.new.table_id ≡ self.old.table_id }

@@ -53,7 +53,8 @@ fn first_job(p: u32) -> u32 {
     (p.min(16).max(1) - 1) * 4081 / 16 + 1
 }
 
-/// Hires worker p and lets it do its first job. Worker 4 is dropped before it claims, worker 9 with its job in hand.
+/// Hires worker p and lets it do its first job. Worker 4 is dropped before it claims, worker 9 with
+/// its job in hand.
 fn employ(rt: &impl Abort, alloc: Global, floor: &Floor<u32>, book: &mut Book<u32>, p: u32)
     requires { book.old.table_id ≡ floor.now.table_id }
     ensures { book.new.table_id ≡ book.old.table_id }
@@ -85,7 +86,8 @@ fn the_largest_floor_is_settled(rt: HostRuntime) -> Result<(), Fail> {
     Ok(())
 }
 
-/// Each of the 16 workers but the fourth has claimed its first job, and each but the fourth and the ninth has done it.
+/// Each of the 16 workers but the fourth has claimed its first job, and each but the fourth and the
+/// ninth has done it.
 fn expect_first_jobs(rt: &impl Abort, end: &Settlement<u32>) {
     assert!(rt; end.claims.len() == 16 && end.dones.len() == 16 && end.ends.len() == 16);
     for p in 1..17u32 {

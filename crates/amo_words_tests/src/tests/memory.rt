@@ -4,7 +4,8 @@ ghost use Rattle.std.specs.Prelude.{◌≡◌, IfSome};
 use super::rows::{look, words_of};
 use super::*;
 
-/// Whether a request for memory is granted. Where one was refused and this is, what was refused has to succeed now.
+/// Returns true if a request for memory is granted. Where one was refused and this is, what was
+/// refused has to succeed now.
 fn has_memory(alloc: Global) -> bool {
     Vec::<u32>::with_capacity(alloc, 1).is_ok()
 }
@@ -124,9 +125,9 @@ fn refused_closed_floor(rt: HostRuntime) -> Result<(), Fail> {
     Ok(())
 }
 
-/// Opens a floor and hires its two workers. Where they are used, both make each call that takes no memory: one does a job,
-/// holds another and is collected, the other leaves and is collected. Then all that the book shows is looked at, the floor is
-/// closed, and its words are.
+/// Opens a floor and hires its two workers. Where they are used, both make each call that takes no
+/// memory: one does a job, holds another and is collected, the other leaves and is collected. Then
+/// all that the book shows is looked at, the floor is closed, and its words are.
 fn use_floor(rt: &impl Abort, alloc: Global, used: bool) -> Result<(), Fail> {
     let givens = Givens::try_new(5, 2, 2)?;
     let (floor, mut book) = open(rt, alloc, givens, letters(alloc, 5)?);

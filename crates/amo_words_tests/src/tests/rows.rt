@@ -41,7 +41,8 @@ fn a_worker_dropped_after_its_claim_keeps_it(rt: HostRuntime) -> Result<(), Fail
     Ok(())
 }
 
-/// Worker 1 alone takes k accesses and is dropped: in one of its phases, or between two of its jobs.
+/// Worker 1 alone takes k accesses and is dropped: in one of its phases, or between two of its
+/// jobs.
 fn drop_after(rt: &impl Abort, alloc: Global, k: u32) -> Result<(), Fail> {
     let (floor, mut book) = open_letters(rt, alloc, (5, 2, 2))?;
     let mut first = hire(rt, alloc, &floor, &mut book, 1);
@@ -69,8 +70,8 @@ fn a_worker_may_be_dropped_anywhere(rt: HostRuntime) -> Result<(), Fail> {
     Ok(())
 }
 
-/// What the book says of worker p where it is back: its steps, whether it has ended, and how many jobs it has claimed and
-/// done.
+/// What the book says of worker p where it is back: its steps, whether it has ended, and how many
+/// jobs it has claimed and done.
 pub(super) fn look(givens: Givens, book: &Book<char>, p: u32) -> Option<(u64, bool, usize, usize)>
     requires { book.now.view.givens ≡ givens }
 {
@@ -185,7 +186,8 @@ pub(super) fn words_of(closed: &ClosedFloor<char>, p: u32) -> Option<(u64, u64, 
     ))
 }
 
-/// Worker 1 alone takes k accesses and is dropped; these words stand then, and the settlement says no more than they do.
+/// Worker 1 alone takes k accesses and is dropped; these words stand then, and the settlement says
+/// no more than they do.
 fn close_after(
     rt: &impl Abort,
     alloc: Global,

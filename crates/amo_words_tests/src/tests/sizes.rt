@@ -6,7 +6,8 @@ use super::*;
 /// Numbers of jobs that are tried with each number of workers, as all up to 70 are.
 const JOBS: [u32; 4] = [1000, 1001, 4095, 4096];
 
-/// The free jobs rise, each comes with its own payload, and with those that were claimed they are all jobs.
+/// The free jobs rise, each comes with its own payload, and with those that were claimed they are
+/// all jobs.
 fn expect_all_told(rt: &impl Abort, end: &Settlement<u32>, givens: Givens) {
     let mut told = end.free.len();
     for list in &end.claims {
@@ -42,7 +43,8 @@ fn settle_at_once(rt: &impl Abort, alloc: Global, givens: Givens) -> Result<(), 
     Ok(())
 }
 
-/// Hires worker p and lets it take 40 accesses. Each second one is collected, the others are dropped.
+/// Hires worker p and lets it take 40 accesses. Each second one is collected, the others are
+/// dropped.
 fn employ(rt: &impl Abort, alloc: Global, floor: &Floor<u32>, book: &mut Book<u32>, p: u32)
     requires { book.old.table_id ≡ floor.now.table_id }
     ensures { book.new.table_id ≡ book.old.table_id }

@@ -3,8 +3,8 @@ ghost use Rattle.std.specs.Prelude.{◌≡◌};
 
 use super::*;
 
-/// Hires each of 16 workers but p, and stops it after so many accesses, by which it has claimed nothing. They are kept: none
-/// is dropped, and none gets another turn.
+/// Hires each of 16 workers but p, and stops it after so many accesses, by which it has claimed
+/// nothing. They are kept: none is dropped, and none gets another turn.
 fn stop_others(
     rt: &impl Abort,
     alloc: Global,
@@ -31,8 +31,8 @@ fn stop_others(
     Ok(stopped)
 }
 
-/// Lets worker p of 16 run alone, where each other was hired and stopped after so many accesses: it comes to its end, has
-/// done so many of 64 jobs then, and is collected.
+/// Lets worker p of 16 run alone, where each other was hired and stopped after so many accesses: it
+/// comes to its end, has done so many of 64 jobs then, and is collected.
 fn expect_alone(
     rt: &impl Abort,
     alloc: Global,
@@ -62,8 +62,8 @@ fn each_runs_alone_beside_workers_that_never_step(rt: HostRuntime) -> Result<(),
 
 #[test]
 fn each_runs_alone_beside_workers_that_are_about_to_claim(rt: HostRuntime) -> Result<(), Fail> {
-    // an announcement, 15 loads of announcements and 15 of rows; it ends where fewer than 16 jobs are left that none of them has
-    // announced
+    // an announcement, 15 loads of announcements and 15 of rows; it ends where fewer than 16 jobs
+    // are left that none of them has announced
     for p in 1..17 {
         expect_alone(&rt, rt.alloc(), p, 31, 34)?;
     }

@@ -36,7 +36,8 @@ fn who_has_left_takes_no_step(rt: HostRuntime) -> Result<(), Fail> {
     Ok(())
 }
 
-/// Each job claimed and performed by worker 1, and then the ends of all workers: as long as a run can be.
+/// Each job claimed and performed by worker 1, and then the ends of all workers: as long as a run
+/// can be.
 fn longest_run(alloc: Global, givens: Givens) -> Result<Vec<Event>, AllocError> {
     let mut events = Vec::new(alloc);
     for k in 0..givens.jobs() {

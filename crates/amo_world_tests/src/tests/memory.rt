@@ -51,8 +51,8 @@ fn look(rt: &impl Abort, world: &World, p: u32, j: u32) {
     let _performed = world.performed_len();
 }
 
-/// Makes each call that takes no memory, in so many rounds. Worker 1 works in all of them; each other worker is
-/// stopped or leaves in one of the first seven rounds.
+/// Makes each call that takes no memory, in so many rounds. Worker 1 works in all of them; each
+/// other worker is stopped or leaves in one of the first seven rounds.
 fn call_each(alloc: Global, rt: &impl Abort, rounds: u32) -> Result<(), Fail> {
     let mut world = opening(alloc, (400, 16, 16))?;
     for round in 0..rounds {

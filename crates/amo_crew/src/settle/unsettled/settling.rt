@@ -29,8 +29,8 @@ impl<P: Drop, Out> Unsettled<P, Out> {
         }
     }
 
-    /// Settles what the run left: the settlement is read from the words as they stand. Where there is no memory it comes back
-    /// unchanged.
+    /// Settles what the run left: the settlement is read from the words as they stand. Where there
+    /// is no memory it comes back unchanged.
     pub fn settle(self, alloc: Global) -> Result<Outcome<P, Out>, Unsettled<P, Out>>
         ensures settled { IfOk result (IsSettledOf self) }
         ensures refused { IfErr result (λ u. u ≡ self) }
@@ -58,7 +58,7 @@ impl<P: Drop, Out> Unsettled<P, Out> {
     }
 }
 
-/// Whether some thread could not be started.
+/// Returns true if some thread could not be started.
 fn has_refused(ends: &[End]) -> bool
     ensures { result ≡ any_refused ends.now }
 {

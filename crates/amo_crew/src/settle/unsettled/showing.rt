@@ -30,7 +30,8 @@ impl<P: Drop, Out> Unsettled<P, Out> {
     }
 }
 
-/// The ends, and how many answers and payloads in hand there are. None of these is shown, so that they need no `Debug`.
+/// The ends, and how many answers and payloads in hand there are. None of these is shown, so that
+/// they need no `Debug`.
 impl<P: Drop, Out> Debug for Unsettled<P, Out> {
     fn fmt<W: fmt::Write>(&self, f: &mut Formatter<W>) -> fmt::Result {
         f.debug_struct("Unsettled")
