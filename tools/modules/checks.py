@@ -68,13 +68,8 @@ def run(crate, bodies, kept, functions=(), real=()):
         for part in PARTS:
             if os.path.isdir(f"{crate.folder}/{part}"):
                 shutil.copytree(f"{crate.folder}/{part}", f"{room}/{part}")
-        for path in {path for it in bodies for path, _ in it.lines}:
-            with open(f"{room}/{path}", encoding="utf-8") as held:
-                lines = held.read().split("\n")
-            for number, text in [(number, text) for it in bodies for (file, number), text in it.lines.items() if file == path]:
-                lines[number - 1] = text
-            with open(f"{room}/{path}", "w", encoding="utf-8") as held:
-                held.write("\n".join(lines))
+        for it in bodies:
+            it.put(room)
         stubs.put(crate, room, functions, real)
         how = {"cwd": room, "stdin": subprocess.DEVNULL, "stdout": subprocess.PIPE, "stderr": subprocess.STDOUT, "errors": "replace"}
         ran = subprocess.run([*check, *only], **how)

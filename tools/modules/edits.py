@@ -9,15 +9,43 @@ FOLDER = "wrong-bodies"
 HOLE = re.compile(r"(?<!\w)\?")
 
 
-class Body:
-    """A wrong body, or a harmless twin. `lines` are the new texts of lines, by file and number from 1."""
+class Change:
+    """What is changed in a copy of a crate: the new texts of `lines`, by file and number from 1, the
+    `functions` that they change, and which `calls` they add."""
+
+    def __init__(self):
+        self.lines, self.functions, self.calls = {}, [], set()
+
+    def changes_head(self):
+        """Whether it changes a line of a function's head, so that callers see another contract."""
+        return any(it.file == path and it.first <= number <= it.opens for it in self.functions for path, number in self.lines)
+
+    def may_call(self, other):
+        """Whether a function that this body changes may call one that the other changes."""
+        return any(it.name in self.calls.union(*(held.called for held in self.functions)) for it in other.functions)
+
+    def meets(self, other):
+        """Whether the two can't stand in one copy."""
+        same = set(map(id, self.functions)) & set(map(id, other.functions)) or self.lines.keys() & other.lines.keys()
+        calls, called = self.may_call(other), other.may_call(self)
+        # (Two functions that call one another are a cycle, which is refused before any proof. Only
+        # a new call can make one.)
+        is_cycle = calls and called and any(it.name in one.calls for one, two in ((self, other), (other, self)) for it in two.functions)
+        return bool(same or is_cycle or calls and other.changes_head() or called and self.changes_head())
+
+    def has(self, path, number):
+        return any(it.file == path and it.has(number) for it in self.functions)
+
+
+class Body(Change):
+    """A wrong body, or a harmless twin."""
 
     def __init__(self, crate, file):
+        super().__init__()
         self.file, self.name = file, os.path.basename(file)
         self.is_twin = file.endswith(".twin")
         self.label = f"{crate.name}/{self.name}"
-        self.lines, self.functions, self.trouble = {}, [], None
-        self.calls = set()
+        self.trouble = None
         self.verdict, self.why, self.tries = None, "", []
 
     def read(self, folder, functions):
@@ -47,25 +75,11 @@ class Body:
         if not self.functions and not self.trouble:
             self.trouble = "it changes no function"
 
-    def changes_head(self):
-        """Whether it changes a line of a function's head, so that callers see another contract."""
-        return any(it.file == path and it.first <= number <= it.opens for it in self.functions for path, number in self.lines)
-
-    def may_call(self, other):
-        """Whether a function that this body changes may call one that the other changes."""
-        return any(it.name in self.calls.union(*(held.called for held in self.functions)) for it in other.functions)
-
-    def meets(self, other):
-        """Whether the two can't stand in one copy."""
-        same = set(map(id, self.functions)) & set(map(id, other.functions)) or self.lines.keys() & other.lines.keys()
-        calls, called = self.may_call(other), other.may_call(self)
-        # (Two functions that call one another are a cycle, which is refused before any proof. Only
-        # a new call can make one.)
-        is_cycle = calls and called and any(it.name in one.calls for one, two in ((self, other), (other, self)) for it in two.functions)
-        return bool(same or is_cycle or calls and other.changes_head() or called and self.changes_head())
-
-    def has(self, path, number):
-        return any(it.file == path and it.has(number) for it in self.functions)
+    def put(self, room: str) -> None:
+        """Puts its lines into this copy of the crate."""
+        for path in {path for path, _ in self.lines}:
+            texts = {number: text for (file, number), text in self.lines.items() if file == path}
+            source.set_lines(f"{room}/{path}", texts)
 
 
 def calls_of(line):

@@ -106,6 +106,22 @@ def last_name(words):
     return names[-1] if names else ""
 
 
+def lines_of(file: str) -> list[str]:
+    with open(file, encoding="utf-8") as held:
+        return held.read().split("\n")
+
+
+def set_lines(file: str, texts: dict[int, str]) -> None:
+    """Writes these texts into the lines of these numbers of the file, which gets longer if it ends
+    before them."""
+    lines = lines_of(file)
+    lines += [""] * (max(texts, default=0) - len(lines))
+    for number, text in texts.items():
+        lines[number - 1] = text
+    with open(file, "w", encoding="utf-8") as held:
+        held.write("\n".join(lines))
+
+
 def tokens(rattle, folder, file):
     """The line and the text of each token of code, those of contracts left out."""
     ran = subprocess.run([rattle, "fmt", "--tokens", f"{folder}/{file}"], capture_output=True, encoding="utf-8", check=True)
