@@ -15,10 +15,13 @@ class Change:
 
     def __init__(self):
         self.lines, self.functions, self.calls = {}, [], set()
+        # the lines that stay as they are up to their last brace
+        self.begun = set()
 
     def changes_head(self):
-        """Whether it changes a line of a function's head, so that callers see another contract."""
-        return any(it.file == path and it.first <= number <= it.opens for it in self.functions for path, number in self.lines)
+        """Whether it changes a function's head, so that callers see another contract."""
+        is_head = lambda it, at: it.first <= at < it.opens or at == it.opens and (it.file, at) not in self.begun
+        return any(it.file == path and is_head(it, number) for it in self.functions for path, number in self.lines)
 
     def may_call(self, other):
         """Whether a function that this body changes may call one that the other changes."""
@@ -60,6 +63,7 @@ class Body(Change):
             pairs = zip(was[path].split("\n"), text.split("\n"))
             changed = [(number, old, new) for number, (old, new) in enumerate(pairs, 1) if old != new]
             self.lines.update({(path, number): new for number, _, new in changed})
+            self.begun.update((path, number) for number, old, new in changed if "{" in old and new.startswith(old[: old.rindex("{") + 1]))
             self.calls.update(*(calls_of(new) - calls_of(old) for _, old, new in changed if path.startswith("src/")))
         if not self.lines:
             self.trouble = "it changes nothing"
