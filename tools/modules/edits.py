@@ -29,7 +29,10 @@ class Change:
 
     def meets(self, other):
         """Whether the two can't stand in one copy."""
-        same = set(map(id, self.functions)) & set(map(id, other.functions)) or self.lines.keys() & other.lines.keys()
+        # (a constant that is changed is so in copies of the functions that read it, too)
+        is_wide = self.reaches_out() or other.reaches_out()
+        held = lambda it: {id(function.origin if is_wide else function) for function in it.functions}
+        same = held(self) & held(other) or self.lines.keys() & other.lines.keys()
         calls, called = self.may_call(other), other.may_call(self)
         # (Two functions that call one another are a cycle, which is refused before any proof. Only
         # a new call can make one.)
@@ -38,6 +41,15 @@ class Change:
 
     def has(self, path, number):
         return any(it.file == path and it.has(number) for it in self.functions)
+
+    def in_place(self, line: str) -> str:
+        """What this line of a check is if all stands in its place."""
+        return line
+
+    def reaches_out(self) -> bool:
+        """Whether it changes a constant, which stands in no function."""
+        is_constant = lambda path, text: path.startswith("src/") and not text.lstrip().startswith("ghost use ")
+        return any(is_constant(path, text) and not self.has(path, it) for (path, it), text in self.lines.items())
 
 
 class Body(Change):
@@ -48,7 +60,7 @@ class Body(Change):
         self.file, self.name = file, os.path.basename(file)
         self.is_twin = file.endswith(".twin")
         self.label = f"{crate.name}/{self.name}"
-        self.trouble = None
+        self.body, self.is_copy, self.trouble = self, False, None
         self.verdict, self.why, self.tries = None, "", []
 
     def read(self, folder, functions):

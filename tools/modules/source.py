@@ -18,6 +18,8 @@ class Function:
         self.words = set(words)
         self.called = called_in(words)
         self.home = self.module()
+        # (a copy has the function that it is of)
+        self.origin = self
 
     def module(self):
         return module_of(self.file)
@@ -56,16 +58,18 @@ class Function:
 
     def is_by_hand(self, folder, crate, told):
         """Whether a part of its proof is written by hand."""
-        places = ["/".join(it.split("::")[1:]) for it in self.symbols(crate, told)]
+        places = ["/".join(it.split("::")[1:]) for it in self.symbols(crate, told)] + ["/".join(self.place())]
         places += ["/".join([*self.module(), f"+{self.cycle}"])] * bool(self.cycle)
         names = ("Answers", "Invariants", "Proof")
         return any(os.path.isfile(f"{folder}/proofs/{place}/{name}.antt") for place in places for name in names)
 
 
 class Block:
-    """The head of an impl or a trait: the type that it is of, the words of both names, and of an impl those of its trait."""
+    """The head of an impl or a trait: the type that it is of, the words of both names, and of an impl those of its trait; and the
+    lines at which it begins, at which it opens and at which it ends."""
 
-    def __init__(self, keyword, head):
+    def __init__(self, keyword, head, lines):
+        self.first, self.opens, self.last = lines
         past = past_angles(head) if head[:1] == ["<"] else 0
         generics, head = head[:past], head[past:]
         head = head[: head.index("where")] if "where" in head else head
@@ -167,7 +171,8 @@ def functions_in(file, rows, at=0, end=None, block=None):
             yield from functions_in(file, rows, *inside, None)
             cycle = None
         elif rows[opens][1] == "{":
-            held = Block(text, [it for _, it in rows[at + 1: opens]]) if text != "mod" else block
+            lines = (line, rows[opens][0], rows[closes][0])
+            held = Block(text, [it for _, it in rows[at + 1: opens]], lines) if text != "mod" else block
             yield from functions_in(file, rows, *inside, held)
         at = closes + 1
 
