@@ -15,6 +15,7 @@ class Change:
 
     def __init__(self):
         self.lines, self.functions, self.calls = {}, [], set()
+        self.is_twin = False
         # the lines that stay as they are up to their last brace
         self.begun = set()
 
@@ -37,7 +38,9 @@ class Change:
         # (Two functions that call one another are a cycle, which is refused before any proof. Only
         # a new call can make one.)
         is_cycle = calls and called and any(it.name in one.calls for one, two in ((self, other), (other, self)) for it in two.functions)
-        return bool(same or is_cycle or calls and other.changes_head() or called and self.changes_head())
+        # (a twin that calls what isn't proved isn't proved itself)
+        hides = self.is_twin != other.is_twin and (calls if self.is_twin else called)
+        return bool(same or is_cycle or hides or calls and other.changes_head() or called and self.changes_head())
 
     def has(self, path, number):
         return any(it.file == path and it.has(number) for it in self.functions)

@@ -88,10 +88,11 @@ def module_of(file):
 
 def called_in(words):
     """The names that may be called where these words stand: those before a bracket, and the last of a path. A field's, a
-    local's and a type's are none."""
+    local's and a type's are none. A `?` calls a `from`."""
     after = [*words[1:], ""]
     before = ["", *words[:-1]]
-    return {it for it, behind, ahead in zip(words, after, before) if behind == "(" or ahead == "::" or behind == "::"}
+    called = {it for it, behind, ahead in zip(words, after, before) if behind == "(" or ahead == "::" or behind == "::"}
+    return called | ({"from"} if called & {"into"} or "?" in words else set())
 
 
 def past_angles(words):
