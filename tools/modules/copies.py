@@ -183,45 +183,38 @@ def imports_of(lines: list[str], block: source.Block) -> list[str]:
     return [it for it in lines[block.opens: block.last] if it.startswith("    ghost use ")]
 
 
-def tries_of(crate, functions: list[source.Function], bodies: list[edits.Body]) -> list:
+def tries_of(crate, functions: list[source.Function], bodies: list[edits.Body], most: int) -> list:
     """How these bodies are tried at first: the twins, copies of functions as they are, and the
     edits, each in its place or in a copy.
 
-    A function with one edit and no twin has it in its place, unless a function that has to be
-    proved calls it, or the edit can't stand together with another. Any other function has its
-    bodies in copies, with one of it as it is if it has no twin.
+    A function with a twin and an edit, or with several edits, has them in copies, with one of it as
+    it is if it has no twin. An edit that its function has alone is in its place, unless it needs
+    one more check there, since it can't stand together with the others.
     """
     maker = Maker(crate, functions)
     able = [it for it in bodies if maker.can_copy(it)]
-    chosen = chosen_of(able, bodies)
+    edited = [it.functions[0] for it in able if not it.is_twin]
     twinned = [it.functions[0] for it in able if it.is_twin]
-    plain = [maker.copied(it) for it in chosen if it not in twinned]
+    chosen = [it for it in dict.fromkeys(edited) if it in twinned or edited.count(it) > 1]
+    few = tries = tries_with(chosen, maker, able, bodies)
+    while met := met_in(tries, able):
+        chosen += [it.functions[0] for it in met]
+        tries = tries_with(chosen, Maker(crate, functions), able, bodies)
+    rounds = lambda it: len(edits.rounds_of(it, most))
+    return few if rounds(few) <= rounds(tries) else tries
+
+
+def tries_with(chosen: list[source.Function], maker: Maker, able: list, bodies: list) -> list:
+    """How these bodies are tried if the able ones of the chosen functions are in copies."""
+    twinned = [it.functions[0] for it in able if it.is_twin]
+    plain = [maker.copied(it) for it in dict.fromkeys(chosen) if it not in twinned]
     is_copied = lambda it: it in able and it.functions[0] in chosen
     tries = [maker.copied(it.functions[0], it) if is_copied(it) else it for it in bodies]
     twins = [it for it in tries if it.is_twin]
     return twins + plain + [it for it in tries if not it.is_twin]
 
 
-def chosen_of(able: list[edits.Body], bodies: list[edits.Body]) -> list[source.Function]:
-    """The functions of which these able bodies get copies."""
-    edited = [it.functions[0] for it in able if not it.is_twin]
-    twinned = [it.functions[0] for it in able if it.is_twin]
-    each = list(dict.fromkeys(edited))
-    chosen = [it for it in each if it in twinned or edited.count(it) > 1]
-    moved_away = lambda it: it in able and it.functions[0] in chosen
-    staying = [it for it in bodies if not moved_away(it)]
-    chosen += [it.functions[0] for it in staying
-               if it in able and any(other is not it and it.meets(other) for other in staying)]
-    called = set().union(*(called_in(it) for it in bodies if it.is_twin))
-    called.update(*(it.called for it in chosen))
-    while True:
-        more = [it for it in each if it not in chosen and it.name in called]
-        if not more:
-            return chosen
-        chosen += more
-        called.update(*(it.called for it in more))
-
-
-def called_in(body: edits.Body) -> set[str]:
-    """The names that may be called in the functions of this body."""
-    return body.calls.union(*(it.called for it in body.functions))
+def met_in(tries: list, able: list[edits.Body]) -> list[edits.Body]:
+    """The able bodies in their place that can't stand together with others."""
+    return [it for it in tries
+            if it in able and any(it.meets(other) for other in tries if other is not it)]
