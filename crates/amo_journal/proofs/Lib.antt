@@ -1,4 +1,6 @@
 mod Blocks
+mod Chains
+mod Checksums
 mod Ending
 mod Kept
 mod Moments
@@ -7,3 +9,7 @@ mod Parts
 mod Places
 mod Putting
 mod Results
+mod Splits
+mod Whole
+pub mod Logs
+mod Journaling

@@ -1,15 +1,14 @@
 -- What a crash or a kill leaves while the last gate is written again.
-use Rattle.std.proofs.Common.{◌≡◌, ◌≢◌, inl, inr, ⊎_elim, ℕ, ◌+◌, ◌-◌, ◌<◌, ◌≤◌, List, [], ◌∷◌, ◌++◌, length, get_or, map, take, drop, Some, Vec, Global, refl, sym, ◌∙◌, ap, subst, arith, append_assoc, length-append, take-append-drop}
+use Rattle.std.proofs.Common.{◌≡◌, ◌≢◌, inl, inr, ⊎_elim, ℕ, ◌+◌, ◌<◌, ◌≤◌, List, [], ◌∷◌, ◌++◌, length, get_or, take, drop, Some, refl, sym, ◌∙◌, ap, subst, arith, append_assoc, length-append, take-append-drop}
 use Rattle.std.specs.List.{slice_get}
 use Rattle.std.proofs.lemmas.Bool.{cases_eq, cases_lt}
-use Rattle.std.proofs.lemmas.List.{take_at, drop_at, drop_more, append-nil, map_push}
-use Rattle.std.proofs.lemmas.Option.{slice_get_within}
+use Rattle.std.proofs.lemmas.List.{take_at, drop_at, drop_more, append-nil}
 use Rattle.amo_journal.specs.Device.{Holds, Torn, TornFrom, AgreesBut, Differs, WritesFront, IsOutside}
-use Rattle.amo_journal.specs.Texts.{AreOneLine, texts_in, blocks}
-use Rattle.amo_journal.specs.Journal.{IsNear, IsShut, IsUnsure, StaysNear, HasAllOrAllButLast}
+use Rattle.amo_journal.specs.Texts.{AreOneLine, IsOneLine, texts_in, blocks}
+use Rattle.amo_journal.specs.Journal.{HasLast, IsNear, IsShut, IsUnsure, StaysNear, HasAllOrAllButLast}
 use Rattle.amo_journal.proofs.Blocks.{texts_in_closed, length-blocks_push, blocks-push}
 use Rattle.amo_journal.proofs.Parts.{parts}
-use Rattle.amo_journal.proofs.Places.{get-seam, differ_at_or_behind, same_push, last_splits}
+use Rattle.amo_journal.proofs.Places.{get-seam, stays_of, differ_at_or_behind, same_push}
 use Rattle.amo_journal.proofs.Ending.{with_end, nothing_more}
 
 -- a torn write of one byte leaves a file that is the same but for that byte
@@ -41,7 +40,7 @@ same_byte xs x ys gate stands old new is w = elim (cases_lt w.count 1) [
       ∙ sym split
 ]
 
-all_before : (before : List (List ℕ)) (last : List ℕ) → AreOneLine (before ++ last ∷ []) → AreOneLine before
+pub all_before : (before : List (List ℕ)) (last : List ℕ) → AreOneLine (before ++ last ∷ []) → AreOneLine before
 all_before [] last all = tt
 all_before (t ∷ before) last all = (all.0, all_before before last all.1)
 
@@ -74,36 +73,36 @@ pub stays_more : (texts : List (List ℕ)) (less more : List ℕ → Type 0) (c 
 stays_more texts less more c wider (inl is) = inl is
 stays_more texts less more c wider (inr (shut, some)) = inr (shut, (some.0, wider some.0 some.1, some.2))
 
--- the last of the texts that were read
-last_text : (vs : List (Vec ℕ Global)) (v : Vec ℕ Global) (texts : List (List ℕ)) → Some v ≡ slice_get vs (length vs - 1) → map (λ (text : Vec ℕ Global). text.items) vs ≡ texts
-    → (before : List (List ℕ)) × (texts ≡ before ++ v.items ∷ [])
-last_text vs v texts is are =
-    let inside = slice_get_within vs (length vs - 1) v (sym is) in
-    let split = last_splits vs v (length vs - 1) (omega arith) (sym is) in
-    (map (λ (text : Vec ℕ Global). text.items) split.0, sym are ∙ ap (map (λ (text : Vec ℕ Global). text.items)) split.1 ∙ map_push (λ (text : Vec ℕ Global). text.items) split.0 v)
-
--- where the last text and its gate stand
-pub record IsLast (texts : List (List ℕ)) (last : List ℕ) (end n : ℕ) : Type 0 where
+-- where the last text and its gate stand, if it has n bytes
+pub record IsLast (texts : List (List ℕ)) (end n : ℕ) : Type 0 where
   pub before : List (List ℕ)
+  pub last : List ℕ
   pub are : texts ≡ before ++ last ∷ []
   pub place : end ≡ length (blocks before) + (n + 2)
 
-pub last_gate : (vs : List (Vec ℕ Global)) (v : Vec ℕ Global) (texts : List (List ℕ)) (end n : ℕ) → Some v ≡ slice_get vs (length vs - 1) → map (λ (text : Vec ℕ Global). text.items) vs ≡ texts
-    → end ≡ length (blocks texts) → n ≡ length v.items → IsLast texts v.items end n
-last_gate vs v texts end n is are stands long =
-    let found = last_text vs v texts is are in
+pub last_gate : (texts : List (List ℕ)) (end n : ℕ) → HasLast n texts → end ≡ length (blocks texts) → IsLast texts end n
+last_gate texts end n has stands =
+    let long = has.3 in
     record {
-      before = found.0;
-      are = found.1;
-      place = omega (arith, stands, ap (λ (ts : List (List ℕ)). length (blocks ts)) found.1, length-blocks_push found.0 v.items, long);
+      before = has.0;
+      last = has.1;
+      are = has.2;
+      place = omega (arith, stands, ap (λ (ts : List (List ℕ)). length (blocks ts)) has.2, length-blocks_push has.0 has.1, long);
     }
+
+pub last_one_line : (texts before : List (List ℕ)) (last : List ℕ) → AreOneLine texts → texts ≡ before ++ last ∷ [] → IsOneLine last
+last_one_line texts before last all are = of_push before last (subst AreOneLine are all)
+  where
+    of_push : (before : List (List ℕ)) (last : List ℕ) → AreOneLine (before ++ last ∷ []) → IsOneLine last
+    of_push [] last all = all.0
+    of_push (t ∷ before) last all = of_push before last all.1
 
 module _ (texts : List (List ℕ)) (all : AreOneLine texts) (before : List (List ℕ)) (last : List ℕ) (are : texts ≡ before ++ last ∷ []) (gate : ℕ) (stands : gate ≡ length (blocks before)) where
   -- the bytes of a file with these texts around their last gate
-  around : (file : List ℕ) → texts_in file ≡ texts → file ≡ blocks before ++ (43 ∷ last ++ 10 ∷ (parts file).end)
+  pub around : (file : List ℕ) → texts_in file ≡ texts → file ≡ blocks before ++ (43 ∷ last ++ 10 ∷ (parts file).end)
   around file is = with_end texts all (length (blocks texts)) refl file is ∙ ap (λ (ts : List (List ℕ)). blocks ts ++ (parts file).end) are ∙ blocks-push before last (parts file).end
 
-  shut_around : (file : List ℕ) (shut : IsShut texts file) → file ≡ blocks before ++ (shut.gate ∷ last ++ 10 ∷ shut.end)
+  pub shut_around : (file : List ℕ) (shut : IsShut texts file) → file ≡ blocks before ++ (shut.gate ∷ last ++ 10 ∷ shut.end)
   shut_around file shut =
       let same = same_push shut.before before shut.last last (sym shut.texts_are ∙ are) in
       shut.file_is ∙ ap (λ (ts : List (List ℕ)). blocks ts ++ (shut.gate ∷ shut.last ++ 10 ∷ shut.end)) same.0 ∙ ap (λ (l : List ℕ). blocks before ++ (shut.gate ∷ l ++ 10 ∷ shut.end)) same.1
@@ -119,7 +118,7 @@ module _ (texts : List (List ℕ)) (all : AreOneLine texts) (before : List (List
   open_stays read d c reads is torn =
       let rest = last ++ 10 ∷ (parts d).end in
       let open_at : (f : List ℕ) → texts_in f ≡ texts → slice_get f gate ≡ Some 43 = λ f stand. ap (λ l. slice_get l gate) (around f stand) ∙ get-seam (blocks before) 43 (last ++ 10 ∷ (parts f).end) gate stands in
-      let stays = torn.stays gate 43 (open_at d is) (open_at read reads) in
+      let stays = stays_of gate 1 read d c torn gate 43 (open_at d is) (open_at read reads) in
       let whole = one_byte (blocks before) 43 rest gate stands read d c (around d is) torn in
       let byte : Some (get_or c gate 0) ≡ Some 43 = sym (ap (λ l. slice_get l gate) whole ∙ get-seam (blocks before) (get_or c gate 0) rest gate stands) ∙ stays in
       let same : get_or c gate 0 ≡ 43 = cc byte in

@@ -2,13 +2,39 @@
 use Rattle.std.proofs.Common.{◌≡◌, ◌≢◌, ℕ, zero, suc, ◌+◌, ◌<◌, ◌≤◌, List, [], ◌∷◌, ◌++◌, length, Some, None, refl, sym, ◌∙◌, ap, arith, ◌⊎◌, inl, inr, ⊎_elim, length-append}
 use Rattle.std.specs.List.{slice_get}
 use Rattle.std.proofs.lemmas.Bool.{cases_lt}
-use Rattle.amo_journal.specs.Device.{AgreesBut}
+use Rattle.amo_journal.specs.Device.{AgreesBut, Torn}
 
 pub same_list : (xs ys : List ℕ) → ((i : ℕ) → slice_get xs i ≡ slice_get ys i) → xs ≡ ys
 same_list [] [] same = refl
 same_list [] (y ∷ ys) same = let h = same 0 in absurd (cc h)
 same_list (x ∷ xs) [] same = let h = same 0 in absurd (cc h)
 same_list (x ∷ xs) (y ∷ ys) same = let head : x ≡ y = let h = same 0 in cc h in let rest = same_list xs ys (λ i. same (suc i)) in cc (head, rest)
+
+-- what stands at a place within
+pub get_within : (xs : List ℕ) (i : ℕ) → i < length xs → (b : ℕ) × (slice_get xs i ≡ Some b)
+get_within [] i lt = absurd (omega arith)
+get_within (x ∷ xs) zero lt = (x, refl)
+get_within (x ∷ xs) (suc i) lt = get_within xs i (omega arith)
+
+pub within_get : (xs : List ℕ) (i b : ℕ) → slice_get xs i ≡ Some b → i < length xs
+within_get [] i b is = absurd (cc is)
+within_get (x ∷ xs) zero b is = omega arith
+within_get (x ∷ xs) (suc i) b is = let rest = within_get xs i b is in omega arith
+
+-- a byte that stands on the disk as it is read stays
+pub stays_of : (at n : ℕ) (read old new : List ℕ) → Torn at n read old new → (i b : ℕ) → slice_get old i ≡ Some b → slice_get read i ≡ Some b → slice_get new i ≡ Some b
+stays_of at n read old new torn i b stood reads =
+    let inside = within_get old i b stood in
+    let longer = torn.no_shorter in
+    let here = get_within new i (omega (arith, longer, inside)) in
+    let same : here.0 ≡ b = ⊎_elim
+    (λ (is : slice_get old i ≡ Some here.0). let both : Some here.0 ≡ Some b = sym is ∙ stood in cc both)
+    (λ other. ⊎_elim
+    (λ (is : slice_get read i ≡ Some here.0). let both : Some here.0 ≡ Some b = sym is ∙ reads in cc both)
+    (λ (past : (length old ≤ i) × (here.0 ≡ 0)). let far = past.0 in absurd (omega (arith, far, inside)))
+    other)
+    (torn.each i here.0 here.1) in
+    here.1 ∙ ap (λ (x : ℕ). Some x) same
 
 -- where no place is left out
 pub agrees_all : (places : ℕ → Type 0) (read file : List ℕ) → AgreesBut places read file → ((i : ℕ) → places i → ⊥) → file ≡ read

@@ -9,7 +9,7 @@ use Rattle.amo_journal.specs.Journal.{IsAtRest, IsBeforeOrAfter, IsNear, IsUnsur
 use Rattle.amo_journal.proofs.Blocks.{blocks-push, texts_in_closed, texts_in_gate, texts_in-blocks, texts_in_block, all_push}
 use Rattle.amo_journal.proofs.Moments.{IsOnDisk, KeepsTexts, keeps_texts, leaves_weaker, near_same}
 use Rattle.amo_journal.proofs.Parts.{texts_are_one_line}
-use Rattle.amo_journal.proofs.Places.{agrees_all, get-seam, differ_behind, differ_at}
+use Rattle.amo_journal.proofs.Places.{agrees_all, stays_of, get-seam, differ_behind, differ_at}
 
 -- what stands behind a gate
 abbrev pub behind : List ℕ → List ℕ
@@ -27,7 +27,7 @@ module _ (texts : List (List ℕ)) (all : AreOneLine texts) (gate : ℕ) (stands
   closed_with c rest is = ap texts_in (is ∙ append_assoc (blocks texts) (45 ∷ []) rest) ∙ texts_in_closed texts 45 rest all (omega arith)
 
   -- the closed gate stands in each outcome of the first write
-  torn_rest : (n : ℕ) (read old c : List ℕ) → old ≡ at_rest texts → Torn (gate + 1) n read old c → c ≡ at_rest texts ++ drop (gate + 1) c
+  pub torn_rest : (n : ℕ) (read old c : List ℕ) → old ≡ at_rest texts → Torn (gate + 1) n read old c → c ≡ at_rest texts ++ drop (gate + 1) c
   torn_rest n read old c is torn =
       let long : gate + 1 ≡ length old = sym length-at_rest ∙ sym (ap length is) in
       let front : take (gate + 1) c ≡ at_rest texts = torn.before (omega (arith, long)) ∙ take_all _ _ (omega (arith, long)) ∙ is in
@@ -37,7 +37,7 @@ module _ (texts : List (List ℕ)) (all : AreOneLine texts) (gate : ℕ) (stands
   stage_crash n read old only c from = closed_with c (drop (gate + 1) c) (torn_rest n read from.0 c (only from.0 from.1) from.2)
 
   -- so it does in what is read
-  read_rest : (bytes seen : List ℕ) (w : WritesFront (at_rest texts) (gate + 1) bytes seen) → seen ≡ at_rest texts ++ take w.count bytes
+  pub read_rest : (bytes seen : List ℕ) (w : WritesFront (at_rest texts) (gate + 1) bytes seen) → seen ≡ at_rest texts ++ take w.count bytes
   read_rest bytes seen w =
       w.holds
       ∙ ap (λ (l : List ℕ). l ++ take w.count bytes ++ drop (gate + 1 + length (take w.count bytes)) (at_rest texts)) (take_all _ _ (omega (arith, length-at_rest)))
@@ -78,7 +78,7 @@ module _ (texts : List (List ℕ)) (all : AreOneLine texts) (gate : ℕ) (stands
   length-staged text = omega (arith, stands, length-append (blocks texts) (45 ∷ behind text), length-append text (10 ∷ 45 ∷ []))
 
   -- the block stands whole in each outcome of the second write
-  torn_block : (text read old c : List ℕ) → old ≡ staged texts text → Torn gate 1 read old c → c ≡ blocks texts ++ (get_or c gate 0 ∷ behind text)
+  pub torn_block : (text read old c : List ℕ) → old ≡ staged texts text → Torn gate 1 read old c → c ≡ blocks texts ++ (get_or c gate 0 ∷ behind text)
   torn_block text read old c is torn =
       let long = length-staged text in
       let same = ap length is in
@@ -127,7 +127,7 @@ module _ (texts : List (List ℕ)) (all : AreOneLine texts) (gate : ℕ) (stands
   stays_closed : (text read old c : List ℕ) → old ≡ staged texts text → read ≡ staged texts text → Torn gate 1 read old c → c ≡ staged texts text
   stays_closed text read old c is reads torn =
       let at_gate = get-seam (blocks texts) 45 (behind text) gate stands in
-      let stays : slice_get c gate ≡ Some 45 = torn.stays gate 45 (ap (λ f. slice_get f gate) is ∙ at_gate) (ap (λ f. slice_get f gate) reads ∙ at_gate) in
+      let stays : slice_get c gate ≡ Some 45 = stays_of gate 1 read old c torn gate 45 (ap (λ f. slice_get f gate) is ∙ at_gate) (ap (λ f. slice_get f gate) reads ∙ at_gate) in
       let whole = torn_block text read old c is torn in
       let byte : Some (get_or c gate 0) ≡ Some 45 = sym (ap (λ f. slice_get f gate) whole ∙ get-seam (blocks texts) (get_or c gate 0) (behind text) gate stands) ∙ stays in
       let same : get_or c gate 0 ≡ 45 = cc byte in

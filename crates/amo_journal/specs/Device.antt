@@ -14,14 +14,14 @@ pub record WritesFront (old : List ℕ) (at : ℕ) (bytes new : List ℕ) : Type
   pub some : count ≤ length bytes
   pub holds : Holds old at (take count bytes) new
 
--- after a write of n bytes that a crash cuts short: any bytes in the range and past the old end, the same elsewhere. A byte that
--- stands as it is read stays.
+-- After a write of n bytes that a crash cuts short: the same outside of the range. Each byte is the old
+-- one, the new one, or, past the old end, 0.
 pub record Torn (at n : ℕ) (read old new : List ℕ) : Type 0 where
   pub before : at ≤ length old → take at new ≡ take at old
   pub after : drop (at + n) new ≡ drop (at + n) old
   pub no_shorter : length old ≤ length new
   pub no_longer : length new ≤ max (length old) (at + n)
-  pub stays : (i b : ℕ) → slice_get old i ≡ Some b → slice_get read i ≡ Some b → slice_get new i ≡ Some b
+  pub each : (i b : ℕ) → slice_get new i ≡ Some b → (slice_get old i ≡ Some b) ⊎ ((slice_get read i ≡ Some b) ⊎ ((length old ≤ i) × (b ≡ 0)))
 
 -- after a cut: some length between
 pub record Cut (n : ℕ) (old new : List ℕ) : Type 0 where

@@ -1,7 +1,9 @@
 -- What may be on the disk beside what is read of a journal.
 use Rattle.std.specs.Prelude.{◌≡◌, ◌≢◌, ◌⊎◌, ◌≤◌, ℕ, List, [], ◌∷◌, ◌++◌, length}
+use Rattle.amo_journal.specs.Appends.{IsCutOff, IsLog, checksum_after, lines_from, records_in}
 use Rattle.amo_journal.specs.Device.{Only}
-use Rattle.amo_journal.specs.Texts.{texts_in, blocks, at_rest}
+use Rattle.amo_journal.specs.Texts.{AreOneLine, texts_in, blocks, at_rest}
+use Rattle.amo_journal.specs.declared.chained.ChainedJournal.{ChainedJournal}
 use Rattle.amo_journal.specs.declared.journal.Journal.{Journal}
 
 -- the file has the blocks of these texts, the gate of the last one closed, and behind them what stands for nothing
@@ -50,6 +52,30 @@ pub record IsSettled {D : Type 0} (seen : D → List ℕ) (may_leave : D → Lis
   pub file : IsAtRest seen may_leave stale journal.device
   pub gate : journal.gate ≡ length (blocks (texts_in (seen journal.device)))
 
+-- the file is the blocks of its texts, and then at most what a crash may leave
+pub record IsWhole (file : List ℕ) : Type 0 where
+  pub end : List ℕ
+  pub file_is : file ≡ blocks (texts_in file) ++ end
+  pub cut_off : IsCutOff end
+
+-- each of these outcomes is so
+abbrev pub AllWhole : (List ℕ → Type 0) → Type 0
+AllWhole outcomes = (c : List ℕ) → outcomes c → IsWhole c
+
+-- The journal's file is so, and the journal knows the place of the closed commit byte and the last
+-- checksum. The appends are chained from its first checksum on.
+pub record IsRecovered {D : Type 0} (seen : D → List ℕ) (may_leave : D → List ℕ → Type 0) (stale : D → ℕ → Type 0) (journal : ChainedJournal D) : Type 0 where
+  pub file : IsAtRest seen may_leave stale journal.device
+  pub gate : journal.gate ≡ length (blocks (texts_in (seen journal.device)))
+  pub chained : texts_in (seen journal.device) ≡ lines_from journal.first.digits (records_in (seen journal.device))
+  pub last : journal.last.digits ≡ checksum_after journal.first.digits (records_in (seen journal.device))
+  pub one_line : AreOneLine (records_in (seen journal.device))
+
+-- A journal's file may be recovered: it may be settled, and whatever a crash leaves of it is read.
+pub record MayRecover {D : Type 0} (seen : D → List ℕ) (may_leave : D → List ℕ → Type 0) (stale : D → ℕ → Type 0) (device : D) : Type 0 where
+  pub settle : MaySettle seen may_leave stale device
+  pub whole : AllWhole (may_leave device)
+
 -- the file stands for the texts, with one more or without it
 abbrev pub IsBeforeOrAfter : List (List ℕ) → List ℕ → List ℕ → Type 0
 IsBeforeOrAfter texts text file = (texts_in file ≡ texts) ⊎ (texts_in file ≡ texts ++ text ∷ [])
@@ -57,3 +83,15 @@ IsBeforeOrAfter texts text file = (texts_in file ≡ texts) ⊎ (texts_in file �
 -- the file stands for the texts, or for all but the last one
 abbrev pub HasAllOrAllButLast : List (List ℕ) → List ℕ → Type 0
 HasAllOrAllButLast texts file = (texts_in file ≡ texts) ⊎ ((last : List ℕ) × (texts ≡ texts_in file ++ last ∷ []))
+
+-- the file has these appends, with one more or without it
+abbrev pub HasOneMoreOrNot : List ℕ → List (List ℕ) → List ℕ → List ℕ → Type 0
+HasOneMoreOrNot first all records file = IsLog first all file ⊎ IsLog first (all ++ records ∷ []) file
+
+-- the file has these appends, or all but the last one
+abbrev pub HasAllOrNotTheLast : List ℕ → List (List ℕ) → List ℕ → Type 0
+HasAllOrNotTheLast first all file = IsLog first all file ⊎ ((before : List (List ℕ)) × (last : List ℕ) × (all ≡ before ++ last ∷ []) × IsLog first before file)
+
+-- the last of the texts has so many bytes
+abbrev pub HasLast : ℕ → List (List ℕ) → Type 0
+HasLast n texts = (before : List (List ℕ)) × (last : List ℕ) × (texts ≡ before ++ last ∷ []) × (n ≡ length last)

@@ -65,9 +65,9 @@ pub trait Device {
         ensures time { Elapses (moment self.old) (moment self.new) (left_since self.old) (left_since self.new) (may_leave self.new) }
         ensures cause { HasCause (faults self.old) (faults self.new) result };
 
-    /// Writes over what is there, and past the end. Until a sync, a crash may leave any bytes in
-    /// the range, save that a byte that stands on the disk as it is read stays. At an error a front
-    /// of the bytes is written, or none.
+    /// Writes over what is there, and past the end. Until a sync, a crash may leave of each byte in
+    /// the range the old one, the new one, or, past the file's old end on the disk, 0. At an error
+    /// a front of the bytes is written, or none.
     fn write_at(&mut self, at: usize, bytes: &[u8]) -> Result<(), DeviceError>
         requires { at ≤ length (seen self.old) }
         ensures written { OnOk result (Holds (seen self.old) at bytes.now (seen self.new)) }

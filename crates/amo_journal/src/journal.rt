@@ -5,7 +5,7 @@ ghost use Rattle.amo_journal.specs.Journal.{HasAllOrAllButLast, IsAtRest, IsBefo
 ghost use Rattle.amo_journal.specs.Texts.{texts_in, IsOneLine};
 ghost use Rattle.amo_journal.specs.declared.journal.PutError.TheVariants.{Device as DeviceVariant};
 
-use crate::steps::{settle_file, write_and_sync};
+use crate::steps::{behind_gate, settle_file, write_and_sync};
 use crate::{Device, DeviceError};
 use std::alloc::{AllocError, Global};
 use thiserror::Error;
@@ -116,14 +116,4 @@ impl<D: Device> Journal<D> {
         self.gate += text.len() + 2;
         Ok(())
     }
-}
-
-/// What is written behind a closed gate: the text, its line feed, and the next closed gate.
-fn behind_gate(alloc: Global, text: &[u8]) -> Result<Vec<u8>, DeviceError>
-    ensures bytes { IfOk result (λ bytes. bytes.items ≡ text.now ++ 10 ∷ 45 ∷ []) }
-    ensures memory { IsErrOf result DeviceError.Failed → ⊥ }
-{
-    let mut bytes = text.to_vec(alloc)?;
-    bytes.extend_from_slice(b"\n-")?;
-    Ok(bytes)
 }

@@ -5,13 +5,19 @@
 //! on the disk. The texts mean nothing here.
 #![tactic(auto)]
 
+mod chained;
+mod checksum;
 mod device;
 mod journal;
+mod log;
 mod memory;
 mod reading;
 mod steps;
 
+pub use chained::{AppendError, ChainedJournal, RecoverError};
+pub use checksum::Checksum;
 pub use device::{Device, DeviceError};
 pub use journal::{Journal, PutError};
+pub use log::{DamageKind, Log, ReadError, read_log};
 pub use memory::MemoryDevice;
 pub use reading::texts_in;

@@ -1,5 +1,5 @@
-//! Reading texts from the bytes of a journal. It writes nothing.
-ghost use Rattle.std.specs.Prelude.{◌≡◌, ◌+◌, ◌≤◌, ◌++◌, [], ◌∷◌, length, map, IfOk, IfSome, IfNone};
+//! The blocks of a journal: an open commit byte, a line, a line feed.
+ghost use Rattle.std.specs.Prelude.{◌≡◌, ◌+◌, ◌≤◌, ◌++◌, [], ◌∷◌, ℕ, List, length, map, IfOk, IfSome, IfNone};
 ghost use Rattle.amo_journal.specs.Texts.{texts_in, blocks, IsOneLine};
 
 use std::alloc::{AllocError, Global};
@@ -31,10 +31,11 @@ pub(crate) fn texts_and_end(
 }
 
 /// The text of the block at the front, if there is one, and what stands behind the block.
-fn first_block(bytes: &[u8]) -> Option<(&[u8], &[u8])>
+pub(crate) fn first_block(bytes: &[u8]) -> Option<(&[u8], &[u8])>
     ensures found { IfSome result (λ x. bytes.now ≡ 43 ∷ x.0.now ++ 10 ∷ x.1.now) }
     ensures one_line { IfSome result (λ x. IsOneLine x.0.now) }
     ensures none { IfNone result (texts_in bytes.now ≡ []) }
+    ensures unfinished { IfNone result ((line : List ℕ) → bytes.now ≡ 43 ∷ line → IsOneLine line) }
 {
     let [b'+', after @ ..] = bytes else {
         return None;
@@ -43,7 +44,7 @@ fn first_block(bytes: &[u8]) -> Option<(&[u8], &[u8])>
 }
 
 /// The bytes before the first line feed, and those behind it.
-fn first_line(bytes: &[u8]) -> Option<(&[u8], &[u8])>
+pub(crate) fn first_line(bytes: &[u8]) -> Option<(&[u8], &[u8])>
     ensures found { IfSome result (λ x. bytes.now ≡ x.0.now ++ 10 ∷ x.1.now) }
     ensures one_line { IfSome result (λ x. IsOneLine x.0.now) }
     ensures none { IfNone result (IsOneLine bytes.now) }

@@ -1,10 +1,16 @@
 //! The steps of a journal on its device: what is written or cut is synced at once.
-ghost use Rattle.std.specs.Prelude.{◌≡◌, ◌≢◌, ◌⊎◌, ◌+◌, ◌<◌, ◌≤◌, List, ℕ, length, map, take, IfOk, OnOk, OnErr, IsErrOf};
+ghost use Rattle.std.specs.Prelude.{◌≡◌, ◌≢◌, ◌⊎◌, ◌+◌, ◌<◌, ◌≤◌, ◌^◌, ◌++◌, [], ◌∷◌, List, ℕ, length, map, take, IfOk, IfErr, IfSome, IfNone, OnOk, OnErr, IsErrOf};
 ghost use Rattle.std.specs.List.{slice_get};
+ghost use Rattle.amo_journal.specs.Appends.{longest, IsLog};
 ghost use Rattle.amo_journal.specs.Device.{AgreesBut, Cut, CutFrom, Differs, HasCause, Holds, IsOutside, LeavesOnly, TornFrom, WritesFront};
-ghost use Rattle.amo_journal.specs.Journal.{IsShut, IsUnsure, MaySettle, StaysNear, IsAtRest};
-ghost use Rattle.amo_journal.specs.Texts.{blocks, texts_in};
+ghost use Rattle.amo_journal.specs.Faults.{IsCause, IsDamage};
+ghost use Rattle.amo_journal.specs.Journal.{AllWhole, HasLast, IsAtRest, IsBeforeOrAfter, IsShut, IsUnsure, IsWhole, MayRecover, MaySettle, StaysNear};
+ghost use Rattle.amo_journal.specs.Logs.{checksums_from, checksums_of, records_of};
+ghost use Rattle.amo_journal.specs.Texts.{blocks, texts_in, IsOneLine};
 
+use crate::chained::RecoverError;
+use crate::checksum::Checksum;
+use crate::log::{Log, read_log};
 use crate::reading::texts_and_end;
 use crate::{Device, DeviceError};
 use std::alloc::Global;
@@ -50,15 +56,54 @@ pub(crate) fn cut_and_sync<D: Device>(device: &mut D, len: usize) -> Result<(), 
     device.sync()
 }
 
-/// Writes the last gate again, the same byte, and syncs, where there is a text. From then on each
-/// crash leaves the texts.
+/// Adds a line after the closed gate, and opens that gate. At `Ok` each crash leaves a file that
+/// has the line.
+pub(crate) fn append_line<D: Device>(
+    device: &mut D,
+    alloc: Global,
+    gate: usize,
+    line: &[u8],
+) -> Result<(), DeviceError>
+    requires at_rest { IsAtRest D.seen D.may_leave D.stale device.old }
+    requires gate { gate ≡ length (blocks (texts_in (D.seen device.old))) }
+    requires one_line { IsOneLine line.now }
+    requires short { length line.now + 2 ≤ longest }
+    requires fits { gate < 2 ^ 60 }
+    ensures at_rest { OnOk result (IsAtRest D.seen D.may_leave D.stale device.new) }
+    ensures acknowledged { OnOk result (texts_in (D.seen device.new) ≡ texts_in (D.seen device.old) ++ line.now ∷ []) }
+    ensures any_moment { LeavesOnly D.moment D.left_since device.old device.new (IsBeforeOrAfter (texts_in (D.seen device.old)) line.now) }
+    ensures read { IsBeforeOrAfter (texts_in (D.seen device.old)) line.now (D.seen device.new) }
+    ensures again { OnErr result (MaySettle D.seen D.may_leave D.stale device.new) }
+    ensures whole { LeavesOnly D.moment D.left_since device.old device.new IsWhole }
+    ensures whole_after { AllWhole (D.may_leave device.new) }
+    ensures whole_read { IsWhole (D.seen device.new) }
+    ensures failed { IsErrOf result DeviceError.Failed → D.faults device.old < D.faults device.new }
+{
+    let behind = behind_gate(alloc, line)?;
+    write_and_sync(device, gate + 1, &behind)?;
+    write_and_sync(device, gate, b"+")
+}
+
+/// Returns what is written after a closed gate: the line, its line feed, and the next closed gate.
+pub(crate) fn behind_gate(alloc: Global, line: &[u8]) -> Result<Vec<u8>, DeviceError>
+    ensures bytes { IfOk result (λ bytes. bytes.items ≡ line.now ++ 10 ∷ 45 ∷ []) }
+    ensures memory { IsErrOf result DeviceError.Failed → ⊥ }
+{
+    let mut bytes = line.to_vec(alloc)?;
+    bytes.extend_from_slice(b"\n-")?;
+    Ok(bytes)
+}
+
+/// Writes the last gate again, the same byte, and syncs, if there is a text. `last` is the length
+/// of the last one. From then on each crash leaves the texts.
 pub(crate) fn open_again<D: Device>(
     device: &mut D,
-    texts: &[Vec<u8>],
+    last: Option<usize>,
     end: usize,
 ) -> Result<(), DeviceError>
     requires settle { MaySettle D.seen D.may_leave D.stale device.old }
-    requires texts { map (λ text. text.items) texts.now ≡ texts_in (D.seen device.old) }
+    requires last { IfSome last (λ n. HasLast n (texts_in (D.seen device.old))) }
+    requires none { IfNone last (texts_in (D.seen device.old) ≡ []) }
     requires end { end ≡ length (blocks (texts_in (D.seen device.old))) }
     ensures seen { D.seen device.new ≡ D.seen device.old }
     ensures kept { OnOk result ((c : List ℕ) → D.may_leave device.new c → texts_in c ≡ texts_in (D.seen device.old)) }
@@ -66,12 +111,13 @@ pub(crate) fn open_again<D: Device>(
     ensures again { MaySettle D.seen D.may_leave D.stale device.new }
     ensures any_moment { LeavesOnly D.moment D.left_since device.old device.new
         (StaysNear (D.may_leave device.old) (texts_in (D.seen device.old))) }
+    ensures whole { AllWhole (D.may_leave device.old) → LeavesOnly D.moment D.left_since device.old device.new IsWhole × AllWhole (D.may_leave device.new) }
     ensures cause { HasCause (D.faults device.old) (D.faults device.new) result }
 {
-    let Some(last) = texts.last() else {
+    let Some(last) = last else {
         return Ok(());
     };
-    write_and_sync(device, end - (last.len() + 2), b"+")
+    write_and_sync(device, end - (last + 2), b"+")
 }
 
 /// Returns how many bytes of a file a cut keeps: those of its blocks, and one more if there is one.
@@ -100,13 +146,45 @@ pub(crate) fn close_end<D: Device>(
     ensures at_rest { OnOk result (IsAtRest D.seen D.may_leave D.stale device.new) }
     ensures again { OnErr result (MaySettle D.seen D.may_leave D.stale device.new) }
     ensures any_moment { LeavesOnly D.moment D.left_since device.old device.new (λ c. texts_in c ≡ texts_in (D.seen device.old)) }
+    ensures whole { IsWhole (D.seen device.old) → AllWhole (D.may_leave device.old)
+        → LeavesOnly D.moment D.left_since device.old device.new IsWhole × AllWhole (D.may_leave device.new) }
     ensures cause { HasCause (D.faults device.old) (D.faults device.new) result }
 {
     cut_and_sync(device, kept_len(end, len))?;
     write_and_sync(device, end, b"-")
 }
 
-/// Settles a file: the texts, and where the closed gate stands.
+/// Recovers a file, and returns its appends and their end, the place of the closed gate. A file
+/// that is damaged is left as it is.
+pub(crate) fn recover_file<D: Device>(
+    device: &mut D,
+    alloc: Global,
+    first: &Checksum,
+) -> Result<Log, RecoverError>
+    requires { MayRecover D.seen D.may_leave D.stale device.old }
+    ensures log { IfOk result (λ log. IsLog first.now.digits (records_of log.records.items) (D.seen device.old)) }
+    ensures checksums { IfOk result (λ log. checksums_of log.checksums.items ≡ checksums_from first.now.digits (records_of log.records.items)) }
+    ensures end { IfOk result (λ log. log.end ≡ length (blocks (texts_in (D.seen device.old)))) }
+    ensures refused { IfErr result (λ error. IsCause error first.now.digits (D.seen device.old)) }
+    ensures untouched { IfErr result (λ error. IsDamage error → (D.seen device.new ≡ D.seen device.old)
+        × ((c : List ℕ) → D.may_leave device.new c → D.may_leave device.old c)) }
+    ensures same { texts_in (D.seen device.new) ≡ texts_in (D.seen device.old) }
+    ensures some { 1 ≤ length (D.seen device.old) → 1 ≤ length (D.seen device.new) }
+    ensures at_rest { OnOk result (IsAtRest D.seen D.may_leave D.stale device.new) }
+    ensures again { OnErr result (MayRecover D.seen D.may_leave D.stale device.new) }
+    ensures any_moment { LeavesOnly D.moment D.left_since device.old device.new
+        (StaysNear (D.may_leave device.old) (texts_in (D.seen device.old))) }
+    ensures whole { LeavesOnly D.moment D.left_since device.old device.new IsWhole }
+    ensures failed { IsErrOf result (RecoverError.Device DeviceError.Failed) → D.faults device.old < D.faults device.new }
+{
+    let bytes = device.read(alloc)?;
+    let log = read_log(alloc, first, &bytes)?;
+    open_again(device, log.last_line(), log.end)?;
+    close_end(device, log.end, bytes.len())?;
+    Ok(log)
+}
+
+/// Settles a file, and returns the texts and the place of the closed gate.
 pub(crate) fn settle_file<D: Device>(
     device: &mut D,
     alloc: Global,
@@ -124,7 +202,18 @@ pub(crate) fn settle_file<D: Device>(
 {
     let bytes = device.read(alloc)?;
     let (texts, end) = texts_and_end(alloc, &bytes)?;
-    open_again(device, &texts, end)?;
+    open_again(device, last_len(&texts), end)?;
     close_end(device, end, bytes.len())?;
     Ok((texts, end))
+}
+
+/// Returns how many bytes the last text has, if there is one.
+fn last_len(texts: &[Vec<u8>]) -> Option<usize>
+    ensures some { IfSome result (λ n. HasLast n (map (λ text. text.items) texts.now)) }
+    ensures none { IfNone result (map (λ text. text.items) texts.now ≡ []) }
+{
+    match texts.last() {
+        Some(text) => Some(text.len()),
+        None => None,
+    }
 }

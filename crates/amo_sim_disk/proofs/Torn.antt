@@ -1,10 +1,11 @@
 -- What is a front of a write, what is a torn write, and what is a cut.
-use Rattle.std.proofs.Common.{◌≡◌, inl, inr, ℕ, ◌+◌, ◌-◌, ◌<◌, ◌≤◌, min, List, ◌++◌, length, take, drop, Some, refl, sym, ◌∙◌, ap, arith, length-take, take-append-drop}
+use Rattle.std.proofs.Common.{◌≡◌, ◌⊎◌, inl, inr, ⊎_elim, ℕ, zero, suc, ◌+◌, ◌-◌, ◌≤◌, min, List, [], ◌∷◌, ◌++◌, length, take, drop, Some, None, refl, sym, ◌∙◌, ap, subst, arith, length-take, take-append-drop}
 use Rattle.std.specs.List.{slice_get}
 use Rattle.std.proofs.lemmas.Bool.{cases_lt}
 use Rattle.std.proofs.lemmas.List.{take_all, take_min, take_rest, drop_min, append-nil}
 use Rattle.amo_journal.specs.Device.{Torn, Cut, WritesFront}
 use Rattle.amo_sim_disk.specs.Calls.{with_bytes}
+use Rattle.amo_sim_disk.specs.Tearing.{IsOldOrNew}
 use Rattle.amo_sim_disk.proofs.Bytes.{long, before, after, get_before, get_among, get_after, get-drop}
 
 -- a front of the bytes
@@ -46,25 +47,42 @@ torn_whole at n bytes read short = record {
   after = after at bytes read n short;
   no_shorter = omega (arith, long at bytes read);
   no_longer = omega (arith, long at bytes read);
-  stays = λ i b _ is. is;
+  each = λ i b is. inr (inl is);
 }
 
 -- a write of which no byte came
 pub torn_none : (at n : ℕ) (read file : List ℕ) → Torn at n read file file
-torn_none at n read file = record { before = λ le. refl; after = refl; no_shorter = omega arith; no_longer = omega arith; stays = λ i b is _. is }
+torn_none at n read file = record { before = λ le. refl; after = refl; no_shorter = omega arith; no_longer = omega arith; each = λ i b is. inl is }
 
--- a write by which other bytes came, each of which is what stood there where that is read
+-- past the end nothing stands
+nothing_behind : (xs : List ℕ) (i : ℕ) → slice_get xs i ≡ None → length xs ≤ i
+nothing_behind [] i none = omega arith
+nothing_behind (x ∷ xs) zero none = absurd (cc none)
+nothing_behind (x ∷ xs) (suc i) none = let rest = nothing_behind xs i none in omega arith
+
+-- a write by which other bytes came, each of which stood there, or is the one that is read, or 0
 module _ (at n : ℕ) (bytes read file : List ℕ) (le : at ≤ length file) (short : length bytes ≤ n)
-    (kept : (i b : ℕ) → i < length bytes → slice_get (drop at file) i ≡ Some b → slice_get (drop at read) i ≡ Some b → slice_get bytes i ≡ Some b) where
-  stays : (i b : ℕ) → slice_get file i ≡ Some b → slice_get read i ≡ Some b → slice_get (with_bytes at bytes file) i ≡ Some b
-  stays i b stood reads = elim (cases_lt i at) [
-    | inl lt ↦ get_before at bytes file le i lt ∙ stood
+    (kept : (i b : ℕ) → slice_get bytes i ≡ Some b → IsOldOrNew (slice_get (drop at file) i) (slice_get (drop at read) i) b) where
+  among : (i b : ℕ) → at ≤ i → IsOldOrNew (slice_get (drop at file) (i - at)) (slice_get (drop at read) (i - at)) b
+      → (slice_get file i ≡ Some b) ⊎ ((slice_get read i ≡ Some b) ⊎ ((length file ≤ i) × (b ≡ 0)))
+  among i b ge one =
+      let is : i ≡ at + (i - at) = omega arith in
+      ⊎_elim
+      (λ (old : slice_get (drop at file) (i - at) ≡ Some b). inl (sym (get-drop at file i (i - at) is) ∙ old))
+      (λ other. ⊎_elim
+      (λ (new : slice_get (drop at read) (i - at) ≡ Some b). inr (inl (sym (get-drop at read i (i - at) is) ∙ new)))
+      (λ (past : (slice_get (drop at file) (i - at) ≡ None) × (b ≡ 0)). inr (inr (nothing_behind file i (sym (get-drop at file i (i - at) is) ∙ past.0), past.1)))
+      other)
+      one
+
+  each : (i b : ℕ) → slice_get (with_bytes at bytes file) i ≡ Some b → (slice_get file i ≡ Some b) ⊎ ((slice_get read i ≡ Some b) ⊎ ((length file ≤ i) × (b ≡ 0)))
+  each i b here = elim (cases_lt i at) [
+    | inl lt ↦ inl (sym (get_before at bytes file le i lt) ∙ here)
     | inr ge ↦
         let is : i ≡ at + (i - at) = omega arith in
         elim (cases_lt (i - at) (length bytes)) [
-          | inl lt ↦ get_among at bytes file le i (i - at) is lt
-              ∙ kept (i - at) b lt (get-drop at file i (i - at) is ∙ stood) (get-drop at read i (i - at) is ∙ reads)
-          | inr far ↦ get_after at bytes file le i (i - at - length bytes) (omega arith) ∙ stood
+          | inl lt ↦ among i b ge (kept (i - at) b (sym (get_among at bytes file le i (i - at) is lt) ∙ here))
+          | inr far ↦ inl (sym (get_after at bytes file le i (i - at - length bytes) (omega arith)) ∙ here)
         ]
   ]
 
@@ -74,19 +92,19 @@ module _ (at n : ℕ) (bytes read file : List ℕ) (le : at ≤ length file) (sh
     after = after at bytes file n short;
     no_shorter = omega (arith, long at bytes file);
     no_longer = omega (arith, long at bytes file);
-    stays = stays;
+    each = each;
   }
 
 -- as the bytes that came are taken from other lists
 pub torn_over : (at n k m : ℕ) (came bytes read file : List ℕ) → at ≤ length file → k ≡ min (length came) n → m ≡ min at (length read)
     → length bytes ≡ length (take k came)
-    → ((i b : ℕ) → i < length (take k came)
-    → slice_get (take (length file - at) (drop at file)) i ≡ Some b → slice_get (take (length read - m) (drop m read)) i ≡ Some b → slice_get bytes i ≡ Some b)
+    → ((i b : ℕ) → slice_get bytes i ≡ Some b
+    → IsOldOrNew (slice_get (take (length file - at) (drop at file)) i) (slice_get (take (length read - m) (drop m read)) i) b)
     → Torn at n read file (with_bytes at bytes file)
 torn_over at n k m came bytes read file le k_is m_is long_is kept =
     let short : length bytes ≤ n = omega (arith, length-take k came, long_is, k_is) in
     let at_read : take (length read - m) (drop m read) ≡ drop at read = take_rest read m ∙ ap (λ (i : ℕ). drop i read) m_is ∙ drop_min at read in
     torn_by at n bytes read file le short
-    (λ i b lt stood reads. kept i b (omega (arith, lt, long_is))
-    (ap (λ (l : List ℕ). slice_get l i) (take_rest file at) ∙ stood)
-    (ap (λ (l : List ℕ). slice_get l i) at_read ∙ reads))
+    (λ i b here.
+    subst (λ (l : List ℕ). IsOldOrNew (slice_get (drop at file) i) (slice_get l i) b) at_read
+    (subst (λ (l : List ℕ). IsOldOrNew (slice_get l i) (slice_get (take (length read - m) (drop m read)) i) b) (take_rest file at) (kept i b here)))

@@ -64,10 +64,10 @@ impl Disk {
     }
 
     /// An image that a crash might have left after so many of the calls, or after all where there
-    /// were fewer, by what had come to the disk of each. `came` has, at the number of a write, the
-    /// bytes that stand where the first of those that it was asked to write were to stand, right or
-    /// wrong; but a byte stays that stood there as it is read from then on, and nothing comes where
-    /// the image ends before that place. At the number of a cut it has as many bytes as stay behind
+    /// were fewer, by what had come to the disk of each. `came` has, at the number of a write,
+    /// bytes for the first of those that it was asked to write: a byte that is right came to the
+    /// disk; for any other one the old byte stands, or 0 past the image's end. Nothing comes where
+    /// the image ends before the place of the write. At the number of a cut it has as many bytes as stay behind
     /// the length. A sync that succeeded leaves what is read. Past the end of `came`, no byte comes
     /// or stays.
     pub fn image_after(

@@ -1,6 +1,7 @@
 //! What a crash may leave of an image, call by call.
 ghost use Rattle.std.specs.Prelude.{◌≡◌, ◌<◌, ℕ, Some, length, slice_get, IfOk};
 ghost use Rattle.amo_journal.specs.Device.{Cut, Torn};
+ghost use Rattle.amo_sim_disk.specs.Tearing.{IsOldOrNew};
 ghost use Rattle.amo_sim_disk.specs.Replay.{OutcomeIn, Story, noted, read_in};
 
 use crate::call::{Call, written_over};
@@ -50,11 +51,11 @@ fn torn(
     written_over(alloc, image, at, &bytes)
 }
 
-/// The bytes that came, save that one stays that stood there as it is read.
+/// Returns, of each byte that came, it itself if it is the one that is read from then on; else the
+/// one that stood there; else, past the image's end, 0.
 fn came_over(alloc: Global, came: &[u8], stood: &[u8], reads: &[u8]) -> Result<Vec<u8>, AllocError>
     ensures count { IfOk result (λ bytes. length bytes.items ≡ length came.now) }
-    ensures stays { IfOk result (λ bytes. (i b : ℕ) → i < length came.now → slice_get stood.now i ≡ Some b
-        → slice_get reads.now i ≡ Some b → slice_get bytes.items i ≡ Some b) }
+    ensures each { IfOk result (λ bytes. (i b : ℕ) → slice_get bytes.items i ≡ Some b → IsOldOrNew (slice_get stood.now i) (slice_get reads.now i) b) }
 {
     let mut bytes = Vec::new(alloc);
     for (i, byte) in came.iter().enumerate() {
@@ -63,13 +64,16 @@ fn came_over(alloc: Global, came: &[u8], stood: &[u8], reads: &[u8]) -> Result<V
     Ok(bytes)
 }
 
-/// The byte that came, or the one that stood there where it is read.
+/// Returns the byte that came if it is the one that is read; else the one that stood there; else 0.
 fn byte_over(came: u8, stood: Option<u8>, read: Option<u8>) -> u8
-    ensures { (b : ℕ) → stood ≡ Some b → read ≡ Some b → result ≡ b }
+    ensures { IsOldOrNew stood read result }
 {
-    match (stood, read) {
-        (Some(stands), Some(reads)) if stands == reads => stands,
-        _ => came,
+    if read == Some(came) {
+        return came;
+    }
+    match stood {
+        Some(stands) => stands,
+        None => 0,
     }
 }
 

@@ -1,11 +1,12 @@
 use Rattle.std.proofs.Common.{◌∷◌, [], ℕ, ◌≤◌, List, length, refl, ap, arith, length-take}
-use Rattle.amo_journal.specs.Device.{AgreesBut, Holds, IsOutside}
+use Rattle.amo_journal.specs.Device.{AgreesBut, Holds, IsOutside, LeavesOnly}
 use Rattle.amo_journal.specs.Texts.{texts_in}
-use Rattle.amo_journal.specs.Journal.{IsAtRest, MaySettle}
-use Rattle.amo_journal.proofs.Moments.{IsCut, KeepsTexts, joined}
+use Rattle.amo_journal.specs.Journal.{AllWhole, IsAtRest, IsWhole, MaySettle}
+use Rattle.amo_journal.proofs.Moments.{IsCut, KeepsTexts, joined, leaves_weaker}
+use Rattle.amo_journal.proofs.Whole.{cut_whole, close_whole, close_read_whole}
 use Rattle.amo_journal.proofs.Parts.{texts_are_one_line}
 use Rattle.amo_journal.proofs.Results.{on_err, on_ok_three}
-use Rattle.amo_journal.proofs.Ending.{within, cut_near, cut_off, is_cut_off, cut_some, closed, is_closed, write_some}
+use Rattle.amo_journal.proofs.Ending.{within, cut_keeps, cut_near, cut_off, is_cut_off, cut_some, closed, is_closed, write_some}
 use Rattle.amo_journal.proofs.steps.close_end.Goals as goal
 use Rattle.amo_journal.proofs.steps.close_end.Goals.{After-cut_and_sync, After-write_and_sync}
 
@@ -42,6 +43,44 @@ room g c =
     let inside = within (texts_in seen0) (texts_are_one_line seen0) c.args.end c.requires.end seen0 refl in
     let keeps = (cut_near (texts_in (g.D.Device.seen c.args.device.now)) (texts_are_one_line (g.D.Device.seen c.args.device.now)) c.args.end c.requires.end (g.D.Device.seen c.args.device.now) c.kept_len.result c.args.len refl c.requires.len c.kept_len.ensures.near).0 in
     omega (arith, ap length c.in_ok-cut_and_sync.ensures.cut, length-take c.kept_len.result seen0, inside, keeps)
+
+-- the cut leaves what is read
+cut_all : (g : _) (c : After-cut_and_sync g) → AllWhole (g.D.Device.may_leave c.args.device.now)
+    → LeavesOnly g.D.Device.moment g.D.Device.left_since c.args.device.now c.cut_and_sync.new.device IsWhole × AllWhole (g.D.Device.may_leave c.cut_and_sync.new.device)
+cut_all g c were =
+    let texts = texts_in (g.D.Device.seen c.args.device.now) in
+    let all = texts_are_one_line (g.D.Device.seen c.args.device.now) in
+    let keeps = (cut_near texts all c.args.end c.requires.end (g.D.Device.seen c.args.device.now) c.kept_len.result c.args.len refl c.requires.len c.kept_len.ensures.near).0 in
+    let whole = λ (f : List ℕ) (from : _). cut_whole texts all c.args.end c.requires.end c.kept_len.result from.0 f keeps (c.requires.kept from.0 from.1) (were from.0 from.1) from.2 in
+    (leaves_weaker g.D.Device.moment g.D.Device.left_since c.args.device.now c.cut_and_sync.new.device _ IsWhole c.cut_and_sync.ensures.any_moment whole, λ f now. whole f (c.cut_and_sync.ensures.crash f now))
+
+-- so does closing the commit byte
+close_all : (g : _) (c : After-write_and_sync g) → IsWhole (g.D.Device.seen c.args.device.now) → AllWhole (g.D.Device.may_leave c.cut_and_sync.new.device)
+    → LeavesOnly g.D.Device.moment g.D.Device.left_since c.cut_and_sync.new.device c.write_and_sync.new.device IsWhole × AllWhole (g.D.Device.may_leave c.write_and_sync.new.device)
+close_all g c read were =
+    let seen0 = g.D.Device.seen c.args.device.now in
+    let seen1 = g.D.Device.seen c.cut_and_sync.new.device in
+    let texts = texts_in seen0 in
+    let all = texts_are_one_line seen0 in
+    let keeps = (cut_near texts all c.args.end c.requires.end seen0 c.kept_len.result c.args.len refl c.requires.len c.kept_len.ensures.near).0 in
+    let is_cut = cut g c in
+    let read_cut = cut_whole texts all c.args.end c.requires.end c.kept_len.result seen0 seen1 keeps refl read c.cut_and_sync.ensures.front in
+    let read_closed = close_read_whole texts all c.args.end c.requires.end seen1 (g.D.Device.seen c.write_and_sync.new.device) is_cut.read read_cut c.write_and_sync.ensures.front in
+    let texts_of = λ (f : List ℕ) (now : g.D.Device.may_leave c.cut_and_sync.new.device f). let from = c.cut_and_sync.ensures.crash f now in
+    cut_keeps texts all c.args.end c.requires.end c.kept_len.result from.0 f keeps (c.requires.kept from.0 from.1) from.2 in
+    let whole = λ (f : List ℕ) (from : _). close_whole texts all c.args.end c.requires.end (g.D.Device.seen c.write_and_sync.new.device) from.0 f (is_cut.crash from.0 from.1) (were from.0 from.1)
+    (texts_of from.0 from.1) read_closed (second g c).read from.2 in
+    (leaves_weaker g.D.Device.moment g.D.Device.left_since c.cut_and_sync.new.device c.write_and_sync.new.device _ IsWhole c.write_and_sync.ensures.any_moment whole, λ f now. whole f (c.write_and_sync.ensures.crash f now))
+
+pub returns-in_err-cut_and_sync-clause-whole : goal.returns-in_err-cut_and_sync-clause-whole
+returns-in_err-cut_and_sync-clause-whole g c read were = cut_all g (goal.at.returns-in_err-cut_and_sync-clause-whole g c).After-cut_and_sync were
+
+pub returns-clause-whole : goal.returns-clause-whole
+returns-clause-whole g c read were =
+    let at = goal.at.returns-clause-whole g c in
+    let first = cut_all g at.After-cut_and_sync were in
+    let second = close_all g at.After-write_and_sync read first.1 in
+    (joined g.D.Device.moment g.D.Device.left_since c.args.device.now c.cut_and_sync.new.device c.write_and_sync.new.device IsWhole IsWhole IsWhole first.0 second.0 (λ f is. is) (λ f is. is), second.1)
 
 pub cut_and_sync-requires : goal.cut_and_sync-requires
 cut_and_sync-requires g c = omega (arith, c.kept_len.ensures.within, c.requires.len)

@@ -11,7 +11,7 @@ returns c =
     let told = c.in_ok-bytes.ensures in
     let is_torn : Torn c.args.at c.args.len c.args.read.now image (with_bytes c.args.at c.in_ok-bytes.bytes.items image) =
     torn_over c.args.at c.args.len c.min.result c.min-2.result c.args.came.now
-    c.in_ok-bytes.bytes.items c.args.read.now image c.if-at-image.false c.min.ensures c.min-2.ensures told.count told.stays in
+    c.in_ok-bytes.bytes.items c.args.read.now image c.if-at-image.false c.min.ensures c.min-2.ensures told.count told.each in
     IfOk-weaker c.written_over.result
     (λ after. after.items ≡ with_bytes c.args.at c.deref.result.now image)
     (λ after. Torn c.args.at c.args.len c.args.read.now image after.items)
