@@ -19,9 +19,8 @@ from world import (
 
 QUESTION = "Is a line performed at most once, whatever registers, rounds and locks say?"
 AFTER, BEFORE, NEVER = "after the intent", "before the intent", "never"
-SHORT, LONG = Bounds(workers=2, intents=2, answers=1), Bounds(workers=2, intents=2, answers=2)
-ONCE, THREE = Bounds(workers=2, intents=1), Bounds(workers=3, intents=1, answers=1)
-NO_ANSWER = Bounds(workers=2, intents=2, answers=0)
+ONCE, TWICE = Bounds(workers=2, intents=1), Bounds(workers=2, intents=2, answers=0)
+ANSWERED, THREE = TWICE._replace(answers=1), Bounds(workers=3, intents=1, answers=1)
 
 
 class Rules(NamedTuple):
@@ -156,20 +155,21 @@ def cases() -> List[Case]:
     later = Effects(arrive_later=True)
     hasty = later._replace(are_awaited=False)
     return [
-        design("design", "resolutions, then all journals, after the intent", find, Rules(), SHORT,
-               LONG),
+        design("design", "resolutions, then all journals, after the intent", find, Rules(), TWICE,
+               ANSWERED),
+        design("answers", "operators answer at any time", find, Rules(), ONCE, ANSWERED),
         design("three-workers", "three workers", find, Rules(), None, THREE),
         design("resolutions-last", "the order of the reads isn't needed", find,
-               Rules(resolutions_first=False), ONCE, SHORT),
+               Rules(resolutions_first=False), ONCE, ANSWERED),
         design("arrives-later", "requests arrive after their command has ended", find,
-               Rules(effects=later), ONCE, SHORT),
+               Rules(effects=later), ONCE, ANSWERED),
         control("answered-under-way", "an operator answers while a request is under way", find,
                 Rules(effects=hasty), ONCE),
         control("no-clearance", "a worker hands over at once", find, Rules(asks=NEVER), ONCE),
         control("before-the-intent", "a worker asks before its intent is acknowledged", find,
                 Rules(asks=BEFORE), ONCE),
         control("own-attempts-unread", "a worker doesn't look at its own earlier attempts", find,
-                Rules(reads_own=False), NO_ANSWER),
+                Rules(reads_own=False), TWICE),
         control("journal-skipped", "nobody reads journal 2", find, Rules(reads_all=False), ONCE),
         control("pending-opens", "an attempt without an outcome counts as opened", find,
                 Rules(pending_closes=False), ONCE),
