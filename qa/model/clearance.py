@@ -157,7 +157,7 @@ def cases() -> List[Case]:
     return [
         design("design", "resolutions, then all journals, after the intent", find, Rules(), TWICE,
                ANSWERED),
-        design("answers", "operators answer at any time", find, Rules(), ONCE, ANSWERED),
+        design("answers", "operators answer at any time", find, Rules(), ONCE, None),
         design("three-workers", "three workers", find, Rules(), None, THREE),
         design("resolutions-last", "the order of the reads isn't needed", find,
                Rules(resolutions_first=False), ONCE, ANSWERED),

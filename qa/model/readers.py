@@ -45,7 +45,7 @@ class Bounds(NamedTuple):
     appends: int
 
 
-SHORT, LONG = Bounds(appends=3), Bounds(appends=6)
+SHORT, LONG = Bounds(appends=3), Bounds(appends=4)
 
 
 class Rules(NamedTuple):

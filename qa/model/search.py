@@ -29,7 +29,7 @@ class Case(NamedTuple):
     is_control: bool
     find: Callable[[Any, Any], Found]  # from rules and bounds
     rules: Any
-    short: Any  # bounds; None: it takes too long for the short form
+    short: Any  # bounds; None: the search isn't part of the short form
     long: Any
 
 
