@@ -195,8 +195,9 @@ class Search {
   }
 
   static void print(const Step& step) {
-    std::printf("step %s%s", step.is_fault ? "* " : "", step.label);
-    if (step.worker >= 0) std::printf(", worker %d", step.worker + 1);
+    std::printf("step %s", step.is_fault ? "* " : "");
+    if (step.worker >= 0) std::printf("worker %d: ", step.worker + 1);
+    std::printf("%s", step.label);
     if (step.serial >= 0) std::printf(", attempt %d.%d", step.worker + 1, step.serial + 1);
     std::printf("\n");
   }
