@@ -63,8 +63,8 @@ abbrev pub IsCutOffAppend : List ℕ → Type 0
 IsCutOffAppend bytes = (length bytes ≤ longest)
     × (IsOneLine bytes ⊎ ((line : List ℕ) × (next : List ℕ) × (bytes ≡ line ++ 10 ∷ next) × IsOneLine line × IsNextByte next))
 
--- A crash may leave these bytes after the last append: none, or one byte that is no open commit byte,
--- or a closed commit byte, `-`, with an append that was cut off.
+-- A crash may leave these bytes after the last append. There may be none, or one byte that is no open
+-- commit byte. Or there is a closed commit byte, `-`, with an append that was cut off.
 abbrev pub IsCutOff : List ℕ → Type 0
 IsCutOff [] = Unit {0}
 IsCutOff (b ∷ []) = b ≢ 43

@@ -109,8 +109,8 @@ impl<D: Device> ChainedJournal<D> {
     /// # Errors
     ///
     /// `Damaged` if the file isn't appends and then at most what a crash may leave; the file is
-    /// left as it was. `Device` if the device failed, or if there was no memory; then the journal may be
-    /// recovered again.
+    /// left as it was. `Device` if the device failed, or if there was no memory; then the journal
+    /// may be recovered again.
     pub fn recover(&mut self, alloc: Global) -> Result<Log, RecoverError>
         requires { MayRecover D.seen D.may_leave D.stale self.old.device }
 
