@@ -71,11 +71,6 @@ pub record IsRecovered {D : Type 0} (seen : D → List ℕ) (may_leave : D → L
   pub last : journal.last.digits ≡ checksum_after journal.first.digits (records_in (seen journal.device))
   pub one_line : AreOneLine (records_in (seen journal.device))
 
--- A journal's file may be recovered: it may be settled, and whatever a crash leaves of it is read.
-pub record MayRecover {D : Type 0} (seen : D → List ℕ) (may_leave : D → List ℕ → Type 0) (stale : D → ℕ → Type 0) (device : D) : Type 0 where
-  pub settle : MaySettle seen may_leave stale device
-  pub whole : AllWhole (may_leave device)
-
 -- the file stands for the texts, with one more or without it
 abbrev pub IsBeforeOrAfter : List (List ℕ) → List ℕ → List ℕ → Type 0
 IsBeforeOrAfter texts text file = (texts_in file ≡ texts) ⊎ (texts_in file ≡ texts ++ text ∷ [])

@@ -3,7 +3,7 @@ ghost use Rattle.std.specs.Prelude.{◌≡◌, ◌⊎◌, ◌+◌, ◌<◌, ◌�
 ghost use Rattle.amo_journal.specs.Appends.{longest, records_in, IsLog};
 ghost use Rattle.amo_journal.specs.Device.{LeavesOnly};
 ghost use Rattle.amo_journal.specs.Faults.{IsCause, IsDamage};
-ghost use Rattle.amo_journal.specs.Journal.{HasAllOrNotTheLast, HasOneMoreOrNot, IsRecovered, MayRecover};
+ghost use Rattle.amo_journal.specs.Journal.{AllWhole, HasAllOrNotTheLast, HasOneMoreOrNot, IsRecovered, MaySettle};
 ghost use Rattle.amo_journal.specs.Logs.{checksums_from, checksums_of, records_of};
 ghost use Rattle.amo_journal.specs.Texts.{IsOneLine};
 ghost use Rattle.amo_journal.specs.declared.chained.AppendError.TheVariants.{Device as AppendDevice};
@@ -112,7 +112,7 @@ impl<D: Device> ChainedJournal<D> {
     /// left as it was. `Device` if the device failed, or if there was no memory; then the journal
     /// may be recovered again.
     pub fn recover(&mut self, alloc: Global) -> Result<Log, RecoverError>
-        requires { MayRecover D.seen D.may_leave D.stale self.old.device }
+        requires { MaySettle D.seen D.may_leave D.stale self.old.device }
 
         ensures log { IfOk result (λ log. IsLog self.old.first.digits (records_of log.records.items) (D.seen self.old.device)) }
         ensures checksums { IfOk result (λ log. checksums_of log.checksums.items ≡ checksums_from self.old.first.digits (records_of log.records.items)) }
@@ -129,8 +129,9 @@ impl<D: Device> ChainedJournal<D> {
         // A file that has a byte keeps one.
         ensures some { 1 ≤ length (D.seen self.old.device) → 1 ≤ length (D.seen self.new.device) }
 
-        // A crash at any moment leaves the appends, or all but the last one, and they are read.
-        ensures any_moment { (all : List (List ℕ)) → IsLog self.old.first.digits all (D.seen self.old.device)
+        // A crash at any moment leaves the appends, or all but the last one, and they are read, if
+        // each crash before would have left a file that is read.
+        ensures any_moment { (all : List (List ℕ)) → IsLog self.old.first.digits all (D.seen self.old.device) → AllWhole (D.may_leave self.old.device)
             → LeavesOnly D.moment D.left_since self.old.device self.new.device (HasAllOrNotTheLast self.old.first.digits all) }
 
         // The last one, too, if each crash before would have left it.
@@ -138,7 +139,8 @@ impl<D: Device> ChainedJournal<D> {
             → ((c : List ℕ) → D.may_leave self.old.device c → IsLog self.old.first.digits all c)
             → LeavesOnly D.moment D.left_since self.old.device self.new.device (IsLog self.old.first.digits all) }
 
-        ensures again { OnErr result (MayRecover D.seen D.may_leave D.stale self.new.device) }
+        ensures again { OnErr result (MaySettle D.seen D.may_leave D.stale self.new.device) }
+        ensures whole { AllWhole (D.may_leave self.old.device) → AllWhole (D.may_leave self.new.device) }
         ensures failed { IsErrOf result (RecoverError.Device DeviceError.Failed) → D.faults self.old.device < D.faults self.new.device }
     {
         let log = recover_file(&mut self.device, alloc, &self.first)?;
@@ -168,9 +170,11 @@ impl<D: Device> ChainedJournal<D> {
         ensures any_moment { LeavesOnly D.moment D.left_since self.old.device self.new.device
             (HasOneMoreOrNot self.old.first.digits (records_in (D.seen self.old.device)) records.now) }
 
-        // So does a kill, and the journal can be recovered.
+        // So does a kill, and the journal can be recovered. Each crash then leaves a file that is
+        // read.
         ensures read { HasOneMoreOrNot self.old.first.digits (records_in (D.seen self.old.device)) records.now (D.seen self.new.device) }
-        ensures again { OnErr result (MayRecover D.seen D.may_leave D.stale self.new.device) }
+        ensures again { OnErr result (MaySettle D.seen D.may_leave D.stale self.new.device) }
+        ensures whole { AllWhole (D.may_leave self.new.device) }
 
         // It fails only if the disk failed.
         ensures failed { IsErrOf result (AppendError.Device DeviceError.Failed) → D.faults self.old.device < D.faults self.new.device }

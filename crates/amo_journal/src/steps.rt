@@ -4,7 +4,7 @@ ghost use Rattle.std.specs.List.{slice_get};
 ghost use Rattle.amo_journal.specs.Appends.{longest, IsLog};
 ghost use Rattle.amo_journal.specs.Device.{AgreesBut, Cut, CutFrom, Differs, HasCause, Holds, IsOutside, LeavesOnly, TornFrom, WritesFront};
 ghost use Rattle.amo_journal.specs.Faults.{IsCause, IsDamage};
-ghost use Rattle.amo_journal.specs.Journal.{AllWhole, HasLast, IsAtRest, IsBeforeOrAfter, IsShut, IsUnsure, IsWhole, MayRecover, MaySettle, StaysNear};
+ghost use Rattle.amo_journal.specs.Journal.{AllWhole, HasLast, IsAtRest, IsBeforeOrAfter, IsShut, IsUnsure, IsWhole, MaySettle, StaysNear};
 ghost use Rattle.amo_journal.specs.Logs.{checksums_from, checksums_of, records_of};
 ghost use Rattle.amo_journal.specs.Texts.{blocks, texts_in, IsOneLine};
 
@@ -161,7 +161,7 @@ pub(crate) fn recover_file<D: Device>(
     alloc: Global,
     first: &Checksum,
 ) -> Result<Log, RecoverError>
-    requires { MayRecover D.seen D.may_leave D.stale device.old }
+    requires { MaySettle D.seen D.may_leave D.stale device.old }
     ensures log { IfOk result (λ log. IsLog first.now.digits (records_of log.records.items) (D.seen device.old)) }
     ensures checksums { IfOk result (λ log. checksums_of log.checksums.items ≡ checksums_from first.now.digits (records_of log.records.items)) }
     ensures end { IfOk result (λ log. log.end ≡ length (blocks (texts_in (D.seen device.old)))) }
@@ -171,10 +171,10 @@ pub(crate) fn recover_file<D: Device>(
     ensures same { texts_in (D.seen device.new) ≡ texts_in (D.seen device.old) }
     ensures some { 1 ≤ length (D.seen device.old) → 1 ≤ length (D.seen device.new) }
     ensures at_rest { OnOk result (IsAtRest D.seen D.may_leave D.stale device.new) }
-    ensures again { OnErr result (MayRecover D.seen D.may_leave D.stale device.new) }
+    ensures again { OnErr result (MaySettle D.seen D.may_leave D.stale device.new) }
     ensures any_moment { LeavesOnly D.moment D.left_since device.old device.new
         (StaysNear (D.may_leave device.old) (texts_in (D.seen device.old))) }
-    ensures whole { LeavesOnly D.moment D.left_since device.old device.new IsWhole }
+    ensures whole { AllWhole (D.may_leave device.old) → LeavesOnly D.moment D.left_since device.old device.new IsWhole × AllWhole (D.may_leave device.new) }
     ensures failed { IsErrOf result (RecoverError.Device DeviceError.Failed) → D.faults device.old < D.faults device.new }
 {
     let bytes = device.read(alloc)?;

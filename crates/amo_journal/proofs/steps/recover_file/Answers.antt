@@ -4,7 +4,7 @@ use Rattle.amo_journal.specs.Appends.{IsLog, lines_from}
 use Rattle.amo_journal.specs.Device.{LeavesOnly}
 use Rattle.amo_journal.specs.Logs.{records_of}
 use Rattle.amo_journal.specs.Texts.{texts_in, blocks}
-use Rattle.amo_journal.specs.Journal.{AllWhole, HasLast, IsWhole, MayRecover, StaysNear}
+use Rattle.amo_journal.specs.Journal.{AllWhole, HasLast, IsWhole, MaySettle, StaysNear}
 use Rattle.amo_journal.proofs.Logs.{appends_blocks, has_last, log_texts, log_whole}
 use Rattle.amo_journal.proofs.Moments.{started, goes_on, joined}
 use Rattle.amo_journal.proofs.Opening.{near_stays, stays_more}
@@ -22,7 +22,7 @@ opened g c =
     let may1 = g.D.Device.may_leave d1 in
     let texts = texts_in (g.D.Device.seen d0) in
     let P = StaysNear may0 texts in
-    let here = λ (f : List ℕ) (now : may0 f). near_stays texts may0 f (c.requires.settle.near f now) now in
+    let here = λ (f : List ℕ) (now : may0 f). near_stays texts may0 f (c.requires.near f now) now in
     let at_start = started g.D.Device.moment g.D.Device.left_since d0 P (λ f left. here f (g.met.D.Device.only_now d0 f left)) in
     let read = goes_on g.D.Device.moment g.D.Device.left_since d0 d0 d1 P may1 at_start c.read.ensures.time (λ f now. here f (c.read.ensures.crash f now)) in
     let wider = λ (f : List ℕ) (stays : StaysNear may1 (texts_in (g.D.Device.seen d1)) f). stays_more texts may1 may0 f c.read.ensures.crash
@@ -72,19 +72,21 @@ pub open_again-requires-clause-end : goal.open_again-requires-clause-end
 open_again-requires-clause-end g c = end_is g c ∙ ap (λ (f : List ℕ). length (blocks (texts_in f))) (sym c.read.ensures.seen)
 
 -- each crash so far leaves a file that is read
-were_whole : (g : _) (c : After-open_again g) → AllWhole (g.D.Device.may_leave c.read.new.self)
-were_whole g c = λ f now. c.requires.whole f (c.read.ensures.crash f now)
+were_whole : (g : _) (c : After-open_again g) → AllWhole (g.D.Device.may_leave c.args.device.now) → AllWhole (g.D.Device.may_leave c.read.new.self)
+were_whole g c were = λ f now. were f (c.read.ensures.crash f now)
 
-opened_whole : (g : _) (c : After-open_again g) → LeavesOnly g.D.Device.moment g.D.Device.left_since c.args.device.now c.open_again.new.device IsWhole
-opened_whole g c =
+opened_whole : (g : _) (c : After-open_again g) → AllWhole (g.D.Device.may_leave c.args.device.now) → LeavesOnly g.D.Device.moment g.D.Device.left_since c.args.device.now c.open_again.new.device IsWhole
+opened_whole g c were =
     let d0 = c.args.device.now in
     let d1 = c.read.new.self in
-    let at_start = started g.D.Device.moment g.D.Device.left_since d0 IsWhole (λ f left. c.requires.whole f (g.met.D.Device.only_now d0 f left)) in
-    let read = goes_on g.D.Device.moment g.D.Device.left_since d0 d0 d1 IsWhole (g.D.Device.may_leave d1) at_start c.read.ensures.time (were_whole g c) in
-    joined g.D.Device.moment g.D.Device.left_since d0 d1 c.open_again.new.device IsWhole IsWhole IsWhole read (c.open_again.ensures.whole (were_whole g c)).0 (λ f is. is) (λ f is. is)
+    let at_start = started g.D.Device.moment g.D.Device.left_since d0 IsWhole (λ f left. were f (g.met.D.Device.only_now d0 f left)) in
+    let read = goes_on g.D.Device.moment g.D.Device.left_since d0 d0 d1 IsWhole (g.D.Device.may_leave d1) at_start c.read.ensures.time (were_whole g c were) in
+    joined g.D.Device.moment g.D.Device.left_since d0 d1 c.open_again.new.device IsWhole IsWhole IsWhole read (c.open_again.ensures.whole (were_whole g c were)).0 (λ f is. is) (λ f is. is)
 
 pub returns-in_err-open_again-clause-whole : goal.returns-in_err-open_again-clause-whole
-returns-in_err-open_again-clause-whole g c = opened_whole g (goal.at.returns-in_err-open_again-clause-whole g c).After-open_again
+returns-in_err-open_again-clause-whole g c were =
+    let opened = (goal.at.returns-in_err-open_again-clause-whole g c).After-open_again in
+    (opened_whole g opened were, (opened.open_again.ensures.whole (were_whole g opened were)).1)
 
 same_seen : (g : _) (c : After-open_again g) → g.D.Device.seen c.open_again.new.device ≡ g.D.Device.seen c.args.device.now
 same_seen g c = c.open_again.ensures.seen ∙ c.read.ensures.seen
@@ -107,23 +109,19 @@ read_whole g c opened same = subst IsWhole (sym same) (log_whole c.args.first.no
 
 pub returns-in_err-close_end-clause-again : goal.returns-in_err-close_end-clause-again
 returns-in_err-close_end-clause-again g c =
-    let at = goal.at.returns-in_err-close_end-clause-again g c in
-    let opened = at.After-open_again in
-    let whole = ends_whole g at.After-close_end (opened_whole g opened) (read_whole g at.After-last_line opened (same_seen g opened)) (opened.open_again.ensures.whole (were_whole g opened)).1 in
-    on_err c.from_residual-in_err-close_end.result (MayRecover g.D.Device.seen g.D.Device.may_leave g.D.Device.stale c.close_end.new.device)
-    (record { settle = c.in_err-close_end.ensures.again; whole = whole.1 })
+    on_err c.from_residual-in_err-close_end.result (MaySettle g.D.Device.seen g.D.Device.may_leave g.D.Device.stale c.close_end.new.device) c.in_err-close_end.ensures.again
 
 pub returns-in_err-close_end-clause-whole : goal.returns-in_err-close_end-clause-whole
-returns-in_err-close_end-clause-whole g c =
+returns-in_err-close_end-clause-whole g c were =
     let at = goal.at.returns-in_err-close_end-clause-whole g c in
     let opened = at.After-open_again in
-    (ends_whole g at.After-close_end (opened_whole g opened) (read_whole g at.After-last_line opened (same_seen g opened)) (opened.open_again.ensures.whole (were_whole g opened)).1).0
+    ends_whole g at.After-close_end (opened_whole g opened were) (read_whole g at.After-last_line opened (same_seen g opened)) (opened.open_again.ensures.whole (were_whole g opened were)).1
 
 pub returns-clause-end : goal.returns-clause-end
 returns-clause-end g c = end_is g (goal.at.returns-clause-end g c).After-last_line
 
 pub returns-clause-whole : goal.returns-clause-whole
-returns-clause-whole g c =
+returns-clause-whole g c were =
     let at = goal.at.returns-clause-whole g c in
     let opened = at.After-open_again in
-    (ends_whole g at.After-close_end (opened_whole g opened) (read_whole g at.After-last_line opened (same_seen g opened)) (opened.open_again.ensures.whole (were_whole g opened)).1).0
+    ends_whole g at.After-close_end (opened_whole g opened were) (read_whole g at.After-last_line opened (same_seen g opened)) (opened.open_again.ensures.whole (were_whole g opened were)).1

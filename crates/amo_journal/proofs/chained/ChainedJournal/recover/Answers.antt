@@ -1,26 +1,26 @@
 use Rattle.std.proofs.Common.{◌≡◌, ℕ, List, length, ⊎_elim, sym, ◌∙◌, ap, subst}
 use Rattle.amo_journal.specs.Appends.{IsLog, checksum_after, lines_from, records_in}
 use Rattle.amo_journal.specs.Device.{LeavesOnly}
-use Rattle.amo_journal.specs.Journal.{HasAllOrAllButLast, HasAllOrNotTheLast}
+use Rattle.amo_journal.specs.Journal.{AllWhole, HasAllOrAllButLast, HasAllOrNotTheLast}
 use Rattle.amo_journal.specs.Logs.{records_of}
 use Rattle.amo_journal.specs.Texts.{AreOneLine, texts_in, blocks}
 use Rattle.amo_journal.proofs.Journaling.{both_leave, has_all, last_checksum}
-use Rattle.amo_journal.proofs.Logs.{is_log, lines_records, log_texts}
+use Rattle.amo_journal.proofs.Logs.{is_log, lines_records, log_texts, log_whole}
 use Rattle.amo_journal.proofs.Moments.{leaves_weaker}
 use Rattle.amo_journal.proofs.Opening.{stays_texts, stays_open}
 use Rattle.amo_journal.proofs.Parts.{texts_are_one_line}
 use Rattle.amo_journal.proofs.chained.ChainedJournal.recover.Goals as goal
 use Rattle.amo_journal.proofs.chained.ChainedJournal.recover.Goals.{After-recover_file}
 
-some_left : (g : _) (c : After-recover_file g) (all : List (List ℕ)) → IsLog c.args.self.now.first.digits all (g.D.Device.seen c.args.self.now.device)
+some_left : (g : _) (c : After-recover_file g) (all : List (List ℕ)) → IsLog c.args.self.now.first.digits all (g.D.Device.seen c.args.self.now.device) → AllWhole (g.D.Device.may_leave c.args.self.now.device)
     → LeavesOnly g.D.Device.moment g.D.Device.left_since c.args.self.now.device c.recover_file.new.device (HasAllOrNotTheLast c.args.self.now.first.digits all)
-some_left g c all log =
+some_left g c all log were =
     let d0 = c.args.self.now.device in
     let d1 = c.recover_file.new.device in
     let first = c.args.self.now.first.digits in
     let seen0 = g.D.Device.seen d0 in
     let are = log_texts first all seen0 log in
-    leaves_weaker g.D.Device.moment g.D.Device.left_since d0 d1 _ _ (both_leave g.D.Device.moment g.D.Device.left_since d0 d1 _ _ c.recover_file.ensures.any_moment c.recover_file.ensures.whole)
+    leaves_weaker g.D.Device.moment g.D.Device.left_since d0 d1 _ _ (both_leave g.D.Device.moment g.D.Device.left_since d0 d1 _ _ c.recover_file.ensures.any_moment (c.recover_file.ensures.whole were).0)
     (λ f both. has_all first all f log.one_line both.1 (subst (λ (ts : List (List ℕ)). HasAllOrAllButLast ts f) are (stays_texts (texts_in seen0) (g.D.Device.may_leave d0) f (texts_are_one_line seen0) both.0)))
 
 all_left : (g : _) (c : After-recover_file g) (all : List (List ℕ)) → IsLog c.args.self.now.first.digits all (g.D.Device.seen c.args.self.now.device)
@@ -33,17 +33,17 @@ all_left g c all log kept =
     let seen0 = g.D.Device.seen d0 in
     let are = log_texts first all seen0 log in
     let same = λ (f : List ℕ) (now : g.D.Device.may_leave d0 f). log_texts first all f (kept f now) ∙ sym are in
-    leaves_weaker g.D.Device.moment g.D.Device.left_since d0 d1 _ _ (both_leave g.D.Device.moment g.D.Device.left_since d0 d1 _ _ c.recover_file.ensures.any_moment c.recover_file.ensures.whole)
+    leaves_weaker g.D.Device.moment g.D.Device.left_since d0 d1 _ _ (both_leave g.D.Device.moment g.D.Device.left_since d0 d1 _ _ c.recover_file.ensures.any_moment (c.recover_file.ensures.whole (λ f now. log_whole first all f (kept f now))).0)
     (λ f both. is_log first all f log.one_line both.1 (stays_open (texts_in seen0) (g.D.Device.may_leave d0) f (texts_are_one_line seen0) same both.0 ∙ are))
 
 pub returns-in_err-log-clause-any_moment : goal.returns-in_err-log-clause-any_moment
-returns-in_err-log-clause-any_moment g c all log = some_left g (goal.at.returns-in_err-log-clause-any_moment g c).After-recover_file all log
+returns-in_err-log-clause-any_moment g c all log were = some_left g (goal.at.returns-in_err-log-clause-any_moment g c).After-recover_file all log were
 
 pub returns-in_err-log-clause-stays : goal.returns-in_err-log-clause-stays
 returns-in_err-log-clause-stays g c all log kept = all_left g (goal.at.returns-in_err-log-clause-stays g c).After-recover_file all log kept
 
 pub returns-clause-any_moment : goal.returns-clause-any_moment
-returns-clause-any_moment g c all log = some_left g (goal.at.returns-clause-any_moment g c).After-recover_file all log
+returns-clause-any_moment g c all log were = some_left g (goal.at.returns-clause-any_moment g c).After-recover_file all log were
 
 pub returns-clause-stays : goal.returns-clause-stays
 returns-clause-stays g c all log kept = all_left g (goal.at.returns-clause-stays g c).After-recover_file all log kept
