@@ -1,0 +1,5 @@
+use Rattle.amo_clearance_safety.proofs.Safe.{performed_once}
+use Rattle.amo_clearance_safety.proofs.laws.lines_are_performed_once_by_journals_alone.Goals as goal
+
+pub returns : goal.returns
+returns c = performed_once

@@ -1,0 +1,5 @@
+use Rattle.amo_clearance_safety.proofs.Twice.{without_clearance}
+use Rattle.amo_clearance_safety.proofs.laws.without_clearance_a_line_is_performed_twice.Goals as goal
+
+pub returns : goal.returns
+returns c = without_clearance
