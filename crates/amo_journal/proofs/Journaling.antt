@@ -4,7 +4,7 @@ use Rattle.amo_journal.specs.Appends.{IsLog, checksum_after, line_of, lines_from
 use Rattle.amo_journal.specs.Device.{LeavesOnly}
 use Rattle.amo_journal.specs.Journal.{HasAllOrAllButLast, HasAllOrNotTheLast, HasOneMoreOrNot, IsBeforeOrAfter, IsRecovered, IsWhole}
 use Rattle.amo_journal.specs.Logs.{checksums_from}
-use Rattle.amo_journal.specs.declared.chained.ChainedJournal.{ChainedJournal}
+use Rattle.amo_journal.specs.declared.journal.Journal.{Journal}
 use Rattle.amo_journal.specs.Texts.{AreOneLine, IsOneLine, at_rest, texts_in}
 use Rattle.amo_journal.proofs.Blocks.{all_push}
 use Rattle.amo_journal.proofs.Logs.{is_log, lines_from-push}
@@ -69,7 +69,7 @@ last_checksum checksum (r ∷ all) = ⊎_elim
     (λ some. inr (next_checksum checksum r ∷ some.0, ap (λ (cs : List (List ℕ)). next_checksum checksum r ∷ cs) some.1))
     (last_checksum (next_checksum checksum r) all)
 
-module _ {D : Type 0} (moment : D → ℕ) (left_since : D → ℕ → List ℕ → Type 0) (seen : D → List ℕ) (may_leave : D → List ℕ → Type 0) (stale : D → ℕ → Type 0) (journal : ChainedJournal D) (so_far : IsRecovered seen may_leave stale journal) where
+module _ {D : Type 0} (moment : D → ℕ) (left_since : D → ℕ → List ℕ → Type 0) (seen : D → List ℕ) (may_leave : D → List ℕ → Type 0) (stale : D → ℕ → Type 0) (journal : Journal D) (so_far : IsRecovered seen may_leave stale journal) where
   pub recovered_log : IsLog journal.first.digits (records_in (seen journal.device)) (seen journal.device)
   recovered_log = is_log journal.first.digits (records_in (seen journal.device)) (seen journal.device) so_far.one_line
       (rest_whole (texts_in (seen journal.device)) (seen journal.device) (texts_are_one_line (seen journal.device)) so_far.file.file) so_far.chained

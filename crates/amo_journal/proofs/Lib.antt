@@ -1,7 +1,7 @@
 mod Blocks
 mod Chains
-mod Checksums
 mod Ending
+mod Following
 mod Kept
 mod Moments
 mod Opening
@@ -10,6 +10,8 @@ mod Places
 mod Putting
 mod Results
 mod Splits
+mod Undamaged
 mod Whole
+pub mod Checksums
 pub mod Logs
-mod Journaling
+pub mod Journaling

@@ -84,7 +84,7 @@ is_log checksum all file one whole are = record {
 }
 
 -- a line without its checksum
-records_of_line : (checksum records : List ℕ) → take (length (line_of checksum records) - 9) (line_of checksum records) ≡ records
+pub records_of_line : (checksum records : List ℕ) → take (length (line_of checksum records) - 9) (line_of checksum records) ≡ records
 records_of_line checksum records = take_at records (32 ∷ next_checksum checksum records) (length (line_of checksum records) - 9) (omega (arith, length-line_of checksum records))
 
 records_of_lines : (checksum : List ℕ) (all : List (List ℕ)) → map (λ line. take (length line - 9) line) (lines_from checksum all) ≡ all

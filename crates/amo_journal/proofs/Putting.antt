@@ -5,7 +5,7 @@ use Rattle.std.proofs.lemmas.Bool.{cases_eq, cases_lt}
 use Rattle.std.proofs.lemmas.List.{take_at, drop_at, drop_more, take_all, drop_all, append-nil}
 use Rattle.amo_journal.specs.Device.{AgreesBut, Differs, Holds, IsOutside, LeavesOnly, Only, Torn, TornFrom, WritesFront}
 use Rattle.amo_journal.specs.Texts.{IsOneLine, AreOneLine, texts_in, blocks, at_rest}
-use Rattle.amo_journal.specs.Journal.{IsAtRest, IsBeforeOrAfter, IsNear, IsUnsure, MaySettle}
+use Rattle.amo_journal.specs.Journal.{IsAtRest, IsBeforeOrAfter, IsNear, IsUnsure, MayRecover}
 use Rattle.amo_journal.proofs.Blocks.{blocks-push, texts_in_closed, texts_in_gate, texts_in-blocks, texts_in_block, all_push}
 use Rattle.amo_journal.proofs.Moments.{IsOnDisk, KeepsTexts, keeps_texts, leaves_weaker, near_same}
 use Rattle.amo_journal.proofs.Parts.{texts_are_one_line}
@@ -166,7 +166,7 @@ module _ (texts : List (List ℕ)) (all : AreOneLine texts) (gate : ℕ) (stands
 pub record IsTried {D : Type 0} (moment : D → ℕ) (left_since : D → ℕ → List ℕ → Type 0) (seen : D → List ℕ) (may_leave : D → List ℕ → Type 0) (stale : D → ℕ → Type 0) (texts : List (List ℕ)) (text : List ℕ) (old new : D) : Type 0 where
   pub any_moment : LeavesOnly moment left_since old new (IsBeforeOrAfter texts text)
   pub read : IsBeforeOrAfter texts text (seen new)
-  pub again : MaySettle seen may_leave stale new
+  pub again : MayRecover seen may_leave stale new
 
 module _ {D : Type 0} (moment : D → ℕ) (left_since : D → ℕ → List ℕ → Type 0) (seen : D → List ℕ) (may_leave : D → List ℕ → Type 0) (stale : D → ℕ → Type 0) where
   -- what the first comes to, whatever it answers

@@ -1,15 +1,19 @@
 -- A journal's file: appends, each with a checksum that chains it to all before it, and what a crash
 -- may leave after the last one.
-use Rattle.std.specs.Prelude.{◌≡◌, ◌≢◌, ◌⊎◌, ◌≤◌, ℕ, List, [], ◌∷◌, ◌++◌, length, map, take, ◌-◌}
+use Rattle.std.specs.Prelude.{◌≡◌, ◌≢◌, ◌⊎◌, ◌≤◌, ℕ, List, [], ◌∷◌, ◌++◌, length, map, take, ◌-◌, ◌==◌, Option, Some, None, if◌then◌else◌}
 use Rattle.sha2.specs.Sha256.{sha256}
 use Rattle.hex.specs.Hex.{encode_lower}
 use Rattle.amo_journal.specs.Texts.{IsOneLine, AreOneLine, texts_in}
 use Rattle.amo_journal.specs.declared.log.DamageKind.{DamageKind}
-use Rattle.amo_journal.specs.declared.log.DamageKind.TheVariants.{CommitByte, Unfinished, Checksum, Behind}
+use Rattle.amo_journal.specs.declared.log.DamageKind.TheVariants.{CommitByte, Unfinished, Checksum, Surplus}
 
 -- the first 8 hex digits of the SHA-256 of these bytes
 abbrev pub checksum_of : List ℕ → List ℕ
 checksum_of bytes = take 8 (encode_lower (sha256 bytes))
+
+-- the checksum with these digits, if there are 8
+abbrev pub checksum_in : List ℕ → Option (List ℕ)
+checksum_in digits = if length digits == 8 then Some digits else None
 
 -- the checksum that stands for the one before the first append: of the run's id, a blank and the
 -- file's name, so that no journal is taken for another
@@ -80,15 +84,15 @@ pub record IsLog (checksum : List ℕ) (records : List (List ℕ)) (file : List 
 
 -- The bytes follow an append with that checksum, and are neither an append nor an end. `CommitByte`:
 -- they begin with another byte than a commit byte, and have more. `Unfinished`: an open commit byte
--- without a whole line. `Checksum`: a line with another checksum. `Behind`: a closed commit byte, and
--- then more than a crash leaves.
+-- without a whole line. `Checksum`: a line with another checksum. `Surplus`: a closed commit byte,
+-- and then more than a crash leaves.
 abbrev pub IsWrong : DamageKind → List ℕ → List ℕ → Type 0
 IsWrong CommitByte checksum [] = ⊥
 IsWrong CommitByte checksum (b ∷ []) = ⊥
 IsWrong CommitByte checksum (b ∷ c ∷ rest) = (b ≢ 43) × (b ≢ 45)
 IsWrong Unfinished checksum rest = (line : List ℕ) × (rest ≡ 43 ∷ line) × IsOneLine line
 IsWrong Checksum checksum rest = (line : List ℕ) × (more : List ℕ) × (rest ≡ 43 ∷ line ++ 10 ∷ more) × IsOneLine line × ((records : List ℕ) → line ≢ line_of checksum records)
-IsWrong Behind checksum rest = (more : List ℕ) × (rest ≡ 45 ∷ more) × (IsCutOffAppend more → ⊥)
+IsWrong Surplus checksum rest = (more : List ℕ) × (rest ≡ 45 ∷ more) × (IsCutOffAppend more → ⊥)
 
 -- The file has these appends and then such a wrong.
 pub record IsDamagedAt (checksum : List ℕ) (records : List (List ℕ)) (kind : DamageKind) (file : List ℕ) : Type 0 where

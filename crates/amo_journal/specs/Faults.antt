@@ -3,8 +3,8 @@ use Rattle.std.specs.Prelude.{ℕ, List}
 use Rattle.amo_journal.specs.declared.device.DeviceError.TheVariants.{Memory}
 use Rattle.amo_journal.specs.declared.log.ReadError.{ReadError}
 use Rattle.amo_journal.specs.declared.log.ReadError.TheVariants.{Memory as NoMemory, Damaged as Misread}
-use Rattle.amo_journal.specs.declared.chained.RecoverError.{RecoverError}
-use Rattle.amo_journal.specs.declared.chained.RecoverError.TheVariants.{Device, Damaged}
+use Rattle.amo_journal.specs.declared.journal.RecoverError.{RecoverError}
+use Rattle.amo_journal.specs.declared.journal.RecoverError.TheVariants.{Device, Damaged}
 use Rattle.amo_journal.specs.Logs.{IsReason}
 
 -- what such an error says of a file: that it is damaged there

@@ -3,7 +3,6 @@ use Rattle.std.specs.Prelude.{◌≡◌, ◌≢◌, ◌⊎◌, ◌≤◌, ℕ, L
 use Rattle.amo_journal.specs.Appends.{IsCutOff, IsLog, checksum_after, lines_from, records_in}
 use Rattle.amo_journal.specs.Device.{Only}
 use Rattle.amo_journal.specs.Texts.{AreOneLine, texts_in, blocks, at_rest}
-use Rattle.amo_journal.specs.declared.chained.ChainedJournal.{ChainedJournal}
 use Rattle.amo_journal.specs.declared.journal.Journal.{Journal}
 
 -- the file has the blocks of these texts, the gate of the last one closed, and behind them what stands for nothing
@@ -37,7 +36,7 @@ abbrev pub IsUnsure : List (List ℕ) → ℕ → Type 0
 IsUnsure texts i = IsLastGate texts i ⊎ (length (blocks texts) ≤ i)
 
 -- Of these texts the disk has each, but the gate of the last one may be closed there, and no sync need say so.
-pub record MaySettle {D : Type 0} (seen : D → List ℕ) (may_leave : D → List ℕ → Type 0) (stale : D → ℕ → Type 0) (device : D) : Type 0 where
+pub record MayRecover {D : Type 0} (seen : D → List ℕ) (may_leave : D → List ℕ → Type 0) (stale : D → ℕ → Type 0) (device : D) : Type 0 where
   pub near : (c : List ℕ) → may_leave device c → IsNear (texts_in (seen device)) c
   pub unsure : (i : ℕ) → stale device i → IsUnsure (texts_in (seen device)) i
 
@@ -46,11 +45,6 @@ pub record IsAtRest {D : Type 0} (seen : D → List ℕ) (may_leave : D → List
   pub file : seen device ≡ at_rest (texts_in (seen device))
   pub durable : Only (seen device) (may_leave device)
   pub fresh : (i : ℕ) → stale device i → ⊥
-
--- so is the journal's file, and the journal knows where the closed gate stands
-pub record IsSettled {D : Type 0} (seen : D → List ℕ) (may_leave : D → List ℕ → Type 0) (stale : D → ℕ → Type 0) (journal : Journal D) : Type 0 where
-  pub file : IsAtRest seen may_leave stale journal.device
-  pub gate : journal.gate ≡ length (blocks (texts_in (seen journal.device)))
 
 -- the file is the blocks of its texts, and then at most what a crash may leave
 pub record IsWhole (file : List ℕ) : Type 0 where
@@ -64,7 +58,7 @@ AllWhole outcomes = (c : List ℕ) → outcomes c → IsWhole c
 
 -- The journal's file is so, and the journal knows the place of the closed commit byte and the last
 -- checksum. The appends are chained from its first checksum on.
-pub record IsRecovered {D : Type 0} (seen : D → List ℕ) (may_leave : D → List ℕ → Type 0) (stale : D → ℕ → Type 0) (journal : ChainedJournal D) : Type 0 where
+pub record IsRecovered {D : Type 0} (seen : D → List ℕ) (may_leave : D → List ℕ → Type 0) (stale : D → ℕ → Type 0) (journal : Journal D) : Type 0 where
   pub file : IsAtRest seen may_leave stale journal.device
   pub gate : journal.gate ≡ length (blocks (texts_in (seen journal.device)))
   pub chained : texts_in (seen journal.device) ≡ lines_from journal.first.digits (records_in (seen journal.device))

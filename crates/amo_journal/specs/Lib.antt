@@ -1,6 +1,7 @@
 pub mod Appends
 pub mod Device
 pub mod Faults
+pub mod Following
 pub mod Journal
 pub mod Logs
 pub mod Memory

@@ -1,7 +1,7 @@
 //! Checksums that chain the appends of a journal.
-ghost use Rattle.std.specs.Prelude.{◌≡◌, ◌∷◌, ◌++◌, take};
+ghost use Rattle.std.specs.Prelude.{◌≡◌, ◌∷◌, ◌++◌, take, option_map};
 ghost use Rattle.hex.specs.Hex.{encode_lower};
-ghost use Rattle.amo_journal.specs.Appends.{checksum_of, first_checksum, next_checksum};
+ghost use Rattle.amo_journal.specs.Appends.{checksum_of, checksum_in, first_checksum, next_checksum};
 
 use sha2::{Digest, Sha256};
 
@@ -36,6 +36,14 @@ impl Checksum {
         Checksum {
             digits: first_digits(hasher.finalize()),
         }
+    }
+
+    /// Returns the checksum that has these digits, if they are 8 bytes.
+    pub fn read(digits: &[u8]) -> Option<Self>
+        ensures { option_map (λ checksum. checksum.digits) result ≡ checksum_in digits.now }
+    {
+        let digits = <[u8; 8]>::try_from(digits).ok()?;
+        Some(Checksum { digits })
     }
 
     /// Returns the 8 digits, as bytes.

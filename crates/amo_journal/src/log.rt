@@ -24,7 +24,7 @@ pub enum DamageKind {
     Checksum,
     /// More follows the closed commit byte than an append that a crash cut off.
     #[error("more follows than an append that was cut off")]
-    Behind,
+    Surplus,
 }
 
 /// Why a journal wasn't read.
@@ -76,7 +76,7 @@ impl Log {
         ensures none { IfNone result (records_of self.now.records.items ≡ []) }
     {
         match self.records.last() {
-            Some(records) => Some(records.len() + BEHIND_RECORDS),
+            Some(records) => Some(records.len() + LINE_END),
             None => None,
         }
     }
@@ -98,7 +98,7 @@ impl Log {
 pub(crate) const LONGEST: usize = 1024;
 
 /// How many bytes a line has after its records: a blank, and the checksum.
-pub(crate) const BEHIND_RECORDS: usize = 9;
+pub(crate) const LINE_END: usize = 9;
 
 /// Reads the appends of a journal from its bytes. `first` is the checksum that stands before the
 /// first one.
@@ -153,10 +153,10 @@ fn records_in<'a>(before: &Checksum, line: &'a [u8]) -> Option<(&'a [u8], Checks
     ensures checksum { IfSome result (λ x. x.1.digits ≡ next_checksum before.now.digits x.0.now) }
     ensures none { IfNone result ((records : List ℕ) → line.now ≢ line_of before.now.digits records) }
 {
-    if line.len() < BEHIND_RECORDS {
+    if line.len() < LINE_END {
         return None;
     }
-    let at = line.len() - BEHIND_RECORDS;
+    let at = line.len() - LINE_END;
     let records = &line[..at];
     let next = before.next(records);
     if line[at] == b' ' && &line[at + 1..] == next.digits() {
@@ -176,7 +176,7 @@ fn wrong_end(rest: &[u8]) -> Option<DamageKind>
         [b'+', ..] => Some(DamageKind::Unfinished),
         [] | [_] => None,
         [b'-', behind @ ..] if is_cut_off_append(behind) => None,
-        [b'-', ..] => Some(DamageKind::Behind),
+        [b'-', ..] => Some(DamageKind::Surplus),
         _ => Some(DamageKind::CommitByte),
     }
 }

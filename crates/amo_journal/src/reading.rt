@@ -1,25 +1,14 @@
 //! The blocks of a journal: an open commit byte, a line, a line feed.
 ghost use Rattle.std.specs.Prelude.{◌≡◌, ◌+◌, ◌≤◌, ◌++◌, [], ◌∷◌, ℕ, List, length, map, IfOk, IfSome, IfNone};
-ghost use Rattle.amo_journal.specs.Texts.{texts_in, blocks, IsOneLine};
+ghost use Rattle.amo_journal.specs.Logs.{records_of};
+ghost use Rattle.amo_journal.specs.Texts.{texts_in, IsOneLine};
 
 use std::alloc::{AllocError, Global};
 
-/// The texts of a journal, from its bytes, up to the first gate that is closed. Who reads beside a
-/// writer needs no more. No bytes are an empty journal.
+/// Returns the lines of a journal without checksums, as version 0.1.0 wrote it, up to the first
+/// commit byte that isn't open. A journal in this form is read and never written.
 pub fn texts_in(alloc: Global, bytes: &[u8]) -> Result<Vec<Vec<u8>>, AllocError>
-    ensures exact { IfOk result (λ texts. map (λ text. text.items) texts.items ≡ texts_in bytes.now) }
-{
-    Ok(texts_and_end(alloc, bytes)?.0)
-}
-
-/// The texts, and how many bytes their blocks have.
-pub(crate) fn texts_and_end(
-    alloc: Global,
-    bytes: &[u8],
-) -> Result<(Vec<Vec<u8>>, usize), AllocError>
-    ensures texts { IfOk result (λ read. map (λ text. text.items) read.0.items ≡ texts_in bytes.now) }
-    ensures end { IfOk result (λ read. read.1 ≡ length (blocks (texts_in bytes.now))) }
-    ensures within { IfOk result (λ read. read.1 ≤ length bytes.now) }
+    ensures exact { IfOk result (λ texts. records_of texts.items ≡ texts_in bytes.now) }
 {
     let mut texts = Vec::new(alloc);
     let mut rest = bytes;
@@ -27,7 +16,7 @@ pub(crate) fn texts_and_end(
         texts.push(text.to_vec(alloc)?)?;
         rest = behind;
     }
-    Ok((texts, bytes.len() - rest.len()))
+    Ok(texts)
 }
 
 /// The text of the block at the front, if there is one, and what stands behind the block.

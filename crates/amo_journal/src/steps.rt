@@ -4,14 +4,13 @@ ghost use Rattle.std.specs.List.{slice_get};
 ghost use Rattle.amo_journal.specs.Appends.{longest, IsLog};
 ghost use Rattle.amo_journal.specs.Device.{AgreesBut, Cut, CutFrom, Differs, HasCause, Holds, IsOutside, LeavesOnly, TornFrom, WritesFront};
 ghost use Rattle.amo_journal.specs.Faults.{IsCause, IsDamage};
-ghost use Rattle.amo_journal.specs.Journal.{AllWhole, HasLast, IsAtRest, IsBeforeOrAfter, IsShut, IsUnsure, IsWhole, MaySettle, StaysNear};
+ghost use Rattle.amo_journal.specs.Journal.{AllWhole, HasLast, IsAtRest, IsBeforeOrAfter, IsShut, IsUnsure, IsWhole, MayRecover, StaysNear};
 ghost use Rattle.amo_journal.specs.Logs.{checksums_from, checksums_of, records_of};
 ghost use Rattle.amo_journal.specs.Texts.{blocks, texts_in, IsOneLine};
 
-use crate::chained::RecoverError;
 use crate::checksum::Checksum;
+use crate::journal::RecoverError;
 use crate::log::{Log, read_log};
-use crate::reading::texts_and_end;
 use crate::{Device, DeviceError};
 use std::alloc::Global;
 
@@ -73,7 +72,7 @@ pub(crate) fn append_line<D: Device>(
     ensures acknowledged { OnOk result (texts_in (D.seen device.new) ≡ texts_in (D.seen device.old) ++ line.now ∷ []) }
     ensures any_moment { LeavesOnly D.moment D.left_since device.old device.new (IsBeforeOrAfter (texts_in (D.seen device.old)) line.now) }
     ensures read { IsBeforeOrAfter (texts_in (D.seen device.old)) line.now (D.seen device.new) }
-    ensures again { OnErr result (MaySettle D.seen D.may_leave D.stale device.new) }
+    ensures again { OnErr result (MayRecover D.seen D.may_leave D.stale device.new) }
     ensures whole { LeavesOnly D.moment D.left_since device.old device.new IsWhole }
     ensures whole_after { AllWhole (D.may_leave device.new) }
     ensures whole_read { IsWhole (D.seen device.new) }
@@ -101,14 +100,14 @@ pub(crate) fn open_again<D: Device>(
     last: Option<usize>,
     end: usize,
 ) -> Result<(), DeviceError>
-    requires settle { MaySettle D.seen D.may_leave D.stale device.old }
+    requires settle { MayRecover D.seen D.may_leave D.stale device.old }
     requires last { IfSome last (λ n. HasLast n (texts_in (D.seen device.old))) }
     requires none { IfNone last (texts_in (D.seen device.old) ≡ []) }
     requires end { end ≡ length (blocks (texts_in (D.seen device.old))) }
     ensures seen { D.seen device.new ≡ D.seen device.old }
     ensures kept { OnOk result ((c : List ℕ) → D.may_leave device.new c → texts_in c ≡ texts_in (D.seen device.old)) }
     ensures fresh { OnOk result ((i : ℕ) → D.stale device.new i → length (blocks (texts_in (D.seen device.old))) ≤ i) }
-    ensures again { MaySettle D.seen D.may_leave D.stale device.new }
+    ensures again { MayRecover D.seen D.may_leave D.stale device.new }
     ensures any_moment { LeavesOnly D.moment D.left_since device.old device.new
         (StaysNear (D.may_leave device.old) (texts_in (D.seen device.old))) }
     ensures whole { AllWhole (D.may_leave device.old) → LeavesOnly D.moment D.left_since device.old device.new IsWhole × AllWhole (D.may_leave device.new) }
@@ -144,7 +143,7 @@ pub(crate) fn close_end<D: Device>(
     ensures same { texts_in (D.seen device.new) ≡ texts_in (D.seen device.old) }
     ensures some { 1 ≤ length (D.seen device.old) → 1 ≤ length (D.seen device.new) }
     ensures at_rest { OnOk result (IsAtRest D.seen D.may_leave D.stale device.new) }
-    ensures again { OnErr result (MaySettle D.seen D.may_leave D.stale device.new) }
+    ensures again { OnErr result (MayRecover D.seen D.may_leave D.stale device.new) }
     ensures any_moment { LeavesOnly D.moment D.left_since device.old device.new (λ c. texts_in c ≡ texts_in (D.seen device.old)) }
     ensures whole { IsWhole (D.seen device.old) → AllWhole (D.may_leave device.old)
         → LeavesOnly D.moment D.left_since device.old device.new IsWhole × AllWhole (D.may_leave device.new) }
@@ -161,7 +160,7 @@ pub(crate) fn recover_file<D: Device>(
     alloc: Global,
     first: &Checksum,
 ) -> Result<Log, RecoverError>
-    requires { MaySettle D.seen D.may_leave D.stale device.old }
+    requires { MayRecover D.seen D.may_leave D.stale device.old }
     ensures log { IfOk result (λ log. IsLog first.now.digits (records_of log.records.items) (D.seen device.old)) }
     ensures checksums { IfOk result (λ log. checksums_of log.checksums.items ≡ checksums_from first.now.digits (records_of log.records.items)) }
     ensures end { IfOk result (λ log. log.end ≡ length (blocks (texts_in (D.seen device.old)))) }
@@ -171,7 +170,7 @@ pub(crate) fn recover_file<D: Device>(
     ensures same { texts_in (D.seen device.new) ≡ texts_in (D.seen device.old) }
     ensures some { 1 ≤ length (D.seen device.old) → 1 ≤ length (D.seen device.new) }
     ensures at_rest { OnOk result (IsAtRest D.seen D.may_leave D.stale device.new) }
-    ensures again { OnErr result (MaySettle D.seen D.may_leave D.stale device.new) }
+    ensures again { OnErr result (MayRecover D.seen D.may_leave D.stale device.new) }
     ensures any_moment { LeavesOnly D.moment D.left_since device.old device.new
         (StaysNear (D.may_leave device.old) (texts_in (D.seen device.old))) }
     ensures whole { AllWhole (D.may_leave device.old) → LeavesOnly D.moment D.left_since device.old device.new IsWhole × AllWhole (D.may_leave device.new) }
@@ -182,38 +181,4 @@ pub(crate) fn recover_file<D: Device>(
     open_again(device, log.last_line(), log.end)?;
     close_end(device, log.end, bytes.len())?;
     Ok(log)
-}
-
-/// Settles a file, and returns the texts and the place of the closed gate.
-pub(crate) fn settle_file<D: Device>(
-    device: &mut D,
-    alloc: Global,
-) -> Result<(Vec<Vec<u8>>, usize), DeviceError>
-    requires { MaySettle D.seen D.may_leave D.stale device.old }
-    ensures texts { IfOk result (λ file. map (λ text. text.items) file.0.items ≡ texts_in (D.seen device.old)) }
-    ensures end { IfOk result (λ file. file.1 ≡ length (blocks (texts_in (D.seen device.old)))) }
-    ensures same { texts_in (D.seen device.new) ≡ texts_in (D.seen device.old) }
-    ensures some { 1 ≤ length (D.seen device.old) → 1 ≤ length (D.seen device.new) }
-    ensures at_rest { OnOk result (IsAtRest D.seen D.may_leave D.stale device.new) }
-    ensures again { OnErr result (MaySettle D.seen D.may_leave D.stale device.new) }
-    ensures any_moment { LeavesOnly D.moment D.left_since device.old device.new
-        (StaysNear (D.may_leave device.old) (texts_in (D.seen device.old))) }
-    ensures cause { HasCause (D.faults device.old) (D.faults device.new) result }
-{
-    let bytes = device.read(alloc)?;
-    let (texts, end) = texts_and_end(alloc, &bytes)?;
-    open_again(device, last_len(&texts), end)?;
-    close_end(device, end, bytes.len())?;
-    Ok((texts, end))
-}
-
-/// Returns how many bytes the last text has, if there is one.
-fn last_len(texts: &[Vec<u8>]) -> Option<usize>
-    ensures some { IfSome result (λ n. HasLast n (map (λ text. text.items) texts.now)) }
-    ensures none { IfNone result (map (λ text. text.items) texts.now ≡ []) }
-{
-    match texts.last() {
-        Some(text) => Some(text.len()),
-        None => None,
-    }
 }

@@ -3,8 +3,8 @@ use Rattle.amo_journal.proofs.Checksums.{length-line_of, parts_of_line}
 use Rattle.amo_journal.proofs.log.records_in.Goals as goal
 use Rattle.amo_journal.proofs.log.records_in.Goals.{else-line-at-eq32-via-then-line-at-eq32+else-eq, else-line-at-eq32-via-else-line-at-eq32}
 
-pub returns-then-line-lt-BEHIND_RECORDS-clause-none : goal.returns-then-line-lt-BEHIND_RECORDS-clause-none
-returns-then-line-lt-BEHIND_RECORDS-clause-none c records is =
+pub returns-then-line-lt-LINE_END-clause-none : goal.returns-then-line-lt-LINE_END-clause-none
+returns-then-line-lt-LINE_END-clause-none c records is =
     let short : length c.args.line.now < 9 = search rules in
     omega (arith, short, ap length is, length-line_of c.args.before.now.digits records)
 

@@ -2,7 +2,7 @@ use Rattle.std.proofs.Common.{◌≡◌, ◌⊎◌, ◌+◌, ◌++◌, [], ◌�
 use Rattle.std.specs.Prelude.{OnOk}
 use Rattle.amo_journal.specs.Device.{LeavesOnly, TornFrom, WritesFront}
 use Rattle.amo_journal.specs.Texts.{at_rest, texts_in}
-use Rattle.amo_journal.specs.Journal.{IsAtRest, IsBeforeOrAfter, IsWhole, MaySettle}
+use Rattle.amo_journal.specs.Journal.{IsAtRest, IsBeforeOrAfter, IsWhole, MayRecover}
 use Rattle.amo_journal.proofs.Moments.{IsOnDisk, KeepsTexts, joined, leaves_weaker}
 use Rattle.amo_journal.proofs.Parts.{texts_are_one_line}
 use Rattle.amo_journal.proofs.Putting.{IsTried, behind, staged, begun, is_staged, tried, is_put, read_rest, gate_read}
@@ -38,7 +38,7 @@ returns-in_err-write_and_sync-clause-read g c = inl (first g (goal.at.returns-in
 
 pub returns-in_err-write_and_sync-clause-again : goal.returns-in_err-write_and_sync-clause-again
 returns-in_err-write_and_sync-clause-again g c =
-    on_err c.from_residual-in_err-write_and_sync.result (MaySettle g.D.Device.seen g.D.Device.may_leave g.D.Device.stale c.write_and_sync.new.device)
+    on_err c.from_residual-in_err-write_and_sync.result (MayRecover g.D.Device.seen g.D.Device.may_leave g.D.Device.stale c.write_and_sync.new.device)
     (first g (goal.at.returns-in_err-write_and_sync-clause-again g c).After-write_and_sync).again
 
 pub returns-clause-any_moment : goal.returns-clause-any_moment
@@ -52,7 +52,7 @@ returns-clause-read g c = (second g (goal.at.returns-clause-read g c).After-writ
 
 pub returns-clause-again : goal.returns-clause-again
 returns-clause-again g c =
-    on_err c.write_and_sync-2.result (MaySettle g.D.Device.seen g.D.Device.may_leave g.D.Device.stale c.write_and_sync-2.new.device)
+    on_err c.write_and_sync-2.result (MayRecover g.D.Device.seen g.D.Device.may_leave g.D.Device.stale c.write_and_sync-2.new.device)
     (second g (goal.at.returns-clause-again g c).After-write_and_sync-2).again
 
 -- what the first write leaves is read

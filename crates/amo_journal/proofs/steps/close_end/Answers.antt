@@ -1,7 +1,7 @@
 use Rattle.std.proofs.Common.{◌∷◌, [], ℕ, ◌≤◌, List, length, refl, ap, arith, length-take}
 use Rattle.amo_journal.specs.Device.{AgreesBut, Holds, IsOutside, LeavesOnly}
 use Rattle.amo_journal.specs.Texts.{texts_in}
-use Rattle.amo_journal.specs.Journal.{AllWhole, IsAtRest, IsWhole, MaySettle}
+use Rattle.amo_journal.specs.Journal.{AllWhole, IsAtRest, IsWhole, MayRecover}
 use Rattle.amo_journal.proofs.Moments.{IsCut, KeepsTexts, joined, leaves_weaker}
 use Rattle.amo_journal.proofs.Whole.{cut_whole, close_whole, close_read_whole}
 use Rattle.amo_journal.proofs.Parts.{texts_are_one_line}
@@ -103,7 +103,7 @@ returns-in_err-cut_and_sync-clause-any_moment g c = (first g (goal.at.returns-in
 
 pub returns-in_err-cut_and_sync-clause-again : goal.returns-in_err-cut_and_sync-clause-again
 returns-in_err-cut_and_sync-clause-again g c =
-    on_err c.from_residual.result (MaySettle g.D.Device.seen g.D.Device.may_leave g.D.Device.stale c.cut_and_sync.new.device) (first g (goal.at.returns-in_err-cut_and_sync-clause-again g c).After-cut_and_sync).again
+    on_err c.from_residual.result (MayRecover g.D.Device.seen g.D.Device.may_leave g.D.Device.stale c.cut_and_sync.new.device) (first g (goal.at.returns-in_err-cut_and_sync-clause-again g c).After-cut_and_sync).again
 
 pub returns-clause-same : goal.returns-clause-same
 returns-clause-same g c = (second g (goal.at.returns-clause-same g c).After-write_and_sync).read
@@ -121,7 +121,7 @@ returns-clause-any_moment g c =
 
 pub returns-clause-again : goal.returns-clause-again
 returns-clause-again g c =
-    on_err c.write_and_sync.result (MaySettle g.D.Device.seen g.D.Device.may_leave g.D.Device.stale c.write_and_sync.new.device) (second g (goal.at.returns-clause-again g c).After-write_and_sync).again
+    on_err c.write_and_sync.result (MayRecover g.D.Device.seen g.D.Device.may_leave g.D.Device.stale c.write_and_sync.new.device) (second g (goal.at.returns-clause-again g c).After-write_and_sync).again
 
 pub returns-clause-at_rest : goal.returns-clause-at_rest
 returns-clause-at_rest g c =

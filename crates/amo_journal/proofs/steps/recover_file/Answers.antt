@@ -4,7 +4,7 @@ use Rattle.amo_journal.specs.Appends.{IsLog, lines_from}
 use Rattle.amo_journal.specs.Device.{LeavesOnly}
 use Rattle.amo_journal.specs.Logs.{records_of}
 use Rattle.amo_journal.specs.Texts.{texts_in, blocks}
-use Rattle.amo_journal.specs.Journal.{AllWhole, HasLast, IsWhole, MaySettle, StaysNear}
+use Rattle.amo_journal.specs.Journal.{AllWhole, HasLast, IsWhole, MayRecover, StaysNear}
 use Rattle.amo_journal.proofs.Logs.{appends_blocks, has_last, log_texts, log_whole}
 use Rattle.amo_journal.proofs.Moments.{started, goes_on, joined}
 use Rattle.amo_journal.proofs.Opening.{near_stays, stays_more}
@@ -109,7 +109,7 @@ read_whole g c opened same = subst IsWhole (sym same) (log_whole c.args.first.no
 
 pub returns-in_err-close_end-clause-again : goal.returns-in_err-close_end-clause-again
 returns-in_err-close_end-clause-again g c =
-    on_err c.from_residual-in_err-close_end.result (MaySettle g.D.Device.seen g.D.Device.may_leave g.D.Device.stale c.close_end.new.device) c.in_err-close_end.ensures.again
+    on_err c.from_residual-in_err-close_end.result (MayRecover g.D.Device.seen g.D.Device.may_leave g.D.Device.stale c.close_end.new.device) c.in_err-close_end.ensures.again
 
 pub returns-in_err-close_end-clause-whole : goal.returns-in_err-close_end-clause-whole
 returns-in_err-close_end-clause-whole g c were =

@@ -5,8 +5,8 @@ use Rattle.amo_journal.proofs.Blocks.{all_push, length-blocks_push}
 use Rattle.amo_journal.proofs.Chains.{checksum_after-push}
 use Rattle.amo_journal.proofs.Journaling.{added, added_lines, added_read, nothing_done, recovered_log}
 use Rattle.amo_journal.proofs.Logs.{line_one_line, lines_records}
-use Rattle.amo_journal.proofs.chained.ChainedJournal.append.Goals as goal
-use Rattle.amo_journal.proofs.chained.ChainedJournal.append.Goals.{After-deref}
+use Rattle.amo_journal.proofs.journal.Journal.append.Goals as goal
+use Rattle.amo_journal.proofs.journal.Journal.append.Goals.{After-deref}
 
 pub returns-then-self-ge-MAX_BYTES-clause-any_moment : goal.returns-then-self-ge-MAX_BYTES-clause-any_moment
 returns-then-self-ge-MAX_BYTES-clause-any_moment g c = nothing_done g.D.Device.moment g.D.Device.left_since g.D.Device.seen g.D.Device.may_leave g.D.Device.stale c.args.self.now c.requires.recovered c.args.records.now (g.met.D.Device.only_now c.args.self.now.device)

@@ -9,8 +9,8 @@ use Rattle.amo_journal.proofs.Logs.{is_log, lines_records, log_texts, log_whole}
 use Rattle.amo_journal.proofs.Moments.{leaves_weaker}
 use Rattle.amo_journal.proofs.Opening.{stays_texts, stays_open}
 use Rattle.amo_journal.proofs.Parts.{texts_are_one_line}
-use Rattle.amo_journal.proofs.chained.ChainedJournal.recover.Goals as goal
-use Rattle.amo_journal.proofs.chained.ChainedJournal.recover.Goals.{After-recover_file}
+use Rattle.amo_journal.proofs.journal.Journal.recover.Goals as goal
+use Rattle.amo_journal.proofs.journal.Journal.recover.Goals.{After-recover_file}
 
 some_left : (g : _) (c : After-recover_file g) (all : List (List ℕ)) → IsLog c.args.self.now.first.digits all (g.D.Device.seen c.args.self.now.device) → AllWhole (g.D.Device.may_leave c.args.self.now.device)
     → LeavesOnly g.D.Device.moment g.D.Device.left_since c.args.self.now.device c.recover_file.new.device (HasAllOrNotTheLast c.args.self.now.first.digits all)
