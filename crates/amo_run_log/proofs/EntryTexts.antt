@@ -39,26 +39,22 @@ code_printed n c h = by_test (nat_lt 255 n) refl h
 -- what is printed is read
 
 -- the parts of what is read, each by what it is read of
-abbrev done_of : ℕ × ℕ × ℕ → Option (ℕ × Outcome)
-done_of n = option_and_then (λ code. Some (n.0, Done code n.2)) (code_in n.1)
-
-abbrev untouched_of : ℕ × ℕ → Option (ℕ × Outcome)
-untouched_of n = option_and_then (λ code. Some (n.0, Untouched code)) (code_in n.1)
+abbrev coded_of : (ℕ → ℕ → Outcome) → ℕ × ℕ × ℕ → Option (ℕ × Outcome)
+coded_of a n = option_and_then (λ code. Some (n.0, a code n.2)) (code_in n.1)
 
 abbrev entry_of : Option (ℕ × Outcome) → Option Entry
 entry_of o = option_and_then (λ (n : ℕ × Outcome). Some (Answered n.0 n.1)) o
 
+coded_reads : (a : ℕ → ℕ → Outcome) (s c t : ℕ) → s < 2 ^ 64 → c < 2 ^ 8 → t < 2 ^ 64
+    → entry_of (option_and_then (coded_of a) (three_in (decimal s ++ 32 ∷ (decimal c ++ 32 ∷ decimal t)))) ≡ Some (Answered s (a c t))
+coded_reads a s c t fs fc ft =
+    ap (λ o. entry_of (option_and_then (coded_of a) o)) (three_reads s c t fs (omega (arith, fc)) ft) ∙ ap (λ o. entry_of (option_and_then (λ (code : ℕ). Some (s, a code t)) o)) (code_reads c fc)
+
 answer_reads : (s : ℕ) (a : Outcome) → FitsAnswer s a → entry_in (text_of_answer s a) ≡ Some (Answered s a)
-answer_reads s (Done c t) f =
-    word_reads entry_of_word (codes "done") (decimal s ++ 32 ∷ (decimal c ++ 32 ∷ decimal t)) refl
-    ∙ ap (λ o. entry_of (option_and_then done_of o)) (three_reads s c t f.0 (omega (arith, f.1)) f.2)
-    ∙ ap (λ o. entry_of (option_and_then (λ (code : ℕ). Some (s, Done code t)) o)) (code_reads c f.1)
-answer_reads s Doubt f = word_reads entry_of_word (codes "doubt") (decimal s) refl ∙ ap (λ o. entry_of (option_and_then (λ (n : ℕ). Some (n, Doubt)) o)) (reads_printed s f)
+answer_reads s (Done c t) f = word_reads entry_of_word (codes "done") (decimal s ++ 32 ∷ (decimal c ++ 32 ∷ decimal t)) refl ∙ coded_reads Done s c t f.0 f.1 f.2
+answer_reads s (Doubt t) f = word_reads entry_of_word (codes "doubt") (decimal s ++ 32 ∷ decimal t) refl ∙ ap (λ o. entry_of (option_and_then (λ (n : ℕ × ℕ). Some (n.0, Doubt n.1)) o)) (two_reads s t f.0 f.1)
 answer_reads s Unbegun f = word_reads entry_of_word (codes "unbegun") (decimal s) refl ∙ ap (λ o. entry_of (option_and_then (λ (n : ℕ). Some (n, Unbegun)) o)) (reads_printed s f)
-answer_reads s (Untouched c) f =
-    word_reads entry_of_word (codes "untouched") (decimal s ++ 32 ∷ decimal c) refl
-    ∙ ap (λ o. entry_of (option_and_then untouched_of o)) (two_reads s c f.0 (omega (arith, f.1)))
-    ∙ ap (λ o. entry_of (option_and_then (λ (code : ℕ). Some (s, Untouched code)) o)) (code_reads c f.1)
+answer_reads s (Untouched c t) f = word_reads entry_of_word (codes "untouched") (decimal s ++ 32 ∷ (decimal c ++ 32 ∷ decimal t)) refl ∙ coded_reads Untouched s c t f.0 f.1 f.2
 
 pub entry_reads : (e : Entry) → Fits e → entry_in (text_of e) ≡ Some e
 entry_reads (Intent s l t) f = word_reads entry_of_word (codes "intent") (decimal s ++ 32 ∷ (decimal l ++ 32 ∷ decimal t)) refl ∙ ap (option_and_then (λ n. Some (Intent n.0 n.1 n.2))) (three_reads s l t f.0 f.1 f.2)
@@ -78,39 +74,39 @@ word_is w r word e is printed =
     let same : w ≡ word = (bytes_eq-Decides w word).0 is in
     (printed.0 ∙ ap (λ v. v ++ 32 ∷ r) (sym same), printed.1)
 
-with_code : (r : List ℕ) (n : ℕ × ℕ × ℕ) (e : ℕ × Outcome) → three_in r ≡ Some n → option_and_then (λ code. Some (n.0, Done code n.2)) (code_in n.1) ≡ Some e → IsPrintedAnswer (codes "done" ++ 32 ∷ r) e
-with_code r n e read more =
+with_code : (word r : List ℕ) (a : ℕ → ℕ → Outcome) (n : ℕ × ℕ × ℕ) (e : ℕ × Outcome) → three_in r ≡ Some n → coded_of a n ≡ Some e
+    → ((s c t : ℕ) → s < 2 ^ 64 → c < 2 ^ 8 → t < 2 ^ 64 → IsPrintedAnswer (word ++ 32 ∷ (decimal s ++ 32 ∷ (decimal c ++ 32 ∷ decimal t))) (s, a c t))
+    → IsPrintedAnswer (word ++ 32 ∷ r) e
+with_code word r a n e read more prints =
     let (code, is_code, same) = and_then_some _ (code_in n.1) e more in
     let (number_is, small) = code_printed n.1 code is_code in
     let p = three_printed r n read in
-    let is : (n.0, Done code n.2) ≡ e = cc in
-    subst (λ (x : ℕ × Outcome). IsPrintedAnswer (codes "done" ++ 32 ∷ r) x) is
-    (ap (λ c. codes "done" ++ 32 ∷ (decimal n.0 ++ 32 ∷ (decimal c ++ 32 ∷ decimal n.2))) (sym number_is) ∙ ap (λ x. codes "done" ++ 32 ∷ x) p.0, (p.1, small, p.3))
+    let is : (n.0, a code n.2) ≡ e = cc in
+    let text : decimal n.0 ++ 32 ∷ (decimal code ++ 32 ∷ decimal n.2) ≡ r = ap (λ c. decimal n.0 ++ 32 ∷ (decimal c ++ 32 ∷ decimal n.2)) (sym number_is) ∙ p.0 in
+    subst (λ (x : ℕ × Outcome). IsPrintedAnswer (word ++ 32 ∷ r) x) is
+    (subst (λ (x : List ℕ). IsPrintedAnswer (word ++ 32 ∷ x) (n.0, a code n.2)) text (prints n.0 code n.2 p.1 small p.3))
 
-with_untouched : (r : List ℕ) (n : ℕ × ℕ) (e : ℕ × Outcome) → two_in r ≡ Some n → option_and_then (λ code. Some (n.0, Untouched code)) (code_in n.1) ≡ Some e → IsPrintedAnswer (codes "untouched" ++ 32 ∷ r) e
-with_untouched r n e read more =
-    let (code, is_code, same) = and_then_some _ (code_in n.1) e more in
-    let (number_is, small) = code_printed n.1 code is_code in
+with_time : (r : List ℕ) (n : ℕ × ℕ) (e : ℕ × Outcome) → two_in r ≡ Some n → Some (n.0, Doubt n.1) ≡ Some e → IsPrintedAnswer (codes "doubt" ++ 32 ∷ r) e
+with_time r n e read same =
     let p = two_printed r n read in
-    let is : (n.0, Untouched code) ≡ e = cc in
-    subst (λ (x : ℕ × Outcome). IsPrintedAnswer (codes "untouched" ++ 32 ∷ r) x) is
-    (ap (λ c. codes "untouched" ++ 32 ∷ (decimal n.0 ++ 32 ∷ decimal c)) (sym number_is) ∙ ap (λ x. codes "untouched" ++ 32 ∷ x) p.0, (p.1, small))
+    let is : (n.0, Doubt n.1) ≡ e = cc in
+    subst (λ (x : ℕ × Outcome). IsPrintedAnswer (codes "doubt" ++ 32 ∷ r) x) is (ap (λ x. codes "doubt" ++ 32 ∷ x) p.0, (p.1, p.2))
 
-with_number : (r word : List ℕ) (a : Outcome) (n : ℕ) (e : ℕ × Outcome) → number_in r ≡ Some n → Some (n, a) ≡ Some e → ((s : ℕ) → s < 2 ^ 64 → IsPrintedAnswer (word ++ 32 ∷ decimal s) (s, a)) → IsPrintedAnswer (word ++ 32 ∷ r) e
-with_number r word a n e read same prints =
+with_number : (r : List ℕ) (n : ℕ) (e : ℕ × Outcome) → number_in r ≡ Some n → Some (n, Unbegun) ≡ Some e → IsPrintedAnswer (codes "unbegun" ++ 32 ∷ r) e
+with_number r n e read same =
     let p = printed_of_read r n read in
-    let is : (n, a) ≡ e = cc in
-    subst (λ (x : ℕ × Outcome). IsPrintedAnswer (word ++ 32 ∷ r) x) is (subst (λ (x : List ℕ). IsPrintedAnswer (word ++ 32 ∷ x) (n, a)) p.0 (prints n p.1))
+    let is : (n, Unbegun) ≡ e = cc in
+    subst (λ (x : ℕ × Outcome). IsPrintedAnswer (codes "unbegun" ++ 32 ∷ r) x) is (ap (λ x. codes "unbegun" ++ 32 ∷ x) p.0, p.1)
 
 answer_printed : (w r : List ℕ) (e : ℕ × Outcome) → answer_of_word w r ≡ Some e → IsPrintedAnswer (w ++ 32 ∷ r) e
 answer_printed w r e h = elim (either_way (bytes_eq w (codes "done")) _ _ (Some e) h) [
-  | inl t ↦ let (n, read, more) = and_then_some _ (three_in r) e t.1 in word_is w r (codes "done") e t.0 (with_code r n e read more)
+  | inl t ↦ let (n, read, more) = and_then_some _ (three_in r) e t.1 in word_is w r (codes "done") e t.0 (with_code (codes "done") r Done n e read more (λ s c t fs fc ft. (refl, (fs, fc, ft))))
   | inr f ↦ elim (either_way (bytes_eq w (codes "doubt")) _ _ (Some e) f.1) [
-    | inl t ↦ let (n, read, same) = and_then_some _ (number_in r) e t.1 in word_is w r (codes "doubt") e t.0 (with_number r (codes "doubt") Doubt n e read same (λ s fits. (refl, fits)))
+    | inl t ↦ let (n, read, same) = and_then_some _ (two_in r) e t.1 in word_is w r (codes "doubt") e t.0 (with_time r n e read same)
     | inr g ↦ elim (either_way (bytes_eq w (codes "unbegun")) _ _ (Some e) g.1) [
-      | inl t ↦ let (n, read, same) = and_then_some _ (number_in r) e t.1 in word_is w r (codes "unbegun") e t.0 (with_number r (codes "unbegun") Unbegun n e read same (λ s fits. (refl, fits)))
+      | inl t ↦ let (n, read, same) = and_then_some _ (number_in r) e t.1 in word_is w r (codes "unbegun") e t.0 (with_number r n e read same)
       | inr k ↦ elim (either_way (bytes_eq w (codes "untouched")) _ _ (Some e) k.1) [
-        | inl t ↦ let (n, read, more) = and_then_some _ (two_in r) e t.1 in word_is w r (codes "untouched") e t.0 (with_untouched r n e read more)
+        | inl t ↦ let (n, read, more) = and_then_some _ (three_in r) e t.1 in word_is w r (codes "untouched") e t.0 (with_code (codes "untouched") r Untouched n e read more (λ s c t fs fc ft. (refl, (fs, fc, ft))))
         | inr z ↦ absurd (none_some z.1)
       ]
     ]
@@ -140,9 +136,10 @@ entry_printed = printed_by text_of Fits entry_of_word word_printed
 
 ascii_answer : (s : ℕ) (a : Outcome) → FitsAnswer s a → IsAscii (text_of_answer s a)
 ascii_answer s (Done c t) f = IsAscii-append (codes "done ") (decimal s ++ 32 ∷ (decimal c ++ 32 ∷ decimal t)) (ascii_by_test (codes "done ") refl) (three_ascii s c t f.0 (omega (arith, f.1)) f.2)
-ascii_answer s Doubt f = IsAscii-append (codes "doubt ") (decimal s) (ascii_by_test (codes "doubt ") refl) (IsAscii-decimal s f)
+ascii_answer s (Doubt t) f = IsAscii-append (codes "doubt ") (decimal s ++ 32 ∷ decimal t) (ascii_by_test (codes "doubt ") refl) (two_ascii s t f.0 f.1)
 ascii_answer s Unbegun f = IsAscii-append (codes "unbegun ") (decimal s) (ascii_by_test (codes "unbegun ") refl) (IsAscii-decimal s f)
-ascii_answer s (Untouched c) f = IsAscii-append (codes "untouched ") (decimal s ++ 32 ∷ decimal c) (ascii_by_test (codes "untouched ") refl) (two_ascii s c f.0 (omega (arith, f.1)))
+ascii_answer s (Untouched c t) f =
+    IsAscii-append (codes "untouched ") (decimal s ++ 32 ∷ (decimal c ++ 32 ∷ decimal t)) (ascii_by_test (codes "untouched ") refl) (three_ascii s c t f.0 (omega (arith, f.1)) f.2)
 
 ascii : (e : Entry) → Fits e → IsAscii (text_of e)
 ascii (Intent s l t) f = IsAscii-append (codes "intent ") (decimal s ++ 32 ∷ (decimal l ++ 32 ∷ decimal t)) (ascii_by_test (codes "intent ") refl) (three_ascii s l t f.0 f.1 f.2)

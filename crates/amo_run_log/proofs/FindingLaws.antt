@@ -13,7 +13,7 @@ still : (a b c : Bool) → (b ≡ true → c ≡ true) → (a || b) ≡ true →
 still true b c follows h = refl
 still false b c follows h = follows h
 
-undone_more : (findings more : List Finding) (worker serial : ℕ) → is_undone findings worker serial ≡ true → is_undone (findings ++ more) worker serial ≡ true
+pub undone_more : (findings more : List Finding) (worker serial : ℕ) → is_undone findings worker serial ≡ true → is_undone (findings ++ more) worker serial ≡ true
 undone_more [] more worker serial h = absurd (cc)
 undone_more (f ∷ findings) more worker serial h =
     still (is_not_done f.verdict && is_of worker serial f) (is_undone findings worker serial) (is_undone (findings ++ more) worker serial) (undone_more findings more worker serial) h

@@ -1,9 +1,12 @@
 pub mod AttemptLemmas
+pub mod ClearLaws
+pub mod Clearances
 pub mod ClosingWins
 pub mod EntryTexts
 pub mod FindingLaws
 pub mod FindingTexts
 pub mod GrammarLaws
+pub mod OldAnswers
 pub mod OpenLaws
 pub mod OpenLines
 pub mod OpenMeaning

@@ -14,20 +14,20 @@ use Rattle.amo_run_log.specs.Journals.{answered, answered_to, is_line, noted, jo
 use Rattle.amo_run_log.specs.Open.{opens, reopens, closes, any_closes, OpensNone, OpensNot, IsAnswer, serial_of, IsAtIndex, IsOfLine, NoneOpens}
 use Rattle.amo_run_log.proofs.Words.{equal}
 
-is_equal : (a b : ℕ) → (a == b) ≡ true → a ≡ b
+pub is_equal : (a b : ℕ) → (a == b) ≡ true → a ≡ b
 is_equal a b h = grind (arith, nat_tests)
 
 -- an entry with an answer
-abbrev with : Attempt → Outcome → Attempt
+abbrev pub with : Attempt → Outcome → Attempt
 with e a = record e { answer = Some a }
 
 -- the first entry is answered where it has none
-head : (e : Attempt) (es next : List Attempt) (a : Outcome) (o : Option Outcome) → cond (is_none o) (Some (with e a ∷ es)) None ≡ Some next → (o ≡ None) × (with e a ∷ es ≡ next)
+pub head : (e : Attempt) (es next : List Attempt) (a : Outcome) (o : Option Outcome) → cond (is_none o) (Some (with e a ∷ es)) None ≡ Some next → (o ≡ None) × (with e a ∷ es ≡ next)
 head e es next a None h = (refl, cc)
 head e es next a (Some b) h = absurd (cc)
 
 -- a later one
-tail : (e : Attempt) (o : Option (List Attempt)) (next : List Attempt) → option_map (λ rest. e ∷ rest) o ≡ Some next → (rest : List Attempt) × (o ≡ Some rest) × (e ∷ rest ≡ next)
+pub tail : (e : Attempt) (o : Option (List Attempt)) (next : List Attempt) → option_map (λ rest. e ∷ rest) o ≡ Some next → (rest : List Attempt) × (o ≡ Some rest) × (e ∷ rest ≡ next)
 tail e None next h = absurd (cc)
 tail e (Some rest) next h = (rest, refl, cc)
 
@@ -108,11 +108,11 @@ module _ (count : ℕ) (findings : List Finding) (worker line : ℕ) where
 
   -- the same of an entry of a journal
 
-  to_serial : {P : Type 0} (es next : List Attempt) (s : ℕ) (a : Outcome) → ((i : ℕ) → suc i ≡ s → answered es i a ≡ Some next → P) → answered_to es s a ≡ Some next → P
+  pub to_serial : {P : Type 0} (es next : List Attempt) (s : ℕ) (a : Outcome) → ((i : ℕ) → suc i ≡ s → answered es i a ≡ Some next → P) → answered_to es s a ≡ Some next → P
   to_serial es next zero a follows h = absurd (cc)
   to_serial es next (suc i) a follows h = follows i refl h
 
-  intent_is : (es next : List Attempt) (b : Bool) (e : Attempt) → cond b (Some (es ++ e ∷ [])) None ≡ Some next → (b ≡ true) × (es ++ e ∷ [] ≡ next)
+  pub intent_is : (es next : List Attempt) (b : Bool) (e : Attempt) → cond b (Some (es ++ e ∷ [])) None ≡ Some next → (b ≡ true) × (es ++ e ∷ [] ≡ next)
   intent_is es next true e h = (refl, cc)
   intent_is es next false e h = absurd (cc)
 

@@ -3,8 +3,9 @@ use Rattle.std.proofs.Common.{◌≡◌, ◌⊎◌, inl, inr, ⊎_elim, ℕ, ◌
 use Rattle.std.specs.Prelude.{codes, OnOk}
 use Rattle.std.specs.Fmt.{decimal}
 use Rattle.amo_journal.specs.Device.{LeavesOnly}
-use Rattle.amo_journal.specs.Journal.{IsBeforeOrAfter}
-use Rattle.amo_journal.specs.Texts.{texts_in}
+use Rattle.amo_journal.specs.Journal.{HasOneMoreOrNot}
+use Rattle.amo_journal.proofs.Logs.{log_records}
+use Rattle.amo_journal.specs.Appends.{records_in}
 use Rattle.amo_run_log.specs.declared.entry.Outcome.{Outcome}
 use Rattle.amo_run_log.specs.declared.entry.Outcome.TheVariants.{Done, Doubt, Unbegun, Untouched}
 use Rattle.amo_run_log.specs.declared.entry.Entry.{Entry}
@@ -32,9 +33,10 @@ three_lack a b c fa fb fc = lacks_append 10 (decimal a) (32 ∷ (decimal b ++ 32
 
 answer_lacks : (s : ℕ) (a : Outcome) → FitsAnswer s a → Lacks 10 (text_of_answer s a)
 answer_lacks s (Done c t) f = lacks_append 10 (codes "done ") (decimal s ++ 32 ∷ (decimal c ++ 32 ∷ decimal t)) (lacks_by_test 10 (codes "done ") refl) (three_lack s c t f.0 (omega (arith, f.1)) f.2)
-answer_lacks s Doubt f = lacks_append 10 (codes "doubt ") (decimal s) (lacks_by_test 10 (codes "doubt ") refl) (decimal_lacks 10 s (omega arith) f)
+answer_lacks s (Doubt t) f = lacks_append 10 (codes "doubt ") (decimal s ++ 32 ∷ decimal t) (lacks_by_test 10 (codes "doubt ") refl) (two_lack s t f.0 f.1)
 answer_lacks s Unbegun f = lacks_append 10 (codes "unbegun ") (decimal s) (lacks_by_test 10 (codes "unbegun ") refl) (decimal_lacks 10 s (omega arith) f)
-answer_lacks s (Untouched c) f = lacks_append 10 (codes "untouched ") (decimal s ++ 32 ∷ decimal c) (lacks_by_test 10 (codes "untouched ") refl) (two_lack s c f.0 (omega (arith, f.1)))
+answer_lacks s (Untouched c t) f =
+    lacks_append 10 (codes "untouched ") (decimal s ++ 32 ∷ (decimal c ++ 32 ∷ decimal t)) (lacks_by_test 10 (codes "untouched ") refl) (three_lack s c t f.0 (omega (arith, f.1)) f.2)
 
 pub one_line : (e : Entry) → Fits e → Lacks 10 (text_of e)
 one_line (Intent s l t) f = lacks_append 10 (codes "intent ") (decimal s ++ 32 ∷ (decimal l ++ 32 ∷ decimal t)) (lacks_by_test 10 (codes "intent ") refl) (three_lack s l t f.0 f.1 f.2)
@@ -64,30 +66,31 @@ leaves moment left_since old new P Q l follows = record {
 }
 
 says_one_more : {A : Type 0} (read : List ℕ → Option A) (old new text : List ℕ) (xs : List A) (x : A)
-    → read text ≡ Some x → read_all read (texts_in old) ≡ Some xs → texts_in new ≡ texts_in old ++ text ∷ [] → read_all read (texts_in new) ≡ Some (xs ++ x ∷ [])
-says_one_more read old new text xs x is are put = ap (read_all read) put ∙ one_more read (texts_in old) xs text x are is
+    → read text ≡ Some x → read_all read (records_in old) ≡ Some xs → records_in new ≡ records_in old ++ text ∷ [] → read_all read (records_in new) ≡ Some (xs ++ x ∷ [])
+says_one_more read old new text xs x is are put = ap (read_all read) put ∙ one_more read (records_in old) xs text x are is
 
-before_or_after : {A : Type 0} (read : List ℕ → Option A) (old text : List ℕ) (xs : List A) (x : A)
-    → read text ≡ Some x → read_all read (texts_in old) ≡ Some xs → (c : List ℕ) → IsBeforeOrAfter (texts_in old) text c
-    → (read_all read (texts_in c) ≡ Some xs) ⊎ (read_all read (texts_in c) ≡ Some (xs ++ x ∷ []))
-before_or_after read old text xs x is are c at =
-    ⊎_elim (λ before. inl (ap (read_all read) before ∙ are)) (λ after. inr (says_one_more read old c text xs x is are after)) at
+before_or_after : {A : Type 0} (first : List ℕ) (read : List ℕ → Option A) (old text : List ℕ) (xs : List A) (x : A)
+    → read text ≡ Some x → read_all read (records_in old) ≡ Some xs → (c : List ℕ) → HasOneMoreOrNot first (records_in old) text c
+    → (read_all read (records_in c) ≡ Some xs) ⊎ (read_all read (records_in c) ≡ Some (xs ++ x ∷ []))
+before_or_after first read old text xs x is are c at = ⊎_elim
+    (λ before. inl (ap (read_all read) (log_records first (records_in old) c before) ∙ are))
+    (λ after. inr (says_one_more read old c text xs x is are (log_records first (records_in old ++ text ∷ []) c after))) at
 
 -- what a put of one text comes to, for who reads the texts so
 pub record PutsOne {A D T E : Type 0} (read_as : List ℕ → Option A) (moment : D → ℕ) (left_since : D → ℕ → List ℕ → Type 0) (seen : D → List ℕ) (old new : D) (result : Result T E) (x : A) : Type 0 where
-  pub acknowledged : (xs : List A) → read_all read_as (texts_in (seen old)) ≡ Some xs → OnOk result (read_all read_as (texts_in (seen new)) ≡ Some (xs ++ x ∷ []))
-  pub any_moment : (xs : List A) → read_all read_as (texts_in (seen old)) ≡ Some xs
-      → LeavesOnly moment left_since old new (λ c. (read_all read_as (texts_in c) ≡ Some xs) ⊎ (read_all read_as (texts_in c) ≡ Some (xs ++ x ∷ [])))
-  pub read : (xs : List A) → read_all read_as (texts_in (seen old)) ≡ Some xs
-      → (read_all read_as (texts_in (seen new)) ≡ Some xs) ⊎ (read_all read_as (texts_in (seen new)) ≡ Some (xs ++ x ∷ []))
+  pub acknowledged : (xs : List A) → read_all read_as (records_in (seen old)) ≡ Some xs → OnOk result (read_all read_as (records_in (seen new)) ≡ Some (xs ++ x ∷ []))
+  pub any_moment : (xs : List A) → read_all read_as (records_in (seen old)) ≡ Some xs
+      → LeavesOnly moment left_since old new (λ c. (read_all read_as (records_in c) ≡ Some xs) ⊎ (read_all read_as (records_in c) ≡ Some (xs ++ x ∷ [])))
+  pub read : (xs : List A) → read_all read_as (records_in (seen old)) ≡ Some xs
+      → (read_all read_as (records_in (seen new)) ≡ Some xs) ⊎ (read_all read_as (records_in (seen new)) ≡ Some (xs ++ x ∷ []))
 
-pub puts_one : {A D T E : Type 0} (read_as : List ℕ → Option A) (moment : D → ℕ) (left_since : D → ℕ → List ℕ → Type 0) (seen : D → List ℕ) (old new : D) (result : Result T E) (text : List ℕ) (x : A)
-    → read_as text ≡ Some x → OnOk result (texts_in (seen new) ≡ texts_in (seen old) ++ text ∷ []) → LeavesOnly moment left_since old new (IsBeforeOrAfter (texts_in (seen old)) text)
-    → IsBeforeOrAfter (texts_in (seen old)) text (seen new) → PutsOne read_as moment left_since seen old new result x
-puts_one read_as moment left_since seen old new result text x is put run now = record {
+pub puts_one : {A D T E : Type 0} (first : List ℕ) (read_as : List ℕ → Option A) (moment : D → ℕ) (left_since : D → ℕ → List ℕ → Type 0) (seen : D → List ℕ) (old new : D) (result : Result T E) (text : List ℕ) (x : A)
+    → read_as text ≡ Some x → OnOk result (records_in (seen new) ≡ records_in (seen old) ++ text ∷ []) → LeavesOnly moment left_since old new (HasOneMoreOrNot first (records_in (seen old)) text)
+    → HasOneMoreOrNot first (records_in (seen old)) text (seen new) → PutsOne read_as moment left_since seen old new result x
+puts_one first read_as moment left_since seen old new result text x is put run now = record {
   acknowledged = λ xs are. on_ok result put (says_one_more read_as (seen old) (seen new) text xs x is are);
-  any_moment = λ xs are. leaves moment left_since old new (IsBeforeOrAfter (texts_in (seen old)) text) _ run (before_or_after read_as (seen old) text xs x is are);
-  read = λ xs are. before_or_after read_as (seen old) text xs x is are (seen new) now;
+  any_moment = λ xs are. leaves moment left_since old new (HasOneMoreOrNot first (records_in (seen old)) text) _ run (before_or_after first read_as (seen old) text xs x is are);
+  read = λ xs are. before_or_after first read_as (seen old) text xs x is are (seen new) now;
 }
 
 -- where nothing was done, only what might have been left before

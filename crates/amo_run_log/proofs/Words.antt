@@ -110,7 +110,7 @@ printed_by say Fits read printed text x h =
 
 -- what is printed is read
 
-abbrev two_parts : Bool → List ℕ → List ℕ → Option (ℕ × ℕ)
+abbrev pub two_parts : Bool → List ℕ → List ℕ → Option (ℕ × ℕ)
 two_parts blank w r = cond blank (option_and_then (λ a. option_and_then (λ b. Some (a, b)) (number_in r)) (number_in w)) None
 
 abbrev three_parts : Bool → List ℕ → List ℕ → Option (ℕ × ℕ × ℕ)

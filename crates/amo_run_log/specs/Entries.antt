@@ -12,9 +12,9 @@ use Rattle.amo_run_log.specs.declared.entry.Entry.TheVariants.{Intent, Answer as
 -- the text of the answer to the intent of this serial number
 abbrev pub text_of_answer : ℕ → Outcome → List ℕ
 text_of_answer serial (Done code time) = codes "done " ++ (decimal serial ++ (codes " " ++ (decimal code ++ (codes " " ++ decimal time))))
-text_of_answer serial Doubt = codes "doubt " ++ decimal serial
+text_of_answer serial (Doubt time) = codes "doubt " ++ (decimal serial ++ (codes " " ++ decimal time))
 text_of_answer serial Unbegun = codes "unbegun " ++ decimal serial
-text_of_answer serial (Untouched code) = codes "untouched " ++ (decimal serial ++ (codes " " ++ decimal code))
+text_of_answer serial (Untouched code time) = codes "untouched " ++ (decimal serial ++ (codes " " ++ (decimal code ++ (codes " " ++ decimal time))))
 
 -- the text of an entry
 abbrev pub text_of : Entry → List ℕ
@@ -24,9 +24,9 @@ text_of (Answered serial answer) = text_of_answer serial answer
 -- its numbers have 64 bits, and its code is at most 255
 abbrev pub FitsAnswer : ℕ → Outcome → Type 0
 FitsAnswer serial (Done code time) = (serial < 2 ^ 64) × (code < 2 ^ 8) × (time < 2 ^ 64)
-FitsAnswer serial Doubt = serial < 2 ^ 64
+FitsAnswer serial (Doubt time) = (serial < 2 ^ 64) × (time < 2 ^ 64)
 FitsAnswer serial Unbegun = serial < 2 ^ 64
-FitsAnswer serial (Untouched code) = (serial < 2 ^ 64) × (code < 2 ^ 8)
+FitsAnswer serial (Untouched code time) = (serial < 2 ^ 64) × (code < 2 ^ 8) × (time < 2 ^ 64)
 
 -- the same of an entry
 abbrev pub Fits : Entry → Type 0
@@ -41,9 +41,9 @@ code_in number = if nat_lt 255 number then None else Some number
 abbrev pub answer_of_word : List ℕ → List ℕ → Option (ℕ × Outcome)
 answer_of_word word rest =
     if bytes_eq word (codes "done") then option_and_then (λ n. option_and_then (λ code. Some (n.0, Done code n.2)) (code_in n.1)) (three_in rest)
-    else (if bytes_eq word (codes "doubt") then option_and_then (λ n. Some (n, Doubt)) (number_in rest)
+    else (if bytes_eq word (codes "doubt") then option_and_then (λ n. Some (n.0, Doubt n.1)) (two_in rest)
     else (if bytes_eq word (codes "unbegun") then option_and_then (λ n. Some (n, Unbegun)) (number_in rest)
-    else (if bytes_eq word (codes "untouched") then option_and_then (λ n. option_and_then (λ code. Some (n.0, Untouched code)) (code_in n.1)) (two_in rest)
+    else (if bytes_eq word (codes "untouched") then option_and_then (λ n. option_and_then (λ code. Some (n.0, Untouched code n.2)) (code_in n.1)) (three_in rest)
     else None)))
 
 -- the entry of this word and these numbers

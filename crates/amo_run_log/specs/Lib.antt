@@ -1,9 +1,11 @@
+pub mod Clearance
 pub mod Entries
 pub mod Faults
 pub mod Findings
 pub mod Grammar
 pub mod Journals
 pub mod Numbers
+pub mod OldAnswers
 pub mod Open
 pub mod Puts
 pub mod Texts

@@ -12,9 +12,9 @@ use Rattle.amo_run_log.specs.Findings.{is_undone}
 -- whether an answer opens the line again
 abbrev pub opens : Outcome → Bool
 opens (Done code time) = false
-opens Doubt = false
+opens (Doubt time) = false
 opens Unbegun = true
-opens (Untouched code) = false
+opens (Untouched code time) = false
 
 -- whether what is known of an intent opens its line again
 abbrev pub reopens : Option Outcome → Bool

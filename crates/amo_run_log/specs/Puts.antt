@@ -1,6 +1,6 @@
 -- Entries in the file of a journal, and findings.
 use Rattle.std.specs.Prelude.{◌≡◌, ◌⊎◌, ℕ, false, List, [], ◌∷◌, ◌++◌, Option, Some}
-use Rattle.amo_journal.specs.Texts.{texts_in}
+use Rattle.amo_journal.specs.Appends.{records_in}
 use Rattle.amo_run_log.specs.declared.entry.Entry.{Entry}
 use Rattle.amo_run_log.specs.declared.finding.Finding.{Finding}
 use Rattle.amo_run_log.specs.declared.journal.Attempt.{Attempt}
@@ -11,7 +11,7 @@ use Rattle.amo_run_log.specs.Open.{is_open}
 
 -- what a file says as entries
 abbrev pub entries_of : List ℕ → Option (List Entry)
-entries_of file = entries_in (texts_in file)
+entries_of file = entries_in (records_in file)
 
 -- a file of these entries, or of one more
 abbrev pub StandsForOneMoreOrNot : List Entry → Entry → List ℕ → Type 0
@@ -19,7 +19,7 @@ StandsForOneMoreOrNot entries entry file = (entries_of file ≡ Some entries) �
 
 -- what a file says as findings
 abbrev pub findings_of : List ℕ → Option (List Finding)
-findings_of file = findings_in (texts_in file)
+findings_of file = findings_in (records_in file)
 
 -- a file of these findings, or of one more
 abbrev pub SaysOneMoreOrNot : List Finding → Finding → List ℕ → Type 0

@@ -9,17 +9,17 @@ use amo_decimal::number;
 use std::alloc::{AllocError, Global};
 use std::str;
 
-/// What became of an intent.
+/// The outcome of an intent. A time is in seconds since 1970, or 0 if it is not known.
 #[derive(Clone, Copy, Debug, PartialEq, Eq)]
 pub enum Outcome {
-    /// The command ended with this code, at this time in seconds since 1970.
+    /// The command ended with this code, at this time.
     Done { code: u8, time: u64 },
-    /// Nobody can know.
-    Doubt,
+    /// Nobody can know. The answer came at this time.
+    Doubt { time: u64 },
     /// It was not begun.
     Unbegun,
-    /// It ended with this code, by which it says that it did nothing.
-    Untouched { code: u8 },
+    /// It ended at this time with this code, by which it says that it did nothing.
+    Untouched { code: u8, time: u64 },
 }
 
 /// An entry of a journal: an intent, or the answer to one.
@@ -65,15 +65,21 @@ impl FromText for Entry {
     }
 }
 
-fn print_answer(alloc: Global, serial: u64, answer: Outcome) -> Result<String, AllocError>
+pub(crate) fn print_answer(
+    alloc: Global,
+    serial: u64,
+    answer: Outcome,
+) -> Result<String, AllocError>
     ensures text { IfOk result (λ text. string_bytes text ≡ text_of_answer serial answer) }
     ensures fits { FitsAnswer serial answer }
 {
     match answer {
         Outcome::Done { code, time } => format!(in alloc; "done {serial} {code} {time}"),
-        Outcome::Doubt => format!(in alloc; "doubt {serial}"),
+        Outcome::Doubt { time } => format!(in alloc; "doubt {serial} {time}"),
         Outcome::Unbegun => format!(in alloc; "unbegun {serial}"),
-        Outcome::Untouched { code } => format!(in alloc; "untouched {serial} {code}"),
+        Outcome::Untouched { code, time } => {
+            format!(in alloc; "untouched {serial} {code} {time}")
+        }
     }
 }
 
@@ -115,12 +121,15 @@ fn answer_of_word(word: &str, rest: &str) -> Option<(u64, Outcome)>
             let code = code_of(code)?;
             Some((serial, Outcome::Done { code, time }))
         }
-        "doubt" => Some((number(rest)?, Outcome::Doubt)),
+        "doubt" => {
+            let (serial, time) = two(rest)?;
+            Some((serial, Outcome::Doubt { time }))
+        }
         "unbegun" => Some((number(rest)?, Outcome::Unbegun)),
         "untouched" => {
-            let (serial, code) = two(rest)?;
+            let (serial, code, time) = three(rest)?;
             let code = code_of(code)?;
-            Some((serial, Outcome::Untouched { code }))
+            Some((serial, Outcome::Untouched { code, time }))
         }
         _ => None,
     }

@@ -1,21 +1,36 @@
 //! What follows for texts, journals and open lines, each as the contract of a function that does
 //! nothing.
-ghost use Rattle.std.specs.Prelude.{◌≡◌, ◌≤◌, ◌+◌, ◌++◌, [], ◌∷◌, ℕ, true, false, List, Some, length, map};
+ghost use Rattle.std.specs.Prelude.{◌≡◌, ◌≤◌, ◌<◌, ◌+◌, ◌^◌, ◌++◌, [], ◌∷◌, ℕ, true, false, List, Some, codes, length, map};
+ghost use Rattle.std.specs.Fmt.{decimal};
 ghost use Rattle.std.specs.List.{AllByRecursion};
+ghost use Rattle.amo_run_log.specs.declared.clearance.AttemptId.{AttemptId as AttemptIdView};
 ghost use Rattle.amo_run_log.specs.declared.entry.Entry.{Entry as EntryView};
-ghost use Rattle.amo_run_log.specs.declared.entry.Entry.TheVariants.{Intent};
+ghost use Rattle.amo_run_log.specs.declared.entry.Entry.TheVariants.{Answer as Answered, Intent};
+ghost use Rattle.amo_run_log.specs.declared.entry.Outcome.TheVariants.{Doubt, Untouched};
 ghost use Rattle.amo_run_log.specs.declared.finding.Finding.{Finding as FindingView};
 ghost use Rattle.amo_run_log.specs.declared.journal.Attempt.{Attempt as AttemptView};
-ghost use Rattle.amo_run_log.specs.Entries.{text_of, Fits, entries_in};
+ghost use Rattle.amo_run_log.specs.Clearance.{IsClear, IsNoIntentAt, IsStanding};
+ghost use Rattle.amo_run_log.specs.Entries.{text_of, Fits, entries_in, entry_in};
 ghost use Rattle.amo_run_log.specs.Findings.{text_of_finding, FitsFinding, findings_in, is_undone};
 ghost use Rattle.amo_run_log.specs.Grammar.{IsJournal};
 ghost use Rattle.amo_run_log.specs.Journals.{noted, journal_from, journal_of};
+ghost use Rattle.amo_run_log.specs.OldAnswers.{with_time};
 ghost use Rattle.amo_run_log.specs.Open.{is_open, IsOpen, HasIntent, OpensNot, OpensNone, IsAnswer, IsOfLine, NoneOpens, serial_of};
 
 /// Each list of entries is read back as itself, and what is read was printed so.
 pub fn entries_are_read_back()
     ensures back { (entries : List EntryView) → AllByRecursion Fits entries → entries_in (map text_of entries) ≡ Some entries }
     ensures printed { (texts : List (List ℕ)) (entries : List EntryView) → entries_in texts ≡ Some entries → map text_of entries ≡ texts }
+{}
+
+/// An answer that version 0.1.0 wrote without a time is read with the time 0. An entry of today
+/// stays as it is.
+pub fn old_answers_are_read()
+    ensures doubt { (serial : ℕ) → serial < 2 ^ 64
+        → entry_in (with_time (codes "doubt " ++ decimal serial)) ≡ Some (Answered serial (Doubt 0)) }
+    ensures untouched { (serial code : ℕ) → serial < 2 ^ 64 → code < 2 ^ 8
+        → entry_in (with_time (codes "untouched " ++ (decimal serial ++ (codes " " ++ decimal code)))) ≡ Some (Answered serial (Untouched code 0)) }
+    ensures entry { (entry : EntryView) → Fits entry → with_time (text_of entry) ≡ text_of entry }
 {}
 
 /// Each list of findings is read back as itself, and what is read was printed so.
@@ -88,4 +103,34 @@ pub fn an_intent_stays()
     ensures first { (entries : List EntryView) (serial line time : ℕ) → HasIntent serial line (entries ++ Intent serial line time ∷ []) }
     ensures later { (entries : List EntryView) (serial line : ℕ) (entry : EntryView)
         → HasIntent serial line entries → OpensNot serial entry → HasIntent serial line (entries ++ entry ∷ []) }
+{}
+
+/// A line is clear for an attempt just if no other attempt at it stands.
+pub fn clearance_is_of_each_other_attempt()
+    ensures is { (findings : List FindingView) (journals : List (List AttemptView)) (own other : AttemptIdView) (line : ℕ)
+        → IsClear findings journals own line → IsStanding findings journals own line other → ⊥ }
+    ensures only { (findings : List FindingView) (journals : List (List AttemptView)) (own : AttemptIdView) (line : ℕ)
+        → ((other : AttemptIdView) → IsStanding findings journals own line other → ⊥) → IsClear findings journals own line }
+{}
+
+/// A line is clear for an intent that was just noted just if it is open without that intent.
+pub fn a_clear_line_is_open_but_for_itself()
+    ensures is { (count : ℕ) (findings : List FindingView) (before after : List (List AttemptView)) (attempts next : List AttemptView) (serial line time : ℕ)
+        → noted count attempts (Intent serial line time) ≡ Some next
+        → IsClear findings (before ++ next ∷ after) (record { worker = length before + 1; serial = serial }) line
+        → is_open findings (before ++ attempts ∷ after) line ≡ true }
+    ensures only { (count : ℕ) (findings : List FindingView) (before after : List (List AttemptView)) (attempts next : List AttemptView) (serial line time : ℕ)
+        → noted count attempts (Intent serial line time) ≡ Some next
+        → is_open findings (before ++ attempts ∷ after) line ≡ true
+        → IsClear findings (before ++ next ∷ after) (record { worker = length before + 1; serial = serial }) line }
+{}
+
+/// A line that is clear stays so until another intent at it is noted. So who misses findings or
+/// answers sees no line as clear that isn't.
+pub fn what_is_opened_stays_clear()
+    ensures findings { (findings more : List FindingView) (journals : List (List AttemptView)) (own : AttemptIdView) (line : ℕ)
+        → IsClear findings journals own line → IsClear (findings ++ more) journals own line }
+    ensures entries { (count : ℕ) (findings : List FindingView) (before after : List (List AttemptView)) (attempts next : List AttemptView) (own : AttemptIdView) (line : ℕ) (entry : EntryView)
+        → IsNoIntentAt line entry → noted count attempts entry ≡ Some next
+        → IsClear findings (before ++ attempts ∷ after) own line → IsClear findings (before ++ next ∷ after) own line }
 {}

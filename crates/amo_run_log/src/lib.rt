@@ -2,16 +2,19 @@
 //! a round is begun, and who acts as which of its workers. The theorems stand in the module `laws`.
 #![tactic(auto)]
 
+mod clearance;
 mod entry;
 mod fault;
 mod finding;
 mod journal;
 pub mod laws;
 mod numbers;
+mod old_answer;
 mod open;
 mod put;
 mod reading;
 
+pub use clearance::{AttemptId, standing_attempt};
 pub use entry::{Entry, Outcome, code_of};
 pub use fault::Fault;
 pub use finding::{
@@ -19,5 +22,6 @@ pub use finding::{
 };
 pub use journal::{Attempt, journal_of, note, pending, read_entries};
 pub use numbers::{three_of_bytes, two_of_bytes};
+pub use old_answer::with_time;
 pub use open::{open_lines, opens, reopens};
-pub use put::{put_entry, put_finding};
+pub use put::{append_entry, append_finding};

@@ -83,6 +83,6 @@ pub fn opens(answer: Outcome) -> bool
 {
     match answer {
         Outcome::Unbegun => true,
-        Outcome::Done { .. } | Outcome::Doubt | Outcome::Untouched { .. } => false,
+        Outcome::Done { .. } | Outcome::Doubt { .. } | Outcome::Untouched { .. } => false,
     }
 }

@@ -1,7 +1,8 @@
 //! To put an entry, or what a person found out, in the journal of a file.
-ghost use Rattle.std.specs.Prelude.{◌≡◌, ◌+◌, ◌<◌, ◌≤◌, ◌^◌, ◌++◌, [], ◌∷◌, ℕ, false, List, Some, length, OnOk, OnErr, IsErrOf};
+ghost use Rattle.std.specs.Prelude.{◌≡◌, ◌⊎◌, ◌+◌, ◌<◌, ◌≤◌, ◌^◌, ◌++◌, [], ◌∷◌, ℕ, false, List, Some, length, OnOk, OnErr, IsErrOf};
+ghost use Rattle.amo_journal.specs.Appends.{longest, records_in};
 ghost use Rattle.amo_journal.specs.Device.{LeavesOnly};
-ghost use Rattle.amo_journal.specs.Journal.{IsSettled, MaySettle};
+ghost use Rattle.amo_journal.specs.Journal.{HasOneMoreOrNot, IsRecovered, MayRecover};
 ghost use Rattle.amo_run_log.specs.declared.entry.Entry.{Entry as EntryView};
 ghost use Rattle.amo_run_log.specs.declared.entry.Entry.TheVariants.{Intent};
 ghost use Rattle.amo_run_log.specs.declared.finding.Finding.{Finding as FindingView};
@@ -13,21 +14,21 @@ ghost use Rattle.amo_run_log.specs.Puts.{entries_of, findings_of, StandsForOneMo
 
 use crate::entry::Entry;
 use crate::finding::Finding;
-use amo_journal::{Device, DeviceError, Journal, PutError};
+use amo_journal::{AppendError, Device, DeviceError, Journal};
 use std::alloc::Global;
 
-/// Adds an entry to a journal that is settled. At `Ok` it is acknowledged: from then on each crash
-/// leaves a file that has it. At an error of the device, memory too, the journal has to be settled
-/// before anything else is put: until then the entry is there or not.
-pub fn put_entry<D: Device>(
+/// Adds an entry to a journal that was recovered. At `Ok` it is acknowledged: from then on each
+/// crash leaves a file that has it. At an error of the device, memory too, the journal must be
+/// recovered before anything else is put: until then the entry is there or not.
+pub fn append_entry<D: Device>(
     journal: &mut Journal<D>,
     alloc: Global,
     entry: Entry,
-) -> Result<(), PutError>
-    requires { IsSettled D.seen D.may_leave D.stale journal.old }
+) -> Result<(), AppendError>
+    requires { IsRecovered D.seen D.may_leave D.stale journal.old }
 
-    ensures settled { OnOk result (IsSettled D.seen D.may_leave D.stale journal.new) }
-    ensures again { OnErr result (MaySettle D.seen D.may_leave D.stale journal.new.device) }
+    ensures settled { OnOk result (IsRecovered D.seen D.may_leave D.stale journal.new) }
+    ensures again { OnErr result (MayRecover D.seen D.may_leave D.stale journal.new.device) }
     ensures acknowledged { (entries : List EntryView) → entries_of (D.seen journal.old.device) ≡ Some entries
         → OnOk result (entries_of (D.seen journal.new.device) ≡ Some (entries ++ entry ∷ [])) }
 
@@ -52,29 +53,33 @@ pub fn put_entry<D: Device>(
         → is_undone findings (length before + 1) serial ≡ false
         → LeavesOnly D.moment D.left_since journal.old.device journal.new.device (IsClosedIn count findings before after line) }
 
+    // Each of these files is read: none of them looks damaged.
+    ensures log { LeavesOnly D.moment D.left_since journal.old.device journal.new.device
+        (HasOneMoreOrNot journal.old.first.digits (records_in (D.seen journal.old.device)) (text_of entry)) }
+
     // It doesn't give up by itself.
-    ensures failed { IsErrOf result (PutError.Device DeviceError.Failed) → D.faults journal.old.device < D.faults journal.new.device }
-    ensures too_long { IsErrOf result PutError.TooLong → (2 ^ 60 ≤ journal.old.gate + length (text_of entry)) × (journal.new ≡ journal.old) }
+    ensures failed { IsErrOf result (AppendError.Device DeviceError.Failed) → D.faults journal.old.device < D.faults journal.new.device }
+    ensures too_long { IsErrOf result AppendError.TooLong → ((2 ^ 60 ≤ journal.old.gate) ⊎ (longest < length (text_of entry) + 11)) × (journal.new ≡ journal.old) }
 {
     let Ok(text) = entry.print(alloc) else {
-        return Err(PutError::Device(DeviceError::Memory));
+        return Err(AppendError::Device(DeviceError::Memory));
     };
-    journal.put(alloc, text.as_bytes())
+    journal.append(alloc, text.as_bytes())
 }
 
-/// Adds what a person found out to a journal of findings that is settled. At `Ok` it is
+/// Adds what a person found out to a journal of findings that was recovered. At `Ok` it is
 /// acknowledged: from then on each crash leaves a file that says it. At an error of the device,
-/// memory too, the journal has to be settled before anything else is put: until then the finding is
+/// memory too, the journal must be recovered before anything else is put: until then the finding is
 /// there or not. Whether it may stand there (`first_misplaced`) is not asked.
-pub fn put_finding<D: Device>(
+pub fn append_finding<D: Device>(
     journal: &mut Journal<D>,
     alloc: Global,
     finding: Finding,
-) -> Result<(), PutError>
-    requires { IsSettled D.seen D.may_leave D.stale journal.old }
+) -> Result<(), AppendError>
+    requires { IsRecovered D.seen D.may_leave D.stale journal.old }
 
-    ensures settled { OnOk result (IsSettled D.seen D.may_leave D.stale journal.new) }
-    ensures again { OnErr result (MaySettle D.seen D.may_leave D.stale journal.new.device) }
+    ensures settled { OnOk result (IsRecovered D.seen D.may_leave D.stale journal.new) }
+    ensures again { OnErr result (MayRecover D.seen D.may_leave D.stale journal.new.device) }
     ensures acknowledged { (findings : List FindingView) → findings_of (D.seen journal.old.device) ≡ Some findings
         → OnOk result (findings_of (D.seen journal.new.device) ≡ Some (findings ++ finding ∷ [])) }
 
@@ -87,12 +92,16 @@ pub fn put_finding<D: Device>(
     ensures read { (findings : List FindingView) → findings_of (D.seen journal.old.device) ≡ Some findings
         → SaysOneMoreOrNot findings finding (D.seen journal.new.device) }
 
+    // Each of these files is read: none of them looks damaged.
+    ensures log { LeavesOnly D.moment D.left_since journal.old.device journal.new.device
+        (HasOneMoreOrNot journal.old.first.digits (records_in (D.seen journal.old.device)) (text_of_finding finding)) }
+
     // It doesn't give up by itself.
-    ensures failed { IsErrOf result (PutError.Device DeviceError.Failed) → D.faults journal.old.device < D.faults journal.new.device }
-    ensures too_long { IsErrOf result PutError.TooLong → (2 ^ 60 ≤ journal.old.gate + length (text_of_finding finding)) × (journal.new ≡ journal.old) }
+    ensures failed { IsErrOf result (AppendError.Device DeviceError.Failed) → D.faults journal.old.device < D.faults journal.new.device }
+    ensures too_long { IsErrOf result AppendError.TooLong → ((2 ^ 60 ≤ journal.old.gate) ⊎ (longest < length (text_of_finding finding) + 11)) × (journal.new ≡ journal.old) }
 {
     let Ok(text) = finding.print(alloc) else {
-        return Err(PutError::Device(DeviceError::Memory));
+        return Err(AppendError::Device(DeviceError::Memory));
     };
-    journal.put(alloc, text.as_bytes())
+    journal.append(alloc, text.as_bytes())
 }

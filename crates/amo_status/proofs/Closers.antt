@@ -28,13 +28,13 @@ by_parts (Some (Ended code time)) false false final = by_code (code == 0)
     by_code : (b : Bool) → is Open (cond b Done Failed) ≡ false
     by_code true = refl
     by_code false = refl
-by_parts (Some Unknown) true found final = refl
-by_parts (Some Unknown) false true final = refl
-by_parts (Some Unknown) false false final = refl
+by_parts (Some (Unknown time)) true found final = refl
+by_parts (Some (Unknown time)) false true final = refl
+by_parts (Some (Unknown time)) false false final = refl
 by_parts (Some Unbegun) undone found final = refl
-by_parts (Some (Idle code)) true found final = refl
-by_parts (Some (Idle code)) false true final = refl
-by_parts (Some (Idle code)) false false final = refl
+by_parts (Some (Idle code time)) true found final = refl
+by_parts (Some (Idle code time)) false true final = refl
+by_parts (Some (Idle code time)) false false final = refl
 
 pub open_state : (findings : List Finding) (finals : List AttemptId) (worker serial : ℕ) (answer : Option Outcome) → is Open (state_of findings finals worker serial answer) ≡ (reopens answer || is_undone findings worker serial)
 open_state findings finals worker serial answer = by_parts answer (is_undone findings worker serial) (is_found_done findings worker serial) (is_among finals worker serial)

@@ -192,9 +192,9 @@ asked_rests (Some (Ended code time)) final h = by_code (code == 0)
     by_code : (b : Bool) → is Running (cond b Done Failed) ≡ false
     by_code true = refl
     by_code false = refl
-asked_rests (Some Unknown) final h = refl
+asked_rests (Some (Unknown time)) final h = refl
 asked_rests (Some Unbegun) final h = absurd (cc)
-asked_rests (Some (Idle code)) final h = refl
+asked_rests (Some (Idle code time)) final h = refl
 
 from_1 : (journals : List (List Attempt)) (worker serial : ℕ) (e : Attempt) → attempt_of journals worker serial ≡ Some e → 1 ≤ worker
 from_1 journals worker serial e there = by_test (nat_le 1 worker && nat_le 1 serial) refl there

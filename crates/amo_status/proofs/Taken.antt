@@ -89,11 +89,11 @@ asks (Some (Ended code time)) final closing_now h = by_code (code == 0) closing_
     by_code true c x = absurd (cc)
     by_code false true x = (refl, refl)
     by_code false false x = absurd (cc)
-asks (Some Unknown) final true h = (refl, refl)
-asks (Some Unknown) final false h = absurd (cc)
+asks (Some (Unknown time)) final true h = (refl, refl)
+asks (Some (Unknown time)) final false h = absurd (cc)
 asks (Some Unbegun) final closing_now h = absurd (cc)
-asks (Some (Idle code)) final true h = (refl, refl)
-asks (Some (Idle code)) final false h = absurd (cc)
+asks (Some (Idle code time)) final true h = (refl, refl)
+asks (Some (Idle code time)) final false h = absurd (cc)
 
 asked : (answer : Option Outcome) (final : Bool) → is_asked final answer ≡ true → refusal_at (plain final answer) true ≡ None
 asked None true h = refl
@@ -103,9 +103,9 @@ asked (Some (Ended code time)) final h = by_code (code == 0) h
     by_code : (b : Bool) → not b ≡ true → refusal_at (cond b Done Failed) true ≡ None
     by_code true x = absurd (cc)
     by_code false x = refl
-asked (Some Unknown) final h = refl
+asked (Some (Unknown time)) final h = refl
 asked (Some Unbegun) final h = absurd (cc)
-asked (Some (Idle code)) final h = refl
+asked (Some (Idle code time)) final h = refl
 
 module _ (findings : List Finding) (journals : List (List Attempt)) (finals : List AttemptId) (worker serial line : ℕ) (verdict : Resolution) where
   may : refusal_of findings journals finals worker serial line verdict ≡ None → MayBeTaken findings journals finals worker serial line

@@ -60,9 +60,9 @@ refusal_of findings journals finals worker serial line verdict =
 abbrev pub is_asked : Bool → Option Outcome → Bool
 is_asked final None = final
 is_asked final (Some (Ended code time)) = not (code == 0)
-is_asked final (Some Unknown) = true
+is_asked final (Some (Unknown time)) = true
 is_asked final (Some Unbegun) = false
-is_asked final (Some (Idle code)) = true
+is_asked final (Some (Idle code time)) = true
 
 -- an answer to this intent may be taken: it is an intent of the line, a person is asked about it and hasn't answered, and by it
 -- the line is closed now
@@ -77,7 +77,7 @@ with_answer findings verdict worker serial time = findings ++ record { verdict =
 
 -- whether it did nothing
 abbrev pub is_idle : Option Outcome → Bool
-is_idle (Some (Idle code)) = true
+is_idle (Some (Idle code time)) = true
 is_idle answer = false
 
 -- the intents of a journal that did nothing and that no person answered, the first of them of this serial number

@@ -34,9 +34,9 @@ is_found_done findings worker serial = list_any (λ f. not (is_not_done f.verdic
 -- how an intent stands by an answer
 abbrev pub state_in : Outcome → State
 state_in (Ended code time) = if code == 0 then Done else Failed
-state_in Unknown = Doubt
+state_in (Unknown time) = Doubt
 state_in Unbegun = Open
-state_in (Idle code) = Untouched
+state_in (Idle code time) = Untouched
 
 -- how it stands by what is known of it; without an answer it runs, unless nobody can answer any more
 abbrev pub state_by : Bool → Option Outcome → State

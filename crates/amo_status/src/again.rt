@@ -46,6 +46,6 @@ fn is_idle(answer: Option<Outcome>) -> bool
 {
     match answer {
         Some(Outcome::Untouched { .. }) => true,
-        Some(Outcome::Done { .. } | Outcome::Doubt | Outcome::Unbegun) | None => false,
+        Some(Outcome::Done { .. } | Outcome::Doubt { .. } | Outcome::Unbegun) | None => false,
     }
 }

@@ -59,7 +59,7 @@ fn state_in(answer: Outcome) -> State
     match answer {
         Outcome::Done { code: 0, .. } => State::Done,
         Outcome::Done { .. } => State::Failed,
-        Outcome::Doubt => State::Doubt,
+        Outcome::Doubt { .. } => State::Doubt,
         Outcome::Unbegun => State::Open,
         Outcome::Untouched { .. } => State::Untouched,
     }
