@@ -58,7 +58,7 @@ blanks_lack (suc n) = ((λ e. omega (arith, e)), blanks_lack n)
 
 lines_lack : (r : RecordView) → IsRecord r → AllByRecursion (Lacks 10) (head_lines r)
 lines_lack r is =
-    let version : Lacks 10 (codes "amo-words 1") = lacks_by_test 10 (codes "amo-words 1") refl in
+    let version : Lacks 10 (codes "amo-words 2") = lacks_by_test 10 (codes "amo-words 2") refl in
     let round = lacks_append 10 (codes "round ") (decimal r.round) (lacks_by_test 10 (codes "round ") refl) (decimal_lacks 10 r.round (omega arith) is.round) in
     let boot = lacks_append 10 (codes "boot ") r.boot (lacks_by_test 10 (codes "boot ") refl) is.boot in
     let givens = lacks_append 10 (codes "givens ") (numbers r.givens) (lacks_by_test 10 (codes "givens ") refl) (numbers_lack r.givens (fits r is.sound)) in

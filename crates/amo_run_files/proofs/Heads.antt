@@ -4,8 +4,8 @@ use Rattle.amo_run_log.specs.Texts.{ended}
 use Rattle.amo_run_files.specs.declared.head.TheConstants.{HEAD_LEN}
 use Rattle.amo_run_files.specs.Heads.{filled_up}
 
-pub pieces : (round boot jobs workers beta : List ℕ) → (([] ++ (codes "amo-words 1" ++ 10 ∷ (codes "round " ++ (round ++ 10 ∷ codes "boot ")))) ++ boot) ++ (10 ∷ (codes "givens " ++ (jobs ++ 32 ∷ (workers ++ 32 ∷ (beta ++ 10 ∷ [])))))
-    ≡ ended (codes "amo-words 1" ∷ ((codes "round " ++ round) ∷ ((codes "boot " ++ boot) ∷ ((codes "givens " ++ (jobs ++ 32 ∷ (workers ++ 32 ∷ beta))) ∷ []))))
+pub pieces : (round boot jobs workers beta : List ℕ) → (([] ++ (codes "amo-words 2" ++ 10 ∷ (codes "round " ++ (round ++ 10 ∷ codes "boot ")))) ++ boot) ++ (10 ∷ (codes "givens " ++ (jobs ++ 32 ∷ (workers ++ 32 ∷ (beta ++ 10 ∷ [])))))
+    ≡ ended (codes "amo-words 2" ∷ ((codes "round " ++ round) ∷ ((codes "boot " ++ boot) ∷ ((codes "givens " ++ (jobs ++ 32 ∷ (workers ++ 32 ∷ beta))) ∷ []))))
 pieces round boot jobs workers beta = simp append_assoc
 
 pub filled : (text resized pushed : List ℕ) (size : ℕ) → size ≡ length text → size < HEAD_LEN → resized ≡ take (HEAD_LEN - 1) text ++ replicate (HEAD_LEN - 1 - size) 32 → pushed ≡ resized ++ 10 ∷ [] → Some pushed ≡ filled_up text

@@ -1,6 +1,6 @@
--- What is printed of a record is read as it, and what is read was printed so.
+-- The texts of a record are read back as it, and each record that is read has these texts.
 use Rattle.std.proofs.Common.{◌≡◌, inl, inr, ℕ, ◌^◌, ◌<◌, ◌≤◌, Bool, true, cond, List, [], ◌∷◌, ◌++◌, length, take, drop, map, Option, Some, None, refl, sym, ap, subst, ◌∙◌, arith, append_assoc}
-use Rattle.std.specs.Prelude.{◌==◌, ◌&&◌, nat_le, codes, option_and_then, option_map, IfSome, IfNone}
+use Rattle.std.specs.Prelude.{◌==◌, ◌&&◌, nat_le, codes, option_and_then, option_map}
 use Rattle.std.specs.Fmt.{decimal}
 use Rattle.std.specs.List.{AllByRecursion}
 use Rattle.std.specs.Str.{bytes_eq}
@@ -9,12 +9,11 @@ use Rattle.std.proofs.lemmas.Bool.Decides.{nat_tests}
 use Rattle.std.proofs.lemmas.List.{take_at, drop_at, take-append-drop, append-nil}
 use Rattle.std.proofs.lemmas.Slice.Eq.{bytes_eq-Decides}
 use Rattle.amo_givens.specs.declared.limits.TheConstants.{MAX_JOBS, MAX_WORKERS, MAX_BETA}
-use Rattle.amo_run_files.specs.declared.header.RoundHeader.{RoundHeader}
 use Rattle.amo_run_files.specs.declared.seats.RoundParams.{RoundParams}
 use Rattle.amo_decimal.specs.Numbers.{number_in}
 use Rattle.amo_run_log.specs.Numbers.{two_in, three_in, read_all}
 use Rattle.amo_run_log.specs.Texts.{ended}
-use Rattle.amo_run_files.specs.Records.{RecordView, said_by, texts_of, text_of_record, ascends_from, is_sound, IsRecord, texts_from, labelled, head_in, if_sound, record_behind, record_of, record_in}
+use Rattle.amo_run_files.specs.Records.{RecordView, texts_of, ascends_from, is_sound, IsRecord, texts_from, labelled, head_in, if_sound, record_behind, record_of}
 use Rattle.amo_decimal.proofs.NumberTexts.{reads_printed, printed_of_read}
 use Rattle.amo_run_log.proofs.TextLists.{reads_back, was_printed}
 use Rattle.amo_run_log.proofs.Words.{Lacks, lacks_append, lacks_by_test, decimal_lacks, equal, not_equal, two_reads, three_reads, and_then_some, blank_and, two_printed, three_printed}
@@ -28,18 +27,18 @@ cut_one (b ∷ text) begun rest lacks =
     ∙ cut_one text (begun ++ b ∷ []) rest lacks.1
     ∙ ap (λ (l : List ℕ). option_map (λ ts. l ∷ ts) (texts_from rest [])) (append_assoc begun (b ∷ []) text)
 
-cuts : (texts : List (List ℕ)) → AllByRecursion (Lacks 10) texts → texts_from (ended texts) [] ≡ Some texts
+pub cuts : (texts : List (List ℕ)) → AllByRecursion (Lacks 10) texts → texts_from (ended texts) [] ≡ Some texts
 cuts [] all = refl
 cuts (text ∷ texts) all = cut_one text [] (ended texts) all.0 ∙ ap (option_map (λ ts. text ∷ ts)) (cuts texts all.1)
 
-map_some : {A B : Type 0} (f : A → B) (o : Option A) (y : B) → option_map f o ≡ Some y → (x : A) × (o ≡ Some x) × (f x ≡ y)
+pub map_some : {A B : Type 0} (f : A → B) (o : Option A) (y : B) → option_map f o ≡ Some y → (x : A) × (o ≡ Some x) × (f x ≡ y)
 map_some f None y h = absurd (cc)
 map_some f (Some x) y h = (x, refl, cc)
 
-abbrev IsCut : List ℕ → List (List ℕ) → Type 0
+abbrev pub IsCut : List ℕ → List (List ℕ) → Type 0
 IsCut bytes texts = (bytes ≡ ended texts) × AllByRecursion (Lacks 10) texts
 
-was_cut : (bytes begun : List ℕ) (texts : List (List ℕ)) → Lacks 10 begun → texts_from bytes begun ≡ Some texts → IsCut (begun ++ bytes) texts
+pub was_cut : (bytes begun : List ℕ) (texts : List (List ℕ)) → Lacks 10 begun → texts_from bytes begun ≡ Some texts → IsCut (begun ++ bytes) texts
 was_cut [] [] texts lacks h = let none : [] ≡ texts = cc in subst (λ (ts : List (List ℕ)). IsCut [] ts) none (refl, tt)
 was_cut [] (b ∷ begun) texts lacks h = absurd (cc)
 was_cut (b ∷ bytes) begun texts lacks h = elim (cases_eq b 10) [
@@ -128,10 +127,10 @@ lines_lack (line ∷ lines) fit = (decimal_lacks 10 line (omega arith) fit.0, li
 two_lack : (a b : ℕ) → a < 2 ^ 64 → b < 2 ^ 64 → Lacks 10 (decimal a ++ 32 ∷ decimal b)
 two_lack a b fa fb = lacks_append 10 (decimal a) (32 ∷ decimal b) (decimal_lacks 10 a (omega arith) fa) ((λ e. omega arith), decimal_lacks 10 b (omega arith) fb)
 
-texts_lack : (r : RecordView) → IsRecord r → AllByRecursion (Lacks 10) (texts_of r)
+pub texts_lack : (r : RecordView) → IsRecord r → AllByRecursion (Lacks 10) (texts_of r)
 texts_lack r is =
     let l : KeepsLimits r = limits r is.sound in
-    let version = lacks_by_test 10 (codes "amo-run 1") refl in
+    let version = lacks_by_test 10 (codes "amo-run 2") refl in
     let round = lacks_append 10 (codes "round ") (decimal r.round) (lacks_by_test 10 (codes "round ") refl) (decimal_lacks 10 r.round (omega arith) is.round) in
     let boot = lacks_append 10 (codes "boot ") r.boot (lacks_by_test 10 (codes "boot ") refl) is.boot in
     let givens : Lacks 10 (codes "givens " ++ (decimal r.givens.jobs ++ 32 ∷ (decimal r.givens.workers ++ 32 ∷ decimal r.givens.beta))) =
@@ -147,12 +146,11 @@ built h b ls = record { round = h.0; boot = b; givens = h.1; workers = h.2; firs
 abbrev of_parts : Option Head → Option (List ℕ) → Option (List ℕ) → Option RecordView
 of_parts h b ls = option_and_then (λ (x : Head). option_and_then (λ (y : List ℕ). option_and_then (λ (z : List ℕ). if_sound (built x y z)) ls) b) h
 
-pub record_reads : (r : RecordView) → IsRecord r → record_in (text_of_record r) ≡ Some r
+pub record_reads : (r : RecordView) → IsRecord r → record_of (texts_of r) ≡ Some r
 record_reads r is =
     let l : KeepsLimits r = limits r is.sound in
     let lines = read_all number_in (map decimal r.lines) in
-    ap (option_and_then record_of) (cuts (texts_of r) (texts_lack r is))
-    ∙ ap (λ h. of_parts h (labelled (codes "boot ") (codes "boot " ++ r.boot)) lines)
+    ap (λ h. of_parts h (labelled (codes "boot ") (codes "boot " ++ r.boot)) lines)
     (head_reads r.round r.givens r.workers r.first is.round (omega (arith, l.jobs)) (omega (arith, l.sharing, l.workers)) (omega (arith, l.beta)) (omega (arith, l.workers)) (omega (arith, l.workers, l.first)))
     ∙ ap (λ b. of_parts (Some (r.round, r.givens, r.workers, r.first)) b lines) (labelled_reads (codes "boot ") r.boot)
     ∙ ap (λ ls. of_parts (Some (r.round, r.givens, r.workers, r.first)) (Some r.boot) ls) (reads_back number_in decimal (λ n. n < 2 ^ 64) reads_printed r.lines is.lines)
@@ -189,7 +187,7 @@ record SaysRecord (round boot givens workers : List ℕ) (lines : List (List ℕ
   pub sound : is_sound r ≡ true
   pub round_fits : r.round < 2 ^ 64
   pub lines_fit : FitLines r.lines
-  pub printed : codes "amo-run 1" ∷ round ∷ boot ∷ givens ∷ workers ∷ lines ≡ texts_of r
+  pub printed : codes "amo-run 2" ∷ round ∷ boot ∷ givens ∷ workers ∷ lines ≡ texts_of r
 
 behind_printed : (round boot givens workers : List ℕ) (lines : List (List ℕ)) (r : RecordView) → record_behind round boot givens workers lines ≡ Some r → SaysRecord round boot givens workers lines r
 behind_printed round boot givens workers lines r e =
@@ -206,49 +204,31 @@ behind_printed round boot givens workers lines r e =
       round_fits = head.3;
       lines_fit = ls_fit;
       printed =
-          ap (λ x. codes "amo-run 1" ∷ x ∷ boot ∷ givens ∷ workers ∷ lines) head.0
-          ∙ ap (λ x. codes "amo-run 1" ∷ (codes "round " ++ decimal h.0) ∷ x ∷ givens ∷ workers ∷ lines) boot_is
-          ∙ ap (λ x. codes "amo-run 1" ∷ (codes "round " ++ decimal h.0) ∷ (codes "boot " ++ b) ∷ x ∷ workers ∷ lines) head.1
-          ∙ ap (λ x. codes "amo-run 1" ∷ (codes "round " ++ decimal h.0) ∷ (codes "boot " ++ b) ∷ (codes "givens " ++ (decimal h.1.jobs ++ 32 ∷ (decimal h.1.workers ++ 32 ∷ decimal h.1.beta))) ∷ x ∷ lines) head.2
-          ∙ ap (λ x. codes "amo-run 1" ∷ (codes "round " ++ decimal h.0) ∷ (codes "boot " ++ b) ∷ (codes "givens " ++ (decimal h.1.jobs ++ 32 ∷ (decimal h.1.workers ++ 32 ∷ decimal h.1.beta))) ∷ (codes "workers " ++ (decimal h.2 ++ 32 ∷ decimal h.3)) ∷ x) (sym ls_are);
+          ap (λ x. codes "amo-run 2" ∷ x ∷ boot ∷ givens ∷ workers ∷ lines) head.0
+          ∙ ap (λ x. codes "amo-run 2" ∷ (codes "round " ++ decimal h.0) ∷ x ∷ givens ∷ workers ∷ lines) boot_is
+          ∙ ap (λ x. codes "amo-run 2" ∷ (codes "round " ++ decimal h.0) ∷ (codes "boot " ++ b) ∷ x ∷ workers ∷ lines) head.1
+          ∙ ap (λ x. codes "amo-run 2" ∷ (codes "round " ++ decimal h.0) ∷ (codes "boot " ++ b) ∷ (codes "givens " ++ (decimal h.1.jobs ++ 32 ∷ (decimal h.1.workers ++ 32 ∷ decimal h.1.beta))) ∷ x ∷ lines) head.2
+          ∙ ap (λ x. codes "amo-run 2" ∷ (codes "round " ++ decimal h.0) ∷ (codes "boot " ++ b) ∷ (codes "givens " ++ (decimal h.1.jobs ++ 32 ∷ (decimal h.1.workers ++ 32 ∷ decimal h.1.beta))) ∷ (codes "workers " ++ (decimal h.2 ++ 32 ∷ decimal h.3)) ∷ x) (sym ls_are);
     }
 
 -- the boot id of the texts
-lacks_behind : (label text : List ℕ) → Lacks 10 (label ++ text) → Lacks 10 text
+pub lacks_behind : (label text : List ℕ) → Lacks 10 (label ++ text) → Lacks 10 text
 lacks_behind [] text all = all
 lacks_behind (b ∷ label) text all = lacks_behind label text all.1
 
-abbrev WasPrinted : List (List ℕ) → RecordView → Type 0
+abbrev pub WasPrinted : List (List ℕ) → RecordView → Type 0
 WasPrinted texts r = IsRecord r × (texts_of r ≡ texts)
 
-texts_printed : (texts : List (List ℕ)) (r : RecordView) → AllByRecursion (Lacks 10) texts → record_of texts ≡ Some r → WasPrinted texts r
+pub texts_printed : (texts : List (List ℕ)) (r : RecordView) → AllByRecursion (Lacks 10) texts → record_of texts ≡ Some r → WasPrinted texts r
 texts_printed [] r all e = absurd (cc)
 texts_printed (a ∷ []) r all e = absurd (cc)
 texts_printed (a ∷ b ∷ []) r all e = absurd (cc)
 texts_printed (a ∷ b ∷ c ∷ []) r all e = absurd (cc)
 texts_printed (a ∷ b ∷ c ∷ d ∷ []) r all e = absurd (cc)
 texts_printed (version ∷ round ∷ boot ∷ givens ∷ workers ∷ lines) r all e =
-    let (is_version, behind) = blank_and (bytes_eq version (codes "amo-run 1")) (record_behind round boot givens workers lines) r e in
-    let version_is : version ≡ codes "amo-run 1" = (bytes_eq-Decides version (codes "amo-run 1")).0 is_version in
+    let (is_version, behind) = blank_and (bytes_eq version (codes "amo-run 2")) (record_behind round boot givens workers lines) r e in
+    let version_is : version ≡ codes "amo-run 2" = (bytes_eq-Decides version (codes "amo-run 2")).0 is_version in
     let s : SaysRecord round boot givens workers lines r = behind_printed round boot givens workers lines r behind in
     let are : version ∷ round ∷ boot ∷ givens ∷ workers ∷ lines ≡ texts_of r = ap (λ v. v ∷ round ∷ boot ∷ givens ∷ workers ∷ lines) version_is ∙ s.printed in
     let lack : AllByRecursion (Lacks 10) (texts_of r) = subst (λ (ts : List (List ℕ)). AllByRecursion (Lacks 10) ts) are all in
     (record { sound = s.sound; round = s.round_fits; lines = s.lines_fit; boot = lacks_behind (codes "boot ") r.boot lack.1.1.0 }, sym are)
-
-pub record_printed : (file : List ℕ) (r : RecordView) → record_in file ≡ Some r → IsRecord r × (text_of_record r ≡ file)
-record_printed file r e =
-    let (texts, cut, read) = and_then_some _ (texts_from file []) r e in
-    let (file_is, all) = was_cut file [] texts tt cut in
-    let (is, are) = texts_printed texts r all read in
-    (is, ap ended are ∙ sym file_is)
-
-pub read_found : (file : List ℕ) (o : Option RoundHeader) → option_map said_by o ≡ record_in file → IfSome o (λ r. IsRecord (said_by r) × (text_of_record (said_by r) ≡ file))
-read_found file None is = tt
-read_found file (Some r) is = record_printed file (said_by r) (sym is)
-
-pub read_none : (file : List ℕ) (o : Option RoundHeader) → option_map said_by o ≡ record_in file → IfNone o ((r : RecordView) → IsRecord r → text_of_record r ≡ file → ⊥)
-read_none file (Some r) is = tt
-read_none file None is = λ r fits printed. absurd (none_some (is ∙ ap record_in (sym printed) ∙ record_reads r fits))
-  where
-    none_some : {A : Type 0} {x : A} → None ≡ Some x → ⊥
-    none_some e = cc

@@ -84,7 +84,7 @@ too_few (a ∷ b ∷ c ∷ d ∷ []) few = refl
 too_few (a ∷ b ∷ c ∷ d ∷ e ∷ texts) few = absurd (omega arith)
 
 pub behind_five : (texts : List (List ℕ)) → 5 ≤ length texts → record_of texts
-    ≡ (if bytes_eq (get_or texts 0 []) (codes "amo-run 1") then record_behind (get_or texts 1 []) (get_or texts 2 []) (get_or texts 3 []) (get_or texts 4 []) (drop 5 texts) else None)
+    ≡ (if bytes_eq (get_or texts 0 []) (codes "amo-run 2") then record_behind (get_or texts 1 []) (get_or texts 2 []) (get_or texts 3 []) (get_or texts 4 []) (drop 5 texts) else None)
 behind_five [] many = absurd (omega arith)
 behind_five (a ∷ []) many = absurd (omega arith)
 behind_five (a ∷ b ∷ []) many = absurd (omega arith)
@@ -92,7 +92,7 @@ behind_five (a ∷ b ∷ c ∷ []) many = absurd (omega arith)
 behind_five (a ∷ b ∷ c ∷ d ∷ []) many = absurd (omega arith)
 behind_five (a ∷ b ∷ c ∷ d ∷ e ∷ texts) many = refl
 
-pub same_record : (texts : List (List ℕ)) (round boot givens workers : List ℕ) (lines : List (List ℕ)) → 5 ≤ length texts → bytes_eq (get_or texts 0 []) (codes "amo-run 1") ≡ true
+pub same_record : (texts : List (List ℕ)) (round boot givens workers : List ℕ) (lines : List (List ℕ)) → 5 ≤ length texts → bytes_eq (get_or texts 0 []) (codes "amo-run 2") ≡ true
     → round ≡ get_or texts 1 [] → boot ≡ get_or texts 2 [] → givens ≡ get_or texts 3 [] → workers ≡ get_or texts 4 [] → lines ≡ drop 5 texts
     → record_behind round boot givens workers lines ≡ record_of texts
 same_record texts round boot givens workers lines many version r b g w ls =

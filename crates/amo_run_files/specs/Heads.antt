@@ -7,7 +7,7 @@ use Rattle.amo_run_files.specs.declared.head.TheConstants.{HEAD_LEN}
 -- its lines
 abbrev pub head_lines : RecordView → List (List ℕ)
 head_lines r =
-    codes "amo-words 1" ∷ ((codes "round " ++ decimal r.round) ∷ ((codes "boot " ++ r.boot)
+    codes "amo-words 2" ∷ ((codes "round " ++ decimal r.round) ∷ ((codes "boot " ++ r.boot)
     ∷ ((codes "givens " ++ (decimal r.givens.jobs ++ (codes " " ++ (decimal r.givens.workers ++ (codes " " ++ decimal r.givens.beta))))) ∷ [])))
 
 -- its text

@@ -1,8 +1,11 @@
+pub mod Counted
+pub mod Extents
 pub mod Heads
 pub mod Jobs
 pub mod Known
 pub mod Lines
 pub mod Records
 pub mod Refusals
+pub mod RoundFiles
 pub mod Rounds
 pub mod Words

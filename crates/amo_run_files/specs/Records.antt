@@ -1,4 +1,4 @@
--- The record of a round, as a text: its head, and the lines that are its jobs, in order.
+-- The front part of a round's record, as a text: its head, and the lines that are its jobs, in order.
 use Rattle.std.specs.Prelude.{◌≡◌, ◌≢◌, ◌<◌, ◌^◌, ℕ, Bool, true, ◌&&◌, ◌==◌, nat_lt, nat_le, List, [], ◌∷◌, ◌++◌, codes, length, map, take, drop, Option, Some, None, option_and_then, option_map, if◌then◌else◌}
 use Rattle.std.specs.Fmt.{decimal}
 use Rattle.std.specs.List.{AllByRecursion}
@@ -26,7 +26,7 @@ said_by r = record { round = r.round; boot = r.boot.items; givens = r.givens; wo
 -- the texts of a record, one for each of its lines
 abbrev pub texts_of : RecordView → List (List ℕ)
 texts_of r =
-    codes "amo-run 1" ∷ ((codes "round " ++ decimal r.round) ∷ ((codes "boot " ++ r.boot)
+    codes "amo-run 2" ∷ ((codes "round " ++ decimal r.round) ∷ ((codes "boot " ++ r.boot)
     ∷ ((codes "givens " ++ (decimal r.givens.jobs ++ (codes " " ++ (decimal r.givens.workers ++ (codes " " ++ decimal r.givens.beta)))))
     ∷ ((codes "workers " ++ (decimal r.workers ++ (codes " " ++ decimal r.first))) ∷ map decimal r.lines))))
 
@@ -89,8 +89,4 @@ record_of (version ∷ []) = None
 record_of (version ∷ round ∷ []) = None
 record_of (version ∷ round ∷ boot ∷ []) = None
 record_of (version ∷ round ∷ boot ∷ givens ∷ []) = None
-record_of (version ∷ round ∷ boot ∷ givens ∷ workers ∷ lines) = if bytes_eq version (codes "amo-run 1") then record_behind round boot givens workers lines else None
-
--- what a file says
-abbrev pub record_in : List ℕ → Option RecordView
-record_in file = option_and_then record_of (texts_from file [])
+record_of (version ∷ round ∷ boot ∷ givens ∷ workers ∷ lines) = if bytes_eq version (codes "amo-run 2") then record_behind round boot givens workers lines else None

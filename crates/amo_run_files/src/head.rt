@@ -31,7 +31,7 @@ fn head_text(alloc: Global, recorded: &RoundHeader) -> Result<Vec<u8>, AllocErro
         workers,
         beta,
     } = recorded.givens;
-    let round = format!(in alloc; "amo-words 1\nround {}\nboot ", recorded.round)?;
+    let round = format!(in alloc; "amo-words 2\nround {}\nboot ", recorded.round)?;
     let givens = format!(in alloc; "\ngivens {jobs} {workers} {beta}\n")?;
     let mut text = Vec::new(alloc);
     text.extend_from_slice(round.as_bytes())?;

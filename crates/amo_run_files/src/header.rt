@@ -1,11 +1,11 @@
 //! The record of a round: under which givens it is, and of which lines its jobs are.
-ghost use Rattle.std.specs.Prelude.{◌≡◌, ◌+◌, ◌++◌, ◌∷◌, [], codes, ◌<◌, ◌≤◌, ◌-◌, length, map, slice_index_or, Option, Some, None, option_map, IfOk, IfSome, IfNone, OnOk};
+ghost use Rattle.std.specs.Prelude.{◌≡◌, ◌+◌, ◌++◌, ◌∷◌, [], codes, ◌<◌, ◌≤◌, ◌-◌, length, map, slice_index_or, option_map, IfOk, OnOk};
 ghost use Rattle.std.specs.Fmt.{decimal};
 ghost use Rattle.std.specs.Str.{bytes_eq};
 ghost use Rattle.amo_decimal.specs.Numbers.{number_in};
 ghost use Rattle.amo_run_log.specs.Numbers.{read_all};
 ghost use Rattle.amo_run_log.specs.Texts.{ended};
-ghost use Rattle.amo_run_files.specs.Records.{RecordView, said_by, texts_of, text_of_record, ascends_from, is_sound, IsRecord, texts_from, labelled, head_in, record_behind, record_of, record_in};
+ghost use Rattle.amo_run_files.specs.Records.{said_by, text_of_record, ascends_from, is_sound, texts_from, labelled, head_in, record_behind, record_of};
 
 use crate::seats::RoundParams;
 use amo_decimal::number_of_bytes;
@@ -32,8 +32,8 @@ pub struct RoundHeader {
 }
 
 impl RoundHeader {
-    /// The text of the record.
-    pub fn print(&self, alloc: Global) -> Result<Vec<u8>, AllocError>
+    /// Returns the lines of the record, as one text.
+    pub(crate) fn print(&self, alloc: Global) -> Result<Vec<u8>, AllocError>
         ensures { IfOk result (λ text. text.items ≡ text_of_record (said_by self.now)) }
     {
         let mut text = self.print_head(alloc)?;
@@ -42,17 +42,6 @@ impl RoundHeader {
             push(&mut text, number.as_bytes())?;
         }
         Ok(text)
-    }
-
-    /// The record that a file says, if it says one.
-    pub fn read(alloc: Global, bytes: &[u8]) -> Result<Option<RoundHeader>, AllocError>
-        ensures exact { IfOk result (λ found. option_map said_by found ≡ record_in bytes.now) }
-        // What is read was printed so.
-        ensures found { IfOk result (λ found. IfSome found (λ r. IsRecord (said_by r) × (text_of_record (said_by r) ≡ bytes.now))) }
-        // What was printed is read.
-        ensures none { IfOk result (λ found. IfNone found ((r : RecordView) → IsRecord r → text_of_record r ≡ bytes.now → ⊥)) }
-    {
-        read_record(alloc, bytes)
     }
 
     /// The line of this job.
@@ -76,7 +65,7 @@ impl RoundHeader {
         let givens = format!(in alloc; "{jobs} {workers} {beta}")?;
         let sharing = format!(in alloc; "{} {}", self.workers, self.first)?;
         let mut text = Vec::new(alloc);
-        push(&mut text, b"amo-run 1")?;
+        push(&mut text, b"amo-run 2")?;
         push_labelled(&mut text, b"round ", round.as_bytes())?;
         push_labelled(&mut text, b"boot ", &self.boot)?;
         push_labelled(&mut text, b"givens ", givens.as_bytes())?;
@@ -94,7 +83,7 @@ fn push_labelled(text: &mut Vec<u8>, label: &[u8], line: &[u8]) -> Result<(), Al
 }
 
 /// Adds a line and its end.
-fn push(text: &mut Vec<u8>, line: &[u8]) -> Result<(), AllocError>
+pub(crate) fn push(text: &mut Vec<u8>, line: &[u8]) -> Result<(), AllocError>
     ensures { OnOk result (text.new.items ≡ text.old.items ++ (line.now ++ 10 ∷ [])) }
 {
     text.extend_from_slice(line)?;
@@ -102,17 +91,8 @@ fn push(text: &mut Vec<u8>, line: &[u8]) -> Result<(), AllocError>
     Ok(())
 }
 
-fn read_record(alloc: Global, bytes: &[u8]) -> Result<Option<RoundHeader>, AllocError>
-    ensures { IfOk result (λ found. option_map said_by found ≡ record_in bytes.now) }
-{
-    let Some(texts) = texts_of(alloc, bytes)? else {
-        return Ok(None);
-    };
-    record_of(alloc, &texts)
-}
-
 /// The texts of a file in which each ends by a line feed.
-fn texts_of(alloc: Global, bytes: &[u8]) -> Result<Option<Vec<Vec<u8>>>, AllocError>
+pub(crate) fn texts_of(alloc: Global, bytes: &[u8]) -> Result<Option<Vec<Vec<u8>>>, AllocError>
     ensures { IfOk result (λ found. option_map (λ texts. map (λ text. text.items) texts.items) found ≡ texts_from bytes.now []) }
 {
     let mut texts = Vec::new(alloc);
@@ -133,7 +113,7 @@ fn texts_of(alloc: Global, bytes: &[u8]) -> Result<Option<Vec<Vec<u8>>>, AllocEr
 }
 
 /// The record that texts say.
-fn record_of(alloc: Global, texts: &[Vec<u8>]) -> Result<Option<RoundHeader>, AllocError>
+pub(crate) fn record_of(alloc: Global, texts: &[Vec<u8>]) -> Result<Option<RoundHeader>, AllocError>
     ensures { IfOk result (λ found. option_map said_by found ≡ record_of (map (λ text. text.items) texts.now)) }
 {
     if texts.len() < 5 {
@@ -151,9 +131,9 @@ fn record_of(alloc: Global, texts: &[Vec<u8>]) -> Result<Option<RoundHeader>, Al
 
 /// Returns true if a record begins so that is read here.
 fn is_version(text: &[u8]) -> bool
-    ensures { result ≡ bytes_eq text.now (codes "amo-run 1") }
+    ensures { result ≡ bytes_eq text.now (codes "amo-run 2") }
 {
-    text == b"amo-run 1".as_slice()
+    text == b"amo-run 2".as_slice()
 }
 
 /// The record that these texts say, behind that of the version.

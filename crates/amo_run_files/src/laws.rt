@@ -1,10 +1,13 @@
 //! What follows for the files of a round, each as the contract of a function that does nothing.
-ghost use Rattle.std.specs.Prelude.{◌≡◌, ◌≢◌, ◌<◌, ◌≤◌, ◌+◌, ◌++◌, ℕ, Bool, List, None, Some, length, take, Contains, All};
+ghost use Rattle.std.specs.Prelude.{◌≡◌, ◌≢◌, ◌<◌, ◌≤◌, ◌+◌, ◌-◌, ◌++◌, ℕ, Bool, true, false, List, None, Some, length, take, Contains, All};
 ghost use Rattle.std.specs.List.{AllByRecursion};
 ghost use Rattle.amo_kk.specs.Words.{words_of};
 ghost use Rattle.amo_kk.specs.declared.model.Process.{Process as Worker};
+ghost use Rattle.amo_journal.specs.Logs.{checksums_from};
 ghost use Rattle.amo_run_log.specs.Texts.{ended};
-ghost use Rattle.amo_run_files.specs.Records.{RecordView, text_of_record, record_in, IsRecord};
+ghost use Rattle.amo_run_files.specs.Records.{RecordView, IsRecord};
+ghost use Rattle.amo_run_files.specs.Counted.{CountView, checksum_at, count_of, is_kept, extent_of_count, count_in};
+ghost use Rattle.amo_run_files.specs.RoundFiles.{RoundFileView, IsRoundFile, text_of_round_file, round_file_in};
 ghost use Rattle.amo_run_files.specs.Rounds.{seat_of};
 ghost use Rattle.amo_run_files.specs.declared.seats.RoundParams.{RoundParams as GivensView};
 ghost use Rattle.amo_run_files.specs.Heads.{head_of};
@@ -74,8 +77,27 @@ pub fn who_has_which_seat()
         → (worker : ℕ) × (seat_of worker first workers shared ≡ Some seat) }
 {}
 
-/// Each record is read back as itself, and what is read was printed so.
-pub fn records_are_read_back()
-    ensures back { (r : RecordView) → IsRecord r → record_in (text_of_record r) ≡ Some r }
-    ensures printed { (file : List ℕ) (r : RecordView) → record_in file ≡ Some r → IsRecord r × (text_of_record r ≡ file) }
+/// Each file of a round is read back as itself, and what is read was printed so.
+pub fn round_files_are_read_back()
+    ensures back { (first : List ℕ) (f : RoundFileView) → IsRoundFile f → round_file_in first (text_of_round_file first f) ≡ Some f }
+    ensures printed { (first file : List ℕ) (f : RoundFileView) → round_file_in first file ≡ Some f → IsRoundFile f × (text_of_round_file first f ≡ file) }
+{}
+
+/// A journal that lost its last append in a crash, and had others after that, keeps its count. So
+/// no journal is refused that lost only its last append.
+pub fn healthy_journals_are_kept()
+    ensures { (first : List ℕ) (all more : List (List ℕ)) → is_kept (count_of first (checksums_from first all)) first (checksums_from first (take (length all - 1) all ++ more)) ≡ true }
+{}
+
+/// A journal keeps a count if it has at least so many appends, and has that checksum after them. A
+/// journal of fewer appends doesn't keep it, and neither does one with another checksum there.
+pub fn what_keeps_a_count()
+    ensures kept { (c : CountView) (first : List ℕ) (checksums : List (List ℕ)) → c.appends ≤ length checksums → checksum_at first checksums c.appends ≡ c.checksum → is_kept c first checksums ≡ true }
+    ensures fewer { (c : CountView) (first : List ℕ) (checksums : List (List ℕ)) → length checksums < c.appends → is_kept c first checksums ≡ false }
+    ensures differs { (c : CountView) (first : List ℕ) (checksums : List (List ℕ)) → checksum_at first checksums c.appends ≢ c.checksum → is_kept c first checksums ≡ false }
+{}
+
+/// The count that the extent of a count says is that count.
+pub fn counts_are_read_back()
+    ensures { (name : List ℕ) (c : CountView) → length c.checksum ≡ 8 → count_in (extent_of_count name c) ≡ Some c }
 {}

@@ -1,9 +1,11 @@
-//! The files of a round: the header with its parameters and seats, the job list that the run knows,
-//! and the layout of the register file. Start with `RoundHeader` and `Jobs`. The theorems stand in
-//! the module `laws`.
+//! The files of a round: its record with the givens and the jobs, how much of each file was on the
+//! disk when it began, the job list that the run knows, and the layout of the register file. Start
+//! with `RoundFile` and `Jobs`. The theorems stand in the module `laws`.
 #![tactic(auto)]
 
+mod count;
 mod difference;
+mod extent;
 mod fault;
 mod head;
 mod header;
@@ -11,13 +13,17 @@ mod jobs;
 mod known;
 pub mod laws;
 mod lines;
+mod round_file;
 mod seats;
 mod words;
 
+pub use count::Count;
 pub use difference::first_difference;
+pub use extent::{Extent, jobs_digest};
 pub use fault::{JobsFault, Why};
 pub use head::head_of;
 pub use header::RoundHeader;
 pub use jobs::Jobs;
+pub use round_file::RoundFile;
 pub use seats::{RoundParams, givens_of, seat_of};
 pub use words::{offset_of, words_len};

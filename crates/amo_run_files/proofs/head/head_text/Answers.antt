@@ -6,7 +6,7 @@ pub returns : goal.returns
 returns c =
     let r = c.args.recorded.now in
     let g = r.givens in
-    let front : List ℕ = codes "amo-words 1" ++ 10 ∷ (codes "round " ++ (decimal r.round ++ 10 ∷ codes "boot ")) in
+    let front : List ℕ = codes "amo-words 2" ++ 10 ∷ (codes "round " ++ (decimal r.round ++ 10 ∷ codes "boot ")) in
     let round : c.as_bytes.result.now ≡ front = c.as_bytes.ensures.value ∙ c.in_ok-round.ensures.ok in
     let boot : c.deref.result.now ≡ r.boot.items = c.deref.ensures.value in
     let givens : c.as_bytes-2.result.now ≡ 10 ∷ (codes "givens " ++ (decimal g.jobs ++ 32 ∷ (decimal g.workers ++ 32 ∷ (decimal g.beta ++ 10 ∷ [])))) = c.as_bytes-2.ensures.value ∙ c.in_ok-givens.ensures.ok in

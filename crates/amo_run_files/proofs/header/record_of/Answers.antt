@@ -21,5 +21,5 @@ returns c =
     let lines : map items (take (length c.args.texts.now - 5) (drop 5 c.args.texts.now)) ≡ drop 5 texts = ap (map items) whole ∙ sym (drop-map items 5 c.args.texts.now) in
     in_ok c.record_behind.result c.record_behind.ensures
     (λ found is. is ∙ same_record texts c.text_at-round.result.now c.text_at-boot.result.now c.text_at-givens.result.now c.text_at-workers.result.now _
-    (omega (arith, c.if-texts-lt5.false, length-map c.args.texts.now items)) (ap (λ x. bytes_eq x (codes "amo-run 1")) (sym c.text_at.ensures) ∙ sym c.is_version.ensures ∙ c.if-not-is_version.false)
+    (omega (arith, c.if-texts-lt5.false, length-map c.args.texts.now items)) (ap (λ x. bytes_eq x (codes "amo-run 2")) (sym c.text_at.ensures) ∙ sym c.is_version.ensures ∙ c.if-not-is_version.false)
     c.text_at-round.ensures c.text_at-boot.ensures c.text_at-givens.ensures c.text_at-workers.ensures lines)

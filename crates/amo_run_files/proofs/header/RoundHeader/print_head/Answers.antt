@@ -17,9 +17,9 @@ returns c =
     ∙ ap (λ t. t ++ (codes "workers " ++ (c.as_bytes-3.result.now ++ 10 ∷ []))) (c.in_ok-push_labelled-3.ensures
     ∙ ap (λ t. t ++ (codes "givens " ++ (c.as_bytes-2.result.now ++ 10 ∷ []))) (c.in_ok-push_labelled-2.ensures
     ∙ ap (λ t. t ++ (codes "boot " ++ (c.deref.result.now ++ 10 ∷ []))) (c.in_ok-push_labelled.ensures
-    ∙ ap (λ t. t ++ (codes "round " ++ (c.as_bytes.result.now ++ 10 ∷ []))) (c.in_ok-push.ensures ∙ ap (λ t. t ++ (codes "amo-run 1" ++ 10 ∷ [])) empty)))))
-    ∙ pieces (codes "amo-run 1") (codes "round ") c.as_bytes.result.now (codes "boot ") c.deref.result.now (codes "givens ") c.as_bytes-2.result.now (codes "workers ") c.as_bytes-3.result.now rest
-    ∙ ap (λ x. codes "amo-run 1" ++ 10 ∷ ((codes "round " ++ x) ++ 10 ∷ ((codes "boot " ++ c.deref.result.now) ++ 10 ∷ ((codes "givens " ++ c.as_bytes-2.result.now) ++ 10 ∷ ((codes "workers " ++ c.as_bytes-3.result.now) ++ 10 ∷ rest))))) round
-    ∙ ap (λ x. codes "amo-run 1" ++ 10 ∷ ((codes "round " ++ decimal c.args.self.now.round) ++ 10 ∷ ((codes "boot " ++ x) ++ 10 ∷ ((codes "givens " ++ c.as_bytes-2.result.now) ++ 10 ∷ ((codes "workers " ++ c.as_bytes-3.result.now) ++ 10 ∷ rest))))) boot
-    ∙ ap (λ x. codes "amo-run 1" ++ 10 ∷ ((codes "round " ++ decimal c.args.self.now.round) ++ 10 ∷ ((codes "boot " ++ c.args.self.now.boot.items) ++ 10 ∷ ((codes "givens " ++ x) ++ 10 ∷ ((codes "workers " ++ c.as_bytes-3.result.now) ++ 10 ∷ rest))))) givens
-    ∙ ap (λ x. codes "amo-run 1" ++ 10 ∷ ((codes "round " ++ decimal c.args.self.now.round) ++ 10 ∷ ((codes "boot " ++ c.args.self.now.boot.items) ++ 10 ∷ ((codes "givens " ++ (decimal c.args.self.now.givens.jobs ++ (32 ∷ (decimal c.args.self.now.givens.workers ++ 32 ∷ decimal c.args.self.now.givens.beta)))) ++ 10 ∷ ((codes "workers " ++ x) ++ 10 ∷ rest))))) sharing
+    ∙ ap (λ t. t ++ (codes "round " ++ (c.as_bytes.result.now ++ 10 ∷ []))) (c.in_ok-push.ensures ∙ ap (λ t. t ++ (codes "amo-run 2" ++ 10 ∷ [])) empty)))))
+    ∙ pieces (codes "amo-run 2") (codes "round ") c.as_bytes.result.now (codes "boot ") c.deref.result.now (codes "givens ") c.as_bytes-2.result.now (codes "workers ") c.as_bytes-3.result.now rest
+    ∙ ap (λ x. codes "amo-run 2" ++ 10 ∷ ((codes "round " ++ x) ++ 10 ∷ ((codes "boot " ++ c.deref.result.now) ++ 10 ∷ ((codes "givens " ++ c.as_bytes-2.result.now) ++ 10 ∷ ((codes "workers " ++ c.as_bytes-3.result.now) ++ 10 ∷ rest))))) round
+    ∙ ap (λ x. codes "amo-run 2" ++ 10 ∷ ((codes "round " ++ decimal c.args.self.now.round) ++ 10 ∷ ((codes "boot " ++ x) ++ 10 ∷ ((codes "givens " ++ c.as_bytes-2.result.now) ++ 10 ∷ ((codes "workers " ++ c.as_bytes-3.result.now) ++ 10 ∷ rest))))) boot
+    ∙ ap (λ x. codes "amo-run 2" ++ 10 ∷ ((codes "round " ++ decimal c.args.self.now.round) ++ 10 ∷ ((codes "boot " ++ c.args.self.now.boot.items) ++ 10 ∷ ((codes "givens " ++ x) ++ 10 ∷ ((codes "workers " ++ c.as_bytes-3.result.now) ++ 10 ∷ rest))))) givens
+    ∙ ap (λ x. codes "amo-run 2" ++ 10 ∷ ((codes "round " ++ decimal c.args.self.now.round) ++ 10 ∷ ((codes "boot " ++ c.args.self.now.boot.items) ++ 10 ∷ ((codes "givens " ++ (decimal c.args.self.now.givens.jobs ++ (32 ∷ (decimal c.args.self.now.givens.workers ++ 32 ∷ decimal c.args.self.now.givens.beta)))) ++ 10 ∷ ((codes "workers " ++ x) ++ 10 ∷ rest))))) sharing
