@@ -1,22 +1,23 @@
 -- Which deeds the process of a worker does, one after the other: the accesses of its process, in their order, and between a
--- claim and the filing of it the intent, the performance and the note of the claimed job.
-use Rattle.std.specs.Prelude.{◌≡◌, ⊤, ℕ, zero, suc, ◌+◌, List, [], ◌∷◌, ◌++◌, Option, Some, None, ◌==◌, if◌then◌else◌}
+-- claim and the filing of it the intent, the clearance, the performance if it is clear, and the note of the claimed job.
+use Rattle.std.specs.Prelude.{◌≡◌, ⊤, ℕ, zero, suc, ◌+◌, Bool, true, false, List, [], ◌∷◌, ◌++◌, Option, Some, None, ◌==◌, if◌then◌else◌}
 use Rattle.amo_kk.specs.Words.{next_word}
 use Rattle.amo_givens.specs.declared.givens.Givens.{Givens}
 use Rattle.amo_process.specs.Heard.{told_by, doubted_by}
 use Rattle.amo_process.specs.Stepped.{ProcessView, new_process, process_after, access_of, may_leave, is_refused}
 use Rattle.amo_process.specs.declared.access.Access.{Access}
 use Rattle.amo_process.specs.declared.access.Access.TheVariants.{Load as LoadAccess, Store as StoreAccess, Nothing}
+use Rattle.amo_driver.specs.declared.answer.JobResult.TheVariants.{Unbegun}
 use Rattle.amo_driver.specs.declared.answer.Reply.{Reply}
 use Rattle.amo_driver.specs.declared.answer.Reply.TheVariants.{Answered, Running, Garbled, Closed}
 use Rattle.amo_driver.specs.declared.answer.Way.{Way}
 use Rattle.amo_driver.specs.declared.answer.Way.TheVariants.{Go, Leave}
 use Rattle.amo_driver.specs.declared.model.Deed.{Deed}
-use Rattle.amo_driver.specs.declared.model.Deed.TheVariants.{Loaded, Stored, Found, Intended, Performed, Noted, Asked, Fell}
+use Rattle.amo_driver.specs.declared.model.Deed.TheVariants.{Loaded, Stored, Found, Intended, Cleared, Performed, Noted, Asked, Fell}
 use Rattle.amo_driver.specs.declared.model.Try.{Try}
-use Rattle.amo_driver.specs.declared.model.Try.TheVariants.{Load, Store, Find, Intend, Perform, Note, Ask}
+use Rattle.amo_driver.specs.declared.model.Try.TheVariants.{Load, Store, Find, Intend, Clear, Perform, Note, Ask}
 use Rattle.amo_driver.specs.declared.past.Intent.{Intent}
-use Rattle.amo_driver.specs.Stage.{Stage, Going, Finding, Intending, Performing, Noting, Leaving, Asking, Settling, Dismissed, Gone, Unanswered, Refused, Broken}
+use Rattle.amo_driver.specs.Stage.{Stage, Going, Finding, Intending, Clearing, Performing, Noting, Leaving, Asking, Settling, Dismissed, Gone, Unanswered, Refused, Broken}
 
 -- the deeds with one more, where they are known
 abbrev pub with_deed : Option (List Deed) → Deed → Option (List Deed)
@@ -29,6 +30,7 @@ try_of (Loaded w v) = Load w
 try_of (Stored w v) = Store w v
 try_of (Found j) = Find j
 try_of (Intended s j) = Intend s j
+try_of (Cleared s j clear) = Clear s j
 try_of (Performed s j reply) = Perform s j
 try_of (Noted s c) = Note s c
 try_of (Asked s line reply) = Ask s line
@@ -45,6 +47,7 @@ abbrev pub due : Stage → Option Try
 due (Going s a way) = access_tried (access_of a.givens a.number a.standing)
 due (Finding s a j) = Some (Find j)
 due (Intending s a j) = Some (Intend s j)
+due (Clearing s a j) = Some (Clear s j)
 due (Performing s a j) = Some (Perform s j)
 due (Noting s a c way) = Some (Note s c)
 due (Leaving a) = Some (Store (next_word a.number) 0)
@@ -71,6 +74,12 @@ stage_heard s Leave a = if may_leave a.standing then Leaving a else Going s a Le
 -- the same, where v came from word w and the process may refuse it
 abbrev pub stage_told : (w v : ℕ) → ℕ → Way → ProcessView → Stage
 stage_told w v s way a = if is_refused a.standing then Refused w v else stage_heard s way a
+
+-- the stage of a process that has asked whether job j may be handed over by intent s: if it may,
+-- its performance is due; if it is taken, the note that it was not begun
+abbrev pub stage_cleared : ℕ → ProcessView → ℕ → Bool → Stage
+stage_cleared s a j true = Performing s a j
+stage_cleared s a j false = Noting s a Unbegun Go
 
 -- where it stands to which this came in answer to intent s: what became of another intent is no answer, and while a job runs
 -- nothing is noted
@@ -99,7 +108,8 @@ stage_after s (Fell t) = Broken
 stage_after (Going s a way) (Loaded w v) = stage_told w v s way (process_after a v)
 stage_after (Going s a way) (Stored w v) = stage_told w v s way (process_after a 0)
 stage_after (Finding s a j) (Found i) = Going s a Go
-stage_after (Intending s a j) (Intended n i) = Performing s a j
+stage_after (Intending s a j) (Intended n i) = Clearing s a j
+stage_after (Clearing s a j) (Cleared n i clear) = stage_cleared s a j clear
 stage_after (Performing s a j) (Performed n i reply) = stage_replied s a reply
 stage_after (Noting s a c way) (Noted n d) = Going (s + 1) a way
 stage_after (Leaving a) (Stored w v) = Gone

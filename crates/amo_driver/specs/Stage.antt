@@ -14,7 +14,9 @@ pub data Stage : Type 0 where
   Finding : ℕ → ProcessView → ℕ → Stage
   -- the intent of this job, whose claim is stored
   Intending : ℕ → ProcessView → ℕ → Stage
-  -- its performance
+  -- to ask whether it may be handed over, now that its intent is in the journal
+  Clearing : ℕ → ProcessView → ℕ → Stage
+  -- its performance, which is clear
   Performing : ℕ → ProcessView → ℕ → Stage
   -- the note of this answer
   Noting : ℕ → ProcessView → JobResult → Way → Stage

@@ -5,7 +5,7 @@ ghost use Rattle.amo_process.specs.Stepped.{access_of, is_refused};
 ghost use Rattle.amo_process.specs.declared.access.Access.TheVariants.{Load, Store};
 ghost use Rattle.amo_driver.specs.declared.answer.Way.TheVariants.{Go, Leave};
 ghost use Rattle.amo_driver.specs.declared.model.Try.{Try};
-ghost use Rattle.amo_driver.specs.Stage.{Going, Intending, Noting};
+ghost use Rattle.amo_driver.specs.Stage.{Going, Intending, Performing, Noting};
 ghost use Rattle.amo_driver.specs.Course.{stage_replied, first_stage, Stands, MayTry};
 ghost use Rattle.amo_driver.specs.Stops.{EndsAt, StopsAt};
 ghost use Rattle.amo_driver.specs.Life.{beginning, IsGoing, HasHeard, TurnsTo, KeepsDeeds, AddsDeed};
@@ -172,7 +172,7 @@ impl Life {
         Ok(None)
     }
 
-    /// Puts the intent, and then hands the job over to the partner.
+    /// Puts the intent, and then hands the job over to the partner, if it may be handed over.
     fn hand_over<O: Outside>(&mut self, job: u32, outside: &mut O) -> Result<Option<LifeEnd>, Stop>
         requires claimed { Stands (beginning self.old) (O.deeds outside.old) (Intending self.old.next self.old.process job) }
         requires fine { is_refused self.old.process.standing ≡ false }
@@ -188,6 +188,27 @@ impl Life {
         let Ok(()) = outside.intend(self.next, job) else {
             return Err(Stop::Failed);
         };
+        let Ok(clear) = outside.clear(self.next, job) else {
+            return Err(Stop::Failed);
+        };
+        if clear {
+            self.perform(job, outside)
+        } else {
+            self.note(JobResult::Unbegun, Way::Go, outside)
+        }
+    }
+
+    /// Has the partner perform the job, which may be handed over.
+    fn perform<O: Outside>(&mut self, job: u32, outside: &mut O) -> Result<Option<LifeEnd>, Stop>
+        requires cleared { Stands (beginning self.old) (O.deeds outside.old) (Performing self.old.next self.old.process job) }
+        requires fine { is_refused self.old.process.standing ≡ false }
+        requires served { (o : _) (t : Try) → MayTry (beginning self.old) (O.deeds o) t → O.may o t }
+        requires room { self.old.next < 2 ^ 64 - 1 }
+        ensures same { beginning self.new ≡ beginning self.old }
+        ensures turns { IfOk result (λ end. TurnsTo (beginning self.old) (O.deeds outside.new) self.new end) }
+        ensures grows { result ≡ Ok None → KeepsDeeds (O.deeds outside.old) (O.deeds outside.new) }
+        ensures stops { IfErr result (λ e. StopsAt (beginning self.old) (O.deeds outside.new) e) }
+    {
         let Ok(reply) = outside.perform(self.next, job) else {
             return Err(Stop::Failed);
         };

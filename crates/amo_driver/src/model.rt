@@ -12,6 +12,8 @@ pub enum Try {
     Find(u32),
     /// To put into the journal, under this serial number, the intent to have this job performed.
     Intend(u64, u32),
+    /// To ask whether this job may be handed over, by the intent of this serial number.
+    Clear(u64, u32),
     /// To have this job performed, by the intent of this serial number.
     Perform(u64, u32),
     /// To put into the journal what became of the intent of this serial number.
@@ -32,6 +34,9 @@ pub enum Deed {
     Found(u32),
     /// The intent of this serial number, to have this job performed, is in the journal.
     Intended(u64, u32),
+    /// It has asked whether this job may be handed over, by the intent of this serial number. The
+    /// answer is true if it may. If the answer is false, the job is taken.
+    Cleared(u64, u32, bool),
     /// The partner was told to perform this job, by the intent of this serial number, and this came
     /// in answer.
     Performed(u64, u32, Reply),

@@ -2,9 +2,9 @@
 ghost use Rattle.std.specs.Prelude.{◌≡◌, List, Option, IfOk, OnOk, OnErr};
 ghost use Rattle.amo_driver.specs.Course.{with_deed};
 ghost use Rattle.amo_driver.specs.declared.model.Deed.{Deed};
-ghost use Rattle.amo_driver.specs.declared.model.Deed.TheVariants.{Loaded, Stored, Found, Intended, Performed, Noted, Fell};
+ghost use Rattle.amo_driver.specs.declared.model.Deed.TheVariants.{Loaded, Stored, Found, Intended, Cleared, Performed, Noted, Fell};
 ghost use Rattle.amo_driver.specs.declared.model.Try.{Try};
-ghost use Rattle.amo_driver.specs.declared.model.Try.TheVariants.{Load, Store, Find, Intend, Perform, Note};
+ghost use Rattle.amo_driver.specs.declared.model.Try.TheVariants.{Load, Store, Find, Intend, Clear, Perform, Note};
 
 use crate::answer::{JobResult, Reply};
 
@@ -45,6 +45,14 @@ pub trait Outside {
         requires { may self.old (Intend serial job) }
         ensures done { OnOk result (deeds self.new ≡ with_deed (deeds self.old) (Intended serial job)) }
         ensures fails { OnErr result (deeds self.new ≡ with_deed (deeds self.old) (Fell (Intend serial job))) };
+
+    /// Returns whether this job may be handed over. It is asked only after the intent is in the
+    /// journal. If the answer is false, the job is taken: the partner never performs it by this
+    /// intent, and the intent is noted as not begun.
+    fn clear(&mut self, serial: u64, job: u32) -> Result<bool, Failed>
+        requires { may self.old (Clear serial job) }
+        ensures done { IfOk result (λ clear. deeds self.new ≡ with_deed (deeds self.old) (Cleared serial job clear)) }
+        ensures fails { OnErr result (deeds self.new ≡ with_deed (deeds self.old) (Fell (Clear serial job))) };
 
     /// Has the partner perform this job, and waits for what comes in answer.
     fn perform(&mut self, serial: u64, job: u32) -> Result<Reply, Failed>

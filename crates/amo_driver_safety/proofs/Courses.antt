@@ -1,6 +1,7 @@
--- In one course: nothing follows an end, each performance its intent, which follows the store of the claim, and each note the
--- answer.
-use Rattle.std.proofs.Common.{◌≡◌, ℕ, zero, suc, ◌+◌, ◌≤◌, arith, Bool, true, false, refl, sym, ap, ◌∙◌, subst, List, [], ◌∷◌, ◌++◌, length, append-nil, append_assoc, Option, Some, None}
+-- In one course nothing follows an end. Each performance follows its clearance, which follows the
+-- intent, which follows the store of the claim. Each note follows the answer, or the finding that
+-- the job is taken.
+use Rattle.std.proofs.Common.{◌≡◌, ◌⊎◌, inl, inr, ℕ, zero, suc, ◌+◌, ◌≤◌, arith, Bool, true, false, refl, sym, ap, ◌∙◌, subst, List, [], ◌∷◌, ◌++◌, length, append-nil, append_assoc, Option, Some, None}
 use Rattle.std.specs.Prelude.{⊤, if◌then◌else◌, ◌==◌}
 use Rattle.std.proofs.lemmas.Bool.{true≢false, eqb-true, eq-eqb}
 use Rattle.std.proofs.lemmas.Option.{none-some}
@@ -16,14 +17,14 @@ use Rattle.amo_driver.specs.declared.answer.Reply.TheVariants.{Answered, Running
 use Rattle.amo_driver.specs.declared.answer.Way.{Way}
 use Rattle.amo_driver.specs.declared.answer.Way.TheVariants.{Go, Leave}
 use Rattle.amo_driver.specs.declared.model.Deed.{Deed}
-use Rattle.amo_driver.specs.declared.model.Deed.TheVariants.{Loaded, Stored, Found, Intended, Performed, Noted, Asked, Fell}
+use Rattle.amo_driver.specs.declared.model.Deed.TheVariants.{Loaded, Stored, Found, Intended, Cleared, Performed, Noted, Asked, Fell}
 use Rattle.amo_driver.specs.declared.model.Try.{Try}
-use Rattle.amo_driver.specs.declared.model.Try.TheVariants.{Load, Store, Find, Intend, Perform, Note, Ask}
-use Rattle.amo_driver.specs.Stage.{Stage, Going, Intending, Performing, Noting, Leaving, Asking, Settling, Unanswered, Refused, Broken}
-use Rattle.amo_driver.specs.Course.{try_of, access_tried, due, stage_by_jobs, stage_heard, stage_told, stage_replied, stage_after, stage_after_all, AreDue, first_stage}
+use Rattle.amo_driver.specs.declared.model.Try.TheVariants.{Load, Store, Find, Intend, Clear, Perform, Note, Ask}
+use Rattle.amo_driver.specs.Stage.{Stage, Going, Intending, Clearing, Performing, Noting, Leaving, Asking, Settling, Unanswered, Refused, Broken}
+use Rattle.amo_driver.specs.Course.{try_of, access_tried, due, stage_by_jobs, stage_heard, stage_told, stage_cleared, stage_replied, stage_after, stage_after_all, AreDue, first_stage}
 use Rattle.amo_driver.proofs.Deeds.{stage_after_more}
-use Rattle.amo_driver_safety.specs.Course.{HasJustClaimed, HasJustIntended, HasJustAnswered}
-use Rattle.amo_driver_safety.proofs.Stages.{word_in, value_in, job_in, serial_in, no_other, performing_at, process_of, hears_more, standing_is, access_is, Shown, all_shown}
+use Rattle.amo_driver_safety.specs.Course.{HasJustClaimed, HasJustIntended, HasJustCleared, HasJustAnswered, HasJustFoundTaken}
+use Rattle.amo_driver_safety.proofs.Stages.{word_in, value_in, job_in, serial_in, no_other, performing_at, clearing_at, process_of, hears_more, standing_is, access_is, Shown, all_shown}
 use Rattle.amo_driver_safety.proofs.Claims.{IsClaiming, claim_wanted, was_claiming}
 
 -- where nothing is due, nothing follows
@@ -48,6 +49,7 @@ kind (Some (Intend n j)) = 4
 kind (Some (Perform n j)) = 5
 kind (Some (Note n c)) = 6
 kind (Some (Ask n line)) = 7
+kind (Some (Clear n j)) = 8
 
 differ : (x y : Option Try) → x ≡ y → (kind x == kind y) ≡ false → ⊥
 differ x y same other = true≢false (sym (eq-eqb (kind x) (kind y) (ap kind same)) ∙ other)
@@ -66,12 +68,14 @@ module _ (g : Givens) (p s : ℕ) where
   abbrev first : Stage
   first = first_stage g p s
 
-  -- What was done last where an intent, a performance or a note is due. In such a course nothing is asked for.
+  -- The deeds that were done last when an intent, a clearance, a performance or a note is due. In
+  -- such a course nothing is asked for.
 
   abbrev IsAfter : List Deed → Stage → Type 0
   IsAfter ds (Intending n a j) = HasJustClaimed g p first ds n j a
-  IsAfter ds (Performing n a j) = (earlier : List Deed) × (ds ≡ earlier ++ Intended n j ∷ []) × HasJustClaimed g p first earlier n j a
-  IsAfter ds (Noting n a c way) = HasJustAnswered ds n c
+  IsAfter ds (Clearing n a j) = (earlier : List Deed) × (ds ≡ earlier ++ Intended n j ∷ []) × HasJustClaimed g p first earlier n j a
+  IsAfter ds (Performing n a j) = (earlier : List Deed) × (ds ≡ earlier ++ Cleared n j true ∷ []) × HasJustIntended g p first earlier n j a
+  IsAfter ds (Noting n a c way) = HasJustAnswered ds n c ⊎ HasJustFoundTaken ds n c
   IsAfter ds (Asking intents) = ⊥
   IsAfter ds (Settling n c way rest) = ⊥
   IsAfter ds s = ⊤
@@ -135,7 +139,7 @@ module _ (g : Givens) (p s : ℕ) where
   replied_after ds m n j a (Answered k c way) is = by (k == m) refl
     where
       by : (b : Bool) → (k == m) ≡ b → IsAfter (ds ++ Performed n j (Answered k c way) ∷ []) (if b then Noting m a c way else Unanswered m (Answered k c way))
-      by true same = record { earlier = ds; job = j; way = way; is = λ i. ds ++ Performed (sym is i) j (Answered (eqb-true k m same i) c way) ∷ [] }
+      by true same = inl (record { earlier = ds; job = j; way = way; is = λ i. ds ++ Performed (sym is i) j (Answered (eqb-true k m same i) c way) ∷ [] })
       by false other = tt
   replied_after ds m n j a (Running k way) is = by (k == m)
     where
@@ -144,6 +148,22 @@ module _ (g : Givens) (p s : ℕ) where
       by false = tt
   replied_after ds m n j a Garbled is = tt
   replied_after ds m n j a Closed is = tt
+
+  -- it was asked whether the job of intent n may be handed over
+  cleared_after : (ds : List Deed) (m n i j : ℕ) (a : ProcessView) (clear : Bool) → stage_after_all first ds ≡ Clearing m a i → due (Clearing m a i) ≡ Some (Clear n j) → IsAfter ds (Clearing m a i)
+      → IsAfter (ds ++ Cleared n j clear ∷ []) (stage_cleared m a i clear)
+  cleared_after ds m n i j a true at e h = (
+    ds,
+    (λ k. ds ++ Cleared (serial_in (sym e k)) (job_in (sym e k)) true ∷ []),
+    record { earlier = h.0; is = h.1; claimed = h.2; stands = at },
+  )
+  cleared_after ds m n i j a false at e h = inr (record {
+    earlier = h.0;
+    job = i;
+    is = (λ k. ds ++ Cleared (serial_in (sym e k)) (job_in (sym e k)) false ∷ [])
+        ∙ ap (λ l. l ++ Cleared m i false ∷ []) h.1 ∙ append_assoc h.0 (Intended m i ∷ []) (Cleared m i false ∷ []);
+    unbegun = refl;
+  })
 
   one_after : (ds : List Deed) (hs : List ℕ) (t : Stage) (d : Deed) → stage_after_all first ds ≡ t → Shown g p hs t → due t ≡ Some (try_of d) → IsAfter ds t
       → IsAfter (ds ++ d ∷ []) (stage_after t d)
@@ -154,6 +174,9 @@ module _ (g : Givens) (p s : ℕ) where
   one_after ds hs (Intending m a i) (Intended n j) at f e h = (ds, (λ k. ds ++ Intended (serial_in (sym e k)) (job_in (sym e k)) ∷ []), h)
   one_after ds hs (Intending m a i) (Fell t) at f e h = tt
   one_after ds hs (Intending m a i) d at f e h = absurd (differ _ _ e refl)
+  one_after ds hs (Clearing m a i) (Cleared n j clear) at f e h = cleared_after ds m n i j a clear at e h
+  one_after ds hs (Clearing m a i) (Fell t) at f e h = tt
+  one_after ds hs (Clearing m a i) d at f e h = absurd (differ _ _ e refl)
   one_after ds hs (Performing m a i) (Performed n j reply) at f e h = replied_after ds m n j a reply (ap serial_in e)
   one_after ds hs (Performing m a i) (Fell t) at f e h = tt
   one_after ds hs (Performing m a i) d at f e h = absurd (differ _ _ e refl)
@@ -166,6 +189,7 @@ module _ (g : Givens) (p s : ℕ) where
   one_after ds hs t (Stored w v) at f e h = tt
   one_after ds hs t (Found j) at f e h = tt
   one_after ds hs t (Intended n j) at f e h = tt
+  one_after ds hs t (Cleared n j clear) at f e h = tt
   one_after ds hs t (Performed n j reply) at f e h = tt
   one_after ds hs t (Noted n c) at f e h = tt
   one_after ds hs t (Asked n line reply) at f e h = tt
@@ -180,21 +204,34 @@ module _ (g : Givens) (p s : ℕ) where
       (all_after (ds ++ d ∷ []) more (subst (λ z. AreDue z more) (sym leads) h.1)
       (subst (IsAfter (ds ++ d ∷ [])) (sym leads) (one_after ds shown.0 (stage_after_all first ds) d refl shown.1 h.0 a)))
 
-  pub just_intended : (before after : List Deed) (d : Deed) (n j : ℕ) → try_of d ≡ Perform n j → AreDue first (before ++ d ∷ after) → HasJustIntended g p first before n j
+  pub just_intended : (before after : List Deed) (d : Deed) (n j : ℕ) → try_of d ≡ Clear n j → AreDue first (before ++ d ∷ after) → (earlier : List Deed) × (before ≡ earlier ++ Intended n j ∷ [])
   just_intended before after d n j is h =
+      let parts = due_among first before after d h in
+      let at = clearing_at (stage_after_all first before) n j (parts.1 ∙ ap (λ t. Some t) is) in
+      let f = subst (IsAfter before) at.1 (all_after [] before parts.0 tt) in
+      (f.0, f.1)
+
+  pub just_cleared : (before after : List Deed) (d : Deed) (n j : ℕ) → try_of d ≡ Perform n j → AreDue first (before ++ d ∷ after) → HasJustCleared g p first before n j
+  just_cleared before after d n j is h =
       let parts = due_among first before after d h in
       let at = performing_at (stage_after_all first before) n j (parts.1 ∙ ap (λ t. Some t) is) in
       let f = subst (IsAfter before) at.1 (all_after [] before parts.0 tt) in
-      record { earlier = f.0; process = at.0; is = f.1; claimed = f.2; stands = at.1 }
+      record { earlier = f.0; process = at.0; is = f.1; intended = f.2; stands = at.1 }
 
-  answered_at : (ds : List Deed) (t : Stage) (n : ℕ) (c : JobResult) → due t ≡ Some (Note n c) → IsAfter ds t → HasJustAnswered ds n c
-  answered_at ds (Noting m a z way) n c e h = subst (λ o. HasJustAnswered ds (serial_in o) (answer_in o)) e h
+  pub just_clear : (before after : List Deed) (d : Deed) (n j : ℕ) → try_of d ≡ Perform n j → AreDue first (before ++ d ∷ after)
+      → (earlier : List Deed) × (before ≡ earlier ++ Intended n j ∷ Cleared n j true ∷ [])
+  just_clear before after d n j is h =
+      let c = just_cleared before after d n j is h in
+      (c.intended.earlier, c.is ∙ ap (λ l. l ++ Cleared n j true ∷ []) c.intended.is ∙ append_assoc c.intended.earlier (Intended n j ∷ []) (Cleared n j true ∷ []))
+
+  answered_at : (ds : List Deed) (t : Stage) (n : ℕ) (c : JobResult) → due t ≡ Some (Note n c) → IsAfter ds t → HasJustAnswered ds n c ⊎ HasJustFoundTaken ds n c
+  answered_at ds (Noting m a z way) n c e h = subst (λ o. HasJustAnswered ds (serial_in o) (answer_in o) ⊎ HasJustFoundTaken ds (serial_in o) (answer_in o)) e h
   answered_at ds (Going m a way) n c e h = absurd (no_other (access_of a.givens a.number a.standing) (Note n c) refl e)
   answered_at ds (Asking intents) n c e h = absurd h
   answered_at ds (Settling m z way rest) n c e h = absurd h
   answered_at ds t n c e h = cc
 
-  pub just_answered : (before after : List Deed) (d : Deed) (n : ℕ) (c : JobResult) → try_of d ≡ Note n c → AreDue first (before ++ d ∷ after) → HasJustAnswered before n c
+  pub just_answered : (before after : List Deed) (d : Deed) (n : ℕ) (c : JobResult) → try_of d ≡ Note n c → AreDue first (before ++ d ∷ after) → HasJustAnswered before n c ⊎ HasJustFoundTaken before n c
   just_answered before after d n c is h =
       let parts = due_among first before after d h in
       answered_at before (stage_after_all first before) n c (parts.1 ∙ ap (λ t. Some t) is) (all_after [] before parts.0 tt)

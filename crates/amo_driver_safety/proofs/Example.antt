@@ -1,13 +1,13 @@
 -- There are histories: two workers and two jobs; a process dies while its partner performs a job, and the next one of its
--- worker in a store that comes about.
-use Rattle.std.proofs.Common.{◌≡◌, refl, arith, List, [], ◌∷◌}
+-- worker in a store that comes about. In another one a job is found taken, and filed, and the other job is performed.
+use Rattle.std.proofs.Common.{◌≡◌, true, false, refl, arith, List, [], ◌∷◌, ◌++◌}
 use Rattle.amo_givens.specs.Givens.{IsWorker}
 use Rattle.amo_givens.specs.Limits.{within_limits}
 use Rattle.amo_givens.specs.declared.givens.Givens.{Givens}
-use Rattle.amo_driver.specs.declared.answer.JobResult.TheVariants.{Done}
+use Rattle.amo_driver.specs.declared.answer.JobResult.TheVariants.{Done, Unbegun}
 use Rattle.amo_driver.specs.declared.answer.Reply.TheVariants.{Answered}
 use Rattle.amo_driver.specs.declared.answer.Way.TheVariants.{Go}
-use Rattle.amo_driver.specs.declared.model.Deed.TheVariants.{Loaded, Stored, Found, Intended, Performed, Noted}
+use Rattle.amo_driver.specs.declared.model.Deed.TheVariants.{Loaded, Stored, Found, Intended, Cleared, Performed, Noted}
 use Rattle.amo_driver.specs.declared.model.Try.TheVariants.{Store, Perform}
 use Rattle.amo_driver_safety.specs.Scene.{IsHistory, handed_jobs}
 use Rattle.amo_driver_safety.specs.declared.model.Moment.{Moment}
@@ -38,6 +38,7 @@ moments =
     Does 1 (Loaded 8 0) ∷
     Does 1 (Stored 3 1) ∷
     Does 1 (Intended 1 1) ∷
+    Does 1 (Cleared 1 1 true) ∷
     Does 1 (Performed 1 1 (Answered 1 (Done 0) Go)) ∷
     Does 1 (Noted 1 (Done 0)) ∷
     Does 1 (Stored 5 1) ∷
@@ -47,6 +48,7 @@ moments =
     Does 2 (Loaded 6 0) ∷
     Does 2 (Stored 4 1) ∷
     Does 2 (Intended 5 2) ∷
+    Does 2 (Cleared 5 2 true) ∷
     Loses 2 (Perform 5 2) ∷
     Begins 2 6 ∷
     Does 2 (Loaded 2 2) ∷
@@ -68,11 +70,11 @@ is_history =
     (first_worker, refl, tt) ▸ (first_worker, refl, refl) ▸
     (second_worker, refl, refl) ▸ (second_worker, refl, refl) ▸ (second_worker, refl, refl) ▸
     (first_worker, refl, refl) ▸
-    (first_worker, refl, tt) ▸ (first_worker, refl, tt) ▸ (first_worker, refl, tt) ▸
+    (first_worker, refl, tt) ▸ (first_worker, refl, tt) ▸ (first_worker, refl, tt) ▸ (first_worker, refl, tt) ▸
     (first_worker, refl, tt) ▸ (first_worker, refl, tt) ▸
     (second_worker, refl, tt) ▸
     (second_worker, refl, refl) ▸ (second_worker, refl, refl) ▸ (second_worker, refl, refl) ▸
-    (second_worker, refl, tt) ▸ (second_worker, refl, tt) ▸
+    (second_worker, refl, tt) ▸ (second_worker, refl, tt) ▸ (second_worker, refl, tt) ▸
     (second_worker, refl) ▸
     second_worker ▸
     (second_worker, refl, refl) ▸ (second_worker, refl, refl) ▸ (second_worker, refl, refl) ▸
@@ -83,3 +85,50 @@ is_history =
 
 pub handed : handed_jobs moments ≡ 1 ∷ 2 ∷ []
 handed = refl
+
+abbrev pub before_taking : List Moment
+before_taking =
+    Begins 1 1 ∷
+    Begins 2 5 ∷
+    Does 1 (Loaded 1 0) ∷
+    Does 1 (Loaded 3 0) ∷
+    Does 1 (Loaded 5 0) ∷
+    Does 1 (Stored 1 1) ∷
+    Does 1 (Loaded 2 0) ∷
+    Does 2 (Loaded 2 0) ∷
+    Does 2 (Loaded 4 0) ∷
+    Does 2 (Loaded 8 0) ∷
+    Does 1 (Loaded 8 0) ∷
+    Does 1 (Stored 3 1) ∷
+    Does 1 (Intended 1 1) ∷ []
+
+abbrev pub after_taking : List Moment
+after_taking =
+    Does 1 (Noted 1 Unbegun) ∷
+    Does 1 (Stored 5 1) ∷
+    Does 2 (Stored 2 2) ∷
+    Does 2 (Loaded 1 1) ∷
+    Does 2 (Loaded 5 1) ∷
+    Does 2 (Loaded 6 0) ∷
+    Does 2 (Stored 4 1) ∷
+    Does 2 (Intended 5 2) ∷
+    Does 2 (Cleared 5 2 true) ∷
+    Does 2 (Performed 5 2 (Answered 5 (Done 0) Go)) ∷ []
+
+pub is_taken : IsHistory two_and_two (before_taking ++ Does 1 (Cleared 1 1 false) ∷ after_taking)
+is_taken =
+    first_worker ▸
+    second_worker ▸
+    (first_worker, refl, refl) ▸ (first_worker, refl, refl) ▸ (first_worker, refl, refl) ▸
+    (first_worker, refl, tt) ▸ (first_worker, refl, refl) ▸
+    (second_worker, refl, refl) ▸ (second_worker, refl, refl) ▸ (second_worker, refl, refl) ▸
+    (first_worker, refl, refl) ▸
+    (first_worker, refl, tt) ▸ (first_worker, refl, tt) ▸ (first_worker, refl, tt) ▸
+    (first_worker, refl, tt) ▸ (first_worker, refl, tt) ▸
+    (second_worker, refl, tt) ▸
+    (second_worker, refl, refl) ▸ (second_worker, refl, refl) ▸ (second_worker, refl, refl) ▸
+    (second_worker, refl, tt) ▸ (second_worker, refl, tt) ▸ (second_worker, refl, tt) ▸ (second_worker, refl, tt) ▸
+    tt
+
+pub handed_the_other : handed_jobs (before_taking ++ Does 1 (Cleared 1 1 false) ∷ after_taking) ≡ 2 ∷ []
+handed_the_other = refl

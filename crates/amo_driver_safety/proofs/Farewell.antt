@@ -1,4 +1,4 @@
--- What a process does that was told to leave.
+-- The deeds of a process after a reply that it is to leave, and after it finds its job taken.
 use Rattle.std.proofs.Common.{◌≡◌, ℕ, ◌+◌, Bool, true, false, refl, sym, ap, ◌∙◌, subst, List, [], ◌∷◌, ◌++◌, length, Option, Some, None}
 use Rattle.std.specs.Prelude.{if◌then◌else◌, ◌==◌}
 use Rattle.std.proofs.lemmas.Bool.{true≢false}
@@ -18,17 +18,18 @@ use Rattle.amo_process.specs.declared.access.Access.TheVariants.{Store as StoreA
 use Rattle.amo_process.specs.declared.standing.Standing.{Standing}
 use Rattle.amo_process.specs.declared.standing.Standing.TheVariants.{Going as GoingOn}
 use Rattle.amo_driver.specs.declared.answer.JobResult.{JobResult}
+use Rattle.amo_driver.specs.declared.answer.JobResult.TheVariants.{Unbegun}
 use Rattle.amo_driver.specs.declared.answer.Reply.{Reply}
 use Rattle.amo_driver.specs.declared.answer.Reply.TheVariants.{Answered, Running}
-use Rattle.amo_driver.specs.declared.answer.Way.TheVariants.{Leave}
+use Rattle.amo_driver.specs.declared.answer.Way.TheVariants.{Go, Leave}
 use Rattle.amo_driver.specs.declared.model.Deed.{Deed}
-use Rattle.amo_driver.specs.declared.model.Deed.TheVariants.{Stored, Performed, Noted, Fell}
+use Rattle.amo_driver.specs.declared.model.Deed.TheVariants.{Stored, Cleared, Performed, Noted, Fell}
 use Rattle.amo_driver.specs.declared.model.Try.{Try}
 use Rattle.amo_driver.specs.declared.model.Try.TheVariants.{Store, Note}
 use Rattle.amo_driver.specs.Stage.{Stage, Going, Noting, Leaving, Unanswered, Refused, Broken}
 use Rattle.amo_driver.specs.Course.{try_of, access_tried, due, stage_heard, stage_told, stage_replied, stage_after, stage_after_all, AreDue, first_stage}
-use Rattle.amo_driver_safety.specs.Course.{tells_to_leave, note_of, AreInTurn, TakesLeave}
-use Rattle.amo_driver_safety.proofs.Stages.{performing_at, number_is, standing_is, access_is, Shown, all_shown}
+use Rattle.amo_driver_safety.specs.Course.{tells_to_leave, note_of, AreInTurn, TakesLeave, BeginInTurn, PassesOver}
+use Rattle.amo_driver_safety.proofs.Stages.{performing_at, clearing_at, number_is, standing_is, access_is, Shown, all_shown}
 use Rattle.amo_driver_safety.proofs.Claims.{told_holds}
 use Rattle.amo_driver_safety.proofs.Courses.{due_among}
 
@@ -146,4 +147,43 @@ takes_leave g p s n j reply before after tells h =
       wanted = ap (want_in held.machine.state) held.phase;
       farewell = replied p (done_word g p place) j at.0 (number_is g p shown.0 at.0 f.0) held.machine held.stands held.phase wants n reply after tells
           (subst (λ z. AreDue (stage_after z (Performed n j reply)) after) at.1 parts.2);
+    }
+
+-- who finds its job taken
+
+first_due : (s : Stage) (t : Try) (ts : List Try) (ds : List Deed) → due s ≡ Some t
+    → ((d : Deed) (more : List Deed) → try_of d ≡ t → AreDue (stage_after s d) more → BeginInTurn ts more) → AreDue s ds → BeginInTurn (t ∷ ts) ds
+first_due s t ts [] e goes_on h = tt
+first_due s t ts (d ∷ ds) e goes_on h = let is = same_Some _ _ (sym h.0 ∙ e) in (is, goes_on d ds is h.1)
+
+passing : (n place j : ℕ) (a : ProcessView) (ds : List Deed) → access_of a.givens a.number a.standing ≡ StoreAccess place j → AreDue (Noting n a Unbegun Go) ds
+    → BeginInTurn (Note n Unbegun ∷ Store place j ∷ []) ds
+passing n place j a ds files h = first_due (Noting n a Unbegun Go) (Note n Unbegun) (Store place j ∷ []) ds refl goes_on h
+  where
+    goes_on : (d : Deed) (more : List Deed) → try_of d ≡ Note n Unbegun → AreDue (stage_after (Noting n a Unbegun Go) d) more → BeginInTurn (Store place j ∷ []) more
+    goes_on (Noted m x) more e rest = first_due (Going (n + 1) a Go) (Store place j) [] more (ap access_tried files) (λ d after is due_after. tt) rest
+    goes_on (Fell t) [] e rest = tt
+    goes_on (Fell t) (d ∷ more) e rest = absurd (none-some (try_of d) rest.0)
+    goes_on d more e rest = cc
+
+pub passes_over : (g : Givens) (p s n j : ℕ) (before after : List Deed) → AreDue (first_stage g p s) (before ++ Cleared n j false ∷ after)
+    → PassesOver g p (first_stage g p s) before n j after
+passes_over g p s n j before after h =
+    let first = first_stage g p s in
+    let parts = due_among first before after (Cleared n j false) h in
+    let at = clearing_at (stage_after_all first before) n j parts.1 in
+    let shown = all_shown g p [] first before refl in
+    let f = subst (Shown g p shown.0) at.1 shown.1 in
+    let held = told_holds j f.2 at.0.standing f.1 in
+    let place = length held.machine.state.dones + 1 in
+    let wants = sym (access_is g p shown.0 at.0 f.0) ∙ ap (access_of g p) (sym (standing_is g p shown.0 at.0 f.0) ∙ held.stands)
+    ∙ ap (λ x. access_for g p (want_in held.machine.state x)) held.phase in
+    record {
+      process = at.0;
+      stood = at.1;
+      machine = held.machine;
+      standing = held.stands;
+      place = place;
+      wanted = ap (want_in held.machine.state) held.phase;
+      next = passing n (done_word g p place) j at.0 after wants (subst (λ z. AreDue (stage_after z (Cleared n j false)) after) at.1 parts.2);
     }

@@ -18,10 +18,10 @@ use Rattle.amo_driver.specs.declared.answer.Reply.TheVariants.{Answered, Running
 use Rattle.amo_driver.specs.declared.answer.Way.{Way}
 use Rattle.amo_driver.specs.declared.answer.Way.TheVariants.{Go, Leave}
 use Rattle.amo_driver.specs.declared.model.Deed.{Deed}
-use Rattle.amo_driver.specs.declared.model.Deed.TheVariants.{Loaded, Stored, Performed, Fell}
+use Rattle.amo_driver.specs.declared.model.Deed.TheVariants.{Loaded, Stored, Cleared, Performed, Fell}
 use Rattle.amo_driver.specs.declared.model.Try.{Try}
 use Rattle.amo_driver.specs.declared.model.Try.TheVariants.{Find, Perform}
-use Rattle.amo_driver.specs.Stage.{Stage, Going, Finding, Intending, Performing, Noting, Leaving, Asking, Settling, Unanswered, Refused}
+use Rattle.amo_driver.specs.Stage.{Stage, Going, Finding, Intending, Clearing, Performing, Noting, Leaving, Asking, Settling, Unanswered, Refused}
 use Rattle.amo_driver.specs.Course.{try_of, access_tried, due, stage_by_jobs, stage_heard, stage_told, stage_replied, stage_after, AreDue}
 use Rattle.amo_driver_safety.specs.Course.{handed_by_deeds}
 use Rattle.amo_driver_safety.specs.Scene.{handed_by_try}
@@ -64,6 +64,7 @@ abbrev is_settled : Stage → Bool
 is_settled (Going n a way) = has_begun a.standing
 is_settled (Finding n a j) = false
 is_settled (Intending n a j) = has_begun a.standing
+is_settled (Clearing n a j) = has_begun a.standing
 is_settled (Performing n a j) = has_begun a.standing
 is_settled (Noting n a c way) = has_begun a.standing
 is_settled (Asking intents) = false
@@ -128,6 +129,8 @@ settled_with s (Fell t) h = refl
 settled_with (Going n a way) (Loaded w v) h = heard_settled w v v n way a h
 settled_with (Going n a way) (Stored w v) h = heard_settled w v 0 n way a h
 settled_with (Finding n a j) d h = absurd (true≢false (sym h))
+settled_with (Clearing n a j) (Cleared m i true) h = h
+settled_with (Clearing n a j) (Cleared m i false) h = h
 settled_with (Performing n a j) (Performed m i reply) h = replied_settled n a reply h
 settled_with (Asking intents) d h = absurd (true≢false (sym h))
 settled_with (Settling n c way rest) d h = absurd (true≢false (sym h))

@@ -7,7 +7,7 @@ use Rattle.amo_givens.specs.Givens.{IsWorker}
 use Rattle.amo_givens.specs.declared.givens.Givens.{Givens}
 use Rattle.amo_process.specs.Heard.{standing_of, told_by}
 use Rattle.amo_driver.specs.declared.model.Deed.{Deed}
-use Rattle.amo_driver.specs.declared.model.Deed.TheVariants.{Loaded, Stored, Found, Intended, Performed, Noted, Asked, Fell}
+use Rattle.amo_driver.specs.declared.model.Deed.TheVariants.{Loaded, Stored, Found, Intended, Cleared, Performed, Noted, Asked, Fell}
 use Rattle.amo_driver.specs.declared.model.Try.{Try}
 use Rattle.amo_driver.specs.declared.model.Try.TheVariants.{Perform}
 use Rattle.amo_driver.specs.Stage.{Stage, Going, Performing, Leaving}
@@ -15,7 +15,7 @@ use Rattle.amo_driver.specs.Course.{try_of, due, stage_after, AreDue}
 use Rattle.amo_driver_safety.specs.Course.{handed_by_deeds}
 use Rattle.amo_driver_safety.specs.Scene.{handed_by_try}
 use Rattle.amo_driver_safety.proofs.Stages.{Shown, performing_only, heard_at, heard_with, shown_with}
-use Rattle.amo_driver_safety.proofs.Spent.{is_spent, found_spent, intended_spent, performed_spent, noted_spent, asked_for_spent, after_handing, here_told}
+use Rattle.amo_driver_safety.proofs.Spent.{is_spent, found_spent, intended_spent, cleared_spent, performed_spent, noted_spent, asked_for_spent, after_handing, here_told}
 use Rattle.amo_driver_safety.proofs.Claims.{HasClaimed, claim_stays, told_claimed, told_no_more}
 
 module _ (g : Givens) (p : ℕ) (o : IsWorker g p) where
@@ -44,6 +44,7 @@ module _ (g : Givens) (p : ℕ) (o : IsWorker g p) where
     past_with hs s (Stored w v) h = stored_past hs s w v h
     past_with hs s (Found i) h = still hs s (stage_after s (Found i)) (found_spent s i) h
     past_with hs s (Intended n i) h = still hs s (stage_after s (Intended n i)) (intended_spent s n i) h
+    past_with hs s (Cleared n i clear) h = still hs s (stage_after s (Cleared n i clear)) (cleared_spent s n i clear) h
     past_with hs s (Performed n i reply) h = still hs s (stage_after s (Performed n i reply)) (performed_spent s n i reply) h
     past_with hs s (Noted n c) h = still hs s (stage_after s (Noted n c)) (noted_spent s n c) h
     past_with hs s (Asked n line reply) h = still hs s (stage_after s (Asked n line reply)) (asked_for_spent s n line reply) h

@@ -19,15 +19,15 @@ use Rattle.amo_process.proofs.Accesses.{access_is_step}
 use Rattle.amo_driver.specs.declared.answer.Way.{Way}
 use Rattle.amo_driver.specs.declared.answer.Way.TheVariants.{Go}
 use Rattle.amo_driver.specs.declared.model.Deed.{Deed}
-use Rattle.amo_driver.specs.declared.model.Deed.TheVariants.{Loaded, Stored, Found, Intended, Performed, Noted, Asked, Fell}
+use Rattle.amo_driver.specs.declared.model.Deed.TheVariants.{Loaded, Stored, Found, Intended, Cleared, Performed, Noted, Asked, Fell}
 use Rattle.amo_driver.specs.declared.model.Try.{Try}
-use Rattle.amo_driver.specs.declared.model.Try.TheVariants.{Load, Store, Find, Intend, Perform, Note, Ask}
+use Rattle.amo_driver.specs.declared.model.Try.TheVariants.{Load, Store, Find, Intend, Clear, Perform, Note, Ask}
 use Rattle.amo_driver.specs.Stage.{Stage, Going, Leaving, Gone, Broken}
 use Rattle.amo_driver.specs.Course.{try_of, due, stage_after, first_stage}
 use Rattle.amo_driver_safety.specs.Scene.{Scene, first_scene, stage_at, scene_after, scene_after_all, scene_of, IsTrue, MayBe, IsHistoryFrom, IsHistory}
 use Rattle.amo_driver_safety.specs.declared.model.Moment.{Moment}
 use Rattle.amo_driver_safety.specs.declared.model.Moment.TheVariants.{Does, Loses, Begins}
-use Rattle.amo_driver_safety.proofs.Stages.{Shown, tried_load, tried_store, load_only, store_only, hears_more, number_is, standing_is, access_is, told_shown, found_shown, intended_shown, performed_shown, noted_shown, asked_for_shown}
+use Rattle.amo_driver_safety.proofs.Stages.{Shown, tried_load, tried_store, load_only, store_only, hears_more, number_is, standing_is, access_is, told_shown, found_shown, intended_shown, cleared_shown, performed_shown, noted_shown, asked_for_shown}
 
 -- what is tried at this stage, and comes about, as a happening: an access is a step, and the store by which it leaves a leaving
 abbrev pub happening : ℕ → Stage → Try → List Happening
@@ -79,6 +79,7 @@ moment_workers g sc (Does p (Loaded w v)) h = one_of_worker g p (stage_at sc p) 
 moment_workers g sc (Does p (Stored w v)) h = one_of_worker g p (stage_at sc p) (Store w v) h.0
 moment_workers g sc (Does p (Found j)) h = tt
 moment_workers g sc (Does p (Intended n j)) h = tt
+moment_workers g sc (Does p (Cleared n j clear)) h = tt
 moment_workers g sc (Does p (Performed n j reply)) h = tt
 moment_workers g sc (Does p (Noted n c)) h = tt
 moment_workers g sc (Does p (Asked n line reply)) h = tt
@@ -87,6 +88,7 @@ moment_workers g sc (Loses p (Load w)) h = tt
 moment_workers g sc (Loses p (Store w v)) h = one_of_worker g p (stage_at sc p) (Store w v) h.0
 moment_workers g sc (Loses p (Find j)) h = tt
 moment_workers g sc (Loses p (Intend n j)) h = tt
+moment_workers g sc (Loses p (Clear n j)) h = tt
 moment_workers g sc (Loses p (Perform n j)) h = tt
 moment_workers g sc (Loses p (Note n c)) h = tt
 moment_workers g sc (Loses p (Ask n line)) h = tt
@@ -207,6 +209,7 @@ module _ (g : Givens) (sc : Scene) (sh : Shared) (shows : ShowsScene g sc sh) (p
       (λ a at. subst (λ z. Shown g p [] (stage_after z (Stored w v))) (sym at) tt)
   does (Found j) e is = quiet (stage_after (stage_at sc p) (Found j)) (found_shown g p heard (stage_at sc p) j (shows.shown p o))
   does (Intended n j) e is = quiet (stage_after (stage_at sc p) (Intended n j)) (intended_shown g p heard (stage_at sc p) n j (shows.shown p o))
+  does (Cleared n j clear) e is = quiet (stage_after (stage_at sc p) (Cleared n j clear)) (cleared_shown g p heard (stage_at sc p) n j clear (shows.shown p o))
   does (Performed n j reply) e is = quiet (stage_after (stage_at sc p) (Performed n j reply)) (performed_shown g p heard (stage_at sc p) n j reply (shows.shown p o))
   does (Noted n c) e is = quiet (stage_after (stage_at sc p) (Noted n c)) (noted_shown g p heard (stage_at sc p) n c (shows.shown p o))
   does (Asked n line reply) e is = quiet (stage_after (stage_at sc p) (Asked n line reply)) (asked_for_shown g p heard (stage_at sc p) n line reply (shows.shown p o))
@@ -217,6 +220,7 @@ module _ (g : Givens) (sc : Scene) (sh : Shared) (shows : ShowsScene g sc sh) (p
   loses (Store w v) e = stores (stage_at sc p) Broken w v (shows.shown p o) e (λ n a way at. tt) (λ a at. tt)
   loses (Find j) e = quiet Broken tt
   loses (Intend n j) e = quiet Broken tt
+  loses (Clear n j) e = quiet Broken tt
   loses (Perform n j) e = quiet Broken tt
   loses (Note n c) e = quiet Broken tt
   loses (Ask n line) e = quiet Broken tt

@@ -1,5 +1,5 @@
 -- Of each job one intent is tried at most, and then one performance, by the process that has tried it.
-use Rattle.std.proofs.Common.{◌≡◌, ⊎_elim, ℕ, ◌≤◌, true, refl, sym, ◌∙◌, subst, List, [], ◌∷◌, ◌++◌, append_assoc, append-nil, Option, Some, None}
+use Rattle.std.proofs.Common.{◌≡◌, ⊎_elim, ℕ, ◌≤◌, true, false, refl, sym, ap, ◌∙◌, subst, List, [], ◌∷◌, ◌++◌, append_assoc, append-nil, Option, Some, None}
 use Rattle.std.specs.Prelude.{⊤}
 use Rattle.std.proofs.lemmas.Bool.{true≢false, cases_eq}
 use Rattle.std.proofs.lemmas.Option.{none-some, same_Some}
@@ -12,17 +12,17 @@ use Rattle.amo_process.specs.declared.model.Happening.{Happening}
 use Rattle.amo_process.proofs.Told.{told_once}
 use Rattle.amo_process.specs.Stepped.{ProcessView}
 use Rattle.amo_driver.specs.declared.model.Deed.{Deed}
-use Rattle.amo_driver.specs.declared.model.Deed.TheVariants.{Loaded, Stored, Found, Intended, Performed, Noted, Asked, Fell}
+use Rattle.amo_driver.specs.declared.model.Deed.TheVariants.{Loaded, Stored, Found, Intended, Cleared, Performed, Noted, Asked, Fell}
 use Rattle.amo_driver.specs.declared.model.Try.{Try}
-use Rattle.amo_driver.specs.declared.model.Try.TheVariants.{Load, Store, Intend, Perform}
-use Rattle.amo_driver.specs.Stage.{Stage, Going, Intending, Performing, Leaving, Gone, Broken}
+use Rattle.amo_driver.specs.declared.model.Try.TheVariants.{Load, Store, Intend, Clear, Perform}
+use Rattle.amo_driver.specs.Stage.{Stage, Going, Intending, Clearing, Performing, Leaving, Gone, Broken}
 use Rattle.amo_driver.specs.Course.{try_of, due, stage_replied, stage_after, first_stage}
 use Rattle.amo_driver_safety.specs.Scene.{Scene, first_scene, stage_at, scene_after, scene_after_all, scene_of, MayBe, IsHistoryFrom, IsHistory}
 use Rattle.amo_driver_safety.specs.Tries.{worker_of, tried_in, NoneBegins}
 use Rattle.amo_driver_safety.specs.declared.model.Moment.{Moment}
 use Rattle.amo_driver_safety.specs.declared.model.Moment.TheVariants.{Does, Loses, Begins}
-use Rattle.amo_driver_safety.proofs.Stages.{intending_at, performing_at}
-use Rattle.amo_driver_safety.proofs.Spent.{is_spent, replied_spent, found_spent, intended_spent, performed_spent, noted_spent, asked_for_spent, after_handing, IsTold, here_told, here_intends}
+use Rattle.amo_driver_safety.proofs.Stages.{intending_at, clearing_at, performing_at}
+use Rattle.amo_driver_safety.proofs.Spent.{is_spent, replied_spent, found_spent, intended_spent, cleared_spent, performed_spent, noted_spent, asked_for_spent, after_handing, after_taking, IsTold, here_told, here_intends, here_asks}
 use Rattle.amo_driver_safety.proofs.Histories.{happening, happening_done, happenings_at, shared-append, workers-append, no_step_parts, moment_workers, ShowsScene, stage_is, moment_shows, shown_all, history_parts, scene_parts}
 
 -- it stays spent until the next access
@@ -41,21 +41,37 @@ still_spent p s (Loaded w v) none h = loaded_spent p s w v none h
 still_spent p s (Stored w v) none h = stored_spent p s w v none h
 still_spent p s (Found j) none h = found_spent s j h
 still_spent p s (Intended n j) none h = intended_spent s n j h
+still_spent p s (Cleared n j clear) none h = cleared_spent s n j clear h
 still_spent p s (Performed n j reply) none h = performed_spent s n j reply h
 still_spent p s (Noted n c) none h = noted_spent s n c h
 still_spent p s (Asked n line reply) none h = asked_for_spent s n line reply h
 still_spent p s (Fell t) none h = refl
 
--- The process that stands here tries no intent before its next access, and no performance but by this one, if there is one.
+-- The process that stands here tries no intent before its next access, and neither asks for a clearance nor tries a performance
+-- but by this one, if there is one.
 abbrev pub IsOver : Option ℕ → Stage → Type 0
 IsOver o (Intending n a j) = ⊥
+IsOver o (Clearing n a j) = o ≡ Some n
 IsOver o (Performing n a j) = o ≡ Some n
 IsOver o s = ⊤
 
 pub spent_over : (o : Option ℕ) (s : Stage) → is_spent s ≡ true → IsOver o s
 spent_over o (Intending n a j) h = absurd (true≢false (sym h))
+spent_over o (Clearing n a j) h = absurd (true≢false (sym h))
 spent_over o (Performing n a j) h = absurd (true≢false (sym h))
 spent_over o s h = tt
+
+clearing_over : (o : Option ℕ) (n : ℕ) (a : ProcessView) (j : ℕ) → o ≡ Some n → (d : Deed) → IsOver o (stage_after (Clearing n a j) d)
+clearing_over o n a j e (Cleared m i true) = e
+clearing_over o n a j e (Cleared m i false) = tt
+clearing_over o n a j e (Fell t) = tt
+clearing_over o n a j e (Loaded w v) = e
+clearing_over o n a j e (Stored w v) = e
+clearing_over o n a j e (Found i) = e
+clearing_over o n a j e (Intended m i) = e
+clearing_over o n a j e (Performed m i reply) = e
+clearing_over o n a j e (Noted m c) = e
+clearing_over o n a j e (Asked m line reply) = e
 
 performing_over : (o : Option ℕ) (n : ℕ) (a : ProcessView) (j : ℕ) → o ≡ Some n → (d : Deed) → IsOver o (stage_after (Performing n a j) d)
 performing_over o n a j e (Performed m i reply) = spent_over o (stage_replied n a reply) (replied_spent n a reply)
@@ -64,13 +80,20 @@ performing_over o n a j e (Loaded w v) = e
 performing_over o n a j e (Stored w v) = e
 performing_over o n a j e (Found i) = e
 performing_over o n a j e (Intended m i) = e
+performing_over o n a j e (Cleared m i clear) = e
 performing_over o n a j e (Noted m c) = e
 performing_over o n a j e (Asked m line reply) = e
 
 still_over : (o : Option ℕ) (p : ℕ) (s : Stage) (d : Deed) → HasNoStep p (happening_done p s d) → IsOver o s → IsOver o (stage_after s d)
 still_over o p (Intending n a j) d none h = absurd h
+still_over o p (Clearing n a j) d none h = clearing_over o n a j h d
 still_over o p (Performing n a j) d none h = performing_over o n a j h d
 still_over o p s d none h = spent_over o (stage_after s d) (still_spent p s d none refl)
+
+-- the deed of a moment, if it is one
+abbrev deed_in : Moment → Deed
+deed_in (Does p d) = d
+deed_in m = Found 0
 
 -- once an intent was tried
 intended_over : (n : ℕ) (a : ProcessView) (j : ℕ) (d : Deed) → try_of d ≡ Intend n j → IsOver (Some n) (stage_after (Intending n a j) d)
@@ -150,6 +173,12 @@ module _ (g : Givens) (hs : List Happening) (w : AreOfWorkers g hs) (p : ℕ) (o
         let once = told_here (here_intends g q (numbered [] (shared_after_all g (shared_of g hs) r.more).lists q) (stage_at sc q) n j (r.shows.shown q v) e) in
         subst (IsOver by) at.1 (subst (λ x. IsOver by (stage_at sc x)) once.0 (r.over once.1))
 
+    pub asked_by_it : due (stage_at sc q) ≡ Some (Clear n j) → (p ≡ q) × (by ≡ Some n) × NoneBegins p mid
+    asked_by_it e =
+        let at = clearing_at (stage_at sc q) n j e in
+        let once = told_here (here_asks g q (numbered [] (shared_after_all g (shared_of g hs) r.more).lists q) (stage_at sc q) n j (r.shows.shown q v) e) in
+        (once.0, subst (IsOver by) at.1 (subst (λ x. IsOver by (stage_at sc x)) once.0 (r.over once.1)), r.alone once.1)
+
     pub performed_by_it : due (stage_at sc q) ≡ Some (Perform n j) → (p ≡ q) × (by ≡ Some n) × NoneBegins p mid
     performed_by_it e =
         let at = performing_at (stage_at sc q) n j e in
@@ -164,13 +193,14 @@ pub record Begun (g : Givens) (hs : List Happening) (w : AreOfWorkers g hs) (sc 
   pub reached : Reached g hs w (worker_of m) worker j low told by (scene_after g sc m) []
 
 module _ (g : Givens) (hs : List Happening) (w : AreOfWorkers g hs) (sc : Scene) (shows : ShowsScene g sc (shared_of g hs)) where
-  module _ (m : Moment) (t : Try) (by : Option ℕ) (over : (p : ℕ) (d : Deed) → due (stage_at sc p) ≡ Some t → try_of d ≡ t → IsOver by (stage_after (stage_at sc p) d)) where
-    begun_over : (m : Moment) → MayBe g sc m → tried_in m ≡ Some t → IsOver by (stage_at (scene_after g sc m) (worker_of m))
-    begun_over (Does p d) may is =
-        let same = same_Some (try_of d) t is in
-        subst (IsOver by) (sym (stage_is g sc (shared_of g hs) shows p may.0 (stage_after (stage_at sc p) d))) (over p d (may.1 ∙ is) same)
-    begun_over (Loses p u) may is = subst (IsOver by) (sym (stage_is g sc (shared_of g hs) shows p may.0 Broken)) tt
-    begun_over (Begins p k) may is = absurd (none-some t is)
+  module _ (m : Moment) (t : Try) (by : Option ℕ)
+      (over : (p : ℕ) (d : Deed) → m ≡ Does p d → due (stage_at sc p) ≡ Some t → try_of d ≡ t → IsOver by (stage_after (stage_at sc p) d)) where
+    begun_over : (x : Moment) → m ≡ x → MayBe g sc x → tried_in x ≡ Some t → IsOver by (stage_at (scene_after g sc x) (worker_of x))
+    begun_over (Does p d) same may is =
+        let tried = same_Some (try_of d) t is in
+        subst (IsOver by) (sym (stage_is g sc (shared_of g hs) shows p may.0 (stage_after (stage_at sc p) d))) (over p d same (may.1 ∙ is) tried)
+    begun_over (Loses p u) same may is = subst (IsOver by) (sym (stage_is g sc (shared_of g hs) shows p may.0 Broken)) tt
+    begun_over (Begins p k) same may is = absurd (none-some t is)
 
     begun : (j : ℕ) → MayBe g sc m → tried_in m ≡ Some t
         → ((p : ℕ) → IsWorker g p → due (stage_at sc p) ≡ Some t → IsTold g p (numbered [] (shared_of g hs).lists p) (stage_at sc p) j) → Begun g hs w sc m j by
@@ -185,22 +215,27 @@ module _ (g : Givens) (hs : List Happening) (w : AreOfWorkers g hs) (sc : Scene)
             more = happenings_at sc m;
             workers = moment_workers g sc m may;
             shows = moment_shows g sc (shared_of g hs) m shows may;
-            over = λ none. begun_over m may is;
+            over = λ none. begun_over m refl may is;
             alone = λ none. tt;
           };
         }
 
   pub intent_begun : (m : Moment) (n j : ℕ) → MayBe g sc m → tried_in m ≡ Some (Intend n j) → Begun g hs w sc m j (Some n)
   intent_begun m n j may is = begun m (Intend n j) (Some n)
-      (λ p d e same. let at = intending_at (stage_at sc p) n j e in subst (λ (s : Stage). IsOver (Some n) (stage_after s d)) (sym at.1) (intended_over n at.0 j d same))
+      (λ p d it e same. let at = intending_at (stage_at sc p) n j e in subst (λ (s : Stage). IsOver (Some n) (stage_after s d)) (sym at.1) (intended_over n at.0 j d same))
       j may is (λ p o e. here_intends g p (numbered [] (shared_of g hs).lists p) (stage_at sc p) n j (shows.shown p o) e)
 
   pub handing_begun : (m : Moment) (n j : ℕ) → MayBe g sc m → tried_in m ≡ Some (Perform n j) → Begun g hs w sc m j None
   handing_begun m n j may is = begun m (Perform n j) None
-      (λ p d e same. spent_over None (stage_after (stage_at sc p) d) (after_handing (stage_at sc p) d n j e same))
+      (λ p d it e same. spent_over None (stage_after (stage_at sc p) d) (after_handing (stage_at sc p) d n j e same))
       j may is (λ p o e. here_told g p (numbered [] (shared_of g hs).lists p) (stage_at sc p) n j (shows.shown p o) e)
 
--- what a later moment of a history may do of a job whose intent was tried, or that was handed over
+  pub taking_begun : (m : Moment) (p n j : ℕ) → m ≡ Does p (Cleared n j false) → MayBe g sc m → Begun g hs w sc m j None
+  taking_begun m p n j is may = begun m (Clear n j) None
+      (λ q d it e same. subst (λ x. IsOver None (stage_after (stage_at sc q) x)) (ap deed_in (sym is ∙ it)) (spent_over None (stage_after (stage_at sc q) (Cleared n j false)) (after_taking (stage_at sc q) n j e)))
+      j may (ap tried_in is) (λ q o e. here_asks g q (numbered [] (shared_of g hs).lists q) (stage_at sc q) n j (shows.shown q o) e)
+
+-- what a later moment of a history may do of a job whose intent was tried, or that was handed over, or found taken
 
 module _ (g : Givens) (before mid : List Moment) (x y : Moment) (h : IsHistory g (before ++ x ∷ mid ++ y ∷ [])) where
   abbrev then_scene : Scene
@@ -245,3 +280,15 @@ module _ (g : Givens) (before mid : List Moment) (x y : Moment) (h : IsHistory g
       let it = tried_due g then_scene y (Perform m j) l.may second in
       let found = performed_by_it g l.hs l.workers (worker_of x) l.begun.worker j l.begun.low l.begun.told (Some n) then_scene mid l.reached (worker_of y) m it.0 it.1 in
       (found.0, same_Some n m found.1, found.2)
+
+  pub none_performed_then : (p n m j : ℕ) → x ≡ Does p (Cleared n j false) → tried_in y ≡ Some (Perform m j) → ⊥
+  none_performed_then p n m j first second =
+      let l = later j None (λ hs w shows may. taking_begun g hs w (scene_of g before) shows x p n j first may) in
+      let it = tried_due g then_scene y (Perform m j) l.may second in
+      none-some m (performed_by_it g l.hs l.workers (worker_of x) l.begun.worker j l.begun.low l.begun.told None then_scene mid l.reached (worker_of y) m it.0 it.1).1
+
+  pub none_taken_then : (p n m j : ℕ) → tried_in x ≡ Some (Perform n j) → y ≡ Does p (Cleared m j false) → ⊥
+  none_taken_then p n m j first second =
+      let l = later j None (λ hs w shows may. handing_begun g hs w (scene_of g before) shows x n j may first) in
+      let it = tried_due g then_scene y (Clear m j) l.may (ap tried_in second) in
+      none-some m (asked_by_it g l.hs l.workers (worker_of x) l.begun.worker j l.begun.low l.begun.told None then_scene mid l.reached (worker_of y) m it.0 it.1).1

@@ -8,16 +8,17 @@ use Rattle.amo_driver.specs.declared.answer.JobResult.{JobResult}
 use Rattle.amo_driver.specs.declared.answer.Reply.{Reply}
 use Rattle.amo_driver.specs.declared.answer.Way.{Way}
 use Rattle.amo_driver.specs.declared.model.Deed.{Deed}
-use Rattle.amo_driver.specs.declared.model.Deed.TheVariants.{Found, Intended, Performed, Noted, Asked, Fell}
-use Rattle.amo_driver.specs.declared.model.Try.TheVariants.{Intend, Perform}
+use Rattle.amo_driver.specs.declared.model.Deed.TheVariants.{Found, Intended, Cleared, Performed, Noted, Asked, Fell}
+use Rattle.amo_driver.specs.declared.model.Try.TheVariants.{Intend, Clear, Perform}
 use Rattle.amo_driver.specs.declared.past.Intent.{Intent}
-use Rattle.amo_driver.specs.Stage.{Stage, Finding, Intending, Performing, Noting, Asking, Settling}
+use Rattle.amo_driver.specs.Stage.{Stage, Finding, Intending, Clearing, Performing, Noting, Asking, Settling}
 use Rattle.amo_driver.specs.Course.{try_of, due, stage_replied, stage_asking, stage_asked, stage_after}
-use Rattle.amo_driver_safety.proofs.Stages.{after_reply, after_settling, after_question, process_of, Shown, performing_only, intending_at, standing_is}
+use Rattle.amo_driver_safety.proofs.Stages.{after_reply, after_settling, after_question, process_of, Shown, performing_only, intending_at, clearing_at, standing_is}
 
 -- The job in its hand, if there is one, was handed to the partner already: no performance is to come before the next access.
 abbrev pub is_spent : Stage → Bool
 is_spent (Intending s a j) = false
+is_spent (Clearing s a j) = false
 is_spent (Performing s a j) = false
 is_spent s = true
 
@@ -40,6 +41,10 @@ pub intended_spent : (s : Stage) (n j : ℕ) → is_spent s ≡ true → is_spen
 intended_spent (Intending s a i) n j h = absurd (true≢false (sym h))
 intended_spent s n j h = h
 
+pub cleared_spent : (s : Stage) (n j : ℕ) (clear : Bool) → is_spent s ≡ true → is_spent (stage_after s (Cleared n j clear)) ≡ true
+cleared_spent (Clearing s a i) n j clear h = absurd (true≢false (sym h))
+cleared_spent s n j clear h = h
+
 pub performed_spent : (s : Stage) (n j : ℕ) (reply : Reply) → is_spent s ≡ true → is_spent (stage_after s (Performed n j reply)) ≡ true
 performed_spent (Performing s a i) n j reply h = absurd (true≢false (sym h))
 performed_spent s n j reply h = h
@@ -61,7 +66,12 @@ after_handing s (Performed m i reply) n j e is =
 after_handing s (Fell t) n j e is = refl
 after_handing s d n j e is = cc
 
--- Where a process tries the intent of job j, or hands it to its partner, it is told to perform it, by what it has heard.
+-- and once it was found taken
+pub after_taking : (s : Stage) (n j : ℕ) → due s ≡ Some (Clear n j) → is_spent (stage_after s (Cleared n j false)) ≡ true
+after_taking s n j e = let at = clearing_at s n j e in ap (λ (z : Stage). is_spent (stage_after z (Cleared n j false))) at.1
+
+-- If a process tries the intent of job j, asks whether j is clear, or hands j to its partner, it is
+-- to perform j, by the numbers it received.
 pub record IsTold (g : Givens) (p : ℕ) (hs : List ℕ) (s : Stage) (j : ℕ) : Type 0 where
   pub job : told_by (standing_of g p hs) ≡ j
   pub low : 1 ≤ j
@@ -79,3 +89,6 @@ here_told g p hs s n j f e = let at = performing_only s n j e in told_there g p 
 
 pub here_intends : (g : Givens) (p : ℕ) (hs : List ℕ) (s : Stage) (n j : ℕ) → Shown g p hs s → due s ≡ Some (Intend n j) → IsTold g p hs s j
 here_intends g p hs s n j f e = let at = intending_at s n j e in told_there g p hs s at.0 j (subst (Shown g p hs) at.1 f) (ap is_spent at.1)
+
+pub here_asks : (g : Givens) (p : ℕ) (hs : List ℕ) (s : Stage) (n j : ℕ) → Shown g p hs s → due s ≡ Some (Clear n j) → IsTold g p hs s j
+here_asks g p hs s n j f e = let at = clearing_at s n j e in told_there g p hs s at.0 j (subst (Shown g p hs) at.1 f) (ap is_spent at.1)

@@ -15,11 +15,11 @@ use Rattle.amo_driver.specs.declared.answer.Reply.TheVariants.{Answered, Running
 use Rattle.amo_driver.specs.declared.answer.Way.{Way}
 use Rattle.amo_driver.specs.declared.answer.Way.TheVariants.{Go, Leave}
 use Rattle.amo_driver.specs.declared.model.Deed.{Deed}
-use Rattle.amo_driver.specs.declared.model.Deed.TheVariants.{Loaded, Stored, Found, Intended, Performed, Noted, Asked, Fell}
+use Rattle.amo_driver.specs.declared.model.Deed.TheVariants.{Loaded, Stored, Found, Intended, Cleared, Performed, Noted, Asked, Fell}
 use Rattle.amo_driver.specs.declared.model.Try.{Try}
-use Rattle.amo_driver.specs.declared.model.Try.TheVariants.{Intend, Load, Store, Perform, Note}
+use Rattle.amo_driver.specs.declared.model.Try.TheVariants.{Intend, Load, Store, Clear, Perform, Note}
 use Rattle.amo_driver.specs.declared.past.Intent.{Intent}
-use Rattle.amo_driver.specs.Stage.{Stage, Going, Finding, Intending, Performing, Noting, Leaving, Asking, Settling, Dismissed, Unanswered, Refused}
+use Rattle.amo_driver.specs.Stage.{Stage, Going, Finding, Intending, Clearing, Performing, Noting, Leaving, Asking, Settling, Dismissed, Unanswered, Refused}
 use Rattle.amo_driver.specs.Course.{access_tried, due, stage_by_jobs, stage_heard, stage_told, stage_replied, stage_asking, stage_asked, stage_after, stage_after_all}
 
 -- what was tried, in parts
@@ -35,11 +35,13 @@ value_in t = 0
 
 abbrev pub job_in : Option Try → ℕ
 job_in (Some (Intend n j)) = j
+job_in (Some (Clear n j)) = j
 job_in (Some (Perform n j)) = j
 job_in t = 0
 
 abbrev pub serial_in : Option Try → ℕ
 serial_in (Some (Intend n j)) = n
+serial_in (Some (Clear n j)) = n
 serial_in (Some (Perform n j)) = n
 serial_in (Some (Note n c)) = n
 serial_in t = 0
@@ -83,7 +85,7 @@ store_only (Leaving a) w v e = inr (a, refl, sym (ap word_in e), sym (ap value_i
 store_only (Asking []) w v e = cc
 store_only s w v e = cc
 
--- a performance only where its intent was put
+-- a performance only if the job is clear
 pub performing_only : (s : Stage) (n j : ℕ) → due s ≡ Some (Perform n j) → (m : ℕ) × (a : ProcessView) × (s ≡ Performing m a j)
 performing_only (Performing s a i) m k e = (s, a, ap (λ o. Performing s a (job_in o)) e)
 performing_only (Going s a way) m k e = absurd (no_other (access_of a.givens a.number a.standing) (Perform m k) refl e)
@@ -103,6 +105,13 @@ intending_at (Intending m a i) n j e = (a, (λ k. Intending (serial_in (e k)) a 
 intending_at (Going s a way) n j e = absurd (no_other (access_of a.givens a.number a.standing) (Intend n j) refl e)
 intending_at (Asking []) n j e = cc
 intending_at s n j e = cc
+
+-- whether a job may be handed over is asked only where its intent was put
+pub clearing_at : (s : Stage) (n j : ℕ) → due s ≡ Some (Clear n j) → (a : ProcessView) × (s ≡ Clearing n a j)
+clearing_at (Clearing m a i) n j e = (a, (λ k. Clearing (serial_in (e k)) a (job_in (e k))))
+clearing_at (Going s a way) n j e = absurd (no_other (access_of a.givens a.number a.standing) (Clear n j) refl e)
+clearing_at (Asking []) n j e = cc
+clearing_at s n j e = cc
 
 -- what holds of each stage to which something may lead holds of the one to which it leads
 
@@ -167,13 +176,15 @@ module _ (g : Givens) (p : ℕ) (hs : List ℕ) (a : ProcessView) (is : a ≡ pr
       givens_is : a.givens ≡ g
       givens_is = ap (λ (z : ProcessView). z.givens) is ∙ (kept (new_process g p) hs).0
 
--- The process that stands there has heard these numbers since it began: it is told to perform a job whose intent is to be put,
--- or that a job is in doubt which is found, and may leave where it leaves. Of one that has ended, and of one that asks for
--- intents, nothing is said.
+-- The process at this stage has received these numbers since it began. By them it is to perform the
+-- job whose intent is due, the job about which it asks whether it is clear, and the job that is
+-- clear. By them a job that is to be found is in doubt, and a process that leaves may leave.
+-- Nothing is stated about a process that has ended, or that asks for intents.
 abbrev pub Shown : Givens → ℕ → List ℕ → Stage → Type 0
 Shown g p hs (Going s a way) = a ≡ process_of g p hs
 Shown g p hs (Finding s a j) = (a ≡ process_of g p hs) × (doubted_by a.standing ≡ j) × (1 ≤ j)
 Shown g p hs (Intending s a j) = (a ≡ process_of g p hs) × (told_by a.standing ≡ j) × (1 ≤ j)
+Shown g p hs (Clearing s a j) = (a ≡ process_of g p hs) × (told_by a.standing ≡ j) × (1 ≤ j)
 Shown g p hs (Performing s a j) = (a ≡ process_of g p hs) × (told_by a.standing ≡ j) × (1 ≤ j)
 Shown g p hs (Noting s a c way) = a ≡ process_of g p hs
 Shown g p hs (Leaving a) = (a ≡ process_of g p hs) × (may_leave a.standing ≡ true)
@@ -222,6 +233,11 @@ module _ (g : Givens) (p : ℕ) (hs : List ℕ) where
   intended_shown (Intending s a i) n j f = f
   intended_shown s n j f = f
 
+  pub cleared_shown : (s : Stage) (n j : ℕ) (clear : Bool) → Shown g p hs s → Shown g p hs (stage_after s (Cleared n j clear))
+  cleared_shown (Clearing s a i) n j true f = f
+  cleared_shown (Clearing s a i) n j false f = f.0
+  cleared_shown s n j clear f = f
+
   pub performed_shown : (s : Stage) (n j : ℕ) (reply : Reply) → Shown g p hs s → Shown g p hs (stage_after s (Performed n j reply))
   performed_shown (Performing s a i) n j reply f = replied_shown s a f.0 reply
   performed_shown s n j reply f = f
@@ -261,6 +277,7 @@ module _ (g : Givens) (p : ℕ) where
   shown_with hs s (Stored w v) f = stored_shown hs s w v f
   shown_with hs s (Found j) f = found_shown g p hs s j f
   shown_with hs s (Intended n j) f = intended_shown g p hs s n j f
+  shown_with hs s (Cleared n j clear) f = cleared_shown g p hs s n j clear f
   shown_with hs s (Performed n j reply) f = performed_shown g p hs s n j reply f
   shown_with hs s (Noted n c) f = noted_shown g p hs s n c f
   shown_with hs s (Asked n line reply) f = asked_for_shown g p hs s n line reply f

@@ -10,15 +10,16 @@ use Rattle.amo_process.specs.Heard.{told_by}
 use Rattle.amo_process.specs.Stepped.{ProcessView, process_after}
 use Rattle.amo_process.specs.declared.standing.Standing.TheVariants.{Going as GoingOn}
 use Rattle.amo_driver.specs.declared.answer.JobResult.{JobResult}
+use Rattle.amo_driver.specs.declared.answer.JobResult.TheVariants.{Unbegun}
 use Rattle.amo_driver.specs.declared.answer.Reply.{Reply}
 use Rattle.amo_driver.specs.declared.answer.Reply.TheVariants.{Answered, Running, Garbled, Closed}
 use Rattle.amo_driver.specs.declared.answer.Way.{Way}
 use Rattle.amo_driver.specs.declared.answer.Way.TheVariants.{Go, Leave}
 use Rattle.amo_driver.specs.declared.model.Deed.{Deed}
-use Rattle.amo_driver.specs.declared.model.Deed.TheVariants.{Stored, Intended, Performed}
+use Rattle.amo_driver.specs.declared.model.Deed.TheVariants.{Stored, Intended, Cleared, Performed}
 use Rattle.amo_driver.specs.declared.model.Try.{Try}
 use Rattle.amo_driver.specs.declared.model.Try.TheVariants.{Store, Note}
-use Rattle.amo_driver.specs.Stage.{Stage, Going, Performing}
+use Rattle.amo_driver.specs.Stage.{Stage, Going, Clearing, Performing}
 use Rattle.amo_driver.specs.Course.{try_of, stage_after_all}
 use Rattle.amo_driver_safety.specs.Scene.{handed_by_try}
 
@@ -45,12 +46,20 @@ pub record HasJustClaimed (g : Givens) (p : ℕ) (first : Stage) (deeds : List D
   pub job : told_by process.standing ≡ j
 
 -- The last of these deeds is intent n of job j, put into the journal, and the one right before it is the store by which
--- worker p claims j. With them the process stands where the performance of j is due.
-pub record HasJustIntended (g : Givens) (p : ℕ) (first : Stage) (deeds : List Deed) (n j : ℕ) : Type 0 where
+-- worker p claims j. After them the question whether j may be handed over is due.
+pub record HasJustIntended (g : Givens) (p : ℕ) (first : Stage) (deeds : List Deed) (n j : ℕ) (process : ProcessView) : Type 0 where
   pub earlier : List Deed
-  pub process : ProcessView
   pub is : deeds ≡ earlier ++ Intended n j ∷ []
   pub claimed : HasJustClaimed g p first earlier n j process
+  pub stands : stage_after_all first deeds ≡ Clearing n process j
+
+-- The last of these deeds says that job j may be handed over by intent n, and the one right before
+-- it is that intent. After them the performance of j is due.
+pub record HasJustCleared (g : Givens) (p : ℕ) (first : Stage) (deeds : List Deed) (n j : ℕ) : Type 0 where
+  pub earlier : List Deed
+  pub process : ProcessView
+  pub is : deeds ≡ earlier ++ Cleared n j true ∷ []
+  pub intended : HasJustIntended g p first earlier n j process
   pub stands : stage_after_all first deeds ≡ Performing n process j
 
 -- The last of these deeds is the performance of a job by intent n, and this was answered to it.
@@ -59,6 +68,14 @@ pub record HasJustAnswered (deeds : List Deed) (n : ℕ) (answer : JobResult) : 
   pub job : ℕ
   pub way : Way
   pub is : deeds ≡ earlier ++ Performed n job (Answered n answer way) ∷ []
+
+-- The last of these deeds says that the job of intent n is taken, and the one right before it is that intent. The answer is
+-- that the job was not begun.
+pub record HasJustFoundTaken (deeds : List Deed) (n : ℕ) (answer : JobResult) : Type 0 where
+  pub earlier : List Deed
+  pub job : ℕ
+  pub is : deeds ≡ earlier ++ Intended n job ∷ Cleared n job false ∷ []
+  pub unbegun : answer ≡ Unbegun
 
 -- whether this tells the worker to leave
 abbrev pub tells_to_leave : Reply → Bool
@@ -95,3 +112,24 @@ pub record TakesLeave (g : Givens) (p : ℕ) (first : Stage) (before : List Deed
   pub wanted : want machine.state ≡ StoreDone place j
   -- what follows
   pub farewell : AreInTurn (note_of n reply ++ Store (done_word g p place) j ∷ Store (next_word p) 0 ∷ []) after
+
+-- The deeds try first what stands in the list, in its order, as far as they come. Nothing is stated
+-- about what they try after that.
+abbrev pub BeginInTurn : List Try → List Deed → Type 0
+BeginInTurn [] ds = ⊤
+BeginInTurn (t ∷ ts) [] = ⊤
+BeginInTurn (t ∷ ts) (d ∷ ds) = (try_of d ≡ t) × BeginInTurn ts ds
+
+-- After the deeds of `before` worker p has asked whether job j may be handed over by intent n, and
+-- it is taken. In the deeds of `after` the worker notes first that the job was not begun. Then it
+-- files the job, in the place in which the machine that has the job in its hand wants that.
+pub record PassesOver (g : Givens) (p : ℕ) (first : Stage) (before : List Deed) (n j : ℕ) (after : List Deed) : Type 0 where
+  -- the process when it asked, and what its machine wanted
+  pub process : ProcessView
+  pub stood : stage_after_all first before ≡ Clearing n process j
+  pub machine : LocalView
+  pub standing : process.standing ≡ Some (GoingOn machine false)
+  pub place : ℕ
+  pub wanted : want machine.state ≡ StoreDone place j
+  -- what follows
+  pub next : BeginInTurn (Note n Unbegun ∷ Store (done_word g p place) j ∷ []) after

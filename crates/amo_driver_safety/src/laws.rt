@@ -1,5 +1,5 @@
 //! The theorems over the definitions. Nothing here runs: each function's contract is a law.
-ghost use Rattle.std.specs.Prelude.{◌≡◌, ℕ, true, false, List, [], ◌∷◌, ◌++◌, Some, None};
+ghost use Rattle.std.specs.Prelude.{◌≡◌, ◌⊎◌, ℕ, true, false, List, [], ◌∷◌, ◌++◌, Some, None};
 ghost use Rattle.amo_sets.specs.Sets.{has, AreDistinct};
 ghost use Rattle.amo_givens.specs.Givens.{IsWorker};
 ghost use Rattle.amo_givens.specs.declared.givens.Givens.{Givens};
@@ -8,10 +8,10 @@ ghost use Rattle.amo_driver.specs.declared.answer.Reply.{Reply};
 ghost use Rattle.amo_driver.specs.Course.{try_of, due, stage_after_all, AreDue, first_stage, MayTry};
 ghost use Rattle.amo_driver.specs.Stage.{Stage};
 ghost use Rattle.amo_driver.specs.declared.model.Deed.{Deed};
-ghost use Rattle.amo_driver.specs.declared.model.Deed.TheVariants.{Performed, Fell};
+ghost use Rattle.amo_driver.specs.declared.model.Deed.TheVariants.{Intended, Cleared, Performed, Fell};
 ghost use Rattle.amo_driver.specs.declared.model.Try.{Try};
-ghost use Rattle.amo_driver.specs.declared.model.Try.TheVariants.{Find, Intend, Perform, Note};
-ghost use Rattle.amo_driver_safety.specs.Course.{handed_by_deeds, HasJustIntended, HasJustAnswered, tells_to_leave, TakesLeave};
+ghost use Rattle.amo_driver.specs.declared.model.Try.TheVariants.{Find, Intend, Clear, Perform, Note};
+ghost use Rattle.amo_driver_safety.specs.Course.{handed_by_deeds, HasJustCleared, HasJustAnswered, HasJustFoundTaken, tells_to_leave, TakesLeave, PassesOver};
 ghost use Rattle.amo_driver_safety.specs.Log.{Log, log_of, StandsBy};
 ghost use Rattle.amo_driver_safety.specs.Scene.{stage_at, scene_of, IsTrue, MayBe, IsHistory, handed_jobs};
 ghost use Rattle.amo_driver_safety.specs.Tries.{worker_of, tried_in, NoneBegins};
@@ -55,9 +55,12 @@ pub fn workers_do_right()
 {}
 
 /// There are histories in which jobs are performed, in which one is handed to a partner while its
-/// process dies, and in which a store comes about that its process never hears of.
+/// process dies, and in which a store comes about of which its process never learns. There are also
+/// histories in which a job is found taken, and another job is performed.
 pub fn histories_there_are()
-    ensures { (g : Givens) × (ms : List Moment) × IsHistory g ms × (handed_jobs ms ≡ 1 ∷ 2 ∷ []) }
+    ensures handed { (g : Givens) × (ms : List Moment) × IsHistory g ms × (handed_jobs ms ≡ 1 ∷ 2 ∷ []) }
+    ensures taken { (g : Givens) × (before : List Moment) × (after : List Moment) × IsHistory g (before ++ Does 1 (Cleared 1 1 false) ∷ after)
+        × (handed_jobs (before ++ Does 1 (Cleared 1 1 false) ∷ after) ≡ 2 ∷ []) }
 {}
 
 /// Nothing follows a failure, nor a stage at which nothing is due: so nothing a number that can't
@@ -74,13 +77,13 @@ pub fn courses_perform_once()
     ensures { (g : Givens) (p s : ℕ) (deeds : List Deed) → IsWorker g p → AreDue (first_stage g p s) deeds → AreDistinct (handed_by_deeds deeds) }
 {}
 
-/// Before a job is handed to the partner, also where that fails, its intent was put, and right
-/// before the intent its claim was stored: the worker's count of claims, in its place, which is
-/// what the machine wanted. The store is one of this course: a claim that a former process has left
-/// doesn't do.
+/// Right before a job is handed to the partner, also if that fails, it was said to be clear.
+/// Right before that its intent was put, and right before the intent its claim was stored: the
+/// worker's count of claims, in its place, which is what the machine wanted. The store is one of
+/// this course: a claim that a former process has left doesn't do.
 pub fn performances_follow_intents()
     ensures { (g : Givens) (p s n j : ℕ) (before after : List Deed) (d : Deed) → try_of d ≡ Perform n j
-        → AreDue (first_stage g p s) (before ++ d ∷ after) → HasJustIntended g p (first_stage g p s) before n j }
+        → AreDue (first_stage g p s) (before ++ d ∷ after) → HasJustCleared g p (first_stage g p s) before n j }
 {}
 
 /// A job that the worker's own words show claimed and not filed when its process begins isn't
@@ -92,12 +95,40 @@ pub fn what_is_found_is_not_performed()
         → AreDue (first_stage g p s) (before ++ d ∷ after) → has (handed_by_deeds (before ++ d ∷ after)) j ≡ false }
 {}
 
+/// A job is handed to the partner only right after it was said to be clear, whatever happens. The
+/// process asks for that only right after the intent of the job was put. No other deed is between
+/// them.
+pub fn the_driver_hands_over_only_what_is_clear()
+    ensures clear { (g : Givens) (p s n j : ℕ) (before after : List Deed) (d : Deed) → try_of d ≡ Perform n j
+        → AreDue (first_stage g p s) (before ++ d ∷ after) → (earlier : List Deed) × (before ≡ earlier ++ Intended n j ∷ Cleared n j true ∷ []) }
+    ensures asked { (g : Givens) (p s n j : ℕ) (before after : List Deed) (d : Deed) → try_of d ≡ Clear n j
+        → AreDue (first_stage g p s) (before ++ d ∷ after) → (earlier : List Deed) × (before ≡ earlier ++ Intended n j ∷ []) }
+{}
+
+/// After a job was found taken, the process does first this, in this order, and as far as it comes:
+/// it notes that the job wasn't begun, and files the job at its place of the row. So a taken intent
+/// is noted before anything else is intended, unless the process ends.
+pub fn what_is_taken_is_noted_as_unbegun()
+    ensures { (g : Givens) (p s n j : ℕ) (before after : List Deed) → AreDue (first_stage g p s) (before ++ Cleared n j false ∷ after)
+        → PassesOver g p (first_stage g p s) before n j after }
+{}
+
+/// Nobody hands over a job that was found taken, neither before nor after that. This holds for the
+/// process that found it, for each later process of its worker, and for each other worker.
+pub fn what_is_taken_is_not_performed()
+    ensures before { (g : Givens) (before mid : List Moment) (x : Moment) (p n m j : ℕ) → IsHistory g (before ++ x ∷ mid ++ Does p (Cleared m j false) ∷ [])
+        → tried_in x ≡ Some (Perform n j) → ⊥ }
+    ensures after { (g : Givens) (before mid : List Moment) (y : Moment) (p n m j : ℕ) → IsHistory g (before ++ Does p (Cleared n j false) ∷ mid ++ y ∷ [])
+        → tried_in y ≡ Some (Perform m j) → ⊥ }
+{}
+
 /// What is noted, also where that fails, is what the partner has answered right before, to that
-/// very intent. So nothing is noted that wasn't answered in this course, and no answer is noted
-/// twice.
+/// very intent, or that its job wasn't begun, if the job was found taken right before, and its
+/// intent put right before that. So of a job that was handed over nothing is noted that wasn't
+/// answered in this course, and no answer is noted twice.
 pub fn notes_say_what_was_answered()
     ensures { (g : Givens) (p s n : ℕ) (a : JobResult) (before after : List Deed) (d : Deed) → try_of d ≡ Note n a
-        → AreDue (first_stage g p s) (before ++ d ∷ after) → HasJustAnswered before n a }
+        → AreDue (first_stage g p s) (before ++ d ∷ after) → HasJustAnswered before n a ⊎ HasJustFoundTaken before n a }
 {}
 
 /// After an answer that tells the worker to leave, the process does nothing but this, in this

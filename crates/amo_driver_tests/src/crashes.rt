@@ -7,10 +7,10 @@ use amo_driver::{
     Failed, Intent, JobResult as Became, Outside, Past, Reply, Way, ask_pending, work,
 };
 use amo_givens::Givens;
-use amo_journal::{Journal, texts_in};
+use amo_journal::{Checksum, Journal, read_log};
 use amo_run_files::givens_of;
 use amo_run_log::{
-    Attempt, Entry, Outcome, journal_of, open_lines, pending, put_entry, read_entries,
+    Attempt, Entry, Outcome, append_entry, journal_of, open_lines, pending, read_entries,
 };
 use amo_sim_disk::{Call, Disk};
 use std::alloc::{AllocError, Global};
@@ -138,9 +138,9 @@ impl Run {
         let Ok(disk) = Disk::new(self.alloc, &file, Some(failing)) else {
             return Err(Failed);
         };
-        let mut journal = Journal::new(disk);
-        let is_put = journal.settle(self.alloc).is_ok()
-            && put_entry(&mut journal, self.alloc, entry).is_ok();
+        let mut journal = Journal::new(disk, first());
+        let is_put = journal.recover(self.alloc).is_ok()
+            && append_entry(&mut journal, self.alloc, entry).is_ok();
         let disk = journal.device;
         self.disk_calls = self.disk_calls.saturating_add(disk.calls().len() as u64);
         if is_put {
@@ -229,6 +229,13 @@ impl Outside for Run {
         fate.heard(())
     }
 
+    // About one job in sixteen is taken.
+    fn clear(&mut self, _serial: u64, _job: u32) -> Result<bool, Failed> {
+        let fate = self.fate();
+        let clear = self.chance.next() >= 16;
+        fate.heard(clear)
+    }
+
     fn perform(&mut self, serial: u64, job: u32) -> Result<Reply, Failed> {
         let fate = self.fate();
         if fate == Fate::Unmade {
@@ -286,9 +293,9 @@ impl Run {
         }
         let answer = match answer {
             Became::Done(code) => Outcome::Done { code, time: 0 },
-            Became::Doubt => Outcome::Doubt,
+            Became::Doubt => Outcome::Doubt { time: 0 },
             Became::Unbegun => Outcome::Unbegun,
-            Became::Untouched(code) => Outcome::Untouched { code },
+            Became::Untouched(code) => Outcome::Untouched { code, time: 0 },
         };
         self.put_late()?;
         self.put(Entry::Answer { serial, answer })?;
@@ -358,10 +365,15 @@ impl Run {
     }
 }
 
+/// Returns the checksum that stands before the first append of each journal.
+fn first() -> Checksum {
+    Checksum::first(b"run", b"journal")
+}
+
 /// The journal that a file holds.
 fn attempts_in(alloc: Global, file: &[u8]) -> Result<Vec<Attempt>, Fail> {
-    let texts = texts_in(alloc, file)?;
-    Ok(journal_of(alloc, LINES, &read_entries(alloc, &texts)?)?)
+    let log = read_log(alloc, &first(), file)?;
+    Ok(journal_of(alloc, LINES, &read_entries(alloc, &log.records)?)?)
 }
 
 /// The lines that are open by these files.
@@ -373,12 +385,15 @@ fn open_by(alloc: Global, files: &[Vec<u8>]) -> Result<Vec<u64>, Fail> {
     Ok(open_lines(alloc, &[], &journals, LINES as usize)?)
 }
 
-/// The entries in a file, as texts, up to the first gate that is closed.
+/// The entries in a file, as texts without checksums, up to the first gate that is closed.
 fn texts_by_eye<'a>(alloc: Global, file: &'a [u8]) -> Result<Vec<&'a str>, Fail> {
     let mut texts = Vec::new(alloc);
     for line in str::from_utf8(file)?.split_inclusive('\n') {
         match line.strip_prefix('+') {
-            Some(text) if text.ends_with('\n') => texts.push(text.trim_end())?,
+            Some(text) if text.ends_with('\n') => match text.trim_end().rsplit_once(' ') {
+                Some((records, _)) => texts.push(records)?,
+                None => break,
+            },
             _ => break,
         }
     }

@@ -21,6 +21,8 @@ struct Memory<'a, A: Abort> {
     fails_at: usize,
     /// What comes in answer where it is told of job 1, or of a first line.
     reply: Reply,
+    /// The job that is taken, or 0 if none is.
+    taken: u32,
 }
 
 impl<'a, A: Abort> Memory<'a, A> {
@@ -90,6 +92,12 @@ impl<'a, A: Abort> Outside for Memory<'a, A> {
         self.act(Try::Intend(serial, job), Deed::Intended(serial, job))
     }
 
+    fn clear(&mut self, serial: u64, job: u32) -> Result<bool, Failed> {
+        let clear = job != self.taken;
+        self.act(Try::Clear(serial, job), Deed::Cleared(serial, job, clear))?;
+        Ok(clear)
+    }
+
     fn perform(&mut self, serial: u64, job: u32) -> Result<Reply, Failed> {
         let reply = self.reply_to(serial, job as u64);
         self.act(
@@ -143,6 +151,7 @@ fn live<A: Abort>(
         log,
         fails_at,
         reply,
+        taken: 0,
     };
     let end = work(alloc, givens, 1, serial, &mut memory);
     let Memory { words, log, .. } = memory;
@@ -188,12 +197,14 @@ fn another_order_of_deeds(rt: HostRuntime) -> Result<(), Fail> {
         Deed::Stored(1, 1),
         Deed::Stored(2, 1),
         Deed::Intended(5, 1),
+        Deed::Cleared(5, 1, true),
         Deed::Performed(5, 1, done(5)),
         Deed::Noted(5, JobResult::Done(7)),
         Deed::Stored(3, 1),
         Deed::Stored(1, 2),
         Deed::Stored(2, 2),
         Deed::Intended(6, 2),
+        Deed::Cleared(6, 2, true),
         Deed::Performed(6, 2, done(6)),
         Deed::Noted(6, JobResult::Done(7)),
         Deed::Stored(4, 2),
@@ -204,43 +215,81 @@ fn another_order_of_deeds(rt: HostRuntime) -> Result<(), Fail> {
     Ok(())
 }
 
+// Job 1 is taken: it is not performed, its intent is noted as not begun, and it is filed.
+#[test]
+fn a_taken_job_is_performed(rt: HostRuntime) -> Result<(), Fail> {
+    let words = words_of(rt.alloc(), &[0, 0, 0, 0, 0, 0])?;
+    let log = Vec::new(rt.alloc());
+    let mut memory = Memory {
+        rt: &rt,
+        words,
+        log,
+        fails_at: 1000,
+        reply: done(5),
+        taken: 1,
+    };
+    let end = work(rt.alloc(), Givens::try_new(2, 1, 1)?, 1, 5, &mut memory);
+    let expected = [
+        Deed::Loaded(1, 0),
+        Deed::Loaded(2, 0),
+        Deed::Loaded(3, 0),
+        Deed::Stored(1, 1),
+        Deed::Stored(2, 1),
+        Deed::Intended(5, 1),
+        Deed::Cleared(5, 1, false),
+        Deed::Noted(5, JobResult::Unbegun),
+        Deed::Stored(3, 1),
+        Deed::Stored(1, 2),
+        Deed::Stored(2, 2),
+        Deed::Intended(6, 2),
+        Deed::Cleared(6, 2, true),
+        Deed::Performed(6, 2, done(6)),
+        Deed::Noted(6, JobResult::Done(7)),
+        Deed::Stored(4, 2),
+    ];
+    assert!(rt; end == Ok(LifeEnd::Over));
+    assert!(rt; is_log(&memory.log, &expected));
+    assert!(rt; memory.words[..] == [0, 2, 2, 1, 2, 0]);
+    Ok(())
+}
+
 #[test]
 fn a_reply_leads_elsewhere(rt: HostRuntime) -> Result<(), Fail> {
     let rows = [
         (
             Reply::Answered(5, JobResult::Unbegun, Way::Leave),
             Ok(LifeEnd::Left),
-            10,
+            11,
             Deed::Stored(1, 0),
         ),
         (
             Reply::Running(5, Way::Leave),
             Ok(LifeEnd::Left),
-            9,
+            10,
             Deed::Stored(1, 0),
         ),
         (
             Reply::Running(5, Way::Go),
             Ok(LifeEnd::Over),
-            14,
+            16,
             Deed::Stored(4, 2),
         ),
         (
             Reply::Garbled,
             Err(Stop::NoAnswer(5)),
-            7,
+            8,
             Deed::Performed(5, 1, Reply::Garbled),
         ),
         (
             done(6),
             Err(Stop::OtherAnswer(5, 6)),
-            7,
+            8,
             Deed::Performed(5, 1, done(6)),
         ),
         (
             Reply::Closed,
             Ok(LifeEnd::Cut(5)),
-            7,
+            8,
             Deed::Performed(5, 1, Reply::Closed),
         ),
     ];
@@ -258,12 +307,12 @@ fn a_reply_leads_elsewhere(rt: HostRuntime) -> Result<(), Fail> {
 
 #[test]
 fn a_job_is_handed_over_again(rt: HostRuntime) -> Result<(), Fail> {
-    for at in 0..16 {
+    for at in 0..18 {
         let words = words_of(rt.alloc(), &[0, 0, 0, 0, 0, 0])?;
         let (first, words, log) = live(&rt, rt.alloc(), words, 1, at, done(1))?;
         let (second, _words, later) = live(&rt, rt.alloc(), words, 9, 1000, done(9))?;
         assert!(rt; second == Ok(LifeEnd::Over), "{at}");
-        if at < 15 {
+        if at < 17 {
             assert!(rt; first == Err(Stop::Failed) && log.len() == at + 1, "{at}");
         }
         for job in 1..3 {
@@ -346,6 +395,7 @@ fn a_pending_intent_is_passed_over(rt: HostRuntime) -> Result<(), Fail> {
             log,
             fails_at: 1000,
             reply: *reply,
+            taken: 0,
         };
         let asked = ask_pending(&pending, &mut memory);
         assert!(rt; asked == *expected, "row {row}");
@@ -393,6 +443,10 @@ impl Outside for Silent {
 
     fn intend(&mut self, _serial: u64, _job: u32) -> Result<(), Failed> {
         Ok(())
+    }
+
+    fn clear(&mut self, _serial: u64, _job: u32) -> Result<bool, Failed> {
+        Ok(true)
     }
 
     fn perform(&mut self, serial: u64, _job: u32) -> Result<Reply, Failed> {

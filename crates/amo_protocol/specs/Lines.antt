@@ -1,5 +1,5 @@
 -- What a worker by lines says and hears: each thing that it tries is a line, and a line answers it.
-use Rattle.std.specs.Prelude.{ℕ, List, ◌++◌, codes, Bool, false, Option, Some, None, if◌then◌else◌}
+use Rattle.std.specs.Prelude.{ℕ, List, ◌++◌, codes, Bool, true, false, Option, Some, None, if◌then◌else◌}
 use Rattle.std.specs.Fmt.{decimal}
 use Rattle.std.specs.Str.{bytes_eq}
 use Rattle.amo_decimal.specs.Numbers.{number_in}
@@ -8,9 +8,9 @@ use Rattle.amo_driver.specs.declared.answer.JobResult.TheVariants.{Done, Doubt, 
 use Rattle.amo_driver.specs.declared.answer.Reply.{Reply}
 use Rattle.amo_driver.specs.declared.answer.Reply.TheVariants.{Closed}
 use Rattle.amo_driver.specs.declared.model.Deed.{Deed}
-use Rattle.amo_driver.specs.declared.model.Deed.TheVariants.{Loaded, Stored, Found, Intended, Performed, Noted, Asked, Fell}
+use Rattle.amo_driver.specs.declared.model.Deed.TheVariants.{Loaded, Stored, Found, Intended, Cleared, Performed, Noted, Asked, Fell}
 use Rattle.amo_driver.specs.declared.model.Try.{Try}
-use Rattle.amo_driver.specs.declared.model.Try.TheVariants.{Load, Store, Find, Intend, Perform, Note, Ask}
+use Rattle.amo_driver.specs.declared.model.Try.TheVariants.{Load, Store, Find, Intend, Clear, Perform, Note, Ask}
 use Rattle.amo_protocol.specs.Replies.{reply_in}
 
 -- words and a number behind them, one blank between, and the end of the line
@@ -34,6 +34,7 @@ text_of (Load word) = one (codes "load") word
 text_of (Store word value) = two (codes "store") word value
 text_of (Find job) = one (codes "found") job
 text_of (Intend serial job) = two (codes "intend") serial job
+text_of (Clear serial job) = two (codes "clear") serial job
 text_of (Perform serial job) = two (codes "perform") serial job
 text_of (Note serial answer) = note_text serial answer
 text_of (Ask serial line) = two (codes "was") serial line
@@ -48,6 +49,15 @@ abbrev pub number_heard : Option (List ℕ) → Option ℕ
 number_heard (Some line) = number_in line
 number_heard None = None
 
+-- what a line says of a job: it may be handed over, or it is taken
+abbrev pub clear_in : List ℕ → Option Bool
+clear_in line = if bytes_eq line (codes "ok") then Some true else (if bytes_eq line (codes "taken") then Some false else None)
+
+-- the same of what came
+abbrev pub clear_heard : Option (List ℕ) → Option Bool
+clear_heard (Some line) = clear_in line
+clear_heard None = None
+
 -- what came in answer to a job; where no line came, nobody is there any more
 abbrev pub reply_heard : Option (List ℕ) → Reply
 reply_heard (Some line) = reply_in line
@@ -58,12 +68,18 @@ abbrev pub loaded : ℕ → Option ℕ → Deed
 loaded word (Some value) = Loaded word value
 loaded word None = Fell (Load word)
 
+-- it was said whether a job may be handed over, or that failed
+abbrev pub cleared : (serial job : ℕ) → Option Bool → Deed
+cleared serial job (Some clear) = Cleared serial job clear
+cleared serial job None = Fell (Clear serial job)
+
 -- the deed that comes of what was tried, by the line that answered it, without its end; where none came, or it was cut, there is none
 abbrev pub deed_of : Try → Option (List ℕ) → Deed
 deed_of (Load word) heard = loaded word (number_heard heard)
 deed_of (Store word value) heard = if is_agreed heard then Stored word value else Fell (Store word value)
 deed_of (Find job) heard = if is_agreed heard then Found job else Fell (Find job)
 deed_of (Intend serial job) heard = if is_agreed heard then Intended serial job else Fell (Intend serial job)
+deed_of (Clear serial job) heard = cleared serial job (clear_heard heard)
 deed_of (Perform serial job) heard = Performed serial job (reply_heard heard)
 deed_of (Note serial answer) heard = if is_agreed heard then Noted serial answer else Fell (Note serial answer)
 deed_of (Ask serial line) heard = Asked serial line (reply_heard heard)

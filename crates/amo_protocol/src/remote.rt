@@ -1,6 +1,6 @@
 //! A worker's outside, by lines.
 ghost use Rattle.std.specs.Prelude.{◌≡◌, true, false, OnOk, OnErr, option_map};
-ghost use Rattle.amo_protocol.specs.Lines.{is_agreed};
+ghost use Rattle.amo_protocol.specs.Lines.{is_agreed, clear_in};
 
 use crate::replies::reply_in;
 use crate::wire::Wire;
@@ -70,6 +70,16 @@ impl<W: Wire> Outside for Lines<W> {
         self.agreed(heard)
     }
 
+    fn clear(&mut self, serial: u64, job: u32) -> Result<bool, Failed> {
+        let heard = self.wire.ask(Try::Clear(serial, job))?;
+        let clear = match &heard {
+            Some(line) => clear_in(line),
+            None => None,
+        };
+        self.said = heard;
+        clear.ok_or(Failed)
+    }
+
     fn perform(&mut self, serial: u64, job: u32) -> Result<Reply, Failed> {
         let heard = self.wire.ask(Try::Perform(serial, job))?;
         let reply = match &heard {
@@ -83,5 +93,19 @@ impl<W: Wire> Outside for Lines<W> {
     fn note(&mut self, serial: u64, answer: JobResult) -> Result<(), Failed> {
         let heard = self.wire.ask(Try::Note(serial, answer))?;
         self.agreed(heard)
+    }
+}
+
+/// Returns true if this line says that a job may be handed over, false if it says that the job is
+/// taken, and none if it says neither.
+fn clear_in(line: &[u8]) -> Option<bool>
+    ensures { result ≡ clear_in line.now }
+{
+    if line == b"ok".as_slice() {
+        Some(true)
+    } else if line == b"taken".as_slice() {
+        Some(false)
+    } else {
+        None
     }
 }

@@ -15,6 +15,7 @@ pub fn text_of(alloc: Global, asked: Try) -> Result<Vec<u8>, AllocError>
         Try::Store(word, value) => format!(in alloc; "store {word} {value}\n")?,
         Try::Find(job) => format!(in alloc; "found {job}\n")?,
         Try::Intend(serial, job) => format!(in alloc; "intend {serial} {job}\n")?,
+        Try::Clear(serial, job) => format!(in alloc; "clear {serial} {job}\n")?,
         Try::Perform(serial, job) => format!(in alloc; "perform {serial} {job}\n")?,
         Try::Note(serial, answer) => note_text(alloc, serial, answer)?,
         Try::Ask(serial, line) => format!(in alloc; "was {serial} {line}\n")?,

@@ -41,9 +41,9 @@ pub record IsOrderly (y : Yard) (said : List (ℕ × ℕ)) : Type 0 where
   pub names : AreNamed y.site said
   pub going : (h : Handing) → IsOneOf (y.waiting ++ y.running) h → IsOpen y.site said h
   pub begun : (h : Handing) → IsOneOf y.begun h → HasBegun y.site y.waiting h
-  pub performed : (h : Handing) → IsOneOf y.performed h → WasHanded y.site said h
+  pub performed : (h : Handing) → IsOneOf y.performed h → WasHanded y.site said h × WasNamed y.site h
 
-first_orderly : IsOrderly first_yard []
+pub first_orderly : IsOrderly first_yard []
 first_orderly = record {
   sane = first_sane;
   closing = first_closing;
@@ -106,7 +106,7 @@ module _ (y : Yard) (said : List (ℕ × ℕ)) (orderly : IsOrderly y said) wher
     not_again : (h : Handing) → WasNamed y.site h → is_among (names_of (handings_by y.site e)) h.worker h.serial ≡ false
     not_again h name = unnamed (handings_by y.site e) h.worker h.serial (λ k one. differs y.site e h k name (handed_now y.site said orderly.sane e may.0 k one))
 
-    waits_not : (h : Handing) → WasNamed y.site h → is_among (names_of y.waiting) h.worker h.serial ≡ false
+    pub waits_not : (h : Handing) → WasNamed y.site h → is_among (names_of y.waiting) h.worker h.serial ≡ false
         → is_among (names_of (unless_stopped e (y.waiting ++ handings_by y.site e))) h.worker h.serial ≡ false
     waits_not h name waits = still_none e (y.waiting ++ handings_by y.site e) h.worker h.serial
         (ap (λ l. is_among l h.worker h.serial) (names-append y.waiting (handings_by y.site e))
@@ -117,21 +117,23 @@ module _ (y : Yard) (said : List (ℕ × ℕ)) (orderly : IsOrderly y said) wher
       sane = sane_after y.site said orderly.sane e may.0;
       closing = closing_after y.site said orderly.sane orderly.closing e may.0;
       low = low_then_all y.site said orderly.sane orderly.low e may.0;
-      names = named_then y.site said orderly.sane orderly.low orderly.names e may.0 (λ p n t. (may.1 p n t).due);
+      names = named_then y.site said orderly.sane orderly.low orderly.names e may.0 (λ p n t j. ((may.1 p n t).asked j, (may.1 p n t).due j));
       going = λ h one.
           let it = still_open e y.waiting (handings_by y.site e) y.running h one in
           ⊎_elim (λ (a : IsOneOf (y.waiting ++ y.running) h). old_open h a it.0) (λ (a : IsOneOf (handings_by y.site e) h). new_open h a it.0) it.1;
       begun = λ h one.
           let it = orderly.begun h one in
           record { name = named_after y.site said orderly.sane h it.name e may.0; waits = waits_not h it.name it.waits };
-      performed = λ h one. handed_after y.site said orderly.sane h (orderly.performed h one) e may.0;
+      performed = λ h one.
+          let it = orderly.performed h one in
+          (handed_after y.site said orderly.sane h it.0 e may.0, named_after y.site said orderly.sane h it.1 e may.0);
     }
 
   -- what runners and commands do
 
   -- of those that were going or begin no others are left
   acted : (waiting running begun performed : List Handing) → ((h : Handing) → IsOneOf (waiting ++ running) h → IsOpen y.site said h)
-      → ((h : Handing) → IsOneOf begun h → HasBegun y.site waiting h) → ((h : Handing) → IsOneOf performed h → WasHanded y.site said h)
+      → ((h : Handing) → IsOneOf begun h → HasBegun y.site waiting h) → ((h : Handing) → IsOneOf performed h → WasHanded y.site said h × WasNamed y.site h)
       → IsOrderly (record { site = y.site; waiting = waiting; running = running; begun = begun; performed = performed }) said
   acted waiting running begun performed going have_begun was = record {
     sane = orderly.sane;
@@ -167,7 +169,9 @@ module _ (y : Yard) (said : List (ℕ × ℕ)) (orderly : IsOrderly y said) wher
   performs k runs = acted y.waiting y.running y.begun (y.performed ++ k ∷ []) orderly.going orderly.begun
       (λ h one. ⊎_elim
       (λ (a : IsOneOf y.performed h). orderly.performed h a)
-      (λ (a : IsOneOf (k ∷ []) h). subst (WasHanded y.site said) (its_only k h a) (orderly.going k (one_right y.waiting y.running k runs)).was)
+      (λ (a : IsOneOf (k ∷ []) h).
+      let it = orderly.going k (one_right y.waiting y.running k runs) in
+      subst (λ (x : Handing). WasHanded y.site said x × WasNamed y.site x) (its_only k h a) (it.was, it.name))
       (split_one y.performed (k ∷ []) h one))
 
   ends : (k : Handing) → IsOrderly (yard_after y (Ends k)) said
@@ -190,7 +194,7 @@ module _ (y : Yard) (said : List (ℕ × ℕ)) (orderly : IsOrderly y said) wher
   as_it_was : (a : Action) → said_by y a ≡ [] → IsOrderly (yard_after y a) said → IsOrderly (yard_after y a) (said ++ said_by y a)
   as_it_was a none it = subst (IsOrderly (yard_after y a)) (sym (ap (λ l. said ++ l) none ∙ append-nil said)) it
 
-  orderly_after : (a : Action) → MayFollow IsOver y a → IsOrderly (yard_after y a) (said ++ said_by y a)
+  pub orderly_after : (a : Action) → MayFollow IsOver y a → IsOrderly (yard_after y a) (said ++ said_by y a)
   orderly_after (Happens e) may = happens e may
   orderly_after (Begins k) may = as_it_was (Begins k) refl (begins k may)
   orderly_after (Performs k) may = as_it_was (Performs k) refl (performs k may.0)
@@ -246,7 +250,7 @@ none_of (h ∷ hs) line none = or_from (h.line == line) (has (lines_in hs) line)
 none_before : (y : Yard) (said : List (ℕ × ℕ)) → IsOrderly y said → IsSettled y.performed said → (k : Handing) → MayFollow IsOver y (Performs k)
     → (h : Handing) → IsOneOf y.performed h → h.line ≡ k.line → ⊥
 none_before y said orderly settled k may h one same =
-    let was = orderly.performed h one in
+    let was = (orderly.performed h one).0 in
     let read = entry_stays h.serial h.line (y.site.journals h.worker).kept (read_of (y.site.journals h.worker)) ((y.site.journals h.worker).loose, refl) was.entry in
     let its = (orderly.going k (one_right y.waiting y.running k may.0)).alone h.worker h.serial was.number
     (subst (λ l. HasEntry h.serial l (read_of (y.site.journals h.worker))) same read) (settled.unsaid h one) in
@@ -292,7 +296,7 @@ module _ (p n line : ℕ) where
     number = may.number;
     entry = may.kept;
     name = not_due_named y.site said orderly.sane orderly.low p n
-        (let size = size_is y.site.lines (y.site.journals p).kept may.attempts may.journal in let there = may.there in omega (arith, size, there)) may.its_end.due;
+        (let size = size_is y.site.lines (y.site.journals p).kept may.attempts may.journal in let there = may.there in omega (arith, size, there)) (λ j. (may.its_end.asked j, may.its_end.due j));
     waits = may.its_end.waits;
     runs = may.its_end.runs;
   }

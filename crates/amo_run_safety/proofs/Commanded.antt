@@ -83,7 +83,7 @@ abbrev noted : Yard
 noted = yard_after_all ended (map Happens asked)
 
 is_over : IsOver noted 1 1
-is_over = record { due = λ j may. may; waits = refl; runs = refl }
+is_over = record { asked = λ j may. may; due = λ j may. may; waits = refl; runs = refl }
 
 pub are_actions : AreActions actions
 are_actions = quiet_actions IsOver first_yard handed (Begins first_command ∷ Ends first_command ∷ map Happens asked ++ Lists 1 1 1 ∷ then_again at_last) first_part refl (
@@ -91,7 +91,7 @@ are_actions = quiet_actions IsOver first_yard handed (Begins first_command ∷ E
   (
     tt,
     quiet_actions IsOver ended asked (Lists 1 1 1 ∷ then_again at_last) second_part refl (
-      record { number = number_1; kept = ([], 20, AnswerTo 1 NotedDoubt ∷ [], refl); attempts = in_doubt ∷ []; journal = refl; there = omega arith; its_end = is_over },
+      record { number = number_1; kept = ([], 20, AnswerTo 1 (NotedDoubt 30) ∷ [], refl); attempts = in_doubt ∷ []; journal = refl; there = omega arith; its_end = is_over },
       (
         (parts.1.0, of_the_first noted.site (IsOver noted) is_over),
         quiet_actions IsOver (yard_after noted (Happens (Says undone))) again at_last parts.1.1 refl (inl refl, ((inl refl, refl), tt)),

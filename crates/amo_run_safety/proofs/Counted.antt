@@ -12,9 +12,9 @@ use Rattle.amo_driver.specs.declared.answer.Reply.TheVariants.{Answered, Running
 use Rattle.amo_driver.specs.declared.answer.Way.{Way}
 use Rattle.amo_driver.specs.declared.answer.Way.TheVariants.{Go, Leave}
 use Rattle.amo_driver.specs.declared.model.Deed.{Deed}
-use Rattle.amo_driver.specs.declared.model.Deed.TheVariants.{Loaded, Stored, Found, Intended, Performed, Noted, Asked, Fell}
+use Rattle.amo_driver.specs.declared.model.Deed.TheVariants.{Loaded, Stored, Found, Intended, Cleared, Performed, Noted, Asked, Fell}
 use Rattle.amo_driver.specs.declared.model.Try.TheVariants.{Intend}
-use Rattle.amo_driver.specs.Stage.{Stage, Going, Finding, Intending, Performing, Noting, Leaving, Asking, Settling, Unanswered, Refused}
+use Rattle.amo_driver.specs.Stage.{Stage, Going, Finding, Intending, Clearing, Performing, Noting, Leaving, Asking, Settling, Unanswered, Refused}
 use Rattle.amo_driver.specs.Course.{try_of, due, stage_by_jobs, stage_heard, stage_told, stage_replied, stage_after}
 use Rattle.amo_driver_safety.proofs.Stages.{intending_at}
 use Rattle.amo_run_log.specs.declared.entry.Outcome.{Outcome as NotedAnswer}
@@ -67,6 +67,7 @@ abbrev pub IsCounted : ℕ → Stage → Type 0
 IsCounted k (Going n a way) = n ≡ k + 1
 IsCounted k (Finding n a j) = n ≡ k + 1
 IsCounted k (Intending n a j) = n ≡ k + 1
+IsCounted k (Clearing n a j) = n ≡ k
 IsCounted k (Performing n a j) = n ≡ k
 IsCounted k (Noting n a c way) = n ≡ k
 IsCounted k (Asking intents) = ⊥
@@ -121,6 +122,11 @@ module _ (k : ℕ) where
   found_counted (Finding n a i) j h = h
   found_counted s j h = h
 
+  cleared_counted : (s : Stage) (n j : ℕ) (clear : Bool) → IsCounted k s → IsCounted k (stage_after s (Cleared n j clear))
+  cleared_counted (Clearing m a i) n j true h = h
+  cleared_counted (Clearing m a i) n j false h = h
+  cleared_counted s n j clear h = h
+
   performed_counted : (s : Stage) (n j : ℕ) (reply : Reply) → IsCounted k s → IsCounted k (stage_after s (Performed n j reply))
   performed_counted (Performing m a i) n j reply h = replied_counted m h a reply
   performed_counted s n j reply h = h
@@ -150,6 +156,7 @@ module _ (k : ℕ) where
   counted_then lines time s (Stored w v) e h = quiet (stage_after s (Stored w v)) (stored_counted k s w v h)
   counted_then lines time s (Found j) e h = quiet (stage_after s (Found j)) (found_counted k s j h)
   counted_then lines time s (Intended n j) e h = intended_counted s n j e h
+  counted_then lines time s (Cleared n j clear) e h = quiet (stage_after s (Cleared n j clear)) (cleared_counted k s n j clear h)
   counted_then lines time s (Performed n j reply) e h = quiet (stage_after s (Performed n j reply)) (performed_counted k s n j reply h)
   counted_then lines time s (Noted n c) e h = quiet (stage_after s (Noted n c)) (noted_counted k s n c h)
   counted_then lines time s (Asked n line reply) e h = quiet (stage_after s (Asked n line reply)) (asked_for_counted k s n line reply h)
@@ -158,18 +165,20 @@ module _ (k : ℕ) where
   pub counted_grown : (xs : List Entry) (s : Stage) → IsCounted (k + intents xs) s → (ys : List Entry) → intents ys ≡ k → IsCounted (intents (ys ++ xs)) s
   counted_grown xs s h ys is = subst (λ x. IsCounted x s) (ap (λ x. x + intents xs) (sym is) ∙ sym (intents-append ys xs)) h
 
--- The next intent that is handed over has a greater number than this one.
+-- The next intent that is handed over, or of which it is asked whether it may be, has a greater number than this one.
 abbrev pub IsBehind : ℕ → Stage → Type 0
+IsBehind m (Clearing n a j) = m < n
 IsBehind m (Performing n a j) = m < n
 IsBehind m s = ⊤
 
 pub behind_unless : (m : ℕ) (s : Stage) → is_performing s ≡ false → IsBehind m s
+behind_unless m (Clearing n a j) h = absurd (true≢false h)
 behind_unless m (Performing n a j) h = absurd (true≢false h)
 behind_unless m s h = tt
 
 -- where the numbers of all intents so far are at most k
 pub behind_then : (m k : ℕ) → m ≤ k → (s : Stage) (d : Deed) → due s ≡ Some (try_of d) → IsCounted k s → IsBehind m s → IsBehind m (stage_after s d)
-behind_then m k few s d e counted h = any_then (IsBehind m) (IsBehind m) (behind_unless m) (λ x y. y) s d
+behind_then m k few s d e counted h = any_then (IsBehind m) (IsBehind m) (behind_unless m) (λ x y. y) (λ n a j y. y) s d
     (λ n j is.
     let at = intending_at s n j (e ∙ ap (λ x. Some (try_of x)) is) in
     let was : n ≡ k + 1 = subst (IsCounted k) at.1 counted in

@@ -12,7 +12,7 @@ use Rattle.amo_givens.specs.declared.limits.TheConstants.{MAX_WORKERS}
 use Rattle.amo_driver.specs.declared.answer.JobResult.TheVariants.{Done, Doubt}
 use Rattle.amo_driver.specs.declared.answer.Reply.TheVariants.{Answered}
 use Rattle.amo_driver.specs.declared.answer.Way.TheVariants.{Go, Leave}
-use Rattle.amo_driver.specs.declared.model.Deed.TheVariants.{Loaded, Stored, Intended, Performed, Noted, Asked}
+use Rattle.amo_driver.specs.declared.model.Deed.TheVariants.{Loaded, Stored, Intended, Cleared, Performed, Noted, Asked}
 use Rattle.amo_driver.specs.declared.model.Try.TheVariants.{Intend, Perform}
 use Rattle.amo_driver_safety.proofs.Chains.{◌▸◌}
 use Rattle.amo_run_log.specs.declared.entry.Outcome.TheVariants.{Doubt as NotedDoubt}
@@ -63,7 +63,7 @@ abbrev pub pending : Attempt
 pending = record { line = 1; time = 20; answer = None }
 
 abbrev pub in_doubt : Attempt
-in_doubt = record { line = 1; time = 20; answer = Some NotedDoubt }
+in_doubt = record { line = 1; time = 20; answer = Some (NotedDoubt 30) }
 
 abbrev pub undone : Finding
 undone = record { verdict = NotDone; worker = 1; serial = 1; time = 40 }
@@ -82,13 +82,17 @@ claiming p time =
     Acts p time (Stored 2 1) ∷ []
 
 -- an intent is lost; then one is kept
-abbrev pub intended : List Event
-intended =
+abbrev pub put : List Event
+put =
     beginning 1 1 ++ claiming 1 10 ++
     Misses 1 10 (Intend 1 1) ∷
     Stops (λ p. 0) 0 ∷
     beginning 1 2 ++ claiming 1 20 ++
     Acts 1 20 (Intended 1 1) ∷ []
+
+-- and it is clear
+abbrev pub intended : List Event
+intended = put ++ Acts 1 20 (Cleared 1 1 true) ∷ []
 
 -- and its line is handed over, while the process dies
 abbrev pub handed : List Event
@@ -107,6 +111,7 @@ abbrev pub again : List Event
 again =
     beginning 2 3 ++ claiming 2 50 ++
     Acts 2 50 (Intended 1 1) ∷
+    Acts 2 50 (Cleared 1 1 true) ∷
     Acts 2 50 (Performed 1 1 (Answered 1 (Done 0) Go)) ∷
     Acts 2 50 (Noted 1 (Done 0)) ∷
     Acts 2 50 (Stored 3 1) ∷ []
@@ -154,7 +159,7 @@ is_run =
     record { asked = refl; joinable = refl; round = _; stands = refl; seat = refl; attempts = []; journal = refl; next = refl } ▸
     (number_1, (only_worker, refl, refl)) ▸ (number_1, (only_worker, refl, refl)) ▸ (number_1, (only_worker, refl, refl)) ▸
     (number_1, (only_worker, refl, tt)) ▸ (number_1, (only_worker, refl, tt)) ▸
-    (number_1, (only_worker, refl, tt)) ▸
+    (number_1, (only_worker, refl, tt)) ▸ (number_1, (only_worker, refl, tt)) ▸
     (number_1, (only_worker, refl)) ▸
     (number_1, refl) ▸
     (number_1, refl) ▸
@@ -162,11 +167,11 @@ is_run =
     tt ▸
     record { attempts = in_doubt ∷ []; journal = refl; high = omega arith } ▸
     (number_2, refl) ▸
-    may_begin _ (undone ∷ []) (λ p. if p == 1 then IntentOf 1 1 20 ∷ AnswerTo 1 NotedDoubt ∷ [] else []) (λ p. if p == 1 then in_doubt ∷ [] else []) 2 3 refl ((((((((((((((((tt, (refl, refl, refl)), (refl, refl, refl)), (refl, refl, refl)), (refl, refl, refl)), (refl, refl, refl)), (refl, refl, refl)), (refl, refl, refl)), (refl, refl, refl)), (refl, refl, refl)), (refl, refl, refl)), (refl, refl, refl)), (refl, refl, refl)), (refl, refl, refl)), (refl, refl, refl)), (refl, refl, refl)), (refl, refl, refl)) (λ line h. h) refl ▸
+    may_begin _ (undone ∷ []) (λ p. if p == 1 then IntentOf 1 1 20 ∷ AnswerTo 1 (NotedDoubt 30) ∷ [] else []) (λ p. if p == 1 then in_doubt ∷ [] else []) 2 3 refl ((((((((((((((((tt, (refl, refl, refl)), (refl, refl, refl)), (refl, refl, refl)), (refl, refl, refl)), (refl, refl, refl)), (refl, refl, refl)), (refl, refl, refl)), (refl, refl, refl)), (refl, refl, refl)), (refl, refl, refl)), (refl, refl, refl)), (refl, refl, refl)), (refl, refl, refl)), (refl, refl, refl)), (refl, refl, refl)), (refl, refl, refl)) (λ line h. h) refl ▸
     record { asked = refl; joinable = refl; round = _; stands = refl; seat = refl; attempts = []; journal = refl; next = refl } ▸
     (number_2, (only_worker, refl, refl)) ▸ (number_2, (only_worker, refl, refl)) ▸ (number_2, (only_worker, refl, refl)) ▸
     (number_2, (only_worker, refl, tt)) ▸ (number_2, (only_worker, refl, tt)) ▸
-    (number_2, (only_worker, refl, tt)) ▸
+    (number_2, (only_worker, refl, tt)) ▸ (number_2, (only_worker, refl, tt)) ▸
     (number_2, (only_worker, refl, tt)) ▸
     (number_2, (only_worker, refl, tt)) ▸
     (number_2, (only_worker, refl, tt)) ▸ tt

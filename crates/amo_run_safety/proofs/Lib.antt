@@ -19,6 +19,7 @@ mod Low
 mod Said
 mod Yards
 mod Begun
+mod Taken
 mod Example
 mod Commanded
 mod Needed

@@ -4,9 +4,8 @@ use Rattle.std.specs.Prelude.{⊤, ◌==◌}
 use Rattle.std.proofs.lemmas.Bool.{true≢false, and_parts, or_from, false_from_ne_true, eqb-true}
 use Rattle.amo_driver.specs.declared.model.Deed.{Deed}
 use Rattle.amo_driver.specs.declared.model.Try.{Try}
-use Rattle.amo_driver.specs.declared.model.Try.TheVariants.{Perform}
-use Rattle.amo_driver.specs.Stage.{Stage, Performing, Asking}
-use Rattle.amo_driver.specs.Course.{try_of, stage_after}
+use Rattle.amo_driver.specs.Stage.{Stage, Clearing, Performing, Asking}
+use Rattle.amo_driver.specs.Course.{try_of, due, stage_after}
 use Rattle.amo_driver_safety.specs.Scene.{stage_at, scene_of}
 use Rattle.amo_driver_safety.specs.Tries.{worker_of}
 use Rattle.amo_driver_safety.specs.declared.model.Moment.{Moment}
@@ -100,24 +99,27 @@ module _ (rounds : ℕ → Option Round) (last : ℕ) (good : (k : ℕ) → IsGo
       (λ n. absurd (n refl))
 
 not_spent : (s : Stage) → is_spent s ≡ true → is_performing s ≡ false
+not_spent (Clearing n a j) h = absurd (true≢false (sym h))
 not_spent (Performing n a j) h = absurd (true≢false (sym h))
 not_spent s h = refl
 
--- who has just handed something over
+-- who has just handed something over, or found it taken: a deed after which the next access comes before any performance
+abbrev pub IsLast : Deed → Type 0
+IsLast d = (s : Stage) → due s ≡ Some (try_of d) → is_spent (stage_after s d) ≡ true
 
-free_in : (o : Option Round) → IsGoodIf o → (q : ℕ) (d : Deed) (n j : ℕ) → MayBeIn o (Does q d) → try_of d ≡ Perform n j → (m : ℕ) → BehindIn (with_moment (Does q d) o) q m
-free_in None fine q d n j may is m = absurd may
-free_in (Some r) fine q d n j may is m =
+free_in : (o : Option Round) → IsGoodIf o → (q : ℕ) (d : Deed) → MayBeIn o (Does q d) → IsLast d → (m : ℕ) → BehindIn (with_moment (Does q d) o) q m
+free_in None fine q d may last m = absurd may
+free_in (Some r) fine q d may last m =
     let s = stage_at (scene_of r.givens r.moments) q in
     subst (IsBehind m) (sym (stands_after r.givens r.moments fine.history q d may.0))
-    (behind_unless m (stage_after s d) (not_spent (stage_after s d) (after_handing s d n j (may.1 ∙ ap (λ t. Some t) is) is)))
+    (behind_unless m (stage_after s d) (not_spent (stage_after s d) (last s may.1)))
 
-acted_free : (rounds : ℕ → Option Round) → ((k : ℕ) → IsGoodIf (rounds k)) → (whereabouts : Whereabouts) (d : Deed) (n j : ℕ) → MayAct rounds whereabouts d → try_of d ≡ Perform n j → (m : ℕ)
+acted_free : (rounds : ℕ → Option Round) → ((k : ℕ) → IsGoodIf (rounds k)) → (whereabouts : Whereabouts) (d : Deed) → MayAct rounds whereabouts d → IsLast d → (m : ℕ)
     → BehindAt (with_moment_at whereabouts (λ q. Does q d) rounds) (whereabouts_after whereabouts d) m
-acted_free rounds good Away d n j may is m = absurd may
-acted_free rounds good (Before s) d n j may is m = tt
-acted_free rounds good (Inside k q) d n j may is m = at_number (λ o. BehindIn o q m) rounds k (with_moment (Does q d) (rounds k)) k
-    (λ e. free_in (rounds k) (good k) q d n j may is m)
+acted_free rounds good Away d may last m = absurd may
+acted_free rounds good (Before s) d may last m = tt
+acted_free rounds good (Inside k q) d may last m = at_number (λ o. BehindIn o q m) rounds k (with_moment (Does q d) (rounds k)) k
+    (λ e. free_in (rounds k) (good k) q d may last m)
     (λ n. absurd (n refl))
 
 module _ (w : Site) (said : List (ℕ × ℕ)) (sane : IsSane w said) where
@@ -161,10 +163,10 @@ module _ (w : Site) (said : List (ℕ × ℕ)) (sane : IsSane w said) where
 
   -- what is handed over now
 
-  acted_now : (p time : ℕ) (d : Deed) (n j : ℕ) → MayAct w.rounds (w.whereabouts p) d → try_of d ≡ Perform n j → (m : ℕ)
+  pub acted_now : (p time : ℕ) (d : Deed) → MayAct w.rounds (w.whereabouts p) d → IsLast d → (m : ℕ)
       → BehindAt (site_after w (Acts p time d)).rounds ((site_after w (Acts p time d)).whereabouts p) m
-  acted_now p time d n j may is m = at_number (λ whereabouts. BehindAt (with_moment_at (w.whereabouts p) (λ q. Does q d) w.rounds) whereabouts m) w.whereabouts p (whereabouts_after (w.whereabouts p) d) p
-      (λ e. acted_free w.rounds sane.rounds (w.whereabouts p) d n j may is m) (λ n. absurd (n refl))
+  acted_now p time d may last m = at_number (λ whereabouts. BehindAt (with_moment_at (w.whereabouts p) (λ q. Does q d) w.rounds) whereabouts m) w.whereabouts p (whereabouts_after (w.whereabouts p) d) p
+      (λ e. acted_free w.rounds sane.rounds (w.whereabouts p) d may last m) (λ n. absurd (n refl))
 
   missed_now : (p time : ℕ) (t : Try) → MayMiss w.rounds (w.whereabouts p) t → (m : ℕ) → BehindAt (site_after w (Misses p time t)).rounds ((site_after w (Misses p time t)).whereabouts p) m
   missed_now p time t may m = at_number (λ whereabouts. BehindAt (with_moment_at (w.whereabouts p) (λ q. Loses q t) w.rounds) whereabouts m) w.whereabouts p (whereabouts_missing (w.whereabouts p)) p
@@ -178,7 +180,7 @@ module _ (w : Site) (said : List (ℕ × ℕ)) (sane : IsSane w said) where
   now_behind (Acts p time d) may k one =
       let of = of_try p (lines_at w.rounds (w.whereabouts p)) (try_of d) k one in
       subst (λ (x : Handing). BehindAt (site_after w (Acts p time d)).rounds ((site_after w (Acts p time d)).whereabouts x.worker) x.serial) of.is
-      (acted_now p time d of.serial of.job may.1 of.try_is of.serial)
+      (acted_now p time d may.1 (λ s e. after_handing s d of.serial of.job (e ∙ ap (λ t. Some t) of.try_is) of.try_is) of.serial)
   now_behind (Misses p time t) may k one =
       let of = of_try p (lines_at w.rounds (w.whereabouts p)) t k one in
       subst (λ (x : Handing). BehindAt (site_after w (Misses p time t)).rounds ((site_after w (Misses p time t)).whereabouts x.worker) x.serial) of.is

@@ -3,7 +3,7 @@ use Rattle.std.proofs.Common.{◌≡◌, ◌⊎◌, inl, inr, ⊎_elim, ℕ, Boo
 use Rattle.std.proofs.lemmas.Bool.{true≢false}
 use Rattle.amo_sets.specs.Lists.{numbered}
 use Rattle.amo_driver.specs.declared.model.Try.{Try}
-use Rattle.amo_driver.specs.declared.model.Try.TheVariants.{Load, Store, Find, Intend, Perform, Note, Ask}
+use Rattle.amo_driver.specs.declared.model.Try.TheVariants.{Load, Store, Find, Intend, Clear, Perform, Note, Ask}
 use Rattle.amo_driver.specs.Course.{try_of}
 use Rattle.amo_run_log.specs.declared.entry.Entry.{Entry}
 use Rattle.amo_run_log.specs.declared.entry.Entry.TheVariants.{Intent as IntentOf, Answer as AnswerTo}
@@ -70,6 +70,7 @@ put_by lines time (Note m c) n line has = absurd (true≢false (sym (one_in_one 
 put_by lines time (Load a) n line has = absurd (none_in_none n line has)
 put_by lines time (Store a b) n line has = absurd (none_in_none n line has)
 put_by lines time (Find j) n line has = absurd (none_in_none n line has)
+put_by lines time (Clear m j) n line has = absurd (none_in_none n line has)
 put_by lines time (Perform m j) n line has = absurd (none_in_none n line has)
 put_by lines time (Ask m l) n line has = absurd (none_in_none n line has)
 

@@ -3,8 +3,8 @@ use Rattle.std.proofs.Common.{◌≡◌, ⊎_elim, ℕ, ◌≤◌, Bool, true, f
 use Rattle.std.specs.Prelude.{◌==◌, if◌then◌else◌}
 use Rattle.std.proofs.lemmas.Bool.{true≢false, and_parts, or_cases, eqb-true, cases_eq}
 use Rattle.amo_driver.specs.declared.model.Try.{Try}
-use Rattle.amo_driver.specs.declared.model.Try.TheVariants.{Load, Store, Find, Intend, Perform, Note, Ask}
-use Rattle.amo_driver.specs.Stage.{Stage, Performing}
+use Rattle.amo_driver.specs.declared.model.Try.TheVariants.{Load, Store, Find, Intend, Clear, Perform, Note, Ask}
+use Rattle.amo_driver.specs.Stage.{Stage, Clearing, Performing}
 use Rattle.amo_driver.specs.Course.{try_of, due}
 use Rattle.amo_driver_safety.specs.Scene.{stage_at, scene_of}
 use Rattle.amo_driver_safety.specs.declared.model.Moment.TheVariants.{Does, Loses}
@@ -30,9 +30,9 @@ named p n = record { worker = p; serial = n; line = 0 }
 abbrev pub AreNamed : Site → List (ℕ × ℕ) → Type 0
 AreNamed w said = (p n : ℕ) → is_among said p n ≡ true → WasNamed w (named p n)
 
--- nobody is about to hand it over
+-- nobody is about to ask whether it may be handed over, or to hand it over
 abbrev pub IsNotDue : Site → (p n : ℕ) → Type 0
-IsNotDue w p n = (j : ℕ) → MayMiss w.rounds (w.whereabouts p) (Perform n j) → ⊥
+IsNotDue w p n = (j : ℕ) → (MayMiss w.rounds (w.whereabouts p) (Clear n j) → ⊥) × (MayMiss w.rounds (w.whereabouts p) (Perform n j) → ⊥)
 
 -- what is said of an intent by an entry
 
@@ -56,6 +56,7 @@ noted_by q lines time (Load a) p n h = absurd (true≢false (sym h))
 noted_by q lines time (Store a b) p n h = absurd (true≢false (sym h))
 noted_by q lines time (Find j) p n h = absurd (true≢false (sym h))
 noted_by q lines time (Intend m j) p n h = absurd (true≢false (sym h))
+noted_by q lines time (Clear m j) p n h = absurd (true≢false (sym h))
 noted_by q lines time (Perform m j) p n h = absurd (true≢false (sym h))
 noted_by q lines time (Ask m l) p n h = absurd (true≢false (sym h))
 
@@ -111,22 +112,31 @@ module _ (w : Site) (said : List (ℕ × ℕ)) (sane : IsSane w said) (low : Are
 
   -- an intent that is in the journal, and that nobody is about to hand over, is handed over no more
 
-  behind_stage : (s : Stage) (n k : ℕ) → n ≤ k → IsCounted k s → ((j : ℕ) → due s ≡ Some (Perform n j) → ⊥) → IsBehind n s
+  behind_stage : (s : Stage) (n k : ℕ) → n ≤ k → IsCounted k s → ((j : ℕ) → (due s ≡ Some (Clear n j) → ⊥) × (due s ≡ Some (Perform n j) → ⊥)) → IsBehind n s
+  behind_stage (Clearing m a j) n k few counted none = ⊎_elim
+      (λ (e : n ≡ m). absurd ((none j).0 (ap (λ x. Some (Clear x j)) (sym e))))
+      (λ (other : n ≡ m → ⊥). omega (arith, few, counted, other))
+      (cases_eq n m)
   behind_stage (Performing m a j) n k few counted none = ⊎_elim
-      (λ (e : n ≡ m). absurd (none j (ap (λ x. Some (Perform x j)) (sym e))))
+      (λ (e : n ≡ m). absurd ((none j).1 (ap (λ x. Some (Perform x j)) (sym e))))
       (λ (other : n ≡ m → ⊥). omega (arith, few, counted, other))
       (cases_eq n m)
   behind_stage s n k few counted none = tt
 
-  behind_in : (o : Option Round) → IsGoodIf o → (p seat n : ℕ) → n ≤ intents (w.journals p).kept → FitsIn o (w.journals p) p seat → ((j : ℕ) → MayBeIn o (Loses seat (Perform n j)) → ⊥) → BehindIn o seat n
+  behind_in : (o : Option Round) → IsGoodIf o → (p seat n : ℕ) → n ≤ intents (w.journals p).kept → FitsIn o (w.journals p) p seat
+      → ((j : ℕ) → (MayBeIn o (Loses seat (Clear n j)) → ⊥) × (MayBeIn o (Loses seat (Perform n j)) → ⊥)) → BehindIn o seat n
   behind_in None good p seat n few fits none = tt
   behind_in (Some r) good p seat n few fits none =
       let written = r.written in
       let range = in_range p written.first written.workers written.givens.workers seat (sound_parts written good.sound).first fits.0 in
       behind_stage (stage_at (scene_of r.givens r.moments) seat) n (intents (w.journals p).kept) few fits.1.2
-      (λ j e. none j (record { low = range.0; high = subst (λ k. seat ≤ k) (sym good.workers) range.1 }, e))
+      (λ j. (
+        (λ e. (none j).0 (record { low = range.0; high = subst (λ k. seat ≤ k) (sym good.workers) range.1 }, e)),
+        (λ e. (none j).1 (record { low = range.0; high = subst (λ k. seat ≤ k) (sym good.workers) range.1 }, e)),
+      ))
 
-  behind_at : (whereabouts : Whereabouts) (p n : ℕ) → w.whereabouts p ≡ whereabouts → n ≤ intents (w.journals p).kept → ((j : ℕ) → MayMiss w.rounds whereabouts (Perform n j) → ⊥) → BehindAt w.rounds whereabouts n
+  behind_at : (whereabouts : Whereabouts) (p n : ℕ) → w.whereabouts p ≡ whereabouts → n ≤ intents (w.journals p).kept
+      → ((j : ℕ) → (MayMiss w.rounds whereabouts (Clear n j) → ⊥) × (MayMiss w.rounds whereabouts (Perform n j) → ⊥)) → BehindAt w.rounds whereabouts n
   behind_at Away p n at few none = tt
   behind_at (Before s) p n at few none = tt
   behind_at (Inside k seat) p n at few none =

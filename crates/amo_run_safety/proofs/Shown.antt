@@ -1,11 +1,12 @@
 -- What the contracts of journals say of a device's file, as a list of entries.
 use Rattle.amo_run_log.specs.Entries.{entry_in, entries_in}
 use Rattle.amo_run_log.specs.Numbers.{read_all}
-use Rattle.amo_journal.specs.Texts.{texts_in}
+use Rattle.amo_journal.specs.Appends.{IsLog, records_in}
 use Rattle.std.proofs.lemmas.Option.{none-some, same_Some, option_and_then_some}
 use Rattle.std.specs.Prelude.{option_and_then, option_map}
 use Rattle.std.proofs.Common.{◌≡◌, ◌⊎◌, inl, inr, ⊎_elim, ℕ, List, [], ◌∷◌, ◌++◌, Some, sym, ap, ◌∙◌, append-nil, Option, None, refl}
-use Rattle.amo_journal.specs.Journal.{IsAtRest, HasAllOrAllButLast}
+use Rattle.amo_journal.specs.Journal.{IsAtRest, HasAllOrNotTheLast}
+use Rattle.amo_journal.proofs.Logs.{log_records}
 use Rattle.amo_run_log.specs.declared.entry.Entry.{Entry}
 use Rattle.amo_run_log.specs.declared.finding.Finding.{Finding}
 use Rattle.amo_run_log.specs.Puts.{entries_of, findings_of, StandsForOneMoreOrNot, SaysOneMoreOrNot}
@@ -93,14 +94,19 @@ front_of (u ∷ v ∷ vs) z = ap (λ l. u ∷ l) (front_of (v ∷ vs) z)
 last_off : {A : Type 0} (xs ys : List A) (x y : A) → xs ++ x ∷ [] ≡ ys ++ y ∷ [] → xs ≡ ys
 last_off xs ys x y e = sym (front_of xs x) ∙ ap front e ∙ front_of ys y
 
-pub settling_shown : (seen : List ℕ) (es : List Entry) (x : Entry) (c : List ℕ) → entries_of seen ≡ Some (es ++ x ∷ []) → HasAllOrAllButLast (texts_in seen) c
+pub settling_shown : (first : List ℕ) (all : List (List ℕ)) (seen : List ℕ) (es : List Entry) (x : Entry) (c : List ℕ) → IsLog first all seen → entries_of seen ≡ Some (es ++ x ∷ []) → HasAllOrNotTheLast first all c
     → (n : ℕ) × (entries_of c ≡ Some (read_of (after_stop n (with_unheard (all_kept es) (x ∷ [])))))
-settling_shown seen es x c says left = ⊎_elim
-    (λ (all : texts_in c ≡ texts_in seen). put_shown es x c (inr (ap entries_in all ∙ says)))
-    (λ (most : (last : List ℕ) × (texts_in seen ≡ texts_in c ++ last ∷ [])).
-    let (xs, y, are, split) = read_front entry_in (texts_in c) most.0 (es ++ x ∷ []) (ap entries_in (sym most.1) ∙ says) in
+settling_shown first all seen es x c log says left =
+    let seen_is : records_in seen ≡ all = log_records first all seen log in
+    ⊎_elim
+    (λ (same : IsLog first all c). put_shown es x c (inr (ap entries_in (log_records first all c same ∙ sym seen_is) ∙ says)))
+    (λ (most : (before : List (List ℕ)) × (last : List ℕ) × (all ≡ before ++ last ∷ []) × IsLog first before c).
+    let split_is : records_in seen ≡ records_in c ++ most.1 ∷ [] = seen_is ∙ most.2 ∙ ap (λ (rs : List (List ℕ)). rs ++ most.1 ∷ []) (sym (log_records first most.0 c most.3)) in
+    let (xs, y, are, split) = read_front entry_in (records_in c) most.1 (es ++ x ∷ []) (ap entries_in (sym split_is) ∙ says) in
     put_shown es x c (inl (are ∙ ap (λ l. Some l) (sym (last_off es xs x y split)))))
     left
 
-pub kept_settling_shown : (seen : List ℕ) (es : List Entry) (c : List ℕ) → entries_of seen ≡ Some es → texts_in c ≡ texts_in seen → (n : ℕ) × (entries_of c ≡ Some (read_of (after_stop n (all_kept es))))
-kept_settling_shown seen es c says same = (0, ap entries_in same ∙ says ∙ ap (λ l. Some l) (kept_read es))
+pub kept_settling_shown : (first : List ℕ) (all : List (List ℕ)) (seen : List ℕ) (es : List Entry) (c : List ℕ) → IsLog first all seen → entries_of seen ≡ Some es → IsLog first all c
+    → (n : ℕ) × (entries_of c ≡ Some (read_of (after_stop n (all_kept es))))
+kept_settling_shown first all seen es c log says same =
+    (0, ap entries_in (log_records first all c same ∙ sym (log_records first all seen log)) ∙ says ∙ ap (λ l. Some l) (kept_read es))

@@ -1,4 +1,5 @@
--- Where a process may hand a job over, its intent is in the journal; and who asks for intents hands nothing over.
+-- If a process may hand a job over, or asks whether it may, the job's intent is in the journal. A
+-- process that asks for intents hands nothing over.
 use Rattle.std.proofs.Common.{◌≡◌, ℕ, zero, suc, ◌+◌, Bool, true, false, List, [], ◌∷◌, ◌++◌, Some, refl, sym, ap, ◌∙◌, subst}
 use Rattle.std.specs.Prelude.{⊤, if◌then◌else◌}
 use Rattle.std.proofs.lemmas.Bool.{true≢false}
@@ -7,15 +8,16 @@ use Rattle.amo_sets.specs.Lists.{numbered}
 use Rattle.amo_process.specs.Heard.{told_by, doubted_by}
 use Rattle.amo_process.specs.Stepped.{ProcessView, process_after, may_leave, is_refused}
 use Rattle.amo_driver.specs.declared.answer.JobResult.{JobResult}
+use Rattle.amo_driver.specs.declared.answer.JobResult.TheVariants.{Unbegun}
 use Rattle.amo_driver.specs.declared.answer.Reply.{Reply}
 use Rattle.amo_driver.specs.declared.answer.Way.{Way}
 use Rattle.amo_driver.specs.declared.answer.Way.TheVariants.{Go, Leave}
 use Rattle.amo_driver.specs.declared.model.Deed.{Deed}
-use Rattle.amo_driver.specs.declared.model.Deed.TheVariants.{Loaded, Stored, Found, Intended, Performed, Noted, Asked, Fell}
+use Rattle.amo_driver.specs.declared.model.Deed.TheVariants.{Loaded, Stored, Found, Intended, Cleared, Performed, Noted, Asked, Fell}
 use Rattle.amo_driver.specs.declared.model.Try.{Try}
 use Rattle.amo_driver.specs.declared.model.Try.TheVariants.{Intend, Perform}
 use Rattle.amo_driver.specs.declared.past.Intent.{Intent}
-use Rattle.amo_driver.specs.Stage.{Stage, Going, Finding, Intending, Performing, Noting, Leaving, Asking, Settling, Dismissed, Gone, Unanswered, Refused, Broken}
+use Rattle.amo_driver.specs.Stage.{Stage, Going, Finding, Intending, Clearing, Performing, Noting, Leaving, Asking, Settling, Dismissed, Gone, Unanswered, Refused, Broken}
 use Rattle.amo_driver.specs.Course.{try_of, due, stage_by_jobs, stage_heard, stage_told, stage_replied, stage_asking, stage_asked, stage_after}
 use Rattle.amo_driver_safety.proofs.Stages.{after_reply, after_settling, after_question, performing_only, serial_in, job_in}
 use Rattle.amo_run_log.specs.declared.entry.Entry.{Entry}
@@ -66,6 +68,10 @@ intended_asks : (s : Stage) (n j : ℕ) → is_asking s ≡ true → is_asking (
 intended_asks (Intending m a i) n j h = absurd (true≢false (sym h))
 intended_asks s n j h = h
 
+cleared_asks : (s : Stage) (n j : ℕ) (clear : Bool) → is_asking s ≡ true → is_asking (stage_after s (Cleared n j clear)) ≡ true
+cleared_asks (Clearing m a i) n j clear h = absurd (true≢false (sym h))
+cleared_asks s n j clear h = h
+
 performed_asks : (s : Stage) (n j : ℕ) (reply : Reply) → is_asking s ≡ true → is_asking (stage_after s (Performed n j reply)) ≡ true
 performed_asks (Performing m a i) n j reply h = absurd (true≢false (sym h))
 performed_asks s n j reply h = h
@@ -84,6 +90,7 @@ asks_on s (Loaded w v) h = loaded_asks s w v h
 asks_on s (Stored w v) h = stored_asks s w v h
 asks_on s (Found j) h = found_asks s j h
 asks_on s (Intended n j) h = intended_asks s n j h
+asks_on s (Cleared n j clear) h = cleared_asks s n j clear h
 asks_on s (Performed n j reply) h = performed_asks s n j reply h
 asks_on s (Noted n c) h = noted_asks s n c h
 asks_on s (Asked n line reply) h = asked_asks s n line reply h
@@ -92,9 +99,10 @@ asks_on s (Fell t) h = refl
 pub asks_only : (s : Stage) (n j : ℕ) → is_asking s ≡ true → due s ≡ Some (Perform n j) → ⊥
 asks_only s n j h e = let at = performing_only s n j e in true≢false (sym h ∙ ap is_asking at.2)
 
--- where its job is to be handed over
+-- where its job is to be handed over, or it is to be asked whether it may be
 
 abbrev pub is_performing : Stage → Bool
+is_performing (Clearing n a j) = true
 is_performing (Performing n a j) = true
 is_performing s = false
 
@@ -122,12 +130,16 @@ by_reply : (n : ℕ) (a : ProcessView) (reply : Reply) → is_performing (stage_
 by_reply n a reply = after_reply (λ z. is_performing z ≡ false) n a reply (λ c way. refl) (λ way. refl) (λ r. refl)
 
 asks_no : (s : Stage) → is_asking s ≡ true → is_performing s ≡ false
+asks_no (Clearing n a j) h = absurd (true≢false (sym h))
 asks_no (Performing n a j) h = absurd (true≢false (sym h))
 asks_no s h = refl
 
--- Only an intent leads to where a job is to be handed over: what holds of all other stages, and stays where a stage does, holds
--- after a deed if it does after an intent.
-module _ (Q R : Stage → Type 0) (unless : (s : Stage) → is_performing s ≡ false → R s) (stays : (s : Stage) → Q s → R s) where
+-- Only an intent leads to the stage at which the process asks whether the job is clear. Only the
+-- answer that it is clear leads to the stage at which the job is handed over. Assume that something
+-- holds of all other stages, and stays if the stage stays, and if the job is found clear. Then it
+-- holds after a deed if it does after an intent.
+module _ (Q R : Stage → Type 0) (unless : (s : Stage) → is_performing s ≡ false → R s) (stays : (s : Stage) → Q s → R s)
+    (clears : (n : ℕ) (a : ProcessView) (j : ℕ) → Q (Clearing n a j) → R (Performing n a j)) where
   loaded_then : (s : Stage) (w v : ℕ) → Q s → R (stage_after s (Loaded w v))
   loaded_then (Going n a way) w v h = unless (stage_told w v n way (process_after a v)) (by_value w v n way (process_after a v))
   loaded_then s w v h = stays s h
@@ -140,6 +152,11 @@ module _ (Q R : Stage → Type 0) (unless : (s : Stage) → is_performing s ≡ 
   found_then : (s : Stage) (j : ℕ) → Q s → R (stage_after s (Found j))
   found_then (Finding n a i) j h = unless (Going n a Go) refl
   found_then s j h = stays s h
+
+  cleared_then : (s : Stage) (n j : ℕ) (clear : Bool) → Q s → R (stage_after s (Cleared n j clear))
+  cleared_then (Clearing m a i) n j true h = clears m a i h
+  cleared_then (Clearing m a i) n j false h = unless (Noting m a Unbegun Go) refl
+  cleared_then s n j clear h = stays s h
 
   performed_then : (s : Stage) (n j : ℕ) (reply : Reply) → Q s → R (stage_after s (Performed n j reply))
   performed_then (Performing m a i) n j reply h = unless (stage_replied m a reply) (by_reply m a reply)
@@ -159,6 +176,7 @@ module _ (Q R : Stage → Type 0) (unless : (s : Stage) → is_performing s ≡ 
   any_then s (Stored w v) intended h = stored_then s w v h
   any_then s (Found j) intended h = found_then s j h
   any_then s (Intended n j) intended h = intended n j refl
+  any_then s (Cleared n j clear) intended h = cleared_then s n j clear h
   any_then s (Performed n j reply) intended h = performed_then s n j reply h
   any_then s (Noted n c) intended h = noted_then s n c h
   any_then s (Asked n line reply) intended h = asked_for_then s n line reply h
@@ -168,16 +186,20 @@ module _ (Q R : Stage → Type 0) (unless : (s : Stage) → is_performing s ≡ 
 abbrev pub entries_of_deed : List ℕ → (time : ℕ) → Deed → List Entry
 entries_of_deed lines time d = if has_fallen d then [] else entries_of_try lines time (try_of d)
 
--- the intent of the job that is to be handed over is among these entries, where the jobs are these lines
+-- the intent of the job that is to be handed over, or about which the process is to ask, is among
+-- these entries, if the jobs are these lines
 abbrev pub IsPut : List ℕ → List Entry → Stage → Type 0
+IsPut lines kept (Clearing n a j) = HasEntry n (numbered 0 lines j) kept
 IsPut lines kept (Performing n a j) = HasEntry n (numbered 0 lines j) kept
 IsPut lines kept s = ⊤
 
 put_unless : (lines : List ℕ) (kept : List Entry) (s : Stage) → is_performing s ≡ false → IsPut lines kept s
+put_unless lines kept (Clearing n a j) h = absurd (true≢false h)
 put_unless lines kept (Performing n a j) h = absurd (true≢false h)
 put_unless lines kept s h = tt
 
 put_stays : (lines : List ℕ) (old new : List Entry) → Grows old new → (s : Stage) → IsPut lines old s → IsPut lines new s
+put_stays lines old new grows (Clearing n a j) h = entry_stays n (numbered 0 lines j) old new grows h
 put_stays lines old new grows (Performing n a j) h = entry_stays n (numbered 0 lines j) old new grows h
 put_stays lines old new grows s h = tt
 
@@ -193,5 +215,6 @@ module _ (lines : List ℕ) (time : ℕ) (kept : List Entry) where
   pub put_then : (s : Stage) (d : Deed) → due s ≡ Some (try_of d) → IsPut lines kept s → IsPut lines (kept ++ entries_of_deed lines time d) (stage_after s d)
   put_then s d e h =
       let new = kept ++ entries_of_deed lines time d in
-      any_then (IsPut lines kept) (IsPut lines new) (put_unless lines new) (put_stays lines kept new (entries_of_deed lines time d, refl)) s d
+      any_then (IsPut lines kept) (IsPut lines new) (put_unless lines new) (put_stays lines kept new (entries_of_deed lines time d, refl))
+      (λ m a i was. entry_stays m (numbered 0 lines i) kept new (entries_of_deed lines time d, refl) was) s d
       (λ n j is. subst (λ x. IsPut lines (kept ++ entries_of_deed lines time x) (stage_after s x)) (sym is) (intended_put s n j (e ∙ ap (λ x. Some (try_of x)) is) h)) h

@@ -1,6 +1,6 @@
 -- Runs with the runners that begin the commands of what is handed over, and with doubts that are listed.
 use Rattle.std.specs.Prelude.{◌≡◌, ⊤, ℕ, ◌≤◌, Bool, true, false, ◌&&◌, List, [], ◌∷◌, ◌++◌, length, Some, ◌==◌, if◌then◌else◌}
-use Rattle.amo_driver.specs.declared.model.Try.TheVariants.{Perform}
+use Rattle.amo_driver.specs.declared.model.Try.TheVariants.{Clear, Perform}
 use Rattle.amo_run_log.specs.declared.journal.Attempt.{Attempt}
 use Rattle.amo_run_log.specs.Journals.{journal_of}
 use Rattle.amo_run_safety.specs.Site.{Site, first_site, Event, Stops, IsNumber}
@@ -61,9 +61,12 @@ yard_after y (Ends h) = record y { running = without h y.running }
 yard_after y (Drops h) = record y { waiting = without h y.waiting }
 yard_after y (Lists p n line) = y
 
--- The intent of worker p with this serial number is over: no process is about to hand it over, no runner to begin its command, and
--- nothing is left of that. So it is where who says so holds the locks of the journal, of the runner and of the command.
+-- The intent of worker p with this serial number is over. No process is about to ask whether it may
+-- hand it over, or to hand it over. No runner is about to begin its command, and nothing is left of
+-- that command. The intent is over if the one that claims this holds the locks of the journal, of
+-- the runner and of the command.
 pub record IsOver (y : Yard) (p n : ℕ) : Type 0 where
+  pub asked : (j : ℕ) → MayMiss y.site.rounds (y.site.whereabouts p) (Clear n j) → ⊥
   pub due : (j : ℕ) → MayMiss y.site.rounds (y.site.whereabouts p) (Perform n j) → ⊥
   pub waits : is_among (names_of y.waiting) p n ≡ false
   pub runs : is_among (names_of y.running) p n ≡ false

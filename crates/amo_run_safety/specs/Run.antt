@@ -36,9 +36,9 @@ use Rattle.amo_run_safety.specs.Site.{Whereabouts, Away, Before, Inside, Round, 
 -- an answer, as it is noted at this time
 abbrev pub as_noted : (time : ℕ) → JobResult → NotedAnswer
 as_noted time (Done code) = NotedDone code time
-as_noted time Doubt = NotedDoubt
+as_noted time Doubt = NotedDoubt time
 as_noted time Unbegun = NotedUnbegun
-as_noted time (Untouched code) = NotedUntouched code
+as_noted time (Untouched code) = NotedUntouched code time
 
 -- the entry that this try puts, where the jobs of the round are these lines, as a list of one or none
 abbrev pub entries_of_try : List ℕ → (time : ℕ) → Try → List Entry

@@ -1,25 +1,26 @@
 //! The theorems over the definitions. Nothing here runs: each function's contract is a law.
-ghost use Rattle.std.specs.Prelude.{◌≡◌, ◌⊎◌, ◌≤◌, ◌+◌, ℕ, Bool, true, List, [], ◌∷◌, ◌++◌, Some, length};
+ghost use Rattle.std.specs.Prelude.{◌≡◌, ◌⊎◌, ◌≤◌, ◌+◌, ℕ, Bool, true, false, List, [], ◌∷◌, ◌++◌, Some, length};
 ghost use Rattle.amo_sets.specs.Sets.{AreDistinct};
 ghost use Rattle.amo_driver.specs.Course.{AreDue, first_stage, Stands, MayTry};
 ghost use Rattle.amo_driver.specs.declared.model.Deed.{Deed};
+ghost use Rattle.amo_driver.specs.declared.model.Deed.TheVariants.{Cleared};
 ghost use Rattle.amo_driver.specs.declared.model.Try.{Try};
 ghost use Rattle.amo_driver.specs.Stage.{Stage, Asking};
 ghost use Rattle.amo_driver_safety.specs.Log.{Log, log_of};
 ghost use Rattle.amo_driver_safety.specs.Scene.{scene_of, IsTrue, IsHistory};
 ghost use Rattle.amo_journal.specs.Device.{LeavesOnly};
-ghost use Rattle.amo_journal.specs.Journal.{IsAtRest, HasAllOrAllButLast};
-ghost use Rattle.amo_journal.specs.Texts.{texts_in};
+ghost use Rattle.amo_journal.specs.Appends.{IsLog};
+ghost use Rattle.amo_journal.specs.Journal.{IsAtRest, HasAllOrNotTheLast};
 ghost use Rattle.amo_run_log.specs.declared.entry.Entry.{Entry};
 ghost use Rattle.amo_run_log.specs.declared.finding.Finding.{Finding};
 ghost use Rattle.amo_run_log.specs.Puts.{entries_of, findings_of, StandsForOneMoreOrNot, SaysOneMoreOrNot};
 ghost use Rattle.amo_run_safety.specs.File.{read_of, with_unheard, with_unread, after_stop};
 ghost use Rattle.amo_run_safety.specs.Shown.{all_kept, IsShownBy};
 ghost use Rattle.amo_run_safety.specs.Asked.{Asker, asker_of};
-ghost use Rattle.amo_run_safety.specs.Site.{Before, Inside, Round, Event};
+ghost use Rattle.amo_run_safety.specs.Site.{Before, Inside, Round, Event, Acts};
 ghost use Rattle.amo_run_safety.specs.Run.{left_in, MayAct, MayMiss, IsRun, site_of, Handing, handings_by, handings, openings, is_among, AreUnperformed, performed_lines, IsOneOf, names_of, AreDifferent, common, names_of_line, IsKept};
-ghost use Rattle.amo_run_safety.specs.Commands.{Action, Lists, AreActionsBy, AreActions, yard_of, said_in, IsTruthful, lines_in, events_of};
-ghost use Rattle.amo_run_safety.specs.Fewer.{IsOverButForProcesses, IsOverButForRunners, IsOverButForCommands};
+ghost use Rattle.amo_run_safety.specs.Commands.{Action, Happens, Lists, IsOver, AreActionsBy, AreActions, yard_of, said_in, IsTruthful, lines_in, events_of};
+ghost use Rattle.amo_run_safety.specs.Fewer.{IsOverButForProcesses, IsOverButForRunners, IsOverButForCommands, IsOverButForAsking};
 
 use amo_journal::Device;
 
@@ -105,6 +106,16 @@ pub fn a_listed_doubt_is_final()
         → is_among (said_in (before ++ Lists p n line ∷ after)) p n ≡ true }
 {}
 
+/// Once the job of an intent was found taken, the intent is over, whatever happens then: no command
+/// of it has begun, none begins, and none has performed its line. So what its process notes of it,
+/// that it wasn't begun, is true, and nothing is supposed for it.
+pub fn a_taken_intent_is_over()
+    ensures { (p n time j : ℕ) (before after : List Action) → AreActions (before ++ Happens (Acts p time (Cleared n j false)) ∷ after)
+        → IsOver (yard_of (before ++ Happens (Acts p time (Cleared n j false)) ∷ after)) p n
+        × (is_among (names_of (yard_of (before ++ Happens (Acts p time (Cleared n j false)) ∷ after)).begun) p n ≡ false)
+        × (is_among (names_of (yard_of (before ++ Happens (Acts p time (Cleared n j false)) ∷ after)).performed) p n ≡ false) }
+{}
+
 /// Without the runners and their commands it is a run: so each law of runs is one of these.
 pub fn commands_stand_over_runs()
     ensures { (actions : List Action) → AreActions actions → IsRun (events_of actions) × ((yard_of actions).site ≡ site_of (events_of actions)) }
@@ -119,12 +130,15 @@ pub fn commands_there_are()
 {}
 
 /// None of the three locks can be done without: by the other two a line is performed twice, though
-/// all that is said is true when it is said. Nor can the truth: by all three a line is performed
-/// twice where a person says of what was performed that it wasn't.
+/// all that is said is true when it is said. Nor is it enough that no process is about to hand the
+/// line over: one that may still ask whether it may do so hands it over later. Nor can the truth be
+/// done without: by all three a line is performed twice where a person says of what was performed
+/// that it wasn't.
 pub fn each_lock_is_needed()
     ensures journal { (actions : List Action) × AreActionsBy IsOverButForProcesses actions × IsTruthful actions × (lines_in (yard_of actions).performed ≡ 1 ∷ 1 ∷ []) }
     ensures runner { (actions : List Action) × AreActionsBy IsOverButForRunners actions × IsTruthful actions × (lines_in (yard_of actions).performed ≡ 1 ∷ 1 ∷ []) }
     ensures command { (actions : List Action) × AreActionsBy IsOverButForCommands actions × IsTruthful actions × (lines_in (yard_of actions).performed ≡ 1 ∷ 1 ∷ []) }
+    ensures asking { (actions : List Action) × AreActionsBy IsOverButForAsking actions × IsTruthful actions × (lines_in (yard_of actions).performed ≡ 1 ∷ 1 ∷ []) }
     ensures truth { (actions : List Action) × AreActions actions × (lines_in (yard_of actions).performed ≡ 1 ∷ 1 ∷ []) }
 {}
 
@@ -154,8 +168,8 @@ pub fn settled_journals_are_kept<D: Device>()
         → IsShownBy D.seen D.may_leave device (all_kept entries) }
 {}
 
-/// What a crash at any moment of `put_entry` or `put_finding` leaves, by their contracts, is what a
-/// stop leaves where nobody heard of the put.
+/// By the contracts of `append_entry` and `append_finding`, a crash at any moment of a call leaves
+/// what a stop leaves if nobody has learned of the put.
 pub fn puts_are_there_or_not()
     ensures entry { (entries : List Entry) (entry : Entry) (file : List ℕ) → StandsForOneMoreOrNot entries entry file
         → (n : ℕ) × (entries_of file ≡ Some (read_of (after_stop n (with_unheard (all_kept entries) (entry ∷ []))))) }
@@ -163,9 +177,10 @@ pub fn puts_are_there_or_not()
         → (n : ℕ) × (findings_of file ≡ Some (read_of (after_stop n (with_unheard (all_kept findings) (finding ∷ []))))) }
 {}
 
-/// Once `put_entry` has ended, whatever it answers, the journal shows what an event leaves: by its
-/// contract the entry is kept, as the law above says of a journal that is settled; or it isn't
-/// read, and a stop may leave it; or it is read, and a stop may take it.
+/// Once `append_entry` has ended, whatever it returns, the journal shows what an event leaves. By
+/// the contract of `append_entry` there are three cases. The entry is kept, as the law above states
+/// of a settled journal. Or it isn't read, and a stop may leave it. Or it is read, and a stop may
+/// take it.
 pub fn ended_puts_are_events<D: Device>()
     ensures { (old new : _) (entries : List Entry) (entry : Entry) → StandsForOneMoreOrNot entries entry (D.seen new)
         → LeavesOnly D.moment D.left_since old new (StandsForOneMoreOrNot entries entry)
@@ -173,14 +188,16 @@ pub fn ended_puts_are_events<D: Device>()
         ⊎ IsShownBy D.seen D.may_leave new (with_unheard (all_kept entries) (entry ∷ [])) }
 {}
 
-/// What a crash at any moment of settling a journal leaves, by the contract of `Journal::settle`,
-/// is what a stop leaves of it as it was read: all, where each crash before would have left all;
-/// else all, or all but the last entry.
+/// By the contract of `Journal::recover`, a crash at any moment of a call leaves what a stop leaves
+/// of the journal as it was read. That is all of it, if each crash before would have left all.
+/// Otherwise it is all, or all but the last entry.
 pub fn settling_takes_what_a_stop_takes<D: Device>()
-    ensures kept { (old new : _) (entries : List Entry) (left : List ℕ) → entries_of (D.seen old) ≡ Some entries
-        → LeavesOnly D.moment D.left_since old new (λ c. texts_in c ≡ texts_in (D.seen old)) → D.left_since new (D.moment old) left
+    ensures kept { (old new : _) (first : List ℕ) (all : List (List ℕ)) (entries : List Entry) (left : List ℕ)
+        → IsLog first all (D.seen old) → entries_of (D.seen old) ≡ Some entries
+        → LeavesOnly D.moment D.left_since old new (IsLog first all) → D.left_since new (D.moment old) left
         → (n : ℕ) × (entries_of left ≡ Some (read_of (after_stop n (all_kept entries)))) }
-    ensures loose { (old new : _) (entries : List Entry) (entry : Entry) (left : List ℕ) → entries_of (D.seen old) ≡ Some (entries ++ entry ∷ [])
-        → LeavesOnly D.moment D.left_since old new (HasAllOrAllButLast (texts_in (D.seen old))) → D.left_since new (D.moment old) left
+    ensures loose { (old new : _) (first : List ℕ) (all : List (List ℕ)) (entries : List Entry) (entry : Entry) (left : List ℕ)
+        → IsLog first all (D.seen old) → entries_of (D.seen old) ≡ Some (entries ++ entry ∷ [])
+        → LeavesOnly D.moment D.left_since old new (HasAllOrNotTheLast first all) → D.left_since new (D.moment old) left
         → (n : ℕ) × (entries_of left ≡ Some (read_of (after_stop n (with_unheard (all_kept entries) (entry ∷ []))))) }
 {}

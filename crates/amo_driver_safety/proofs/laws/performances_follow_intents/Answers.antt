@@ -1,5 +1,5 @@
-use Rattle.amo_driver_safety.proofs.Courses.{just_intended}
+use Rattle.amo_driver_safety.proofs.Courses.{just_cleared}
 use Rattle.amo_driver_safety.proofs.laws.performances_follow_intents.Goals as goal
 
 pub returns : goal.returns
-returns c = λ g p s n j before after d is h. just_intended g p s before after d n j is h
+returns c = λ g p s n j before after d is h. just_cleared g p s before after d n j is h

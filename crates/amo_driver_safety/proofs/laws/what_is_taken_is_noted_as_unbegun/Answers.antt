@@ -1,0 +1,5 @@
+use Rattle.amo_driver_safety.proofs.Farewell.{passes_over}
+use Rattle.amo_driver_safety.proofs.laws.what_is_taken_is_noted_as_unbegun.Goals as goal
+
+pub returns : goal.returns
+returns c = passes_over
