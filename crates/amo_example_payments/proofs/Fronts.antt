@@ -4,7 +4,7 @@ use Rattle.std.specs.Prelude.{⊤}
 use Rattle.std.specs.Io.KnownBytes.{Appends, Keeps}
 use Rattle.std.proofs.KnownBytes.{Appends-nil, Appends-kept, Appends-trans}
 use Rattle.amo_example_payments.specs.declared.fault.Fault.{Fault}
-use Rattle.amo_example_payments.specs.declared.fault.Fault.TheVariants.{Line, Input, Crew, Journal, Entry, Output, Memory, Unsettled}
+use Rattle.amo_example_payments.specs.declared.fault.Fault.TheVariants.{Line, Input, Crew, Journal, Damaged, Entry, Output, Memory, Unsettled}
 use Rattle.std.proofs.Math.Seq.{take-append-add}
 use Rattle.std.proofs.lemmas.List.{take-append-le, take_all}
 use Rattle.amo_io.specs.Streams.{AppendsFront}
@@ -42,6 +42,7 @@ output_is_not_memory e = subst is_output e tt
     is_output Input = ⊥
     is_output Crew = ⊥
     is_output Journal = ⊥
+    is_output (Damaged n kind) = ⊥
     is_output (Entry n) = ⊥
     is_output Output = ⊤
     is_output Memory = ⊥

@@ -1,11 +1,11 @@
 //! Why a day ends early.
 ghost use Rattle.std.specs.Prelude.{◌≡◌};
-ghost use Rattle.amo_example_payments.specs.Faults.{fault_of_device, fault_of_reading, fault_of_round, fault_of_leftover};
+ghost use Rattle.amo_example_payments.specs.Faults.{fault_of_device, fault_of_reading, fault_of_recovery, fault_of_round, fault_of_leftover};
 ghost use Rattle.amo_example_payments.specs.declared.fault.Fault.TheVariants.{Memory};
 
 use crate::rounds::RoundFault;
 use crate::second::LeftoverFault;
-use amo_journal::DeviceError;
+use amo_journal::{DamageKind, DeviceError, RecoverError};
 use std::alloc::AllocError;
 
 /// Why a day ends early. What was paid by then stands in the journal.
@@ -18,8 +18,10 @@ pub enum Fault {
     /// The crew that the input says is outside its ranges: from 1 to 16 workers, and at most
     /// 10,000,000 steps.
     Crew,
-    /// The journal can't be settled: its disk failed.
+    /// The journal can't be recovered: its disk failed.
     Journal,
+    /// The journal is damaged at the append of this number, from 1.
+    Damaged(usize, DamageKind),
     /// The entry of this number in the journal, from 1, is none, or may not stand there. So it is
     /// where the day has no payment of the number that an intent says: the journal is that of
     /// another day.
@@ -47,6 +49,17 @@ impl From<DeviceError> for Fault {
         match fault {
             DeviceError::Memory => Fault::Memory,
             DeviceError::Failed => Fault::Journal,
+        }
+    }
+}
+
+impl From<RecoverError> for Fault {
+    ghost from_gives = { λ error fault. fault ≡ fault_of_recovery error };
+
+    fn from(error: RecoverError) -> Fault {
+        match error {
+            RecoverError::Device(fault) => Fault::from(fault),
+            RecoverError::Damaged { number, kind } => Fault::Damaged(number, kind),
         }
     }
 }

@@ -1,17 +1,25 @@
 //! The journal of a day, in a file: an intent before each payment, and a receipt after it.
-ghost use Rattle.std.specs.Prelude.{◌≡◌, ℕ, false, Some};
+ghost use Rattle.std.specs.Prelude.{◌≡◌, ℕ, true, false, Some, map, IfOk, IfErr, OnOk};
 ghost use Rattle.std.specs.BTreeSet.{contains};
 ghost use Rattle.std.specs.Ordering.{nat_cmp};
-ghost use Rattle.amo_journal.specs.Journal.{IsSettled};
+ghost use Rattle.std.proofs.Props.{props};
+ghost use Rattle.amo_journal.specs.Appends.{records_in};
+ghost use Rattle.amo_journal.specs.Journal.{IsRecovered, MayRecover};
+ghost use Rattle.amo_example_payments.specs.Faults.{is_of_recovery};
 ghost use Rattle.amo_example_payments.specs.Restarts.{has_intent, journal_in};
 
 use crate::day::Payment;
 use crate::fault::Fault;
 use crate::restarting::{Earlier, follow};
-use amo_journal::{Device, Journal};
-use amo_run_log::{Attempt, Entry, Outcome, journal_of, note, put_entry, read_entries};
+use amo_journal::{Checksum, Device, Journal};
+use amo_run_log::{Attempt, Entry, Outcome, append_entry, journal_of, note, read_entries};
 use std::alloc::Global;
 use std::collections::BTreeSet;
+
+/// The bytes with which the checksums of a day's journal begin.
+const JOURNAL_ID: &[u8] = b"amo_payments";
+
+const JOURNAL_NAME: &[u8] = b"journal";
 
 mod order;
 
@@ -30,15 +38,14 @@ pub(crate) struct Ledger<D: Device> {
     /// The payments of which an intent stands there, by their numbers.
     intents: BTreeSet<u64>,
     broken: bool,
-    ghost settled: { broken ≡ false → IsSettled D.seen D.may_leave D.stale journal },
+    ghost settled: { broken ≡ false → IsRecovered D.seen D.may_leave D.stale journal } by { Prim.hlevel props },
     ghost known: { broken ≡ false → ∥ journal_in lines (D.seen journal.device) ≡ Some attempts.items ∥₁ },
     ghost intended: { broken ≡ false → ∥ ((id : ℕ) → contains nat_cmp intents id ≡ has_intent attempts.items id) ∥₁ },
 }
 
 impl<D: Device + Drop> Ledger<D> {
-    ghost use Rattle.std.specs.Prelude.{◌+◌, ◌++◌, ◌∷◌, [], List, true, length, Err, IfOk, IfErr, OnOk, OnErr};
+    ghost use Rattle.std.specs.Prelude.{◌+◌, ◌++◌, ◌∷◌, [], List, length, Err, OnErr};
     ghost use Rattle.amo_journal.specs.Device.{LeavesOnly};
-    ghost use Rattle.amo_journal.specs.Journal.{MaySettle};
     ghost use Rattle.amo_run_log.specs.declared.entry.Outcome.TheVariants.{Done};
     ghost use Rattle.amo_run_log.specs.declared.entry.Entry.{Entry as EntryView};
     ghost use Rattle.amo_run_log.specs.declared.entry.Entry.TheVariants.{Intent as IntentEntry, Answer as AnswerEntry};
@@ -49,18 +56,18 @@ impl<D: Device + Drop> Ledger<D> {
     ghost use Rattle.amo_example_payments.specs.Ledgers.{AreKept};
     ghost use Rattle.amo_example_payments.specs.Payments.{IsReceiptOf};
 
-    /// Settles the journal in a file, an empty one too, and reads it as that of a day of so many
+    /// Recovers the journal in a file, an empty one too, and reads it as that of a day of so many
     /// payments. What is no journal of such a day is refused.
     pub(crate) fn open(alloc: Global, device: D, lines: u64) -> Result<Ledger<D>, Fault>
-        requires { MaySettle D.seen D.may_leave D.stale device }
+        requires { MayRecover D.seen D.may_leave D.stale device }
         ensures known { IfOk result (λ l. journal_in lines (D.seen device) ≡ Some l.attempts.items) }
         ensures begun { IfOk result (λ l. (l.broken ≡ false) × (l.lines ≡ lines)) }
         ensures refused { (n : ℕ) → result ≡ Err (NoEntry n) → IsRefusedIn lines (D.seen device) n }
         ensures fault { IfErr result IsOfOpening }
     {
-        let mut journal = Journal::new(device);
-        let texts = journal.settle(alloc)?;
-        let entries = read_entries(alloc, &texts)?;
+        let mut journal = Journal::new(device, Checksum::first(JOURNAL_ID, JOURNAL_NAME));
+        let records = recovered(alloc, &mut journal)?;
+        let entries = read_entries(alloc, &records)?;
         let attempts = journal_of(alloc, lines, &entries)?;
         let earlier = Earlier::of(alloc, &attempts)?;
         Ok(Ledger {
@@ -107,7 +114,7 @@ impl<D: Device + Drop> Ledger<D> {
         if !follow(&mut self.intents, entry) {
             return false;
         }
-        match put_entry(&mut self.journal, self.alloc, entry) {
+        match append_entry(&mut self.journal, self.alloc, entry) {
             Ok(()) => {
                 self.broken = false;
                 true
@@ -178,4 +185,16 @@ impl<D: Device + Drop> Ledger<D> {
     {
         self.journal.device
     }
+}
+
+/// Recovers a journal, and returns the records of each append.
+fn recovered<D: Device>(alloc: Global, journal: &mut Journal<D>) -> Result<Vec<Vec<u8>>, Fault>
+    requires { MayRecover D.seen D.may_leave D.stale journal.old.device }
+    ensures records { IfOk result (λ all. map (λ records. records.items) all.items ≡ records_in (D.seen journal.old.device)) }
+    ensures recovered { OnOk result (IsRecovered D.seen D.may_leave D.stale journal.new) }
+    ensures same { records_in (D.seen journal.new.device) ≡ records_in (D.seen journal.old.device) }
+    ensures fault { IfErr result (λ fault. is_of_recovery fault ≡ true) }
+{
+    let log = journal.recover(alloc)?;
+    Ok(log.records)
 }

@@ -1,7 +1,7 @@
 //! A day from its input to its report.
 ghost use Rattle.std.specs.Prelude.{◌≡◌, ◌<◌, ℕ, true, false, [], Err, length, vec_len, IfOk, IfErr, IfSome, OnOk, OnErr};
 ghost use Rattle.std.specs.Io.KnownBytes.{Keeps};
-ghost use Rattle.amo_journal.specs.Journal.{MaySettle};
+ghost use Rattle.amo_journal.specs.Journal.{MayRecover};
 ghost use Rattle.amo_example_payments.specs.declared.day.Day.{Day as DayView};
 ghost use Rattle.amo_example_payments.specs.declared.fault.Fault.TheVariants.{Line as BrokenLine, Crew as UnfitCrew, Entry as NoEntry};
 ghost use Rattle.amo_example_payments.specs.Days.{IsDayOf, has_broken_line};
@@ -145,7 +145,7 @@ pub fn serve<
     R: Threads + Wait + Clock + Sync,
 >(rt: &R, alloc: Global, input: &mut B, device: D, orders: S, out: &mut O) -> Result<D, Fault>
     // The disk may hold what is read with its last gate open or closed.
-    requires { MaySettle D.seen D.may_leave D.stale device }
+    requires { MayRecover D.seen D.may_leave D.stale device }
 
     ensures whole { OnOk result (IsServed (B.remaining input.old) (D.seen device) (O.contents out.old) (O.contents out.new)) }
     ensures front { OnErr result (IsBegun (B.remaining input.old) (D.seen device) (O.contents out.old) (O.contents out.new)) }

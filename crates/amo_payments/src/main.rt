@@ -7,7 +7,7 @@
 ghost use Rattle.std.specs.Prelude.{◌≡◌, ◌≤◌};
 ghost use Rattle.std.specs.Io.KnownBytes.{Keeps};
 ghost use Rattle.std.specs.Process.{exit_status};
-ghost use Rattle.amo_journal.specs.Journal.{MaySettle};
+ghost use Rattle.amo_journal.specs.Journal.{MayRecover};
 ghost use Rattle.amo_example_payments.specs.Reports.{IsServed, IsBegun};
 
 use amo_example_payments::serve;
@@ -51,7 +51,7 @@ fn serve_streams<
     E: Write,
     R: Threads + Wait + Clock + Sync,
 >(rt: &R, alloc: Global, input: &mut B, device: D, orders: S, out: &mut O, err: &mut E) -> ExitCode
-    requires { MaySettle D.seen D.may_leave D.stale device }
+    requires { MayRecover D.seen D.may_leave D.stale device }
     ensures whole { exit_status result ≡ 0 → IsServed (B.remaining input.old) (D.seen device) (O.contents out.old) (O.contents out.new) }
     ensures silent { exit_status result ≡ 0 → Keeps (E.contents err.old) (E.contents err.new) }
     ensures front { 1 ≤ exit_status result → IsBegun (B.remaining input.old) (D.seen device) (O.contents out.old) (O.contents out.new) }

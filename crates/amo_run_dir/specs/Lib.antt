@@ -1,3 +1,4 @@
+pub mod Logs
 pub mod Names
 pub mod Rounds
 pub mod Statuses

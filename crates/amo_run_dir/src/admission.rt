@@ -3,9 +3,10 @@ use crate::creation::{make_beside, make_within};
 use crate::disk::check_file_system;
 use crate::error::{Door, Fault, had, written};
 use crate::files::bytes_of;
-use crate::identity::{Age, check_id, check_kept, check_whole, has_id};
+use crate::identity::{Age, check_id, check_kept, check_whole, has_id, no_id};
 use crate::layout::Item;
 use crate::new_round::grown;
+use crate::round::record_of;
 use crate::settings::{ListSettings, Setting};
 use crate::state::known;
 use amo_fs::{is_mine, make_folder, sync_folder};
@@ -93,14 +94,31 @@ pub fn look_to_read(rt: HostRuntime, setting: &Setting<'_>) -> Result<Age, Fault
         check_whole(rt, setting)?;
         return Ok(Age::Now);
     }
-    match setting.id {
-        Some(_) => Err(Fault::NoId),
-        None => Ok(Age::Old),
+    match no_id(rt, setting)? {
+        Fault::Missing(item) => Err(Fault::Missing(item)),
+        _ if setting.id.is_some() => Err(Fault::NoId),
+        _ => Ok(Age::Old),
     }
 }
 
-/// Returns true if the folder that is there is a run's, and one's own.
+/// Checks that the folder can be a run's, whatever its files hold.
+///
+/// # Errors
+/// The faults by which a folder is refused, and `OtherId`.
+pub fn look_at_folder(rt: HostRuntime, setting: &Setting<'_>) -> Result<(), Fault> {
+    check_folder(rt, setting)?;
+    has_id(rt, setting)?;
+    Ok(())
+}
+
+/// Checks that the folder that is there can be a run's of this version, and is one's own.
 fn look_at(rt: HostRuntime, setting: &Setting<'_>) -> Result<(), Fault> {
+    check_folder(rt, setting)?;
+    check_version(rt, setting)
+}
+
+/// Checks that the folder that is there is one's own, and on a file system that is taken.
+fn check_folder(rt: HostRuntime, setting: &Setting<'_>) -> Result<(), Fault> {
     let found = had(Item::Run, fs::symlink_metadata(&rt, setting.run))?;
     if !found.is_dir() {
         return Err(Fault::Door(Door::NoFolder));
@@ -108,8 +126,7 @@ fn look_at(rt: HostRuntime, setting: &Setting<'_>) -> Result<(), Fault> {
     if !had(Item::Run, is_mine(&rt, setting.run))? {
         return Err(Fault::Door(Door::Foreign));
     }
-    check_file_system(rt, setting, setting.run)?;
-    check_version(rt, setting)
+    check_file_system(rt, setting, setting.run)
 }
 
 /// Returns true if the jobs' file can be that of this run.
@@ -119,9 +136,9 @@ pub fn check_jobs(
     jobs: &ListSettings<'_>,
 ) -> Result<(), Fault> {
     let list = had(Item::List, fs::read(&rt, jobs.list))?;
-    let begun = bytes_of(rt, setting, Item::Record)?.is_some();
-    let known = known(rt, setting)?;
-    grown(rt.alloc(), &known, &list, begun)?;
+    let last = record_of(rt, setting)?;
+    let known = known(rt, setting, last.as_ref())?;
+    grown(rt.alloc(), &known, &list, last.is_some())?;
     Ok(())
 }
 
@@ -139,10 +156,13 @@ fn check_version(rt: HostRuntime, setting: &Setting<'_>) -> Result<(), Fault> {
     let Some(bytes) = bytes_of(rt, setting, Item::Record)? else {
         return Ok(());
     };
-    if bytes.starts_with(b"amo-run ") && !bytes.starts_with(b"amo-run 1\n") {
-        return Err(Fault::Door(Door::Version));
+    if bytes.starts_with(b"amo-run 2\n") || !bytes.starts_with(b"amo-run ") {
+        return Ok(());
     }
-    Ok(())
+    if bytes.starts_with(b"amo-run 1\n") && !has_id(rt, setting)? {
+        return Ok(());
+    }
+    Err(Fault::Door(Door::Version))
 }
 
 /// The folder that holds what has this path.

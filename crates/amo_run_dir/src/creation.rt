@@ -2,7 +2,7 @@
 use crate::admission::{check_jobs, is_there};
 use crate::error::{Fault, Later, had, written};
 use crate::files::{path_of, sync};
-use crate::identity::{has_id, len_of};
+use crate::identity::{has_id, len_of, no_id};
 use crate::layout::Item;
 use crate::locks::lock_within;
 use crate::names::{Kind, Named, first_refused, is_id, kind_of};
@@ -123,8 +123,9 @@ fn put(
 
 /// Refuses a folder that can't be that of a new run.
 fn check_new(rt: HostRuntime, setting: &Setting<'_>) -> Result<(), Fault> {
-    if len_of(rt, setting, Item::Record)?.is_some() {
-        return Err(Fault::OldRun);
+    match no_id(rt, setting)? {
+        Fault::NoId => {}
+        fault => return Err(fault),
     }
     let mut found = Vec::new(rt.alloc());
     for name in had(Item::Run, names_in(&rt, setting.run))? {

@@ -5,6 +5,8 @@ ghost use Rattle.amo_run_dir.specs.declared.error.Fault.TheVariants.{Memory};
 
 use crate::disk::Disk;
 use crate::layout::Item;
+use crate::loss::Loss;
+use amo_journal::DamageKind;
 use amo_run_files::Why;
 use amo_status::Refusal;
 use std::alloc::{AllocError, AllocFailed};
@@ -91,7 +93,16 @@ pub enum Fault {
     /// The entry of this number, from 1, can't stand where it does.
     #[error("entry {1} is damaged, or was edited; undo the edit, or give up this run (with an older copy lines would be performed twice)")]
     Entry(Item, usize),
-    /// What a file of the run holds is nothing that the run writes.
+    /// The journal is damaged at the append of this number, from 1.
+    #[error("append {1}: {2}; leave the file as it is, and read docs/JOBS.md, `A journal is refused`")]
+    Damaged(Item, usize, DamageKind),
+    /// The journal has lost appends that were on the disk when the last round began.
+    #[error("{1}; leave the file as it is, and read docs/JOBS.md, `A journal is refused`")]
+    Lost(Item, Loss),
+    /// Something is wrong with the files of the run, as `status --damaged` has printed.
+    #[error("damaged; keep it as it is, and read docs/JOBS.md, `A journal is refused`")]
+    DamagedRun,
+    /// A file of the run holds something that the run never writes.
     #[error("{remedy}", remedy = self.remedy())]
     Refused(Item),
     /// The answer of this number, from 1, is refused.
@@ -164,7 +175,8 @@ impl Fault {
     pub fn item(&self) -> Option<Item> {
         match self {
             Fault::List(..) | Fault::Changed(_) => Some(Item::List),
-            Fault::Entry(item, _) => Some(*item),
+            Fault::Entry(item, _) | Fault::Damaged(item, ..) => Some(*item),
+            Fault::Lost(item, _) => Some(*item),
             Fault::Refused(item) => Some(*item),
             Fault::NoSuchNumber(..) => Some(Item::Words),
             Fault::Missing(item) => Some(*item),
@@ -174,7 +186,7 @@ impl Fault {
             Fault::Read(item, _) => Some(*item),
             Fault::NoWay | Fault::NoRun | Fault::NoId | Fault::OldRun => Some(Item::Run),
             Fault::OtherId | Fault::HasId | Fault::NotNew(_) => Some(Item::Run),
-            Fault::Forgotten | Fault::Door(_) => Some(Item::Run),
+            Fault::Forgotten | Fault::DamagedRun | Fault::Door(_) => Some(Item::Run),
             Fault::Later(later) => later.item(),
             Fault::Memory | Fault::Answer(..) | Fault::NoAnswerOf(_) => None,
             Fault::Left | Fault::Closed | Fault::NoAnswer(_) => None,
@@ -190,8 +202,8 @@ impl Fault {
                 "it must be one line of 1 to 200 bytes; name another file with --boot-id"
             }
             Fault::Refused(Item::Random) => "it is not a UUID; mount /proc, then start again",
-            Fault::Refused(Item::Record) => {
-                "it is damaged, or was edited; undo the edit, or stop all workers and remove this file"
+            Fault::Refused(Item::Record | Item::Known) => {
+                "it is damaged, or was edited; leave it as it is, and read docs/JOBS.md, `A journal is refused`"
             }
             _ => "it is damaged, or was edited; undo the edit, or give up this run",
         }
@@ -203,6 +215,7 @@ impl Fault {
     {
         match self {
             Fault::List(..) | Fault::Changed(_) | Fault::Entry(..) | Fault::Refused(_) => 65,
+            Fault::Damaged(..) | Fault::Lost(..) | Fault::DamagedRun => 65,
             Fault::Answer(..) | Fault::NoAnswerOf(_) => 65,
             Fault::Missing(_) | Fault::Empty(_) | Fault::NoRun | Fault::NoId => 65,
             Fault::OldRun | Fault::OtherId | Fault::HasId | Fault::NotNew(_) => 65,

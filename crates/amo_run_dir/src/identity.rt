@@ -5,6 +5,7 @@ use crate::layout::Item;
 use crate::names::is_id;
 use crate::settings::Setting;
 use amo_givens::MAX_WORKERS;
+use amo_journal::Checksum;
 use std::fs;
 use std::io::ErrorKind;
 use std::rt::HostRuntime;
@@ -18,13 +19,13 @@ pub enum Age {
     Old,
 }
 
-/// Returns whether the folder has an id.
+/// Returns the folder's id, if it has one: 32 hex digits.
 ///
 /// # Errors
-/// `Refused` if it is malformed, `OtherId` if another run was asked for.
-pub fn has_id(rt: HostRuntime, setting: &Setting<'_>) -> Result<bool, Fault> {
+/// `Refused` if it is malformed.
+fn id_of(rt: HostRuntime, setting: &Setting<'_>) -> Result<Option<Vec<u8>>, Fault> {
     let Some(bytes) = bytes_of(rt, setting, Item::Id)? else {
-        return Ok(false);
+        return Ok(None);
     };
     let [text @ .., b'\n'] = bytes.as_slice() else {
         return Err(Fault::Refused(Item::Id));
@@ -32,23 +33,57 @@ pub fn has_id(rt: HostRuntime, setting: &Setting<'_>) -> Result<bool, Fault> {
     if !is_id(text) {
         return Err(Fault::Refused(Item::Id));
     }
+    Ok(Some(text.to_vec(rt.alloc())?))
+}
+
+/// Returns true if the folder has an id.
+///
+/// # Errors
+/// `Refused` if it is malformed, `OtherId` if another run was asked for.
+pub fn has_id(rt: HostRuntime, setting: &Setting<'_>) -> Result<bool, Fault> {
+    let Some(text) = id_of(rt, setting)? else {
+        return Ok(false);
+    };
     match setting.id {
-        Some(asked) if asked.as_bytes() != text => Err(Fault::OtherId),
+        Some(asked) if asked.as_bytes() != text.as_slice() => Err(Fault::OtherId),
         _ => Ok(true),
     }
+}
+
+/// Returns the checksum that stands before the first append of a journal of the run.
+///
+/// # Errors
+/// `NoId` if the folder has no id, `Refused` if it is malformed.
+pub fn first_checksum(
+    rt: HostRuntime,
+    setting: &Setting<'_>,
+    item: Item,
+) -> Result<Checksum, Fault> {
+    let Some(id) = id_of(rt, setting)? else {
+        return Err(Fault::NoId);
+    };
+    let name = format!(in rt.alloc(); "{item}")?;
+    Ok(Checksum::first(&id, name.as_bytes()))
 }
 
 /// Refuses a folder that has no id, or another than was asked for.
 ///
 /// # Errors
-/// As [`has_id`], and `OldRun` or `NoId` if it has none.
+/// As [`has_id`], and `OldRun`, `NoId` or `Missing` if it has none.
 pub fn check_id(rt: HostRuntime, setting: &Setting<'_>) -> Result<(), Fault> {
     if has_id(rt, setting)? {
         return Ok(());
     }
+    Err(no_id(rt, setting)?)
+}
+
+/// Returns the fault of a folder that has no id: it was made by version 0.1.0, or has lost its id,
+/// or isn't a run's.
+pub fn no_id(rt: HostRuntime, setting: &Setting<'_>) -> Result<Fault, Fault> {
     match bytes_of(rt, setting, Item::Record)? {
-        Some(_) => Err(Fault::OldRun),
-        None => Err(Fault::NoId),
+        Some(bytes) if bytes.starts_with(b"amo-run 2\n") => Ok(Fault::Missing(Item::Id)),
+        Some(_) => Ok(Fault::OldRun),
+        None => Ok(Fault::NoId),
     }
 }
 

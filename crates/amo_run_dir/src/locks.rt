@@ -1,12 +1,14 @@
 //! The locks of a run, and the guard of a worker's number.
 use crate::error::{Fault, Later, had, written};
 use crate::files::{opened, opened_to_read, path_of, sync};
-use crate::identity::check_kept;
+use crate::identity::{check_kept, first_checksum};
 use crate::journal::OpenJournal;
 use crate::layout::Item;
+use crate::logs::log_of;
+use crate::round::record_of;
 use crate::settings::Setting;
 use amo_fs::{FileDevice, is_at, try_exclusive, try_shared};
-use amo_journal::DeviceError;
+use amo_journal::{DeviceError, RecoverError};
 use std::fs::File;
 use std::os::unix::fs::MetadataExt;
 use std::rt::HostRuntime;
@@ -100,22 +102,30 @@ fn still_there(
     Ok(Some(file))
 }
 
-/// Recovers the journal of a handle that has its lock, and syncs the folder.
+/// Recovers the journal of a handle that has its lock, and syncs the folder. The journal is first
+/// compared with what the last round's file counts of it, so that nothing is cut from one that has
+/// lost appends.
+///
+/// # Errors
+/// As [`log_of`]; then nothing was written.
 pub fn settled(
     rt: HostRuntime,
     setting: &Setting<'_>,
     item: Item,
     lock: File,
 ) -> Result<LockedJournal, Fault> {
-    if had(item, lock.metadata())?.len() == 0 {
-        return Err(Fault::Empty(item));
-    }
+    let last = record_of(rt, setting)?;
+    log_of(rt, setting, item, last.as_ref())?;
     let handle = written(item, lock.try_clone())?;
     let device = had(item, FileDevice::open(rt.alloc(), handle))?;
-    let (journal, texts) = match OpenJournal::settle(rt.alloc(), device) {
+    let first = first_checksum(rt, setting, item)?;
+    let (journal, texts) = match OpenJournal::recover(rt.alloc(), device, first) {
         Ok(both) => both,
-        Err(DeviceError::Memory) => return Err(Fault::Memory),
-        Err(DeviceError::Failed) => return Err(Fault::Journal(item)),
+        Err(RecoverError::Damaged { number, kind }) => {
+            return Err(Fault::Damaged(item, number, kind));
+        }
+        Err(RecoverError::Device(DeviceError::Memory)) => return Err(Fault::Memory),
+        Err(RecoverError::Device(DeviceError::Failed)) => return Err(Fault::Journal(item)),
     };
     sync(rt, setting)?;
     Ok(LockedJournal {

@@ -6,13 +6,17 @@ ghost use Rattle.amo_run_dir.specs.Rounds.{IsNextRound, round_after};
 
 use crate::error::{Fault, had};
 use crate::files::replaced;
+use crate::identity::first_checksum;
 use crate::layout::Item;
+use crate::logs::{Logs, read_logs};
 use crate::round::record_of;
 use crate::settings::{ListSettings as Asked, Setting};
-use crate::state::{RunState, known, read_pages};
+use crate::state::{RawLogs, RunState, known};
 use amo_givens::{MAX_JOBS, MAX_WORKERS};
+use amo_journal::Log;
 use amo_run_files::{
-    Jobs, JobsFault, RoundHeader, Why, first_difference, givens_of, head_of, words_len,
+    Count, Extent, Jobs, JobsFault, RoundFile, RoundHeader, Why, first_difference, givens_of,
+    head_of, words_len,
 };
 use amo_run_log::open_lines;
 use amo_status::{Counts, counts, standings};
@@ -28,6 +32,8 @@ struct Found {
     list: Vec<u8>,
     /// What the run's files say, with the lines of the jobs' file.
     books: RunState,
+    /// How much of these files is on the disk.
+    extents: Vec<Extent>,
     /// Whether the run doesn't know all of these lines.
     more: bool,
 }
@@ -42,7 +48,7 @@ pub fn begin(
     boot: &[u8],
 ) -> Result<Option<Counts>, Fault> {
     let last = record_of(rt, setting)?;
-    let found = what_there_is(rt, setting, asked, last.is_some())?;
+    let found = what_there_is(rt, setting, asked, last.as_ref())?;
     let open = open_of(rt.alloc(), &found.books)?;
     if open.is_empty() {
         return Ok(Some(over(rt.alloc(), &found)?));
@@ -50,24 +56,65 @@ pub fn begin(
     if found.more {
         replaced(rt, setting, Item::Known, found.books.jobs.bytes(), true)?;
     }
-    let record = record_for(rt.alloc(), asked, worker, boot, last, open)?;
-    make(rt, setting, &record)?;
+    let last = last.map(|file| file.header);
+    let header = record_for(rt.alloc(), asked, worker, boot, last, open)?;
+    let extents = found.extents;
+    make(rt, setting, &RoundFile { header, extents })?;
     Ok(None)
 }
 
-/// Reads what there is, the jobs' file before answers and journals.
+/// Reads what there is, the jobs' file before answers and journals. `last` is the file of the last
+/// round.
 fn what_there_is(
     rt: HostRuntime,
     setting: &Setting<'_>,
     asked: &Asked<'_>,
-    cut: bool,
+    last: Option<&RoundFile>,
 ) -> Result<Found, Fault> {
-    let known = known(rt, setting)?;
+    let known = known(rt, setting, last)?;
     let list = list_of(rt, asked)?;
-    let jobs = grown(rt.alloc(), &known, &list, cut)?;
+    let jobs = grown(rt.alloc(), &known, &list, last.is_some())?;
     let more = jobs.bytes().len() > known.bytes().len();
-    let books = RunState::read(rt.alloc(), &read_pages(rt, setting)?, jobs)?;
-    Ok(Found { list, books, more })
+    let logs = read_logs(rt, setting, last)?;
+    let extents = extents_of(rt, setting, &jobs, &logs)?;
+    let books = RunState::read(rt.alloc(), &RawLogs::of(rt.alloc(), logs)?, jobs)?;
+    Ok(Found {
+        list,
+        books,
+        extents,
+        more,
+    })
+}
+
+/// Returns how much of the jobs, the answers and the journals is on the disk, whatever a crash
+/// takes from now on: all appends but the last of each.
+fn extents_of(
+    rt: HostRuntime,
+    setting: &Setting<'_>,
+    jobs: &Jobs,
+    logs: &Logs,
+) -> Result<Vec<Extent>, Fault> {
+    let mut extents = Vec::new(rt.alloc());
+    extents.push(Extent::of_jobs(rt.alloc(), jobs.bytes())?)?;
+    extents.push(extent_of(rt, setting, Item::Answers, &logs.answers)?)?;
+    for (i, log) in logs.journals.iter().enumerate() {
+        let item = Item::Journal(i as u64 + 1);
+        extents.push(extent_of(rt, setting, item, log)?)?;
+    }
+    Ok(extents)
+}
+
+/// Returns how much of a journal is on the disk.
+fn extent_of(
+    rt: HostRuntime,
+    setting: &Setting<'_>,
+    item: Item,
+    log: &Log,
+) -> Result<Extent, Fault> {
+    let first = first_checksum(rt, setting, item)?;
+    let name = format!(in rt.alloc(); "{item}")?;
+    let count = Count::of(first, &log.checksums);
+    Ok(Extent::of_count(rt.alloc(), name.as_bytes(), &count)?)
 }
 
 /// Where all lines stand, none of which is open.
@@ -174,14 +221,16 @@ fn first_lines(alloc: Global, lines: &[u64]) -> Result<Vec<u64>, AllocError>
 
 /// Makes record and words. The words are all 0, and never synced: after a power cut they are of
 /// another boot.
-fn make(rt: HostRuntime, setting: &Setting<'_>, record: &RoundHeader) -> Result<(), Fault> {
+fn make(rt: HostRuntime, setting: &Setting<'_>, file: &RoundFile) -> Result<(), Fault> {
+    let record = &file.header;
     let Some(mut words) = head_of(rt.alloc(), record)? else {
         return Err(Fault::Refused(Item::Boot));
     };
     if record.givens.jobs > MAX_JOBS as u64 || record.givens.workers > MAX_WORKERS as u64 {
         return Err(Fault::NoWay);
     }
-    let text = record.print(rt.alloc())?;
+    let first = first_checksum(rt, setting, Item::Record)?;
+    let text = file.print(rt.alloc(), &first)?;
     replaced(rt, setting, Item::Record, &text, true)?;
     words.resize(words_len(&record.givens) as usize, 0)?;
     replaced(rt, setting, Item::Words, &words, false)

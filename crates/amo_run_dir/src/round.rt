@@ -1,19 +1,20 @@
 //! To join a round that was begun.
 use crate::error::{Fault, Later};
 use crate::files::{bytes_of, sync};
+use crate::identity::first_checksum;
 use crate::layout::Item;
 use crate::locks::shared_lock_within;
 use crate::registers::Words;
 use crate::settings::Setting;
 use amo_givens::{MAX_JOBS, MAX_WORKERS};
-use amo_run_files::{RoundHeader, head_of, seat_of, words_len};
+use amo_run_files::{RoundFile, RoundHeader, head_of, seat_of, words_len};
 use std::fs::File;
 use std::rt::HostRuntime;
 
 /// A round in which this process has a seat. While it has this value nobody begins another.
 #[derive(Drop)]
 pub struct JoinedRound {
-    pub record: RoundHeader,
+    pub file: RoundFile,
     pub words: Words,
     /// As which of the round's workers it acts.
     pub seat: u64,
@@ -47,31 +48,36 @@ fn read(
     boot: &[u8],
     lock: File,
 ) -> Result<JoinedRound, Fault> {
-    let Some(record) = record_of(rt, setting)? else {
+    let Some(file) = record_of(rt, setting)? else {
         return Err(Fault::Later(Later::OtherRound));
     };
+    let record = &file.header;
     if record.boot.as_slice() != boot {
         return Err(Fault::Later(Later::OtherRound));
     }
-    let words = words_of(rt, setting, &record)?;
-    let Some(seat) = seat_in(&record, worker) else {
+    let words = words_of(rt, setting, record)?;
+    let Some(seat) = seat_in(record, worker) else {
         return Err(Fault::Later(Later::NoSeat));
     };
     sync(rt, setting)?;
     Ok(JoinedRound {
-        record,
+        file,
         words,
         seat,
         lock,
     })
 }
 
-/// Returns the record of the last round, if there is one.
-pub fn record_of(rt: HostRuntime, setting: &Setting<'_>) -> Result<Option<RoundHeader>, Fault> {
+/// Returns the file of the last round, if there is one.
+///
+/// # Errors
+/// `Refused` if it is damaged, `NoId` if the folder has no id.
+pub fn record_of(rt: HostRuntime, setting: &Setting<'_>) -> Result<Option<RoundFile>, Fault> {
     let Some(bytes) = bytes_of(rt, setting, Item::Record)? else {
         return Ok(None);
     };
-    match RoundHeader::read(rt.alloc(), &bytes)? {
+    let first = first_checksum(rt, setting, Item::Record)?;
+    match RoundFile::read(rt.alloc(), &first, &bytes)? {
         Some(record) => Ok(Some(record)),
         None => Err(Fault::Refused(Item::Record)),
     }

@@ -2,10 +2,9 @@
 use crate::error::Fault;
 use crate::files::bytes_of;
 use crate::layout::Item;
+use crate::logs::{Logs, extent_in};
 use crate::settings::Setting;
-use amo_givens::MAX_WORKERS;
-use amo_journal::texts_in;
-use amo_run_files::{Jobs, JobsFault};
+use amo_run_files::{Jobs, JobsFault, RoundFile};
 use amo_run_log::{
     Attempt, Fault as Misread, Finding, first_misplaced, journal_of, read_entries, read_findings,
 };
@@ -22,7 +21,7 @@ pub struct RunState {
     pub findings: Vec<Finding>,
 }
 
-/// The texts of the journals and of what persons found out.
+/// The records of the journals, and of the answers of operators.
 #[derive(Drop)]
 pub struct RawLogs {
     pub answers: Vec<Vec<u8>>,
@@ -30,33 +29,39 @@ pub struct RawLogs {
     pub journals: Vec<Vec<Vec<u8>>>,
 }
 
-/// The texts as they can be read now: first what persons found out, then the journals, so that
-/// nothing is read of an intent that isn't read itself.
-pub fn read_pages(rt: HostRuntime, setting: &Setting<'_>) -> Result<RawLogs, Fault> {
-    let answers = texts_of(rt, setting, Item::Answers)?;
-    let mut journals = Vec::new(rt.alloc());
-    for worker in 1..=MAX_WORKERS as u64 {
-        journals.push(texts_of(rt, setting, Item::Journal(worker))?)?;
+impl RawLogs {
+    /// Returns the records of these journals, without their checksums.
+    pub fn of(alloc: Global, logs: Logs) -> Result<RawLogs, Fault> {
+        let mut journals = Vec::new(alloc);
+        for log in logs.journals {
+            journals.push(log.records)?;
+        }
+        Ok(RawLogs {
+            answers: logs.answers.records,
+            journals,
+        })
     }
-    Ok(RawLogs { answers, journals })
 }
 
-/// Returns the texts of a journal, which was made with the run's id.
+/// Returns the lines that the run knows. `last` is the file of the last round, which the caller has
+/// read before.
 ///
 /// # Errors
-/// `Missing` if it isn't there, `Empty` if it has no byte.
-pub fn texts_of(rt: HostRuntime, setting: &Setting<'_>, item: Item) -> Result<Vec<Vec<u8>>, Fault> {
-    match bytes_of(rt, setting, item)? {
-        Some(bytes) if bytes.is_empty() => Err(Fault::Empty(item)),
-        Some(bytes) => Ok(texts_in(rt.alloc(), &bytes)?),
-        None => Err(Fault::Missing(item)),
+/// `Missing` if they aren't there and a round was begun. `Refused` if they don't begin with what
+/// they were when that round began, or if they are no lines.
+pub fn known(
+    rt: HostRuntime,
+    setting: &Setting<'_>,
+    last: Option<&RoundFile>,
+) -> Result<Jobs, Fault> {
+    let bytes = match (bytes_of(rt, setting, Item::Known)?, last) {
+        (Some(bytes), _) => bytes,
+        (None, None) => Vec::new(rt.alloc()),
+        (None, Some(_)) => return Err(Fault::Missing(Item::Known)),
+    };
+    if !is_as_counted(&bytes, last) {
+        return Err(Fault::Refused(Item::Known));
     }
-}
-
-/// The lines that the run knows.
-pub fn known(rt: HostRuntime, setting: &Setting<'_>) -> Result<Jobs, Fault> {
-    let bytes = bytes_of(rt, setting, Item::Known)?;
-    let bytes = bytes.unwrap_or(Vec::new(rt.alloc()));
     match Jobs::read(rt.alloc(), bytes, false) {
         Ok(jobs) => Ok(jobs),
         Err(JobsFault::Memory) => Err(Fault::Memory),
@@ -64,15 +69,26 @@ pub fn known(rt: HostRuntime, setting: &Setting<'_>) -> Result<Jobs, Fault> {
     }
 }
 
+/// Returns true if the lines begin with those of the last round, if there was one.
+fn is_as_counted(bytes: &[u8], last: Option<&RoundFile>) -> bool {
+    let Some(last) = last else {
+        return true;
+    };
+    match extent_in(&last.extents, b"jobs") {
+        Some(extent) => extent.is_front_of(bytes),
+        None => false,
+    }
+}
+
 impl RunState {
-    /// What these texts say of these jobs.
-    pub fn read(alloc: Global, pages: &RawLogs, jobs: Jobs) -> Result<RunState, Fault> {
+    /// Returns what these records say of these jobs.
+    pub fn read(alloc: Global, records: &RawLogs, jobs: Jobs) -> Result<RunState, Fault> {
         let mut journals = Vec::new(alloc);
-        for (i, texts) in pages.journals.iter().enumerate() {
+        for (i, texts) in records.journals.iter().enumerate() {
             let item = Item::Journal(i as u64 + 1);
             journals.push(attempts_of(alloc, item, jobs.count(), texts)?)?;
         }
-        let findings = findings_of(alloc, &journals, &pages.answers)?;
+        let findings = findings_of(alloc, &journals, &records.answers)?;
         Ok(RunState {
             jobs,
             journals,

@@ -14,9 +14,9 @@ use Rattle.amo_run_log.specs.declared.entry.Entry.TheVariants.{Answer as Answere
 -- an answer, as a journal has it
 abbrev pub noted_of : JobResult → ℕ → Noted
 noted_of (Done code) time = DoneAt code time
-noted_of Doubt time = DoubtNoted
+noted_of Doubt time = DoubtNoted time
 noted_of Unbegun time = UnbegunNoted
-noted_of (Untouched code) time = UntouchedNoted code
+noted_of (Untouched code) time = UntouchedNoted code time
 
 -- the entry for the answer to the intent of this serial number, at this time
 abbrev pub note_of : ℕ → JobResult → ℕ → Entry

@@ -30,6 +30,8 @@ pub(crate) enum Request<'a> {
     Lines(ByLines),
     /// Prints how all lines stand.
     Status(Form),
+    /// Prints what can be read of a run that is refused.
+    Damaged,
     /// Prints the doubts that are final.
     Doubts(Form),
     /// Takes an answer: attempt, line, text and verdict.
@@ -191,9 +193,15 @@ fn showing<'a>(alloc: Global) -> Result<Command<'a>, AllocError> {
         "KIND",
         "print only failed, doubt, untouched, running or open lines, for `answer --from` (default: all)",
     );
+    let damaged = flag(
+        alloc,
+        "damaged",
+        "print what can be read of a run that is refused; no line counts as open (default: refuse it)",
+    );
     over_run(alloc, "status", "Prints how all lines stand")?
         .arg(flag(alloc, "json", "print JSON (default: text)"))?
-        .arg(lines.conflicts_with("json")?)
+        .arg(lines.conflicts_with("json")?)?
+        .arg(damaged.conflicts_with("json")?.conflicts_with("lines")?)
 }
 
 fn answering<'a>(alloc: Global) -> Result<Command<'a>, AllocError> {
@@ -334,6 +342,7 @@ fn request_of<'a>(name: &str, matches: &ArgMatches<'a>) -> Result<Request<'a>, M
             Ok(Request::Work(jobs, worker))
         }
         "lines" => Ok(Request::Lines(by_lines_of(matches)?)),
+        "status" if matches.get_flag("damaged") => Ok(Request::Damaged),
         "status" => Ok(Request::Status(form_of(matches)?)),
         "doubts" => Ok(Request::Doubts(form_of(matches)?)),
         "answer" => answer_of(matches),

@@ -1,10 +1,13 @@
 //! The whole program: its commands, its messages, and the statuses with which it ends.
 use crate::args::{Misuse, Request, asked};
+use crate::damage::show_damage;
 use crate::print::{show_doubts, show_status};
 use crate::remote::work_by_lines;
 use crate::resolve::{answer, answer_from, once_more};
 use crate::worker::work;
-use amo_run_dir::{Fault, Item, Setting, look_to_read, look_to_write, open, written};
+use amo_run_dir::{
+    Fault, Item, Setting, look_at_folder, look_to_read, look_to_write, open, written,
+};
 use amo_status::{Counts, Said, read_one, status_text};
 use clap::Error;
 use std::alloc::AllocError;
@@ -158,6 +161,10 @@ fn done(rt: HostRuntime, setting: &Setting<'_>, request: Request<'_>) -> Result<
         Request::Status(form) => {
             let age = look_to_read(rt, setting)?;
             show_status(rt, setting, age, form)
+        }
+        Request::Damaged => {
+            look_at_folder(rt, setting)?;
+            show_damage(rt, setting)
         }
         Request::Doubts(form) => {
             let age = look_to_read(rt, setting)?;

@@ -5,6 +5,7 @@
 
 mod args;
 mod commands;
+mod damage;
 mod print;
 mod remote;
 mod resolve;

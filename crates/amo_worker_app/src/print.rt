@@ -102,7 +102,7 @@ fn doubts_in(
 }
 
 /// Writes a text to standard output, all of it.
-fn print(rt: HostRuntime, text: &[u8]) -> Result<(), Fault> {
+pub(crate) fn print(rt: HostRuntime, text: &[u8]) -> Result<(), Fault> {
     let mut out = rt.stdout();
     written(Item::Output, out.write_all(text))?;
     written(Item::Output, out.flush())

@@ -2,7 +2,7 @@
 use crate::session::now;
 use crate::snapshot::{Snapshot, look_behind};
 use amo_fs::FileDevice;
-use amo_journal::{DeviceError, PutError};
+use amo_journal::{AppendError, DeviceError};
 use amo_run_dir::{
     Fault, Item, Later, LockedJournal, OpenJournal, Setting, check_id, check_kept, had,
     lock_within, settled,
@@ -155,7 +155,7 @@ fn put_all(
     for finding in findings {
         journal = match journal.put_finding(rt.alloc(), *finding) {
             Ok(journal) => journal,
-            Err(PutError::Device(DeviceError::Memory)) => return Err(Fault::Memory),
+            Err(AppendError::Device(DeviceError::Memory)) => return Err(Fault::Memory),
             Err(_) => return Err(Fault::Journal(Item::Answers)),
         };
     }

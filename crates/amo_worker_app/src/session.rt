@@ -5,7 +5,7 @@ ghost use Rattle.amo_worker_app.specs.Notes.{dismisses, note_of};
 use crate::runner::Runner;
 use amo_driver::{Failed, JobResult, Past, Reply, Way};
 use amo_fs::FileDevice;
-use amo_journal::{DeviceError, PutError};
+use amo_journal::{AppendError, DeviceError};
 use amo_protocol::{perform_text, was_text};
 use amo_run_dir::{Fault, Item, OpenJournal};
 use amo_run_files::Jobs;
@@ -46,9 +46,9 @@ pub(crate) fn note_of(serial: u64, answer: JobResult, time: u64) -> Entry
 {
     let answer = match answer {
         JobResult::Done(code) => Noted::Done { code, time },
-        JobResult::Doubt => Noted::Doubt,
+        JobResult::Doubt => Noted::Doubt { time },
         JobResult::Unbegun => Noted::Unbegun,
-        JobResult::Untouched(code) => Noted::Untouched { code },
+        JobResult::Untouched(code) => Noted::Untouched { code, time },
     };
     Entry::Answer { serial, answer }
 }
@@ -71,7 +71,7 @@ impl Session {
                 self.journal = Some(journal);
                 Ok(())
             }
-            Err(PutError::Device(DeviceError::Memory)) => Err(self.fails(Fault::Memory)),
+            Err(AppendError::Device(DeviceError::Memory)) => Err(self.fails(Fault::Memory)),
             Err(_) => Err(self.fails(Fault::Journal(item))),
         }
     }

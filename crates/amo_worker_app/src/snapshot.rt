@@ -5,9 +5,10 @@ use amo_givens::MAX_WORKERS;
 use amo_journal::texts_in;
 use amo_run_dir::{
     Age, Fault, Item, RawLogs, RunState, Setting, Tried, attempts_of, bytes_of, had, known,
-    lock_of, lock_within, path_of, settled, texts_of, try_lock_of,
+    lock_of, lock_within, log_of, path_of, read_logs, record_of, settled, try_lock_of,
 };
-use amo_run_log::pending;
+use amo_run_files::RoundFile;
+use amo_run_log::{pending, with_time};
 use amo_status::{AttemptId, LineStatus, standings};
 use std::alloc::{AllocError, Global};
 use std::fs::File;
@@ -53,11 +54,18 @@ impl Corner {
 /// say of a worker that nobody runs that it is at work, and of a doubt that its command runs.
 pub(crate) fn look(rt: HostRuntime, setting: &Setting<'_>, age: Age) -> Result<Snapshot, Fault> {
     let lock = among_readers(rt, setting, age)?;
-    let answers = match age {
-        Age::Now => texts_of(rt, setting, Item::Answers)?,
-        Age::Old => old_texts_of(rt, setting, Item::Answers)?,
+    let mut seen = match age {
+        Age::Now => {
+            let last = record_of(rt, setting)?;
+            check_run(rt, setting, last.as_ref())?;
+            let answers = log_of(rt, setting, Item::Answers, last.as_ref())?;
+            look_through(rt, setting, age, last.as_ref(), answers.records)?
+        }
+        Age::Old => {
+            let answers = old_texts_of(rt, setting, Item::Answers)?;
+            look_through(rt, setting, age, None, answers)?
+        }
     };
-    let mut seen = look_through(rt, setting, age, answers)?;
     if let Some(lock) = lock {
         seen.held.push(lock)?;
     }
@@ -81,13 +89,29 @@ pub(crate) fn look_behind(
     setting: &Setting<'_>,
     answers: Vec<Vec<u8>>,
 ) -> Result<Snapshot, Fault> {
-    look_through(rt, setting, Age::Now, answers)
+    let last = record_of(rt, setting)?;
+    check_run(rt, setting, last.as_ref())?;
+    look_through(rt, setting, Age::Now, last.as_ref(), answers)
+}
+
+/// Refuses a run that can't be read, before a journal of it is recovered.
+fn check_run(
+    rt: HostRuntime,
+    setting: &Setting<'_>,
+    last: Option<&RoundFile>,
+) -> Result<(), Fault> {
+    let logs = read_logs(rt, setting, last)?;
+    let jobs = known(rt, setting, last)?;
+    let records = RawLogs::of(rt.alloc(), logs)?;
+    RunState::read(rt.alloc(), &records, jobs)?;
+    Ok(())
 }
 
 fn look_through(
     rt: HostRuntime,
     setting: &Setting<'_>,
     age: Age,
+    last: Option<&RoundFile>,
     answers: Vec<Vec<u8>>,
 ) -> Result<Snapshot, Fault> {
     let mut held = Vec::new(rt.alloc());
@@ -96,7 +120,7 @@ fn look_through(
     let mut journals = Vec::new(rt.alloc());
     for worker in 1..=MAX_WORKERS as u64 {
         let corner = match age {
-            Age::Now => corner_of(rt, setting, worker, &mut held)?,
+            Age::Now => corner_of(rt, setting, worker, last, &mut held)?,
             Age::Old => old_corner_of(rt, setting, worker, &mut held)?,
         };
         if corner.alive {
@@ -107,7 +131,7 @@ fn look_through(
         }
         journals.push(corner.texts)?;
     }
-    let jobs = known(rt, setting)?;
+    let jobs = known(rt, setting, last)?;
     let books = RunState::read(rt.alloc(), &RawLogs { answers, journals }, jobs)?;
     let finals = finals_of(rt, setting, &books, &idle, &mut held)?;
     Ok(Snapshot {
@@ -131,16 +155,17 @@ fn corner_of(
     rt: HostRuntime,
     setting: &Setting<'_>,
     worker: u64,
+    last: Option<&RoundFile>,
     held: &mut Vec<File>,
 ) -> Result<Corner, Fault> {
     let item = Item::Journal(worker);
-    let texts = texts_of(rt, setting, item)?;
+    let texts = log_of(rt, setting, item, last)?.records;
     if texts.is_empty() {
         let alive = is_held(rt, setting, item)?;
         return Ok(Corner::at_rest(texts, alive));
     }
     match lock_of(rt, setting, item)? {
-        Some(lock) => corner_behind(rt, setting, worker, lock, held),
+        Some(lock) => corner_behind(rt, setting, worker, last, lock, held),
         None => Ok(Corner::at_rest(texts, true)),
     }
 }
@@ -152,11 +177,12 @@ fn corner_behind(
     rt: HostRuntime,
     setting: &Setting<'_>,
     worker: u64,
+    last: Option<&RoundFile>,
     lock: File,
     held: &mut Vec<File>,
 ) -> Result<Corner, Fault> {
     let item = Item::Journal(worker);
-    let texts = texts_of(rt, setting, item)?;
+    let texts = log_of(rt, setting, item, last)?.records;
     if !has_pending(rt.alloc(), item, &texts)? {
         return Ok(Corner::at_rest(texts, false));
     }
@@ -204,12 +230,17 @@ fn old_corner_of(
     })
 }
 
-/// Returns the texts of a journal of version 0.1.0: one that isn't there has none.
+/// Returns the texts of a journal of version 0.1.0, as they are written today: one that isn't there
+/// has none.
 fn old_texts_of(rt: HostRuntime, setting: &Setting<'_>, item: Item) -> Result<Vec<Vec<u8>>, Fault> {
-    match bytes_of(rt, setting, item)? {
-        Some(bytes) => Ok(texts_in(rt.alloc(), &bytes)?),
-        None => Ok(Vec::new(rt.alloc())),
+    let mut texts = Vec::new(rt.alloc());
+    let Some(bytes) = bytes_of(rt, setting, item)? else {
+        return Ok(texts);
+    };
+    for text in &texts_in(rt.alloc(), &bytes)? {
+        texts.push(with_time(rt.alloc(), text)?)?;
     }
+    Ok(texts)
 }
 
 /// Returns true if somebody else has the lock on a file. One that isn't there has none.

@@ -8,7 +8,7 @@ use amo_driver::{Asked, Intent, LifeEnd, Stop, ask_pending};
 use amo_givens::Givens;
 use amo_run_dir::{
     Fault, Item, JoinedRound, Later, ListSettings, LockedJournal, Setting, attempts_of, begin,
-    enter, had, join, known, lock_of, take_number,
+    enter, had, join, known, lock_of, record_of, take_number,
 };
 use amo_run_log::pending;
 use amo_status::Counts;
@@ -49,11 +49,12 @@ fn live(
         texts,
         lock: _guard,
     } = guarded;
+    let last = record_of(rt, setting)?;
     let mut talk = Session {
         rt,
         worker,
         journal: Some(journal),
-        jobs: known(rt, setting)?,
+        jobs: known(rt, setting, last.as_ref())?,
         partner: Runner::new(rt),
         is_dismissed: false,
         fault: None,
@@ -63,7 +64,7 @@ fn live(
         return Ok(counts);
     }
     let joined = join(rt, setting, worker, boot)?;
-    talk.jobs = known(rt, setting)?;
+    talk.jobs = known(rt, setting, Some(&joined.file))?;
     Err(work_in(rt.alloc(), talk, joined, serial))
 }
 
@@ -119,11 +120,12 @@ fn ask_past(alloc: Global, talk: &mut Session, texts: &[Vec<u8>]) -> Result<u64,
 /// Works in a round to the end of this process.
 fn work_in(alloc: Global, talk: Session, joined: JoinedRound, serial: u64) -> Fault {
     let JoinedRound {
-        record,
+        file,
         words,
         seat,
         lock: _round,
     } = joined;
+    let record = file.header;
     let sizes = record.givens;
     let Ok(givens) = Givens::try_new(sizes.jobs, sizes.workers, sizes.beta) else {
         return Fault::Refused(Item::Record);

@@ -57,6 +57,11 @@ impl Outside for WorkerIo {
         self.talk.put(Entry::Intent { serial, line, time })
     }
 
+    // For now each line that has its intent is clear. The journals are read here next.
+    fn clear(&mut self, _serial: u64, _job: u32) -> Result<bool, Failed> {
+        Ok(true)
+    }
+
     fn perform(&mut self, serial: u64, job: u32) -> Result<Reply, Failed> {
         let line = self.line_of(job)?;
         self.talk.perform(serial, line)

@@ -1,0 +1,252 @@
+//! To read the journals of a run: each by its checksums, and by what the last round's header
+//! counts.
+ghost use Rattle.std.specs.Prelude.{◌≡◌, ◌<◌, ◌≤◌, IfOk, IfErr};
+ghost use Rattle.amo_journal.specs.Appends.{IsLog};
+ghost use Rattle.amo_journal.specs.Logs.{checksums_from, checksums_of, records_of};
+ghost use Rattle.amo_run_dir.specs.Logs.{Keeps, IsWhyUnread};
+ghost use Rattle.amo_run_dir.specs.declared.logs.Unread.TheVariants.{Fewer, Other};
+
+use crate::error::Fault;
+use crate::files::bytes_of;
+use crate::identity::first_checksum;
+use crate::layout::Item;
+use crate::loss::Loss;
+use crate::round::record_of;
+use crate::settings::Setting;
+use amo_givens::MAX_WORKERS;
+use amo_journal::{Checksum, DamageKind, Log, ReadError, read_log};
+use amo_run_files::{Count, Extent, RoundFile};
+use std::alloc::Global;
+use std::rt::HostRuntime;
+
+/// The journals of a run, and the answers of operators, which have the same form.
+#[derive(Drop)]
+pub struct Logs {
+    pub answers: Log,
+    /// The journals of the workers 1, 2 and so on.
+    pub journals: Vec<Log>,
+}
+
+/// Why a journal isn't read.
+#[derive(Clone, Copy, PartialEq, Eq)]
+pub(crate) enum Unread {
+    /// There was no memory.
+    Memory,
+    /// It is damaged at the append of this number, from 1.
+    Damaged(usize, DamageKind),
+    /// It has so many appends, and fewer than were counted.
+    Fewer(usize),
+    /// The last append that was counted is another one.
+    Other,
+}
+
+/// How often a journal is read again if it looks damaged and its writer goes on meanwhile.
+const LOOKS: u32 = 100;
+
+/// Reads answers and journals as they are now: the answers first, so that none of them is to an
+/// attempt that isn't read. `last` is the file of the last round, which the caller has read before.
+///
+/// # Errors
+/// As [`log_of`], and `Missing` if something was appended and no round was begun.
+pub fn read_logs(
+    rt: HostRuntime,
+    setting: &Setting<'_>,
+    last: Option<&RoundFile>,
+) -> Result<Logs, Fault> {
+    let answers = log_of(rt, setting, Item::Answers, last)?;
+    let mut journals = Vec::new(rt.alloc());
+    for worker in 1..=MAX_WORKERS as u64 {
+        journals.push(log_of(rt, setting, Item::Journal(worker), last)?)?;
+    }
+    Ok(Logs { answers, journals })
+}
+
+/// Reads a journal, which was made with the run's id. `last` is the file of the last round, which
+/// the caller has read before. A writer may be at work: so a journal that would be refused is read
+/// again. It is refused if the next read gives the same reason and begins with the same bytes, or
+/// after `LOOKS` more reads.
+///
+/// # Errors
+/// `Missing` if it isn't there, or if it has appends and no round was begun. `Empty` if it has no
+/// byte. `Damaged` if it is damaged. `Lost` if appends are gone that were on the disk when the last
+/// round began.
+pub fn log_of(
+    rt: HostRuntime,
+    setting: &Setting<'_>,
+    item: Item,
+    last: Option<&RoundFile>,
+) -> Result<Log, Fault> {
+    let first = first_checksum(rt, setting, item)?;
+    let counted = counted_in(rt, item, last)?;
+    match look_at_log(rt, setting, item, first, counted)? {
+        Look::Read(log) => begun(rt, setting, last, log),
+        Look::Refused(why, _) => Err(fault_of(item, why, counted, last)),
+    }
+}
+
+/// The result of a look at a journal.
+#[derive(Drop)]
+pub(crate) enum Look {
+    Read(Log),
+    /// It isn't read, for this reason; these are its bytes.
+    Refused(Unread, Vec<u8>),
+}
+
+/// Reads a journal, and once more as long as it would be refused and shows other bytes.
+///
+/// # Errors
+/// `Missing` if it isn't there, `Empty` if it has no byte, and `Read`.
+pub(crate) fn look_at_log(
+    rt: HostRuntime,
+    setting: &Setting<'_>,
+    item: Item,
+    first: Checksum,
+    counted: Option<Count>,
+) -> Result<Look, Fault> {
+    let mut bytes = whole_of(rt, setting, item)?;
+    let mut read = checked_log(rt.alloc(), first, counted, &bytes);
+    for _look in 0..LOOKS {
+        let Err(why) = read else {
+            break;
+        };
+        let again = whole_of(rt, setting, item)?;
+        let next = checked_log(rt.alloc(), first, counted, &again);
+        if is_same(&bytes, why, &again, &next) {
+            break;
+        }
+        bytes = again;
+        read = next;
+    }
+    match read {
+        Ok(log) => Ok(Look::Read(log)),
+        Err(why) => Ok(Look::Refused(why, bytes)),
+    }
+}
+
+/// Returns the log, unless it has appends and no round was begun. Reads the round's file again
+/// before it refuses: the first round may have been begun meanwhile.
+fn begun(
+    rt: HostRuntime,
+    setting: &Setting<'_>,
+    last: Option<&RoundFile>,
+    log: Log,
+) -> Result<Log, Fault> {
+    if last.is_some() || log.records.is_empty() || record_of(rt, setting)?.is_some() {
+        return Ok(log);
+    }
+    Err(Fault::Missing(Item::Record))
+}
+
+/// Returns what the file of the last round counts of a journal, if there is a round.
+///
+/// # Errors
+/// `Refused` if it counts nothing of it.
+pub(crate) fn counted_in(
+    rt: HostRuntime,
+    item: Item,
+    last: Option<&RoundFile>,
+) -> Result<Option<Count>, Fault> {
+    let Some(last) = last else {
+        return Ok(None);
+    };
+    let name = format!(in rt.alloc(); "{item}")?;
+    let Some(extent) = extent_in(&last.extents, name.as_bytes()) else {
+        return Err(Fault::Refused(Item::Record));
+    };
+    match extent.count() {
+        Some(count) => Ok(Some(count)),
+        None => Err(Fault::Refused(Item::Record)),
+    }
+}
+
+/// Returns the extent of the file of this name, if there is one.
+pub(crate) fn extent_in<'a>(extents: &'a [Extent], name: &[u8]) -> Option<&'a Extent> {
+    extents.iter().find(|extent| extent.name.as_slice() == name)
+}
+
+/// Reads a journal from its bytes, and compares it with what was counted.
+pub(crate) fn checked_log(
+    alloc: Global,
+    first: Checksum,
+    counted: Option<Count>,
+    bytes: &[u8],
+) -> Result<Log, Unread>
+    ensures log { IfOk result (λ log. IsLog first.digits (records_of log.records.items) bytes.now) }
+    ensures checksums { IfOk result (λ log. checksums_of log.checksums.items ≡ checksums_from first.digits (records_of log.records.items)) }
+    ensures kept { IfOk result (λ log. Keeps counted first.digits (records_of log.records.items)) }
+    ensures refused { IfErr result (λ why. IsWhyUnread why counted first.digits bytes.now) }
+{
+    let log = match read_log(alloc, &first, bytes) {
+        Ok(log) => log,
+        Err(ReadError::Memory) => return Err(Unread::Memory),
+        Err(ReadError::Damaged { number, kind }) => return Err(Unread::Damaged(number, kind)),
+    };
+    match counted {
+        Some(count) if !count.is_kept_by(first, &log.checksums) => {
+            Err(loss_of(&count, log.checksums.len()))
+        }
+        _ => Ok(log),
+    }
+}
+
+/// Returns what is wrong with a journal of so many appends that doesn't keep a count.
+fn loss_of(count: &Count, appends: usize) -> Unread
+    ensures fewer { appends < count.now.appends → result ≡ Fewer appends }
+    ensures other { count.now.appends ≤ appends → result ≡ Other }
+{
+    if (appends as u64) < count.appends {
+        Unread::Fewer(appends)
+    } else {
+        Unread::Other
+    }
+}
+
+/// Returns true if a second read of a journal was refused as the first one was, and shows the same
+/// bytes.
+fn is_same(bytes: &[u8], why: Unread, again: &[u8], next: &Result<Log, Unread>) -> bool {
+    match next {
+        Err(other) => *other == why && again.starts_with(bytes),
+        Ok(_) => false,
+    }
+}
+
+/// Returns the fault of a journal that isn't read.
+pub(crate) fn fault_of(
+    item: Item,
+    why: Unread,
+    counted: Option<Count>,
+    last: Option<&RoundFile>,
+) -> Fault {
+    let (counted, round) = match (counted, last) {
+        (Some(count), Some(last)) => (count.appends, last.header.round),
+        _ => (0, 0),
+    };
+    match why {
+        Unread::Memory => Fault::Memory,
+        Unread::Damaged(number, kind) => Fault::Damaged(item, number, kind),
+        Unread::Fewer(has) => Fault::Lost(
+            item,
+            Loss::Fewer {
+                has,
+                counted,
+                round,
+            },
+        ),
+        Unread::Other => Fault::Lost(
+            item,
+            Loss::Other {
+                number: counted,
+                round,
+            },
+        ),
+    }
+}
+
+/// Returns the bytes of a journal.
+fn whole_of(rt: HostRuntime, setting: &Setting<'_>, item: Item) -> Result<Vec<u8>, Fault> {
+    match bytes_of(rt, setting, item)? {
+        Some(bytes) if bytes.is_empty() => Err(Fault::Empty(item)),
+        Some(bytes) => Ok(bytes),
+        None => Err(Fault::Missing(item)),
+    }
+}
