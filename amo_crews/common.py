@@ -112,6 +112,12 @@ class Program:
             raise End(ended.returncode if ended.returncode > 0 else MEMORY, None)
         return ended.stdout
 
+    def shown(self, *words: str) -> int:
+        """Returns the status with which the program ends; what it writes is shown as it comes."""
+        words = [self.path, *words, *self.more]
+        ended = subprocess.run(words, stdin=subprocess.DEVNULL, start_new_session=True)
+        return ended.returncode if ended.returncode >= 0 else MEMORY
+
     def told(self, *words: str):
         """Returns what the program prints as JSON."""
         try:

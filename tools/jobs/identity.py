@@ -11,7 +11,7 @@ import subprocess
 
 from jobs.rules import until
 from jobs.scene import DONE, FAILED, HERE, KILLED, LEFT, READ, REFUSED, WRITE, Scene, want
-from worker import folder
+from worker import folder, journals
 
 OTHER = "0123456789abcdef" * 2
 # Once its line is performed this command waits for a file.
@@ -169,8 +169,8 @@ def try_without_a_mark(bench):
             if name.endswith("/"):
                 os.mkdir(f"{scene.run}/{name}")
             else:
-                with open(f"{scene.run}/{name}", "w") as file:
-                    file.write("+intent 1 1 1\n-" if name == "journal.1" else "")
+                data = journals.journal("", name, [b"intent 1 1 1"]) if name == "journal.1" else b""
+                folder.put(f"{scene.run}/{name}", data)
         is_refused(scene, "amo_worker: ")
 
 

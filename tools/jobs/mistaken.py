@@ -20,7 +20,8 @@ def answers_by_line(worker):
     """An answer is taken for the intent by which the line is closed now, whichever it names."""
     if sys.argv[1] != "answer":
         return
-    folder = types.SimpleNamespace(run=sys.argv[2], is_old=False)
+    with open(f"{sys.argv[2]}/id", "rb") as file:
+        folder = types.SimpleNamespace(run=sys.argv[2], is_old=False, run_id=file.read(32))
     place, closing = sys.argv.index("--from") + 1, worker.Ledger(folder).closing
     with open(sys.argv[place], "rb") as file:
         rows = [row.split(b"\t") for row in file.read().splitlines()]
@@ -36,7 +37,7 @@ def answers_what_runs(worker):
 
     def taken(ledger, *row):
         why = refusal(ledger, *row)
-        return None if why == "it is running" else why
+        return None if why == worker.RUNNING else why
 
     worker.refusal = taken
 

@@ -230,7 +230,7 @@ class Scene:
         try:
             found = self.look()
         except folder.Refused as refused:
-            raise Wrong(f"a journal is refused: {refused.args[0]}, text {refused.args[1]}") from refused
+            raise Wrong(f"a journal is refused: {refused}") from refused
         kinds = found.kinds(found.final())
         want(len(kinds) == len(self.kinds), f"the run knows {len(kinds)} of {len(self.kinds)} lines")
         for line, kind in kinds.items():

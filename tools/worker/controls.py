@@ -1,13 +1,21 @@
-"""Controls: the stand-in makes a mistake, and the same tests have to show it, by a line performed twice, a false doubt, or an
-acknowledged line that is gone. Without the mistake the stand-in passes them."""
+"""Controls: the stand-in makes a mistake, and the same tests have to show it: by a line performed
+twice, a false doubt, an acknowledged line that is gone, or a damaged file that is taken. Without
+the mistake the stand-in passes them."""
 
 import os
 import re
 
-from worker import crowd, entering, kills, making, persons, power, rounds, scene, texts
+from worker import (
+    counted, crowd, damage, entering, kills, making, persons, power, remains, rounds, scene,
+    telling, texts,
+)
 
 STAND_IN = os.path.join(os.path.dirname(os.path.realpath(__file__)), "stand_in.py")
-TWICE, GONE, DOUBT = "performed twice", "performed twice|acknowledged line is gone", "(?s)status says .* doubt 2 .*'doubt': 1,"
+TWICE, GONE = "performed twice", "performed twice|acknowledged line is gone"
+DOUBT = "(?s)status says .* doubt (1 .*'doubt': 0|2 .*'doubt': 1),"
+# If two write one journal, or one doesn't recover it, its checksums show that before a line is
+# gone.
+SPOILED = GONE + "|append [0-9]+: "
 # A mistake, the test that must show it, and what that must say; the short form has the first of
 # them.
 MISTAKES = [
@@ -17,12 +25,12 @@ MISTAKES = [
     ("forgotten_is_taken", making.try_forgotten, "status 0"),
     ("mount_by_path", entering.try_mounts, "ext2 rw,relatime rw,discard : status 77"),
     ("options_are_taken", entering.try_mounts, "overlay rw,nobarrier rw  overlay .*: status 0"),
-    ("cut_line_is_kept", texts.try_behind_a_gate, DOUBT + "|no entry that may stand there"),
+    ("cut_line_is_kept", texts.try_cut_off_append, DOUBT + "|entry 1 is damaged"),
     ("words_of_another_boot", power.try_words_of_another_boot, TWICE),
     ("lists_without_settling", power.try_listed_and_cut, "after it was listed as a doubt"),
-    ("guard_is_removed", kills.try_two_of_one_number, GONE),
+    ("guard_is_removed", kills.try_two_of_one_number, SPOILED),
     ("intent_after_the_act", kills.try_killed, GONE),
-    ("opens_without_settling", power.try_failed_sync_and_cut, GONE),
+    ("opens_without_settling", power.try_failed_sync_and_cut, SPOILED),
     ("above_synced_by_the_maker_alone", making.try_door_killed_and_cut, "another id after the cut"),
     ("own_words_forgotten", crowd.try_crew_killed, TWICE),
     ("claim_after_the_act", crowd.try_crew_killed, TWICE),
@@ -37,7 +45,29 @@ MISTAKES = [
     ("old_run_is_worked", making.try_old_run, "work: status"),
     ("id_is_not_compared", making.try_id, "status 0"),
     ("running_is_refused", making.try_answers_that_wait, "status 65"),
-    ("emptied_by_recovery", texts.try_behind_a_gate, "is empty for a moment"),
+    ("emptied_by_recovery", texts.try_cut_off_append, "is empty for a moment"),
+    ("checksum_is_not_compared", damage.try_flipped, "checksum doesn't fit.*: status ends with 0"),
+    ("checksum_is_not_chained", damage.try_moved, "append 1 .*: status ends with 0"),
+    ("checksum_without_the_file", damage.try_of_others,
+     "journal.1, append 1 .*: status says .*: append 3 is another one"),
+    ("damage_is_cut_off", damage.try_refused_by_all,
+     "is damaged, (work|status|doubts|answer|again): status"),
+    ("two_cut_off_appends_are_taken", damage.try_more_than_a_crash_leaves,
+     "more follows than .*: status ends with 0"),
+    ("cuts_what_it_sees", power.try_failed_recovery_and_cut, "would be refused: .*more follows"),
+    ("reads_once", damage.try_stopped_reader, "status 65, .*journal.2`: append 4: more follows"),
+    ("counts_the_last_append", counted.try_last_append_cut,
+     "journal.1`: it has [0-9]+ appends?, and [0-9]+ w"),
+    ("header_after_the_journals", counted.try_round_beside, "status 65, .*journal.2`: it has"),
+    ("counts_are_not_compared", counted.try_counted_lost,
+     "on the disk when .*: status (ends with 0|says .*entry)"),
+    ("compares_after_the_cut", counted.try_lost_to_all,
+     "lacks an append: something was changed"),
+    ("seal_is_not_compared", counted.try_record_flipped, ": status 0: lines"),
+    ("jobs_are_not_compared", counted.try_jobs_damaged, "jobs .*: status ends with 0"),
+    ("missing_record_is_taken", counted.try_parts_removed, "record .*: status ends with 0"),
+    ("unknown_is_open", remains.try_damaged_shown, "line [0-9]+: open"),
+    ("outcomes_without_times", telling.try_times, "was noted"),
 ]
 CHEAPEST = 6
 

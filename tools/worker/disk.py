@@ -1,18 +1,28 @@
 """A disk that is simulated: what a cut of power may leave of a run, as the log of the calls says.
 
-Of each file is known what the last sync kept, and the writes and cuts since; of the folder its names as they were kept, and the
-makes, renames and removals since. A cut leaves each of the latter there or not, each write torn byte by byte, where a byte that
-stands on the disk as it was written stays, and each shortening there or not. After a sync that failed, each byte that it should
-have kept is there or not for good: no later sync keeps it, unless it is written again.
+Of each file is known what the last sync kept, and the writes and cuts since; of the folder its
+names as they were kept, and the makes, renames and removals since. A cut of power leaves each of
+the latter there or not, each write torn byte by byte, and each shortening there or not. We suppose
+that each byte of a torn write is then the old one or the new one, or, behind the end that the file
+had on the disk, 0 or the new one. After a sync that failed, each byte that it should have kept is
+there or not for good: no later sync keeps it, unless it is written again; and so is a shortening,
+unless the file is cut again.
 """
 
 import os
 import shutil
 
-from worker.folder import PARTS, texts_of
-from worker.scene import want
+from worker import headers, journals
+from worker.folder import PARTS
+from worker.scene import Wrong, want
 
-GARBAGE = b"+-\n\0 19x"
+
+def records_left(run: str, name: str, data: bytes) -> list:
+    """The records in what a disk holds of a journal; it is never damaged."""
+    try:
+        return journals.records_of(run, name, data)
+    except journals.Damaged as damaged:
+        raise Wrong(f"{name} would be refused: {damaged}") from damaged
 
 
 class File:
@@ -45,25 +55,20 @@ class File:
 
     @staticmethod
     def tear(data, place, new, draws):
-        """A part of the write, and where it isn't written what was there, or anything, as behind the old end."""
+        """A part of the write: each byte is the old one or the new one, and behind the old end, up
+        to an end that is drawn, 0 or the new one."""
         end = draws.randint(len(data), max(len(data), place + len(new)))
-        garbles = draws.random() < 0.5
-        for at in range(place, min(place + len(new), max(len(data), end))):
-            byte = new[at - place]
-            if at < len(data) and data[at] == byte:
-                continue
-            while at >= len(data):
-                data.append(draws.choice(GARBAGE) if garbles else 0)
+        data[len(data):] = bytes(end - len(data))
+        for at in range(place, min(place + len(new), end)):
             if draws.random() < 0.5:
-                data[at] = byte
-            elif garbles:
-                data[at] = draws.choice(GARBAGE)
+                data[at] = new[at - place]
 
     def sync(self):
         self.kept, self.pending = self.left(None, "all"), []
 
     def fail(self, draws, how):
-        self.kept, self.pending = self.left(draws, how or draws.choice(["none", "none", "all", "drawn"])), []
+        how = how or draws.choice(["none", "none", "all", "drawn"])
+        self.kept, self.pending = self.left(draws, how), []
 
 
 class Disk:
@@ -123,10 +128,24 @@ class Disk:
         if new != ".":
             self.names[new] = self.names.pop(old)
             self.moves.append((old, new, self.names[new]))
+            if new == "record" and self.scene.bench.watches:
+                self.see_header()
             return
         now, self.kept = self.beside.pop(old)
         self.names, self.is_there, self.is_kept = dict(now), True, False
         self.moves = [(None, name, now[name]) for name in now if name not in self.kept]
+
+    def see_header(self) -> None:
+        """When a header gets its name, it has to be on the disk for certain, and so has all that it
+        counts."""
+        record, jobs = self.names["record"], self.names["jobs"]
+        run = bytes(self.names["id"].now).decode().strip()
+        header = headers.Header(run, bytes(record.kept))
+        want(header.is_there and header.is_sound and not record.pending, "record isn't synced")
+        want(header.has_jobs(bytes(jobs.kept)), "record has other jobs than the disk")
+        for name in headers.FILES:
+            lost = header.lost(name, journals.checksums(run, name, self.records_kept(name)))
+            want(not lost, f"record counts what isn't on the disk: {name}: {lost}")
 
     def open(self, handle, file, more):
         if file in (".", "..", "JOBS") or file in self.beside:
@@ -162,9 +181,10 @@ class Disk:
             journal, jobs = self.names[name], self.names.get("jobs")
             self.performs += 1
             what = f"{name} says perform {serial.decode()}"
-            last = (texts_of(bytes(journal.kept)) or [b""])[-1]
             want(not journal.pending, f"{what}, and something of it isn't synced")
-            want(last.startswith(b"intent %s %s " % (serial, line)), f"{what}, and the last text on the disk is {last}")
+            last = (self.records_kept(name) or [b""])[-1]
+            is_last = last.startswith(b"intent %s %s " % (serial, line))
+            want(is_last, f"{what}, and the last record on the disk is {last}")
             want(jobs and bytes(jobs.kept).count(b"\n") >= int(line) and not jobs.pending, f"{what}, and jobs isn't synced")
             is_kept = self.lies or self.jobs.kept.startswith(jobs.kept)
             want(is_kept, f"{what}, and the jobs' file isn't synced as far as jobs holds it")
@@ -172,6 +192,11 @@ class Disk:
                 is_rested_on = new in (name, "jobs", "record", "id") or new in PARTS
                 want(not is_rested_on, f"{what}, and the folder isn't synced since there is {new}")
             want(self.is_kept, f"{what}, and the folder above isn't synced since the run's folder was made")
+
+    def records_kept(self, name: str) -> list:
+        """The records of a journal that are on the disk."""
+        run = bytes(self.names["id"].now).decode().strip()
+        return records_left(run, name, bytes(self.names[name].kept))
 
     def cut(self, how):
         """The folder, as it may be after a cut of power: names and their bytes; None where the folder itself is gone."""

@@ -323,7 +323,7 @@ def begun_anew(bench):
 
 
 def kept_answers(scene):
-    return len(folder.texts_of(folder.read(f"{scene.run}/answers")))
+    return len(folder.records_in(scene.run, "answers"))
 
 
 def sheet_of(scene, *rows):
@@ -381,7 +381,7 @@ def try_locks_for_ever(bench):
         want(ended == status and said in err, f"{it.words}: status {ended}, {err}")
         named = not re.search(r"process \d", err) or f"process {os.getpid()} has this number" in err
         want(named, f"another process is named than the one that has the number: {err}")
-    want(not folder.texts_of(folder.read(f"{scene.run}/answers")), "an answer was taken without the lock")
+    want(not folder.records_in(scene.run, "answers"), "an answer was taken without the lock")
     for it in holders:
         it.close()
     runner.close()

@@ -1,28 +1,41 @@
 """The folder of a run, read by itself: an auditor that shares nothing with the program.
 
-A journal is blocks, each an open gate `+`, a text and a line feed; the first block that has another gate, or no end, and all
-behind it stands for nothing. A line is open where each intent of it, in all journals, was answered `unbegun` or found `not-done`.
+Journals and `answers` have the form of worker/journals.py, and the header `record` has that of
+worker/headers.py. A line is open where each intent of it,
+in all journals, was answered `unbegun` or found `not-done`.
 """
 
 import fcntl
 import os
 import re
 import uuid
+from typing import Optional
+
+from worker import headers, journals
 
 NUMBER = rb"(0|[1-9][0-9]{0,19})"
-ENTRY = re.compile(rb"(intent) N N N|(done) N N N|(doubt) N|(unbegun) N|(untouched) N N".replace(b"N", NUMBER))
+ENTRY = re.compile(rb"(intent) N N N|(done) N N N|(doubt) N N|(unbegun) N|(untouched) N N N"
+                   .replace(b"N", NUMBER))
+OLD_ENTRY = re.compile(rb"(intent) N N N|(done) N N N|(doubt) N|(unbegun) N|(untouched) N N"
+                       .replace(b"N", NUMBER))
 FINDING = re.compile(rb"(done|not-done) N N N".replace(b"N", NUMBER))
 KINDS = "done failed doubt running untouched open".split()
 MOST_WORKERS = 16
 # The files that the door makes in addition to `id`, with their first content.
 PARTS = {"lock.round": b"", "answers": b"-",
          **{f"journal.{p}": b"-" for p in range(1, MOST_WORKERS + 1)}}
+MISSING = "this file is missing"
 ID = re.compile(rb"[0-9a-f]{32}\n")
 TAKEN = "ext2 ext3 ext4 xfs btrfs f2fs zfs".split()
 
 
 class Refused(Exception):
-    """A file that is none: its name, and the number of the text that can't stand there."""
+    """A file that is none: its name, the number of the append where that shows, or None if it is
+    the file as a whole that is wrong, and what is wrong with it."""
+
+    def __str__(self) -> str:
+        name, place, wrong = self.args
+        return f"{name}: {wrong}" if place is None else f"{name}: append {place}: {wrong}"
 
 
 def read(path):
@@ -48,11 +61,16 @@ def make(run: str) -> None:
 
 
 def make_old(run: str) -> None:
-    """Makes a run's folder one of amo 0.1.0, which made no file before there was something to put
-    into it, and left a journal empty for a moment."""
+    """Makes a run's folder one of amo 0.1.0, which had no checksums, made no file before there was
+    something to put into it, and left a journal empty for a moment."""
+    records = {name: records_in(run, name) for name in PARTS if name != "lock.round"}
     os.unlink(f"{run}/id")
-    for name, data in PARTS.items():
-        if read(f"{run}/{name}") == data and name != "lock.round":
+    if header := read(f"{run}/record"):
+        put(f"{run}/record", headers.old_header(header))
+    for name, found in records.items():
+        if found:
+            put(f"{run}/{name}", journals.old_journal(found))
+        else:
             os.unlink(f"{run}/{name}")
 
 
@@ -81,23 +99,49 @@ def contents(folder: str) -> dict:
     return {name: (os.stat(f"{folder}/{name}").st_ino, read(f"{folder}/{name}")) for name in names}
 
 
-def texts_of(data):
-    """The texts that count."""
-    texts = []
-    while data[:1] == b"+" and b"\n" in data:
-        text, _, data = data[1:].partition(b"\n")
-        texts.append(text)
-    return texts
+def id_of(run: str) -> str:
+    """The run's id; in a folder of amo 0.1.0 none."""
+    return read(f"{run}/id").decode("latin-1").strip()
 
 
-def blocks_of(texts):
-    """A settled file of these texts."""
-    return b"".join(b"+%s\n" % text for text in texts) + b"-"
+def records_in(run: str, name: str, header: Optional[headers.Header] = None) -> list:
+    """The records of a journal or of `answers`, which has to have what a header counts that was
+    read before. Beside a writer a read may show bytes that never stood there, so what is damaged
+    is read until it is sound, or stands there still."""
+    run_id, before = id_of(run), None
+    while True:
+        data = read(f"{run}/{name}")
+        if not run_id:
+            return journals.old_records_of(data)
+        refused, place = None, 0
+        try:
+            records = journals.records_of(run_id, name, data)
+            lost = header and header.lost(name, journals.checksums(run_id, name, records))
+            refused = Refused(name, None, lost) if lost else None
+        except journals.Damaged as damaged:
+            number, wrong, place = damaged.args
+            refused = Refused(name, number, wrong)
+        if not refused:
+            return records
+        if before == (place, data[place:]):
+            raise refused
+        before = place, data[place:]
 
 
-def said_by(pattern, text):
-    """The word and the numbers of a text, or None."""
-    found = pattern.fullmatch(text)
+def header_in(run: str) -> Optional[headers.Header]:
+    """The header of a run; None in a folder of amo 0.1.0, whose header counts nothing."""
+    run_id = id_of(run)
+    if not run_id:
+        return None
+    header = headers.Header(run_id, read(f"{run}/record"))
+    if not header.is_sound:
+        raise Refused("record", None, "it is damaged")
+    return header
+
+
+def said_by(pattern, record):
+    """The word and the numbers of a record, or None."""
+    found = pattern.fullmatch(record)
     words = [it for it in found.groups() if it is not None] if found else []
     numbers = [int(it) for it in words[1:]]
     return (words[0].decode(), numbers) if found and all(it < 1 << 64 for it in numbers) else None
@@ -122,36 +166,64 @@ class Intent:
         return "failed" if self.answer == "done" and self.code else self.answer
 
 
-def intents_of(worker, name, texts, count):
+def intents_of(worker, records, count, entry=ENTRY):
     """The intents of a journal whose lines are 1..count."""
-    intents = []
-    for place, text in enumerate(texts, 1):
-        word, numbers = said_by(ENTRY, text) or (None, [0])
+    intents, name = [], f"journal.{worker}"
+    for place, record in enumerate(records, 1):
+        word, numbers = said_by(entry, record) or (None, [0])
         if word == "intent" and numbers[0] == len(intents) + 1 and 1 <= numbers[1] <= count:
             intents.append(Intent(worker, *numbers))
             continue
         it = intents[numbers[0] - 1] if word and word != "intent" and 1 <= numbers[0] <= len(intents) else None
         if not it or it.answer or word in ("done", "untouched") and numbers[1] > 255:
-            raise Refused(name, place)
+            raise Refused(name, place, "it can't stand there")
         it.answer, it.code = word, numbers[1] if word in ("done", "untouched") else None
     return intents
 
 
 class Folder:
-    """What stands in a run's folder: answers are read first, then journals, then jobs, so that workers may go on meanwhile."""
+    """What stands in a run's folder: the header is read first, then answers, then journals, then
+    jobs, so that workers may go on meanwhile."""
 
     def __init__(self, run):
         self.run, self.intents = run, {}
-        answers = texts_of(read(f"{run}/answers"))
-        journals = {p: texts_of(read(f"{run}/journal.{p}")) for p in range(1, MOST_WORKERS + 1)}
-        self.lines = read(f"{run}/jobs").split(b"\n")[:-1]
-        for p, texts in journals.items():
-            self.intents.update({(p, it.serial): it for it in intents_of(p, f"journal.{p}", texts, len(self.lines))})
-        for place, text in enumerate(answers, 1):
-            word, numbers = said_by(FINDING, text) or (None, [0, 0])
+        answers, found = self.read_records()
+        for p, records in found.items():
+            entry = ENTRY if self.header else OLD_ENTRY
+            intents = intents_of(p, records, len(self.lines), entry)
+            self.intents.update({(p, it.serial): it for it in intents})
+        self.take_answers(answers)
+
+    def read_records(self):
+        """The records of answers, and those of each journal by its number; once more if there are
+        some and no header."""
+        for _ in range(2):
+            self.header = header_in(self.run)
+            answers = records_in(self.run, "answers", self.header)
+            found = {p: records_in(self.run, f"journal.{p}", self.header)
+                     for p in range(1, MOST_WORKERS + 1)}
+            self.read_lines()
+            if not self.header or self.header.is_there or not any(found.values()):
+                return answers, found
+        raise Refused("record", None, MISSING)
+
+    def read_lines(self):
+        """Takes the lines of jobs, which has to begin as it did when the round began."""
+        data = read(f"{self.run}/jobs")
+        if self.header and self.header.is_there:
+            if not os.path.exists(f"{self.run}/jobs"):
+                raise Refused("jobs", None, MISSING)
+            if not self.header.has_jobs(data):
+                raise Refused("jobs", None, "it is damaged")
+        self.lines = data.split(b"\n")[:-1]
+
+    def take_answers(self, answers):
+        """Takes what persons found out."""
+        for place, record in enumerate(answers, 1):
+            word, numbers = said_by(FINDING, record) or (None, [0, 0])
             it = self.intents.get(tuple(numbers[:2]))
             if not word or not it or it.found:
-                raise Refused("answers", place)
+                raise Refused("answers", place, "it can't stand there")
             it.found = word
 
     def of_line(self, line):
@@ -197,7 +269,9 @@ def is_free(path):
 
 def record_of(run):
     """What the record says: round, boot, n, m, beta, workers, first, and the lines; None where there is none."""
-    texts = read(os.path.join(run, "record")).decode().split("\n")
+    data = read(os.path.join(run, "record"))
+    front = data if data.startswith(b"amo-run 1\n") else headers.front_of(data)
+    texts = front.decode().split("\n")
     if len(texts) < 6:
         return None
     givens, workers = texts[3].split(), texts[4].split()

@@ -88,7 +88,8 @@ def jobs_one(bench, number, how):
     status = live(runner, number and f"{number}:{errno.EIO}")
     if not number:
         runner.close()
-        return sorted({int(it[1]) for it in scene.logged() if it[2:4] == ["sync", "JOBS"]})
+        calls = scene.logged()  # the last of them is the worker's, the first are the door's
+        return [int(it[1]) for it in calls if it[2:4] == ["sync", "JOBS"] and it[0] == calls[-1][0]]
     want(status in (READ, WRITE) and names_file(runner.said, "JOBS", scene), f"status {status}: {runner.said}")
     serve([runner.start()], until=lambda: len(scene.effects()) > 1)
     power.cut([runner], how)

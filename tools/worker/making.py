@@ -375,11 +375,9 @@ def old_run(bench) -> Scene:
     """A folder of amo 0.1.0, with all kinds of lines, one of them pending behind a journal that
     nobody has settled."""
     scene = prepared(bench, ["done 0", "untouched 75", "doubt", "unbegun", "dies"], lines=7)
-    data = read(f"{scene.run}/journal.1")
-    put(f"{scene.run}/journal.1", data + b"doubt 9")
-    put(f"{scene.run}/journal.3", b"")
     put(f"{scene.run}/command.1.5", b"")
     folder.make_old(scene.run)
+    put(f"{scene.run}/journal.1", read(f"{scene.run}/journal.1") + b"doubt 9")
     put(f"{scene.run}/journal.3", b"")
     return scene
 
@@ -527,7 +525,7 @@ def try_answers_that_wait(bench):
                 held, tries = other.taken(name), tries + 1
             want(status == OVER, f"when {name} is free again: status {status}")
         held.close()
-    want(len(folder.texts_of(read(f"{scene.run}/answers"))) == 1, "the answer isn't taken once")
+    want(len(folder.records_in(scene.run, "answers")) == 1, "the answer isn't taken once")
     put(path, b"1.1\t1\tjob 1\tdone\n2.7\t2\tjob 2\tdone\n")
     want(scene.call("answer", scene.run, "--from", path)[0] == REFUSED,
          "an answer to nothing is put off")

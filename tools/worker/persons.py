@@ -8,7 +8,7 @@ import signal
 import subprocess
 import tempfile
 
-from worker.folder import KINDS, read, texts_of
+from worker.folder import KINDS, put, read, records_in
 from worker.scene import (ANSWER, DOOR, KILLED, LATER, LEFT, OVER, REFUSED, WORDS, WRITE, Runner,
                           each, finish, live, see_out, serve, want)
 
@@ -91,9 +91,9 @@ def try_counts(bench):
 
 def answered(scene, name, line, text, verdict, status, taken):
     """This answer has this status, and makes so many entries in `answers`."""
-    before = len(texts_of(read(f"{scene.run}/answers")))
+    before = len(records_in(scene.run, "answers"))
     ended, _, err = scene.call("answer", scene.run, name, str(line), text, verdict)
-    after = len(texts_of(read(f"{scene.run}/answers")))
+    after = len(records_in(scene.run, "answers"))
     said = f"{name} {line} {text} {verdict}: status {ended}, {after - before} taken, {err}"
     want((ended, after - before) == (status, taken), said)
     named = status == LATER or "answer 1" in err
@@ -123,7 +123,8 @@ def try_answers_open(bench):
     scene = prepared(bench, ["untouched 75", "untouched 3", "done 5"], lines=3)
     scene.again()
     scene.again()
-    want(len(texts_of(read(f"{scene.run}/answers"))) == 2, "again makes more than one entry for what was untouched")
+    want(len(records_in(scene.run, "answers")) == 2,
+         "again makes more than one entry for what was untouched")
     kinds = agree(scene)
     want(kinds == {1: "open", 2: "open", 3: "failed"}, f"{kinds}")
     runner = Says(scene, 1, ["untouched 75", "doubt"])
@@ -144,9 +145,9 @@ def try_answers_from_file(bench):
     def given(lines, status, taken, refused=None):
         with open(path, "w") as file:
             file.write("".join(lines))
-        before = len(texts_of(read(f"{scene.run}/answers")))
+        before = len(records_in(scene.run, "answers"))
         ended, _, err = scene.call("answer", scene.run, "--from", path)
-        count = len(texts_of(read(f"{scene.run}/answers"))) - before
+        count = len(records_in(scene.run, "answers")) - before
         want((ended, count) == (status, taken), f"{lines}: status {ended}, {count} taken, {err}")
         want(refused is None or f"answer {refused}" in err, f"{lines}: answer {refused} is refused, and it says: {err}")
 
@@ -264,7 +265,7 @@ def try_senseless_answers(bench):
             runner.process.stdin = open(os.devnull, "wb")
         serve([runner])
         want(runner.statuses == [status] and (status == LEFT or said in runner.said), f"{said}: {runner.statuses}, {runner.said}")
-        want(len(texts_of(read(f"{scene.run}/journal.1"))) == 1, f"{said}: something is noted")
+        want(len(records_in(scene.run, "journal.1")) == 1, f"{said}: something is noted")
         runner.close()
 
 
@@ -367,9 +368,8 @@ def try_door(bench):
         refuse_run(scene, run)
     finish(scene)
     record = read(f"{scene.run}/record")
-    for version in (b"amo-run 2\n", b"amo-run 10\n"):
-        with open(f"{scene.run}/record", "wb") as file:
-            file.write(record.replace(b"amo-run 1\n", version, 1))
+    for version in (b"amo-run 1\n", b"amo-run 3\n", b"amo-run 20\n"):
+        put(f"{scene.run}/record", record.replace(b"amo-run 2\n", version, 1))
         refuse_run(scene, scene.run)
 
 

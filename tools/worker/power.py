@@ -2,8 +2,9 @@
 
 import errno
 
-from worker.disk import Power
-from worker.folder import read, texts_of
+from worker import headers, journals
+from worker.disk import Power, records_left
+from worker.folder import read
 from worker.kills import Waiting, changes, is_change, state_of
 from worker.scene import LATER, WRITE, Runner, each, finish, live, serve, want
 
@@ -67,30 +68,41 @@ def try_killed_and_cut(bench):
 
 
 def see_cuts(bench, power, calls):
-    """After each of these calls some cuts of power: the journal stands for a front of what was put in the end, with all that was
-    put before the worker last spoke; jobs and record are there whole, or not there."""
-    final, spoken, count = texts_of(read(f"{power.scene.run}/journal.1")), 0, 0
+    """After each of these calls some cuts of power: the journal has a front of the records that it
+    has in the end, with all that it had before the worker last spoke, and isn't refused; jobs and
+    record are there whole, or not there, and each file has what record counts."""
+    records_of = lambda data: records_left(power.scene.id(), "journal.1", bytes(data))
+    final, spoken, count = records_of(read(f"{power.scene.run}/journal.1")), 0, 0
     for call in calls:
         power.disk.take_call(call)
         journal = power.disk.names.get("journal.1")
-        spoken = len(texts_of(bytes(journal.now))) if call[2] == "say" else spoken
+        spoken = len(records_of(journal.now)) if call[2] == "say" else spoken
         if not is_change(call):
             continue
         for how in ["none", "all"] + ["drawn"] * (200 if bench.is_long else 20):
             left = power.disk.cut(how) or {}
-            texts = texts_of(left.get("journal.1", b""))
-            is_front = texts == final[:len(texts)] and len(texts) >= spoken
-            want(is_front, f"after {call[1:4]}: {texts}, of {final}, {spoken} before it spoke")
-            jobs, record = left.get("jobs", b""), left.get("record", b"")
+            records = records_of(left.get("journal.1", b""))
+            is_front = records == final[:len(records)] and len(records) >= spoken
+            want(is_front, f"after {call[1:4]}: {records}, of {final}, {spoken} before it spoke")
+            jobs = left.get("jobs", b"")
             want(read(power.scene.jobs).startswith(jobs) and jobs[-1:] in (b"", b"\n"), f"after {call[1:4]}: jobs holds {jobs}")
-            want(not record or is_record(record), f"after {call[1:4]}: record holds {record}")
+            want_kept(power.scene.id(), left, f"after {call[1:4]}")
             count += 1
     return count
 
 
-def is_record(data):
-    texts = data.decode("latin-1").split("\n")
-    return len(texts) > 5 and texts[0] == "amo-run 1" and texts[3].split()[1] == str(len(texts) - 6) and texts[-1] == ""
+def want_kept(run: str, left: dict, when: str) -> None:
+    """What a cut of power has left isn't refused: the header is whole, or not there, and each file
+    has all that it counts."""
+    header = headers.Header(run, left.get("record", b""))
+    want(header.is_sound, f"{when}: record holds {left.get('record')}")
+    for name in headers.FILES if left else ():
+        records = records_left(run, name, left[name])
+        lost = header.lost(name, journals.checksums(run, name, records))
+        want(not lost, f"{when}: {name} would be refused: {lost}")
+        want(header.is_there or not records, f"{when}: there is no record, and {name} has appends")
+    is_whole = not header.is_there or header.has_jobs(left.get("jobs", b""))
+    want(is_whole, f"{when}: jobs would be refused")
 
 
 def try_cut_at_each_call(bench):
@@ -105,6 +117,34 @@ def try_cut_at_each_call(bench):
         runner.close()
         count += see_cuts(bench, power, scene.logged())
     return f"{count} cuts"
+
+
+def recover_one(bench, number):
+    """A worker is killed while it appends, and power is cut; the next one recovers the journal, and
+    the sync of this number fails, by which the rest of the append should go; the one after it goes
+    on. The number of cuts that are made then; with no number, that of the sync."""
+    scene = bench.scene(4, 1, makes=False)
+    power, runner = Power(scene, bench.draws, fails="none"), Runner(scene, 1)
+    calls = life_points(bench, False)
+    lines = [int(it[1]) for it in calls if it[2:4] == ["write", "journal.1"] and int(it[6]) > 1]
+    live(runner, f"{lines[1]}:kill_after")
+    power.cut([runner], "all")
+    runner = Runner(scene, 1)
+    status = live(runner, number and f"{number}:{errno.EIO}")
+    if not number:
+        calls = scene.logged()
+        cut = next(k for k, it in enumerate(calls) if it[2:4] == ["cut", "journal.1"])
+        return next(int(it[1]) for it in calls[cut:] if it[2:4] == ["sync", "journal.1"])
+    want(status == WRITE, f"the sync doesn't fail: status {status}, {runner.said}")
+    live(runner)
+    runner.close()
+    return see_cuts(bench, power, scene.logged())
+
+
+def try_failed_recovery_and_cut(bench):
+    """the sync fails by which the rest of an append should go, and then the power is cut: never do
+    the rests of two appends stand there"""
+    return f"{recover_one(bench, recover_one(bench, None))} cuts"
 
 
 def list_one(bench, number, fault, how):
@@ -223,5 +263,5 @@ def try_order(bench):
 
 PARTS = {"order": [try_order],
          "cuts": [try_cut_at_each_call, try_killed_and_cut, try_listed_and_cut,
-                  try_failed_sync_and_cut, try_failed_answers_and_cut,
+                  try_failed_sync_and_cut, try_failed_recovery_and_cut, try_failed_answers_and_cut,
                   try_words_of_another_boot]}

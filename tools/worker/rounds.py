@@ -8,7 +8,7 @@ import shutil
 import signal
 import time
 
-from worker import folder
+from worker import folder, journals
 from worker.kills import state_of
 from worker.persons import Says, counts_of
 from worker.scene import DOOR, LATER, OVER, READ, REFUSED, SENSELESS, WRITE, Runner, each, finish, live, see_out, serve, want
@@ -42,7 +42,7 @@ def change_between(bench, name):
     status = live(runner)
     runner.close()
     record = folder.record_of(scene.run)
-    round_is_new = record["round"] == (before["round"] if name != "record" else 0) + 1
+    round_is_new = record["round"] == before["round"] + 1
     want(round_is_new and record["workers"] == scene.workers, f"status {status}, record {record}, before {before}")
     count = len(scene.look().lines)
     want(record["lines"] == list(range(3, count + 1)) and count == (11 if name == "grown" else 9), f"record {record}")
@@ -51,9 +51,9 @@ def change_between(bench, name):
 
 
 def try_changes(bench):
-    """another boot, words or record removed, other WORKERS and BETA, a jobs' file that has grown: a new round"""
-    each(((bench, it) for it in ("boot", "words", "record", "fewer", "more", "grown")),
-         change_between)
+    """another boot, words removed, other WORKERS and BETA, a jobs' file that has grown: a new
+    round"""
+    each(((bench, it) for it in ("boot", "words", "fewer", "more", "grown")), change_between)
 
 
 def try_givens(bench):
@@ -200,9 +200,9 @@ def try_many_lines(bench):
     runner.leaves = True
     live(runner)
     want(folder.record_of(scene.run)["lines"] == list(range(1, 4097)), "the first round has other lines")
-    texts = [text for k in range(2, 4097) for text in (b"intent %d %d 1" % (k - 1, k), b"done %d 0 1" % (k - 1))]
-    with open(f"{scene.run}/journal.3", "wb") as file:
-        file.write(folder.blocks_of(texts))
+    records = [it for k in range(1, 4096)
+               for it in (b"intent %d %d 1" % (k, k + 1), b"done %d 0 1" % k)]
+    folder.put(f"{scene.run}/journal.3", journals.journal(scene.id(), "journal.3", records))
     scene.account += [("performed", 3, k - 1, k) for k in range(2, 4097)]
     live(runner)
     runner.close()

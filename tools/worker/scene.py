@@ -196,7 +196,7 @@ class Scene:
 
     def answer(self, worker, serial, line, verdict):
         """A person's answer, which has to be taken."""
-        text = self.look().lines[line - 1].decode()
+        text = folder.read(f"{self.run}/jobs").decode().split("\n")[line - 1]
         status, _, err = self.call("answer", self.run, f"{worker}.{serial}", str(line), text, verdict)
         want(status == OVER, f"answer {worker}.{serial} {verdict}: status {status}, {err}")
         self.note_answer(worker, serial, line, verdict)
@@ -234,7 +234,7 @@ class Scene:
         try:
             found = self.look()
         except folder.Refused as refused:
-            raise Wrong(f"a journal is refused: {refused.args[0]}, text {refused.args[1]}") from refused
+            raise Wrong(f"a journal is refused: {refused}") from refused
         self.audit_kept(found, performed)
         self.audit_words()
         if is_over:

@@ -11,9 +11,15 @@ MISTAKES = ("intent_after_the_act pending_is_open guard_is_removed words_of_anot
             " id_is_replaced id_first id_before_the_sync emptied_by_recovery old_run_is_settled"
             " old_run_is_worked running_is_refused id_is_not_compared mount_by_path"
             " options_are_taken forgotten_is_taken users_files_are_refused"
-            " leftovers_are_taken").split()
+            " leftovers_are_taken checksum_is_not_compared checksum_is_not_chained"
+            " checksum_without_the_file damage_is_cut_off two_cut_off_appends_are_taken"
+            " reads_once cuts_what_it_sees counts_the_last_append header_after_the_journals"
+            " counts_are_not_compared compares_after_the_cut seal_is_not_compared"
+            " jobs_are_not_compared missing_record_is_taken unknown_is_open"
+            " outcomes_without_times").split()
 MISTAKE = os.environ.get("AMO_MISTAKE")
-MOST_JOBS, MOST_WORKERS, MOST_BYTES, VERSION = 4096, 16, 100000, b"amo-run 1"
+MOST_JOBS, MOST_WORKERS, MOST_BYTES = 4096, 16, 100000
+VERSION, OLD_VERSION = b"amo-run 2", b"amo-run 1"
 LATER, PATIENCE = 75, 2.0
 # The files that the door makes in addition to `id`, and all other names of files that amo makes in
 # a run's folder.
@@ -29,6 +35,7 @@ REMEDIES = {
     errno.ENOSPC: "make room, then start again", errno.EDQUOT: "make room, then start again",
     errno.EPIPE: "keep its reader open",
 }
+DAMAGED = "damaged, or was edited; undo the edit, or give up this run"
 NO_ID = ("it has no `id`, so it is not a run's folder; name one, or make one (amo_worker door RUN"
          " --workers M JOBS)")
 OLD_RUN = ("made by amo 0.1.0, without an `id`; start a new run of its open lines (amo_worker"
@@ -37,6 +44,18 @@ OLD_RUN = ("made by amo 0.1.0, without an `id`; start a new run of its open line
 
 class End(Exception):
     """How it ends: a status, and a message for standard error."""
+
+
+def number(word, most=2**64 - 1):
+    """The number that a word says, or None."""
+    is_one = word.isdigit() and word.isascii() and (word[:1] != b"0" or word == b"0")
+    return int(word) if is_one and len(word) < 21 and int(word) <= most else None
+
+
+def numbers(words, count):
+    """The numbers that so many words say, or None."""
+    found = [number(it) for it in words]
+    return found if len(found) == count and None not in found else None
 
 
 def failed(status, path, error):

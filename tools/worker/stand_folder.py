@@ -6,8 +6,8 @@ import os
 import time
 
 from stand_files import (
-    MISTAKE, LATER, PATIENCE, PARTS, OLD_RUN, End, called, failed, refused_folder, opened, content,
-    put_at, sync, sync_folder, has_lock, check_part,
+    MISTAKE, LATER, PATIENCE, PARTS, OLD_RUN, VERSION, End, called, failed, missing, refused_folder,
+    opened, content, put_at, sync, sync_folder, has_lock, check_part,
 )
 
 LOCAL = "ext2 ext3 ext4 xfs btrfs f2fs zfs".split()
@@ -129,6 +129,8 @@ def make_in_place(it):
             return
         other = (f"it has `{min(made, default='files')}` and no `id`, so no run can be made there;"
                  " name another folder")
+        if (content(f"{it.run}/record") or b"").startswith(VERSION + b"\n"):
+            raise missing(f"{it.run}/id")
         raise refused_folder(it, 65, OLD_RUN if "record" in made else other)
     for name in ["id", *PARTS] if MISTAKE == "id_first" else [*PARTS, "id"]:
         if name == "id" and MISTAKE != "id_before_the_sync":
@@ -164,14 +166,19 @@ def fill_empty(path, data):
     os.close(file)
 
 
-def check_whole(it, found, reads):
-    """Refuses a folder whose id is none or another one, that was forgotten,
-    or of which a file is missing or empty."""
+def check_id(it, found):
+    """Refuses a folder whose id is none, or another one than was named."""
     if len(found) != 33 or found[32:] != b"\n" or set(found[:32]) - set(b"0123456789abcdef"):
         raise End(65, f"`{it.run}/id`: it is damaged, or was edited; undo the edit, or give up this"
                       " run")
     if it.id and it.id.encode() != found[:32] and MISTAKE != "id_is_not_compared":
         raise refused_folder(it, 65, "its `id` is not the one of --id; name the folder of that run")
+
+
+def check_whole(it, found, reads):
+    """Refuses a folder whose id is none or another one, that was forgotten,
+    or of which a file is missing or empty."""
+    check_id(it, found)
     if (not reads and it.command != "answer" and MISTAKE != "forgotten_is_taken"
             and is_there(f"{it.run}/forgotten")):
         raise refused_folder(it, 65, "this run was given up, since `forgotten` is there; start a"

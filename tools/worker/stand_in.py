@@ -4,6 +4,7 @@
   stand_in.py door RUN --workers M [--beta B] [--into] JOBS
   stand_in.py work RUN P --workers M [--beta B] JOBS
   stand_in.py status RUN [--json] [--lines KIND]          stand_in.py doubts RUN [--json]
+  stand_in.py status RUN --damaged
   stand_in.py answer RUN P.S LINE TEXT done|not-done      stand_in.py answer RUN --from FILE      stand_in.py again RUN
 
 Each takes --id ID, --file-system TYPE and --boot-id FILE too.
@@ -21,86 +22,22 @@ import time
 sys.dont_write_bytecode = True
 sys.path.insert(0, os.path.dirname(os.path.realpath(__file__)))
 
+from stand_damaged import tell_damage
 from stand_files import (
-    MISTAKES, MISTAKE, MOST_JOBS, MOST_WORKERS, MOST_BYTES, VERSION, LATER, PATIENCE, NO_ID,
-    OLD_RUN, End, called, failed, refused_folder, opened, whole, content, put_at, sync,
-    sync_folder, has_lock, opened_part, part,
+    DAMAGED, MISTAKES, MISTAKE, MOST_JOBS, MOST_WORKERS, MOST_BYTES, VERSION, LATER, PATIENCE,
+    NO_ID, OLD_RUN, End, called, failed, missing, number, numbers, refused_folder, opened, content,
+    put_at, sync, sync_folder, has_lock, opened_part,
 )
 from stand_folder import (
     check_mount, is_there, drawn, make_folder, make_beside, make_in_place, check_whole,
 )
+from stand_header import check_version, header_of, read_appends, text_of
+from stand_journal import Journal
 
 KINDS = "done failed doubt running untouched open".split()
-DAMAGED = "damaged, or was edited; undo the edit, or give up this run"
 COPIES = "(with an older copy lines would be performed twice)"
 IMPOSSIBLE = "stop all workers, and the next round starts with new words"
 HELP = "; see amo_worker --help"
-
-
-def number(word, most=2**64 - 1):
-    """The number that a word says, or None."""
-    is_one = word.isdigit() and word.isascii() and (word[:1] != b"0" or word == b"0")
-    return int(word) if is_one and len(word) < 21 and int(word) <= most else None
-
-
-def numbers(words, count):
-    found = [number(it) for it in words]
-    return found if len(found) == count and None not in found else None
-
-
-def texts_in(data):
-    """The texts of the blocks up to the first that is closed or cut short, the last gate, and where the blocks end."""
-    texts, gate, place = [], None, 0
-    if MISTAKE == "cut_line_is_kept":
-        texts = [it[1:] for it in data.split(b"\n") if len(it) > 1]
-        return texts, None, len(data) if data.endswith(b"\n") else max(len(data) - 1, 0)
-    while data[place:place + 1] == b"+" and (end := data.find(b"\n", place)) >= 0:
-        texts.append(data[place + 1:end])
-        gate, place = place, end + 1
-    return texts, gate, place
-
-
-class Journal:
-    """A file of texts behind gates, open to be written;
-    in a folder of 0.1.0, to be read and locked alone."""
-
-    def __init__(self, it, name):
-        self.path = f"{it.run}/{name}"
-        self.file = opened_part(it, name, os.O_RDONLY if it.is_old else os.O_RDWR)
-        if not it.is_old:
-            sync_folder(it.run)
-
-    def lock(self):
-        return has_lock(self.file, self.path, fcntl.LOCK_EX)
-
-    def close(self):
-        os.close(self.file)
-
-    def settle(self):
-        """Has the disk keep what is read, and a closed gate behind it.
-        The file is never empty meanwhile."""
-        data = whole(self.file, self.path)
-        texts, gate, self.end = texts_in(data)
-        if MISTAKE == "opens_without_settling":
-            return texts
-        if texts and gate is not None:
-            put_at(self.file, self.path, b"+", gate)
-            sync(self.file, self.path)
-        if MISTAKE == "emptied_by_recovery":
-            called(73, self.path, os.ftruncate, self.file, self.end)
-        elif len(data) > self.end + 1:
-            called(73, self.path, os.ftruncate, self.file, self.end + 1)
-            sync(self.file, self.path)
-        put_at(self.file, self.path, b"-", self.end)
-        sync(self.file, self.path)
-        return texts
-
-    def put(self, text):
-        put_at(self.file, self.path, text + b"\n-", self.end + 1)
-        sync(self.file, self.path)
-        put_at(self.file, self.path, b"+", self.end)
-        sync(self.file, self.path)
-        self.end += len(text) + 2
 
 
 class Intent:
@@ -129,12 +66,18 @@ class Intent:
         return self.answer[0].decode()
 
 
-def journal_of(worker, name, texts, count):
-    """The intents that texts say; each has to be an entry that may stand there."""
-    intents = []
-    for place, text in enumerate(texts, 1):
-        kind, *rest = text.split(b" ")
-        wanted = {b"intent": 3, b"done": 3, b"doubt": 1, b"unbegun": 1, b"untouched": 2}.get(kind)
+# How many numbers follow the first word of a record; in a folder of 0.1.0 some had no time.
+WANTED = {b"intent": 3, b"done": 3, b"doubt": 2, b"unbegun": 1, b"untouched": 3}
+OLD_WANTED = {**WANTED, b"doubt": 1, b"untouched": 2}
+
+
+def journal_of(worker, it, records, count):
+    """The intents that records say; each record has to be one that may stand there."""
+    intents, has_times = [], not it.is_old and MISTAKE != "outcomes_without_times"
+    name = f"{it.run}/journal.{worker}"
+    for place, record in enumerate(records, 1):
+        kind, *rest = record.split(b" ")
+        wanted = (WANTED if has_times else OLD_WANTED).get(kind)
         said = numbers(rest, wanted) if wanted else None
         is_next = said and kind == b"intent" and said[0] == len(intents) + 1 and 1 <= said[1] <= count
         is_answer = said and kind != b"intent" and 1 <= said[0] <= len(intents) and intents[said[0] - 1].answer is None
@@ -150,17 +93,19 @@ def journal_of(worker, name, texts, count):
 
 
 class Ledger:
-    """What answers, journals and jobs say, read in this order."""
+    """What record, answers, journals and jobs say, read in this order."""
 
     def __init__(self, it):
-        run, found = it.run, texts_in(part(it, "answers"))[0]
-        journals = [texts_in(part(it, f"journal.{p}"))[0] for p in range(1, MOST_WORKERS + 1)]
+        run = it.run
+        self.header, self.found = read_appends(it)
         self.jobs = content(f"{run}/jobs")
+        self.header.check_jobs(it, self.jobs)
         self.lines = (self.jobs or b"").split(b"\n")[:-1]
-        self.journals = [journal_of(p, f"{run}/journal.{p}", it, len(self.lines)) for p, it in enumerate(journals, 1)]
+        self.journals = [journal_of(p, it, self.found[f"journal.{p}"].records, len(self.lines))
+                         for p in range(1, MOST_WORKERS + 1)]
         self.closing = {}
-        for place, text in enumerate(found, 1):
-            kind, *rest = text.split(b" ")
+        for place, record in enumerate(self.found["answers"].records, 1):
+            kind, *rest = record.split(b" ")
             said = numbers(rest, 3)
             intent = said and kind in (b"done", b"not-done") and self.intent(*said[:2])
             if not intent or intent.found:
@@ -202,7 +147,7 @@ def final_ledger(it):
                     file.file = opened(file.path, os.O_RDWR, 73)
                 if (MISTAKE != "lists_without_settling" and not it.is_old
                         or MISTAKE == "old_run_is_settled"):
-                    file.settle()
+                    file.recover(header_of(it))
                 final |= {(worker, intent.serial) for intent in journal if intent.answer is None
                           and is_got(f"{it.run}/command.{intent.name()}", os.O_RDONLY, held)}
     ledger = Ledger(it)
@@ -266,32 +211,6 @@ def jobs_of(jobs, known, is_first):
     return data[:len(data) - len(last)], bool(last)
 
 
-class Record:
-    """What the record of a round says."""
-
-    def __init__(self, path):
-        data = content(path)
-        texts = data.split(b"\n") if data else []
-        if texts and texts[0].startswith(b"amo-run ") and texts[0] != VERSION:
-            raise End(77, f"folder `{os.path.dirname(path)}`: its `record` is of another version of"
-                          " amo; go on with that version, or use another folder")
-        labels = [it.split(b" ") for it in texts[:5]]
-        names = [b"amo-run", b"round", b"boot", b"givens", b"workers"]
-        fits = [it[0] for it in labels] == names and texts[-1] == b""
-        said = fits and numbers(labels[1][1:] + labels[3][1:] + labels[4][1:], 6)
-        self.lines = numbers(texts[5:-1], len(texts[5:-1])) if said else None
-        if data is not None and (self.lines is None or said[1] != len(self.lines) or not 1 <= said[2] <= said[4] <= MOST_WORKERS):
-            raise End(65, f"`{path}`: it is damaged, or was edited; undo the edit, or stop all"
-                          " workers and remove this file")
-        self.round, self.boot = (said[0], texts[2][5:]) if said else (0, None)
-        self.jobs, self.shared, self.beta, self.workers, self.first = said[1:] if said else (0, 0, 0, 0, 0)
-
-    def head(self):
-        """The front of the words of this round."""
-        text = b"amo-words 1\nround %d\nboot %s\ngivens %d %d %d\n" % (self.round, self.boot, self.jobs, self.shared, self.beta)
-        return text.ljust(511) + b"\n"
-
-
 def make_whole(run, name, data, is_synced=True):
     path = f"{run}/{name}.new"
     file = opened(path, os.O_RDWR | os.O_CREAT | os.O_TRUNC, 73)
@@ -305,9 +224,8 @@ def make_whole(run, name, data, is_synced=True):
 
 
 def begin_round(it):
-    """Under the exclusive lock of rounds: record and words of the lines that are open. Ends where none is."""
+    """Under the exclusive lock of rounds: header and words of the lines that are open. Ends where none is."""
     ledger = Ledger(it)
-    record = Record(f"{it.run}/record")
     data, is_begun = jobs_of(it.jobs, ledger.jobs, ledger.jobs is None)
     if data != ledger.jobs:
         make_whole(it.run, "jobs", data)
@@ -320,11 +238,12 @@ def begin_round(it):
     n = len(lines)
     m = min(it.workers, n // 4 + 1)
     beta = max(it.beta, m) if m > 1 and n >= 2 * (it.beta + m - 2) else m
-    text = b"%s\nround %d\nboot %s\ngivens %d %d %d\n" % (VERSION, record.round + 1, it.boot, n, m, beta)
-    text += b"workers %d %d\n" % (it.workers, it.worker)
-    make_whole(it.run, "record", text + b"".join(b"%d\n" % line for line in lines))
-    head = Record(f"{it.run}/record").head()
-    make_whole(it.run, "words", head + bytes(8 * (m * (n + 3) + 1)), is_synced=False)
+    front = b"%s\nround %d\nboot %s\n" % (VERSION, ledger.header.round + 1, it.boot)
+    front += b"givens %d %d %d\nworkers %d %d\n" % (n, m, beta, it.workers, it.worker)
+    front += b"".join(b"%d\n" % line for line in lines)
+    make_whole(it.run, "record", text_of(it, front, data, ledger.found))
+    words = header_of(it).head() + bytes(8 * (m * (n + 3) + 1))
+    make_whole(it.run, "words", words, is_synced=False)
 
 
 class Words:
@@ -429,8 +348,9 @@ class Partner:
         if not fits or wanted == 4 and number(words[2], 255) is None:
             raise End(76, f"runner: its reply `{said.decode(errors='replace')}` is invalid;"
                           " docs/PROCESSES.md lists the replies")
-        if words[0] == b"done":
-            words.insert(3, b"%d" % time.time())
+        has_time = words[0] in (b"doubt", b"untouched") and MISTAKE != "outcomes_without_times"
+        if words[0] == b"done" or has_time:
+            words.insert(-1, b"%d" % time.time())
         return None if words[0] == b"running" else b" ".join(words[:-1]), words[-1] == b"leave"
 
 
@@ -481,7 +401,7 @@ def share_round(it):
     else:
         raise refused_folder(it, LATER, "another worker is beginning a round; start again in a"
                                         " second")
-    record = Record(f"{it.run}/record")
+    record = header_of(it)
     words = content(f"{it.run}/words") or b""
     if MISTAKE == "words_of_another_boot" and record.boot:
         return record
@@ -499,13 +419,13 @@ def told_to_leave():
 def work(it):
     enter(it)
     journal = guard(it)
-    journal.settle()
+    journal.recover(header_of(it))
     ledger = Ledger(it)
     own, partner = ledger.journals[it.worker - 1], Partner()
     for intent in [it for it in own if it.answer is None]:
         answer, leaves = partner.ask(b"was", intent.serial, intent.line, ledger.lines[intent.line - 1])
         if answer:
-            journal.put(answer)
+            journal.append(answer)
         if leaves:
             raise told_to_leave()
     record = share_round(it)
@@ -521,12 +441,12 @@ def work(it):
         serial = state["serial"]
         intent = b"intent %d %d %d" % (serial, line, time.time())
         if MISTAKE != "intent_after_the_act":
-            journal.put(intent)
+            journal.append(intent)
         answer, leaves = partner.ask(b"perform", serial, line, lines[line - 1])
         if MISTAKE == "intent_after_the_act":
-            journal.put(intent)
+            journal.append(intent)
         if answer:
-            journal.put(answer)
+            journal.append(answer)
         return leaves
 
     if work_in(Words(it.run, record, seat), record.beta, perform):
@@ -537,7 +457,10 @@ def work(it):
 
 def check_list(it):
     """Refuses a list that can't be that of the run."""
+    header = header_of(it) if it.run_id else None
     known = content(f"{it.run}/jobs")
+    if header:
+        header.check_jobs(it, known)
     jobs_of(it.jobs, known, known is None)
 
 
@@ -575,7 +498,8 @@ def enter_folder(it):
         other = "it is a file, or a link; name the folder itself"
         raise refused_folder(it, 77, foreign if is_folder else other)
     check_mount(it, it.run)
-    Record(f"{it.run}/record")
+    if not it.is_damaged:
+        it.is_of_now = check_version(it)
 
 
 def enter(it):
@@ -587,11 +511,15 @@ def enter(it):
     found = content(f"{it.run}/id")
     it.is_old = found is None
     reads = it.command in ("status", "doubts")
+    if it.is_old and it.is_of_now:
+        raise missing(f"{it.run}/id")
     if it.is_old and (it.id or not reads and MISTAKE != "old_run_is_worked"):
         is_run = not reads and is_there(f"{it.run}/record")
         raise refused_folder(it, 65, OLD_RUN if is_run else NO_ID)
     if not it.is_old:
         check_whole(it, found, reads)
+        it.run_id = found[:32]
+    header_of(it)
     if it.jobs:
         check_list(it)
         if it.command == "door":
@@ -617,6 +545,10 @@ def alive(it):
 
 
 def status(it):
+    if it.is_damaged:
+        enter_folder(it)
+        tell_damage(it)
+        return
     enter(it)
     _readers = readers_lock(it)
     living = list(alive(it))
@@ -703,7 +635,7 @@ def answer(it):
 def answer_once(it, rows):
     """Takes the answers; if one is to what still runs, none is taken, and that is said."""
     file = readers_lock(it)
-    file.settle()
+    file.recover(header_of(it))
     ledger, held = final_ledger(it)
     try:
         verdicts, running = {}, None
@@ -718,7 +650,7 @@ def answer_once(it, rows):
         for name, verdict in verdicts.items() if not running else ():
             said = numbers(name.split(b"."), 2)
             if not ledger.intent(*said).found:
-                file.put(b"%s %d %d %d" % (verdict, *said, time.time()))
+                file.append(b"%s %d %d %d" % (verdict, *said, time.time()))
         return running
     finally:
         file.close()
@@ -729,10 +661,10 @@ def answer_once(it, rows):
 def again(it):
     enter(it)
     file = readers_lock(it)
-    file.settle()
+    file.recover(header_of(it))
     for intent in (intent for journal in Ledger(it).journals for intent in journal):
         if intent.answer and intent.answer[0] == b"untouched" and not intent.found:
-            file.put(b"not-done %d %d %d" % (intent.worker, intent.serial, time.time()))
+            file.append(b"not-done %d %d %d" % (intent.worker, intent.serial, time.time()))
 
 
 class Given:
@@ -741,7 +673,7 @@ class Given:
     def __init__(self, words):
         self.words, options = [], {}
         wants = {"--workers": 1, "--beta": 1, "--json": 0, "--lines": 1, "--from": 1,
-                 "--file-system": 1, "--boot-id": 1, "--id": 1, "--into": 0}
+                 "--file-system": 1, "--boot-id": 1, "--id": 1, "--into": 0, "--damaged": 0}
         while words:
             word = words.pop(0)
             if word.startswith("--") and self.words[:1] != ["answer"] or word in wants:
@@ -753,7 +685,7 @@ class Given:
         shapes = {"door": (3, 3), "work": (4, 4), "status": (2, 2), "doubts": (2, 2), "again": (2, 2),
                   "answer": (2, 2) if "--from" in options else (6, 6)}
         taken = {"door": "--workers --beta --into", "work": "--workers --beta",
-                 "status": "--json --lines", "doubts": "--json", "answer": "--from"}
+                 "status": "--json --lines --damaged", "doubts": "--json", "answer": "--from"}
         self.command = self.words[0] if self.words else None
         if self.command not in shapes or not shapes[self.command][0] <= len(self.words) <= shapes[self.command][1]:
             raise End(64, "`amo_worker`: it must be followed by door, work, status, doubts, answer"
@@ -763,7 +695,8 @@ class Given:
             raise End(64, f"`{self.command}`: it has no such option{HELP}")
         self.run, self.kind = self.words[1].rstrip("/"), options.get("--file-system")
         self.id, self.is_into, self.is_old = options.get("--id"), "--into" in options, False
-        self.has_made = False
+        self.has_made, self.run_id, self.is_of_now = False, None, False
+        self.is_damaged = "--damaged" in options
         if self.id is not None and (len(self.id) != 32 or set(self.id) - set("0123456789abcdef")):
             raise End(64, "`--id`: it must be 32 hexadecimal digits, none of them a capital letter"
                           f"{HELP}")
@@ -772,6 +705,8 @@ class Given:
         if self.lines not in (None, *KINDS[1:]) or self.lines and self.is_json:
             raise End(64, "`--lines`: it must be failed, doubt, untouched, running or open"
                           f"{HELP}")
+        if self.is_damaged and (self.is_json or self.lines):
+            raise End(64, f"`--damaged`: it goes with no other option of status{HELP}")
         if self.jobs:
             self.workers = self.number("--workers", options.get("--workers", ""), MOST_WORKERS)
             self.beta = self.number("--beta", options.get("--beta", "1"), 65535)

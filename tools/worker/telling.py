@@ -10,7 +10,7 @@ import signal
 import subprocess
 import time
 
-from worker import folder
+from worker import folder, headers, journals
 from worker.crowd import Reader
 from worker.kills import answerable, state_of
 from worker.persons import Says, prepared
@@ -23,6 +23,35 @@ def having(name, data):
     def change(scene):
         with open(f"{scene.run}/{name}", "wb") as held:
             held.write(data)
+
+    return change
+
+
+def recording(name, *records):
+    """Puts a journal or `answers` of these records into the run."""
+    return lambda scene: having(name, journals.journal(scene.id(), name, records))(scene)
+
+
+def spoiling(name, *records):
+    """Puts these records there, the first of them with a byte that its checksum doesn't fit."""
+
+    def change(scene):
+        data = journals.journal(scene.id(), name, records)
+        having(name, data.replace(b" ", b"_", 1))(scene)
+
+    return change
+
+
+def counting(*more):
+    """Puts a header there as of round 4, which counts these records behind three of journal.1, but
+    for the last of them."""
+
+    def change(scene):
+        front = headers.front_of(folder.read(f"{scene.run}/record"))
+        records = folder.records_in(scene.run, "journal.1")[:3] + list(more)
+        data = headers.text(scene.id(), front.replace(b"\nround 1\n", b"\nround 4\n", 1),
+                            folder.read(f"{scene.run}/jobs"), {"journal.1": records})
+        having("record", data)(scene)
 
     return change
 
@@ -47,6 +76,11 @@ def instead(make):
     return change
 
 
+def made_old(scene):
+    """Makes the run one of amo 0.1.0."""
+    folder.make_old(scene.run)
+
+
 def with_lines(*texts):
     return lambda scene: scene.write_jobs([*(f"job {k}" for k in range(1, 5)), *texts])
 
@@ -56,7 +90,7 @@ def other_line(scene):
 
 
 def other_version(scene):
-    having("record", folder.read(f"{scene.run}/record").replace(b"amo-run 1\n", b"amo-run 10\n"))(scene)
+    having("record", folder.read(f"{scene.run}/record").replace(b"amo-run 2\n", b"amo-run 20\n"))(scene)
 
 
 def boot_of_two_lines(scene):
@@ -81,7 +115,7 @@ def spoiled(scene):
 def of_another_round(scene):
     others_at_work(scene)
     with open(f"{scene.run}/words", "r+b") as words:
-        words.write(b"amo-words 2")
+        words.write(b"amo-words 3")
 
 
 def same(scene):
@@ -92,6 +126,8 @@ def same(scene):
 # of the file with the boot id.)
 NO_FOLDER = "folder `THE RUN`: it is a file, or a link; name the folder itself"
 DAMAGED = "it is damaged, or was edited; undo the edit, or give up this run"
+REFUSED_FILE = ("it is damaged, or was edited; leave it as it is, and read docs/JOBS.md, `A journal"
+                " is refused`")
 DAMAGED_ENTRY = ("is damaged, or was edited; undo the edit, or give up this run (with an older copy"
                  " lines would be performed twice)")
 MISSING = ("this file is missing; put it back, or give up this run (without it nobody knows which"
@@ -124,6 +160,7 @@ BOOT = ("boot id `THE BOOT`: it must be one line of 1 to 200 bytes; name another
         " --boot-id")
 IMPOSSIBLE = "has the impossible value 0; stop all workers, and the next round starts with new words"
 CLOSED = "runner: it has ended, or closed its pipe; start both again to go on"
+KEEP = "leave the file as it is, and read docs/JOBS.md, `A journal is refused`"
 OTHER_ROUND = ("folder `THE RUN`: the current round cannot be joined; start again when all of its"
                " workers have ended")
 HELP = "; see amo_worker --help"
@@ -147,14 +184,19 @@ FAULTS = [
     (other_line, "work 1", REFUSED, CHANGED),
     (lambda scene: os.unlink(scene.jobs), "work 1", READ,
      "list `THE LIST`: cannot be read: ...; check the path"),
-    (having("record", b"amo-run 1\n"), "work 1", REFUSED,
-     "`THE RUN/record`: it is damaged, or was edited; undo the edit, or stop all workers and remove"
-     " this file"),
-    (having("jobs", b"a\n\n"), "status", REFUSED, f"`THE RUN/jobs`: {DAMAGED}"),
-    (having("journal.16", b"+doubt 1\n-"), "status", REFUSED,
+    (having("record", b"amo-run 2\n"), "work 1", REFUSED,
+     f"`THE RUN/record`: {REFUSED_FILE}"),
+    (having("jobs", b"a\n\n"), "status", REFUSED, f"`THE RUN/jobs`: {REFUSED_FILE}"),
+    (recording("journal.16", b"doubt 1 9"), "status", REFUSED,
      f"`THE RUN/journal.16`: entry 1 {DAMAGED_ENTRY}"),
-    (having("answers", b"+done 1 2 9\n+done 9 9 9\n-"), "doubts", REFUSED,
+    (recording("answers", b"done 1 2 9", b"done 9 9 9"), "doubts", REFUSED,
      f"`THE RUN/answers`: entry 2 {DAMAGED_ENTRY}"),
+    (spoiling("answers", b"done 1 2 9"), "again", REFUSED,
+     "`THE RUN/answers`: append 1: its checksum doesn't fit; ..."),
+    (counting(*[b"more"] * 7), "work 1", REFUSED,
+     "`THE RUN/journal.1`: it has 6 appends, and 9 were on the disk when round 4 began; " + KEEP),
+    (counting(b"another", b"more"), "status", REFUSED,
+     "`THE RUN/journal.1`: append 4 is another one than when round 4 began; " + KEEP),
     (lambda scene: os.unlink(scene.boot), "work 1", READ,
      "boot id `THE BOOT`: cannot be read: ...; check the path"),
     (boot_of_two_lines, "work 1", REFUSED, BOOT),
@@ -163,7 +205,7 @@ FAULTS = [
     (same, "answer 1.9 2 job_2 done", REFUSED, f"answer 1: {NO_ATTEMPT}"),
     (same, "answer 1.2 3 job_3 done", REFUSED, f"answer 1: {OTHER_LINE}"),
     (same, "answer 1.1 1 job_1 done", REFUSED, f"answer 1: {NOT_ASKED}"),
-    (having("answers", b"+done 1 2 9\n-"), "answer 1.2 2 job_2 not-done", REFUSED,
+    (recording("answers", b"done 1 2 9"), "answer 1.2 2 job_2 not-done", REFUSED,
      "answer 1: the other answer was given before; an answer stays as it is"),
     (same, "answer --from /nowhere", READ,
      "answers `/nowhere`: cannot be read: ...; check the path"),
@@ -178,12 +220,16 @@ FAULTS = [
     (spoiled, "work 1", SENSELESS, f"`THE RUN/words`: word 6 {IMPOSSIBLE}"),
     (without("journal.3"), "status", REFUSED, f"`THE RUN/journal.3`: {MISSING}"),
     (without("answers"), "door", REFUSED, f"`THE RUN/answers`: {MISSING}"),
+    (without("record"), "status", REFUSED, f"`THE RUN/record`: {MISSING}"),
+    (without("jobs"), "doubts", REFUSED, f"`THE RUN/jobs`: {MISSING}"),
     (without("lock.round"), "work 1", REFUSED, f"`THE RUN/lock.round`: {MISSING}"),
     (having("journal.16", b""), "doubts", REFUSED, f"`THE RUN/journal.16`: {EMPTY}"),
     (having("answers", b""), "again", REFUSED, f"`THE RUN/answers`: {EMPTY}"),
     (having("id", b"none\n"), "status", REFUSED, f"`THE RUN/id`: {DAMAGED}"),
-    (without("id"), "door", REFUSED, OLD_RUN),
-    (without("id"), "again", REFUSED, OLD_RUN),
+    (without("id"), "door", REFUSED, f"`THE RUN/id`: {MISSING}"),
+    (without("id"), "again", REFUSED, f"`THE RUN/id`: {MISSING}"),
+    (made_old, "door", REFUSED, OLD_RUN),
+    (made_old, "again", REFUSED, OLD_RUN),
     (without("id", "record"), "door", REFUSED, NOT_NEW),
     (without("id", "record"), "answer 1.2 2 job_2 done", REFUSED, NO_ID),
     (having("forgotten", b""), "work 1", REFUSED, FORGOTTEN),
@@ -290,12 +336,15 @@ def try_times(bench):
     """the times in journals, in answers, and of doubts are those at which it was noted"""
     begun = int(time.time())
     scene = prepared(bench, ["done 0", "doubt", "untouched 75", "done 3", "unbegun", "dies"])
+    untimed = [it for it in folder.records_in(scene.run, "journal.1")
+               if it.startswith((b"doubt ", b"untouched ")) and int(it.split(b" ")[-1]) < begun]
+    want(not untimed, f"without its time was noted {untimed}")
     scene.answer(1, 4, 4, "done")
     scene.again()
     ended = int(time.time())
-    texts = folder.texts_of(folder.read(f"{scene.run}/journal.1")) + folder.texts_of(folder.read(f"{scene.run}/answers"))
-    timed = [it for it in texts if it.split(b" ")[0] in (b"intent", b"done", b"not-done")]
-    want(len(timed) == 6 + 2 + 2, f"there is {texts}")
+    records = folder.records_in(scene.run, "journal.1") + folder.records_in(scene.run, "answers")
+    timed = [it for it in records if not it.startswith(b"unbegun ")]
+    want(len(timed) == 6 + 4 + 2, f"there is {records}")
     times = [int(it.split(b" ")[-1]) for it in timed]
     want(begun <= min(times) and max(times) <= ended, f"between {begun} and {ended} was noted {timed}")
     noted = {it.name(): it.time for it in scene.look().intents.values()}
@@ -380,7 +429,7 @@ def try_cut_while_asked(bench):
     runner = Runner(scene, 1)
     runner.take = lambda line: runner.lines.append(line) or runner.process.stdin.close()
     want(live(runner) == LEFT and runner.lines == ["was 1 1 job 1"], f"{runner.statuses}, {runner.lines}: {runner.said}")
-    want(len(folder.texts_of(folder.read(f"{scene.run}/journal.1"))) == 1, "something is noted")
+    want(len(folder.records_in(scene.run, "journal.1")) == 1, "something is noted")
 
 
 PARTS = {"persons": [try_lines_of_faults, try_outputs, try_times, try_order_of_reads],

@@ -4,7 +4,7 @@ import fcntl
 import os
 import re
 
-from worker import folder
+from worker import folder, headers, journals
 from worker.folder import put
 from worker.persons import Says, prepared
 from worker.scene import DOOR, LATER, LEFT, OVER, READ, REFUSED, SENSELESS, Runner, each, finish, live, want
@@ -17,11 +17,27 @@ def counts_in(out):
     return dict(zip(words[::2], map(int, words[1::2])))
 
 
+def refused_as(scene, name: str, place: int, wrong: str) -> None:
+    """Status refuses the append of this number, or the whole file, by the file's name and with what
+    is wrong if the file is damaged, and changes nothing."""
+    before = folder.contents(scene.run)
+    status, out, err = scene.call("status", scene.run)
+    what = f"{name}, append {place} ({wrong})" if place else f"{name} ({wrong})"
+    want(status == REFUSED and not out, f"{what}: status ends with {status}: {out or err}")
+    said = rf"(append|entry) {place}\b"
+    if wrong in journals.WRONG:
+        said = f"append {place}: {wrong};"
+    if place is None:
+        said = headers.pattern(wrong)
+    is_named = re.search(rf"`RUN/{re.escape(name)}`.*\b{said}", err.replace(scene.run, "RUN"))
+    want(is_named and err.count("\n") == 1, f"{what}: status says {err}")
+    want(folder.contents(scene.run) == before, f"{what}: something was changed")
+
+
 def read_as(scene, name, data):
-    """With these bytes in a file, status says what the auditor reads, or refuses the text that the auditor refuses; no text goes
-    or comes. Whether it was read."""
+    """With these bytes in a file, status says what the auditor reads, or refuses the append that
+    the auditor refuses; no record goes or comes. Whether it was read."""
     put(f"{scene.run}/{name}", data)
-    before = folder.texts_of(data)
     if not data:
         status, out, err = scene.call("status", scene.run)
         named = name in err.replace(scene.run, "RUN")
@@ -30,30 +46,28 @@ def read_as(scene, name, data):
         return False
     try:
         found = scene.look()
-        wanted = found.counts(found.final())
     except folder.Refused as refused:
-        status, out, err = scene.call("status", scene.run)
-        name, place = refused.args
-        said = err.replace(scene.run, "RUN")
-        want(status == REFUSED and not out, f"{name}, text {place} is none, and status ends with {status}: {out or err}")
-        want(name in said and re.search(rf"\b{place}\b", said), f"{name}, text {place} is none, and status says {err}")
+        refused_as(scene, *refused.args)
         return False
+    wanted, before = found.counts(found.final()), folder.records_in(scene.run, name)
     status, out, err = scene.call("status", scene.run)
     counts = counts_in(out)
     want(status == OVER and sum(counts[kind] for kind in folder.KINDS) == counts["lines"], f"status {status}, {out or err}")
     if any(len(found.of_line(line)) > 1 for line in range(1, len(found.lines) + 1)):  # no run has that: what it counts as is open
         counts, wanted = [{name: it[name] for name in ("lines", "open")} for it in (counts, wanted)]
     want(counts == wanted, f"status says {out}, and there is {wanted}")
-    want(folder.texts_of(folder.read(f"{scene.run}/{name}")) == before, f"texts of {name} went or came by being read")
+    want(folder.records_in(scene.run, name) == before,
+         f"records of {name} went or came by being read")
     return True
 
 
 def cut_one(scene, name, data, length, works):
-    """Cut at this byte; and, where it is read, the next worker keeps its texts, and puts the next behind them. What is cut away was
-    acknowledged, and isn't looked for. At no moment is the file empty."""
+    """Cut at this byte; and, where it is read, the next worker keeps its records, and puts the next
+    behind them. What is cut away was acknowledged, and isn't looked for. At no moment is the file
+    empty."""
     scene.acknowledged.clear()
-    put(f"{scene.run}/{name}", data)
     if read_as(scene, name, data[:length]) and works:
+        kept = folder.records_in(scene.run, name)
         runner, scene.logs = Says(scene, 1, ["unbegun"]), True
         live(runner)
         runner.close()
@@ -61,15 +75,15 @@ def cut_one(scene, name, data, length, works):
         os.unlink(scene.log)
         emptied = [it for it in calls if it[2:4] == ["cut", name] and it[5] == "0"]
         want(not emptied, f"{name} is empty for a moment, by {emptied}")
-        texts = folder.texts_of(folder.read(f"{scene.run}/{name}"))
-        kept = folder.texts_of(data[:length])
+        records = folder.records_in(scene.run, name)
         want(runner.statuses[0] in (LEFT, OVER), f"status {runner.statuses}: {runner.said}")
-        want(texts[:len(kept)] == kept, f"there is {texts}, and {kept} was there")
-        want(folder.read(f"{scene.run}/{name}") == folder.blocks_of(texts), f"{name} isn't settled")
+        want(records[:len(kept)] == kept, f"there is {records}, and {kept} was there")
+        whole = journals.journal(scene.id(), name, records)
+        want(folder.read(f"{scene.run}/{name}") == whole, f"{name} isn't recovered")
 
 
-def journals(bench):
-    """A run with all kinds of entries in a journal and in answers."""
+def run_of_all_kinds(bench):
+    """A run with all kinds of records in a journal and in answers."""
     scene = prepared(bench, ["done 0", "doubt", "untouched 75", "doubt", "done 3", "unbegun", "dies"], lines=8)
     scene.answer(1, 2, 2, "not-done")
     scene.answer(1, 4, 4, "done")
@@ -77,22 +91,25 @@ def journals(bench):
 
 
 def try_cut(bench):
-    """journal and answers cut at each byte: read as the entries of a front, and gone on behind them"""
+    """journal and answers cut at each byte: refused by the number of the append; cut behind one
+    they are read, and a worker goes on"""
     count = 0
     for name in ("journal.1", "answers"):
-        scene = journals(bench)
+        scene = run_of_all_kinds(bench)
         data = folder.read(f"{scene.run}/{name}")
-        lengths = list(range(len(data)))
-        works = set(lengths if bench.is_long else lengths[::16]) if name == "journal.1" else set()
-        count += each(((scene, name, data, it, it in works) for it in bench.sample(lengths, 110)), cut_one)
+        ends = {it for it in range(1, len(data)) if data[it - 1:it] == b"\n"}
+        works = ends if name == "journal.1" else set()
+        lengths = sorted({*bench.sample(range(len(data)), 90), *ends})
+        count += each(((scene, name, data, it, it in works) for it in lengths), cut_one)
     return f"{count} cuts"
 
 
 def try_changed(bench):
-    """each byte of journal and answers changed: refused by the number of the text, or read as the auditor reads it"""
+    """each byte of journal and answers changed: refused by the number of the append, or read as the
+    auditor reads it"""
     count = 0
     for name in ("journal.1", "answers"):
-        scene = journals(bench)
+        scene = run_of_all_kinds(bench)
         data = folder.read(f"{scene.run}/{name}")
         places = [(at, byte) for at in range(len(data)) for byte in OTHERS if data[at] != byte]
         chosen = places if bench.is_long else bench.draws.sample(places, min(len(places), 110))
@@ -100,15 +117,30 @@ def try_changed(bench):
     return f"{count} changes"
 
 
-def try_behind_a_gate(bench):
-    """what stands behind a closed gate counts for nothing, and is gone once somebody goes on"""
-    empty = bench.scene(3, 1)
-    cut_one(empty, "journal.1", b"-intent 1 1 1\n+", 15, True)
-    for end in (b"-intent 8 8 1\n", b"+intent 8 8 1", b"-doubt 1\n+doubt 1\n", b"+doubt 4", b"\0\0\0\0", b"-" * 5000,
-                b"x+doubt 4\n", b""):
-        scene = journals(bench)
-        data = folder.read(f"{scene.run}/journal.1")
-        cut_one(scene, "journal.1", data[:-1] + end, len(data) - 1 + len(end), True)
+def torn_ends(line: bytes) -> list:
+    """What a crash may leave behind the last append while this line is put, and the most that may
+    stand there."""
+    torn = bytes(it if k % 3 else 0 for k, it in enumerate(line))
+    parts = [line, line + b"-", line + b"\0", line[:-1], line[:5], torn,
+             torn.replace(b"\n", b"\0"), bytes(1024), b"+" * 1024, bytes(1023) + b"\n",
+             bytes(1022) + b"\n-"]
+    return [b"-" + it for it in parts] + [b"x", b"\0", b"\n", b"-", b""]
+
+
+def try_cut_off_append(bench):
+    """an append that was cut off counts for nothing, whatever a crash leaves of it, and is gone
+    once somebody goes on"""
+    empty = bench.scene(3, 2)
+    runner = Says(empty, 2, ["done 0"])  # so that there is a round, and nothing in journal.1
+    live(runner)
+    runner.close()
+    data = b"-" + journals.appends(empty.id(), "journal.1", [b"intent 1 3 1"])[0][1:] + b"-"
+    cut_one(empty, "journal.1", data, len(data), True)
+    scene = run_of_all_kinds(bench)
+    records = folder.records_in(scene.run, "journal.1")
+    *whole, line = journals.appends(scene.id(), "journal.1", [*records, b"intent 8 8 1"])
+    files = [b"".join(whole) + it for it in torn_ends(line[1:])]
+    each(((scene, "journal.1", it, len(it), True) for it in files), cut_one)
 
 
 def change_one(bench, name, at, byte):
@@ -178,4 +210,4 @@ def try_of_another(bench):
     return f"{each(((bench, *it) for it in changes), share_one)} changes"
 
 
-PARTS = {"texts": [try_cut, try_changed, try_behind_a_gate, try_record_words_jobs, try_of_another]}
+PARTS = {"texts": [try_cut, try_changed, try_cut_off_append, try_record_words_jobs, try_of_another]}

@@ -1,0 +1,105 @@
+"""The form that journals and `answers` have on disk, as the tests build and read it: code of their
+own, which shares nothing with the program or the stand-in.
+
+A file is appends and a closed commit byte `-`. An append is a line: the open commit byte `+`, a
+record, a blank, a checksum, and a line feed. The checksum is over that of the append before and
+the record; before the first append stands one over the run's id and the file's name.
+"""
+
+import hashlib
+from typing import Optional
+
+MOST_BEHIND = 1024  # bytes behind the commit byte of an append that was cut off
+NOT_WHOLE = "it is committed, and isn't whole"
+WRONG_CHECKSUM = "its checksum doesn't fit"
+NO_COMMIT_BYTE = "the byte before it is no commit byte"
+TOO_MUCH = "more follows than an append that was cut off"
+WRONG = (NOT_WHOLE, WRONG_CHECKSUM, NO_COMMIT_BYTE, TOO_MUCH)
+
+
+class Damaged(Exception):
+    """No crash leaves these bytes: the number of the append where that shows, what is wrong with
+    it, and the place where it begins."""
+
+
+def digits(data: bytes) -> bytes:
+    """The first 8 hex digits of SHA-256."""
+    return hashlib.sha256(data).hexdigest()[:8].encode()
+
+
+def seed(run: str, name: str) -> bytes:
+    """The checksum that stands before the first append of this file of a run."""
+    return digits(f"{run} {name}".encode())
+
+
+def checksums(run: str, name: str, records: list) -> list:
+    """The checksums of a file with these records, from the one before the first append on."""
+    found = [seed(run, name)]
+    for record in records:
+        found.append(digits(found[-1] + record))
+    return found
+
+
+def appends(run: str, name: str, records: list) -> list:
+    """The bytes of each append, from its commit byte to its line feed."""
+    checksum, found = seed(run, name), []
+    for record in records:
+        checksum = digits(checksum + record)
+        found.append(b"+%s %s\n" % (record, checksum))
+    return found
+
+
+def journal(run: str, name: str, records: list) -> bytes:
+    """The bytes of a file with these records."""
+    return b"".join(appends(run, name, records)) + b"-"
+
+
+def records_of(run: str, name: str, data: bytes) -> list:
+    """The records of the appends in these bytes; raises Damaged if no crash leaves them."""
+    checksum, records, place = seed(run, name), [], 0
+    while data[place:place + 1] == b"+":
+        end = data.find(b"\n", place)
+        if end < 0:
+            raise Damaged(len(records) + 1, NOT_WHOLE, place)
+        line = data[place + 1:end]
+        checksum = digits(checksum + line[:-9])
+        if line[-9:] != b" " + checksum:
+            raise Damaged(len(records) + 1, WRONG_CHECKSUM, place)
+        records.append(line[:-9])
+        place = end + 1
+    if wrong := wrong_behind(data[place:]):
+        raise Damaged(len(records) + 1, wrong, place)
+    return records
+
+
+def wrong_behind(rest: bytes) -> Optional[str]:
+    """What is wrong with the bytes behind the last append; None if a crash may leave them."""
+    if len(rest) < 2:
+        return None
+    if rest[:1] != b"-":
+        return NO_COMMIT_BYTE
+    behind = rest[1:].partition(b"\n")[2]
+    if len(rest) > 1 + MOST_BEHIND or behind not in (b"", b"-", b"\0"):
+        return TOO_MUCH
+    return None
+
+
+def old_journal(records: list) -> bytes:
+    """The bytes of a file with these records in a folder of amo 0.1.0, which has no checksums, and
+    no times of doubts and of what was untouched."""
+    return b"".join(b"+%s\n" % old_record(it) for it in records) + b"-"
+
+
+def old_record(record: bytes) -> bytes:
+    """The record that amo 0.1.0 would have put in place of this one."""
+    has_time = record.startswith((b"doubt ", b"untouched "))
+    return record.rpartition(b" ")[0] if has_time else record
+
+
+def old_records_of(data: bytes) -> list:
+    """The records in these bytes of a file of amo 0.1.0: what isn't whole counts for nothing."""
+    records = []
+    while data[:1] == b"+" and b"\n" in data:
+        record, _, data = data[1:].partition(b"\n")
+        records.append(record)
+    return records
