@@ -12,7 +12,10 @@ pub enum Loss {
         round: u64,
     },
     /// The append of this number, from 1, is another one.
-    Other { number: u64, round: u64 },
+    Other {
+        number: u64,
+        round: u64,
+    },
 }
 
 impl Display for Loss {
@@ -22,24 +25,28 @@ impl Display for Loss {
                 has: 1,
                 counted,
                 round,
-            } => write!(f,
+            } => write!(
+                f,
                 "it has 1 append, and {counted} were on the disk when round {round} began"
             ),
             Loss::Fewer {
                 has,
                 counted: 1,
                 round,
-            } => write!(f,
+            } => write!(
+                f,
                 "it has {has} appends, and 1 was on the disk when round {round} began"
             ),
             Loss::Fewer {
                 has,
                 counted,
                 round,
-            } => write!(f,
+            } => write!(
+                f,
                 "it has {has} appends, and {counted} were on the disk when round {round} began"
             ),
-            Loss::Other { number, round } => write!(f,
+            Loss::Other { number, round } => write!(
+                f,
                 "append {number} is another one than when round {round} began"
             ),
         }

@@ -18,7 +18,7 @@ returns-in-Some-clause-refused c =
     let first = c.args.first.digits in
     let records = records_of c.in-Ok.log.records.items in
     let long : length c.in-Ok.log.checksums.items ≡ length records =
-        sym (length-map c.in-Ok.log.checksums.items (λ checksum. checksum.digits)) ∙ ap length c.in-Ok.ensures.checksums ∙ length-checksums_from first records in
+    sym (length-map c.in-Ok.log.checksums.items (λ checksum. checksum.digits)) ∙ ap length c.in-Ok.ensures.checksums ∙ length-checksums_from first records in
     elim (cases_lt c.len.result c.in-Some.count.appends) [
       | inl fewer ↦ subst (λ why. IsWhyUnread why c.args.counted first c.args.bytes.now) (sym (c.loss_of.ensures.fewer (subst (λ (x : Count). c.len.result < x.appends) (sym c.in-Some.count-is) fewer)))
           (c.in-Some.count, c.in-Some.is, record { records = records; log = c.in-Ok.ensures.exact; has_them = omega (arith, c.len.ensures, c.deref.ensures.len, ap length c.deref.ensures.value, long); fewer = fewer })
