@@ -58,6 +58,10 @@ pub enum Later {
     /// this one.
     #[error("this round is over for this worker; start again to join the next one")]
     Over,
+    /// This file can't be read on: its last append, or the file itself, was replaced, or what
+    /// follows is damaged.
+    #[error("it was changed while it was read; start again, to read it from its beginning")]
+    Changed(Item),
     /// Another process holds the lock of the answers.
     #[error("another process is answering; start again in a second")]
     Answering,
@@ -71,6 +75,7 @@ impl Later {
     fn item(&self) -> Option<Item> {
         match self {
             Later::Answering => Some(Item::Answers),
+            Later::Changed(item) => Some(*item),
             Later::Running(_) => None,
             _ => Some(Item::Run),
         }

@@ -41,7 +41,7 @@ pub(crate) enum Unread {
 }
 
 /// How often a journal is read again if it looks damaged and its writer goes on meanwhile.
-const LOOKS: u32 = 100;
+pub(crate) const LOOKS: u32 = 100;
 
 /// Reads answers and journals as they are now: the answers first, so that none of them is to an
 /// attempt that isn't read. `last` is the file of the last round, which the caller has read before.

@@ -7,8 +7,8 @@ use crate::worker_io::WorkerIo;
 use amo_driver::{Asked, Intent, LifeEnd, Stop, ask_pending};
 use amo_givens::Givens;
 use amo_run_dir::{
-    Fault, Item, JoinedRound, Later, ListSettings, LockedJournal, Setting, attempts_of, begin,
-    enter, had, join, known, lock_of, record_of, take_number,
+    Fault, Followed, Item, JoinedRound, Later, ListSettings, LockedJournal, Setting, attempts_of,
+    begin, enter, had, join, known, lock_of, record_of, take_number,
 };
 use amo_run_log::pending;
 use amo_status::Counts;
@@ -47,7 +47,7 @@ fn live(
     let LockedJournal {
         journal,
         texts,
-        lock: _guard,
+        lock: guard,
     } = guarded;
     let last = record_of(rt, setting)?;
     let mut talk = Session {
@@ -65,7 +65,9 @@ fn live(
     }
     let joined = join(rt, setting, worker, boot)?;
     talk.jobs = known(rt, setting, Some(&joined.file))?;
-    Err(work_in(rt.alloc(), talk, joined, serial))
+    let count = talk.jobs.count();
+    let followed = Followed::begin(rt, setting, &joined.file, count, worker, &guard)?;
+    Err(work_in(rt.alloc(), talk, joined, followed, serial))
 }
 
 /// Begins a round, where nobody is at work in another. Answers where all lines stand, if none is
@@ -118,7 +120,13 @@ fn ask_past(alloc: Global, talk: &mut Session, texts: &[Vec<u8>]) -> Result<u64,
 }
 
 /// Works in a round to the end of this process.
-fn work_in(alloc: Global, talk: Session, joined: JoinedRound, serial: u64) -> Fault {
+fn work_in(
+    alloc: Global,
+    talk: Session,
+    joined: JoinedRound,
+    followed: Followed,
+    serial: u64,
+) -> Fault {
     let JoinedRound {
         file,
         words,
@@ -137,6 +145,7 @@ fn work_in(alloc: Global, talk: Session, joined: JoinedRound, serial: u64) -> Fa
         talk,
         words,
         record,
+        followed,
     };
     match amo_driver::work(alloc, givens, seat as u32, serial, &mut desk) {
         // Who was told to leave after its last job had nothing to leave.

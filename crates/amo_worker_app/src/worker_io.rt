@@ -3,9 +3,10 @@ ghost use Rattle.std.specs.Prelude.{◌≡◌, None};
 
 use crate::session::{Session, now};
 use amo_driver::{Failed, JobResult, Outside, Past, Reply};
-use amo_run_dir::{Fault, Words};
+use amo_run_dir::{Fault, Followed, Words};
 use amo_run_files::RoundHeader;
-use amo_run_log::Entry;
+use amo_run_log::{AttemptId, Entry};
+use std::rt::HostRuntime;
 
 /// The words of a round, its record, and who is talked to.
 #[derive(Drop)]
@@ -13,6 +14,7 @@ pub(crate) struct WorkerIo {
     pub(crate) talk: Session,
     pub(crate) words: Words,
     pub(crate) record: RoundHeader,
+    pub(crate) followed: Followed,
 }
 
 impl WorkerIo {
@@ -24,6 +26,14 @@ impl WorkerIo {
             Err(self.talk.fails(Fault::NoWay))
         }
     }
+}
+
+/// Prints on standard error that a line isn't handed over, and which attempt stands against it.
+fn tell_taken(rt: HostRuntime, line: u64, other: AttemptId) {
+    let (worker, serial) = (other.worker, other.serial);
+    let _ = eprintln!(rt;
+        "amo_worker: line {line}: attempt {worker}.{serial} stands against it; not started"
+    );
 }
 
 impl Outside for WorkerIo {
@@ -57,9 +67,23 @@ impl Outside for WorkerIo {
         self.talk.put(Entry::Intent { serial, line, time })
     }
 
-    // For now each line that has its intent is clear. The journals are read here next.
-    fn clear(&mut self, _serial: u64, _job: u32) -> Result<bool, Failed> {
-        Ok(true)
+    // If the journals can't be read on, the line isn't handed over. Its intent is noted as not
+    // begun, if this worker's own journal still takes that.
+    fn clear(&mut self, serial: u64, job: u32) -> Result<bool, Failed> {
+        let line = self.line_of(job)?;
+        let worker = self.talk.worker;
+        let own = AttemptId { worker, serial };
+        match self.followed.standing(self.talk.rt, own, line) {
+            Ok(None) => Ok(true),
+            Ok(Some(other)) => {
+                tell_taken(self.talk.rt, line, other);
+                Ok(false)
+            }
+            Err(fault) => {
+                let _ = Past::note(&mut self.talk, serial, JobResult::Unbegun);
+                Err(self.talk.fails(fault))
+            }
+        }
     }
 
     fn perform(&mut self, serial: u64, job: u32) -> Result<Reply, Failed> {
