@@ -13,6 +13,7 @@ import signal
 import subprocess
 import time
 from contextlib import suppress
+from typing import Optional
 
 from amo_crews.common import (
     close_all, DONE, DOUBTFUL, FAILED, KINDS, LATER, LEFT, locked, lowered, MEMORY, next_command,
@@ -22,7 +23,9 @@ from amo_crews.common import (
 PIPES = dict.fromkeys(("stdin", "stdout", "stderr"), subprocess.PIPE)
 OUTPUTS = ("out", "err")
 SHORTEST, LONGEST, FAR, MOST_FIRST_FAILURES = 0.1, 4.0, float("inf"), 10
+MOST_TAKEN, MOST_SAID = 10, 1 << 16
 NO_PROCESS = "its worker is alive, or a process of another user"
+TAKEN = re.compile(rb"(?:amo_worker: )?(line \d+: attempt \d+\.\d+ stands against it; not started)")
 INTERPRETER = re.compile(r"(?:|ba|da|k|z)sh|(?:python|perl|ruby|php|lua|node)[\d.]*")
 
 
@@ -235,6 +238,43 @@ def next_line(worker, rest):
     return rest.split(b"\n", 1)
 
 
+class Errors:
+    """What a worker writes to standard error. The crew reads it as it comes, since a full pipe
+    would block the worker."""
+
+    def __init__(self, crew: Crew, file):
+        self.crew, self.file, self.is_open, self.rest, self.text = crew, file, True, b"", b""
+        os.set_blocking(file.fileno(), False)
+
+    def fileno(self) -> int:
+        """Returns the pipe, for select."""
+        return self.file.fileno()
+
+    def read(self) -> bool:
+        """Takes the lines that there are, and returns whether there may be more."""
+        part = self.file.read(1 << 16)
+        self.is_open = part != b""
+        *lines, self.rest = (self.rest + (part or b"")).split(b"\n")
+        for line in lines:
+            self.take(line)
+        return bool(part)
+
+    def take(self, line: bytes) -> None:
+        """Hands on that a line was not started; keeps any other message, of which the last ones
+        are enough."""
+        if found := TAKEN.fullmatch(line):
+            self.crew.was_taken(found[1].decode())
+        else:
+            self.text = (self.text + line + b"\n")[-MOST_SAID:]
+
+    def end(self) -> str:
+        """Takes the rest, once the worker has ended, and returns the messages that were kept."""
+        while self.read():
+            pass
+        self.is_open = False
+        return (self.text + self.rest).decode("utf-8", "replace").strip()
+
+
 class Runner:
     """The runner of one worker. `run` is its life. It yields what it waits for: a file to be read,
     or None, and a time. It may be resumed sooner, so each place checks again what it waits for."""
@@ -243,6 +283,7 @@ class Runner:
         self.crew, self.given, self.number, self.steps = crew, crew.given, number, self.run()
         self.seen, self.left, self.command, self.lock, self.ends = {}, {}, None, None, 0
         self.status, self.message, self.warned, self.wait = None, "", None, (None, 0.0)
+        self.errors: Optional[Errors] = None
 
     def run(self):
         """Takes the lock of its number before it starts a worker, and keeps it as long as it lives.
@@ -284,6 +325,7 @@ class Runner:
                 MEMORY if isinstance(error, BlockingIOError) else READ, reason(error))
             return False
         os.set_blocking(worker.stdout.fileno(), False)
+        self.errors = Errors(self.crew, worker.stderr)
         with worker:
             while True:
                 line, rest = yield from next_line(worker, rest)
@@ -308,8 +350,7 @@ class Runner:
                     self.saw(serial, "unbegun")
             while worker.poll() is None:
                 yield None, FAR
-            self.status, self.message = (
-                worker.returncode, worker.stderr.read().decode("utf-8", "replace").strip())
+            self.status, self.message = worker.returncode, self.errors.end()
         if self.status in (DONE, LEFT, LATER):
             self.is_noted(last, self.status == DONE)
         return has_got
@@ -400,6 +441,7 @@ class Crew:
         self.given, self.program, self.begun, self.due = given, program, time.monotonic(), 0.0
         self.is_stopping, self.news, self.signals, self.asked, self.ended, self.good, self.row = (
             False, 0, [], 0, 0, 0, 0)
+        self.taken = 0
         self.before = program.status(given.run)
         with open(given.jobs, "rb") as file:
             self.lines = sum(1 for _ in file)
@@ -423,9 +465,14 @@ class Crew:
         living = [it for it in self.runners if it.wait]
         files, due = ([it.wait[0] for it in living if it.wait[0]],
                       min([self.due] + [it.wait[1] for it in living]))
-        ready = select.select([self.wake, *files], [], [], max(due - time.monotonic(), 0))[0]
+        errors = [it.errors for it in living if it.errors and it.errors.is_open]
+        ready = select.select([self.wake, *files, *errors], [], [],
+                              max(due - time.monotonic(), 0))[0]
         if self.wake in ready:
             os.read(self.wake, 4096)
+        for it in errors:
+            if it in ready:
+                it.read()
         while self.signals:
             self.take(self.signals.pop(0))
         now = time.monotonic()
@@ -496,6 +543,13 @@ class Crew:
                       + ("" if self.good else ", and no line was done before"),
                       f"; see the files err.P.S in `{visible(self.given.results)}` for the cause")
 
+    def was_taken(self, text: str) -> None:
+        """Shows that a line was not started, since another attempt stands against it. Of many
+        such messages the first are enough; the end has the count of the others."""
+        self.taken += 1
+        if self.taken <= MOST_TAKEN:
+            Screen.tell(text)
+
     def show(self):
         """Shows how far the crew is."""
         closed = min(sum(self.before[it] for it in KINDS[:5]) + self.ended, self.lines)
@@ -513,6 +567,9 @@ class Crew:
         # no worker is started any more
         close_all([it.lock for it in self.runners if it.lock is not None])
         found = self.program.status(self.given.run)
+        if self.taken > MOST_TAKEN:
+            Screen.tell(f"{self.taken - MOST_TAKEN} more lines were not started, since another"
+                        " attempt stands against each")
         more = f"; see the doubts: {next_command(self.given, 'doubts')}" if found["doubt"] else ""
         Screen.tell("\n".join([counted(found) + more, *listed(self.given.run, found, ["running"])]))
         return (refused + taken + [status_of(found, LEFT)])[0]

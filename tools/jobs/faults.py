@@ -148,6 +148,7 @@ setsid child:worker 1      | EPERM             | 0/74  |  | 0 | 0/3
 execve child:worker 1      | EACCES ENOENT     | 74    | % | 0 | 3
 read worker.4 1            | EIO               | 74    | worker 1: *% | 0/1 | 3/3
 ioctl worker.2 1           | EIO               | 73    | % | 0/1 | 3/3
+ioctl worker.3 1           | EIO               | 73    | % | 0/1 | 3/3
 read worker.2 1            | EIO               | 73    | % | 1 | 3
 read worker.2 1 2          | EINTR EAGAIN      | 0     | 3 done | 0 | 0
 read worker.2 2            | EIO               | 73    | % | 1 | 2
@@ -230,6 +231,7 @@ dup2 child:again 1         | EMFILE            | 73/74 | % | 0 | 0
 setsid child:again 1       | EPERM             | 0/73/74 |  | 0 | 0
 execve child:again 1       | EACCES            | 73/74 | % | 0 | 0
 *ioctl again.2 1           | EIO               | 73    | % | 0 | 0
+*ioctl again.3 1           | EIO               | 73    | % | 0 | 0
 read again.1 1             | EIO               | 73    | % | 0 | 0
 read again.2 1             | EIO               | 73    | % | 0 | 0
 *read again.3 1            | EIO               | 73    | % | 0 | 0

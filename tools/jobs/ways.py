@@ -428,6 +428,30 @@ def try_streams(bench):
         scene.audit()
 
 
+def try_many_messages(bench):
+    """a worker that says of 3,000 lines that other attempts stand against them isn't blocked by
+    its messages: the first ten are shown, and at the end how many more there were"""
+    scene, worker = bench.scene(["quick"] * 3), bench.worker
+    said = "amo_worker: line $k: attempt 2.$k stands against it; not started"
+    with open(f"{scene.room}/worker", "w") as file:
+        file.write(f"""#!/bin/sh
+k=0
+if [ "$1" = work ] && mkdir "$0.told" 2>/dev/null; then
+  while [ $k -lt 3000 ]; do k=$((k + 1)); echo "{said}"; done >&2
+fi
+exec {shlex.quote(worker)} "$@"
+""")
+    os.chmod(f"{scene.room}/worker", 0o755)
+    bench.worker = f"{scene.room}/worker"
+    scene.ends(scene.start(), DONE)
+    bench.worker = worker
+    shown = re.findall(r"^amo_jobs: line (\d+): attempt 2\.\1 stands against it; not started$",
+                       scene.tale(), re.M)
+    want(shown == [str(k) for k in range(1, 11)], f"it shows {shown}: {scene.tale()[-500:]}")
+    more = "amo_jobs: 2990 more lines were not started, since another attempt stands against each\n"
+    want(more in scene.tale() and "3 lines: 3 done" in scene.tale(), scene.tale()[-500:])
+
+
 def try_growing(bench):
     """a list may grow while it runs; one that is edited is refused; open lines can be printed"""
     scene = bench.scene(["waits", "slow", "slow"])
@@ -505,6 +529,6 @@ def fill(scene, disk):
 PARTS = {"ways": [
     try_ends, try_arguments, try_refusals, try_lists, try_answers, try_status, try_look,
     try_messages, try_boot_id, try_timeout, try_last_net, try_leftovers,
-    try_first_signal, try_second_signal, try_halt, try_one_runner, try_work, try_outputs, try_streams, try_growing, try_killed_in_turn,
+    try_first_signal, try_second_signal, try_halt, try_one_runner, try_work, try_outputs, try_streams, try_many_messages, try_growing, try_killed_in_turn,
     try_disk_full,
 ]}

@@ -6,12 +6,14 @@ import os
 import re
 
 from worker import (
-    counted, crowd, damage, entering, kills, making, persons, power, remains, rounds, scene,
-    telling, texts,
+    counted, crowd, damage, entering, kills, making, persons, power, registers, remains, rounds,
+    scene, telling, texts,
 )
 
 STAND_IN = os.path.join(os.path.dirname(os.path.realpath(__file__)), "stand_in.py")
 TWICE, GONE = "performed twice", "performed twice|acknowledged line is gone"
+# The registers or the round would have had a line performed twice; clearance takes it.
+GIVEN = "was given a line that isn't open"
 DOUBT = "(?s)status says .* doubt (1 .*'doubt': 0|2 .*'doubt': 1),"
 # If two write one journal, or one doesn't recover it, its checksums show that before a line is
 # gone.
@@ -19,21 +21,21 @@ SPOILED = GONE + "|append [0-9]+: "
 # A mistake, the test that must show it, and what that must say; the short form has the first of
 # them.
 MISTAKES = [
-    ("last_journal_wins", rounds.try_closing_wins, TWICE),
+    ("last_journal_wins", rounds.try_closing_wins, GIVEN),
     ("pending_is_open", persons.try_pending, TWICE),
     ("missing_is_empty", making.try_missing_beside, "journal.1: "),
     ("forgotten_is_taken", making.try_forgotten, "status 0"),
     ("mount_by_path", entering.try_mounts, "ext2 rw,relatime rw,discard : status 77"),
     ("options_are_taken", entering.try_mounts, "overlay rw,nobarrier rw  overlay .*: status 0"),
     ("cut_line_is_kept", texts.try_cut_off_append, DOUBT + "|entry 1 is damaged"),
-    ("words_of_another_boot", power.try_words_of_another_boot, TWICE),
+    ("words_of_another_boot", power.try_words_of_another_boot, GIVEN),
     ("lists_without_settling", power.try_listed_and_cut, "after it was listed as a doubt"),
     ("guard_is_removed", kills.try_two_of_one_number, SPOILED),
     ("intent_after_the_act", kills.try_killed, GONE),
     ("opens_without_settling", power.try_failed_sync_and_cut, SPOILED),
     ("above_synced_by_the_maker_alone", making.try_door_killed_and_cut, "another id after the cut"),
-    ("own_words_forgotten", crowd.try_crew_killed, TWICE),
-    ("claim_after_the_act", crowd.try_crew_killed, TWICE),
+    ("own_words_forgotten", crowd.try_crew_killed, GIVEN),
+    ("claim_after_the_act", kills.try_killed_beside, GIVEN),
     ("readers_without_a_lock", crowd.try_readers_beside_each_other, "a final doubt running"),
     ("empty_is_empty", making.try_missing, "journal.* is emptied, .*: status 0"),
     ("id_is_replaced", making.try_door_killed, "the id is replaced"),
@@ -68,6 +70,14 @@ MISTAKES = [
     ("missing_record_is_taken", counted.try_parts_removed, "record .*: status ends with 0"),
     ("unknown_is_open", remains.try_damaged_shown, "line [0-9]+: open"),
     ("outcomes_without_times", telling.try_times, "was noted"),
+    ("no_clearance", registers.try_spoiled, TWICE),
+    ("clears_before_the_intent", registers.try_stopped_and_brought_back, TWICE),
+    ("own_attempts_are_not_looked_at", registers.try_own_attempts, TWICE),
+    ("skips_a_journal", registers.try_taken, TWICE),
+    ("pending_is_opened", registers.try_taken, TWICE),
+    ("others_are_not_compared", registers.try_changed_journals,
+     "(?s)journal.2: copied: it ends with .*journal.2: cut_off: it ends with"),
+    ("own_name_is_not_compared", registers.try_changed_journals, "journal.1: copied: it ends"),
 ]
 CHEAPEST = 6
 

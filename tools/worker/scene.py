@@ -9,6 +9,7 @@ import contextlib
 import fcntl
 import os
 import random
+import re
 import select
 import signal
 import subprocess
@@ -20,6 +21,9 @@ from worker import folder
 
 OVER, WORDS, REFUSED, LEFT, SENSELESS, MEMORY, WRITE, READ, LATER, ANSWER, DOOR = 0, 64, 65, 69, 70, 71, 73, 74, 75, 76, 77
 KILLED = -signal.SIGKILL
+# A worker says this of a line that the registers gave it, if another attempt at it isn't opened.
+TAKEN = re.compile(r"amo_worker: line ([1-9][0-9]*): attempt ([1-9][0-9]*\.[1-9][0-9]*)"
+                   r" stands against it; not started\n")
 
 
 class Wrong(Exception):
@@ -102,6 +106,7 @@ class Scene:
         self.run, self.jobs, self.boot, self.log = f"{room}/run", f"{room}/jobs", f"{room}/boot", f"{room}/log"
         self.account, self.acknowledged, self.answers, self.by = [], {}, {}, {}
         self.boots, self.logs, self.keeps, self.is_still, self.more = 0, False, False, False, {}
+        self.has_true_registers, self.taken = True, []
         self.write_jobs([f"job {k}" for k in range(1, lines + 1)])
         self.start_machine()
         if makes:
@@ -236,7 +241,8 @@ class Scene:
         except folder.Refused as refused:
             raise Wrong(f"a journal is refused: {refused}") from refused
         self.audit_kept(found, performed)
-        self.audit_words()
+        if self.has_true_registers:
+            self.audit_words()
         if is_over:
             kinds = found.kinds(found.final())
             for line in kinds:
@@ -255,6 +261,12 @@ class Scene:
         for line, name in performed.items():
             closing = [it.name() for it in found.of_line(line)] if line <= len(found.lines) else []
             want(name in closing, f"line {line}, performed by {name}, is closed by {closing}")
+
+    def take_lines(self, worker, said):
+        """Notes the lines that a worker says are taken. If nobody has spoiled the registers, there are none."""
+        found = TAKEN.findall(said)
+        self.taken += [(worker, int(line), attempt) for line, attempt in found]
+        want(not (found and self.has_true_registers), f"worker {worker} was given a line that isn't open: {said}")
 
     def audit_words(self):
         """In the words of a round of this boot each job is filed once, and each worker has claimed what it filed, and at most one
@@ -349,6 +361,7 @@ class Runner:
             self.acknowledge()
         self.statuses.append(status)
         self.process = None
+        self.scene.take_lines(self.worker, self.said)
 
     def acknowledge(self):
         """What it went on after is noted."""

@@ -16,7 +16,9 @@ MISTAKES = ("intent_after_the_act pending_is_open guard_is_removed words_of_anot
             " reads_once cuts_what_it_sees counts_the_last_append header_after_the_journals"
             " counts_are_not_compared compares_after_the_cut seal_is_not_compared"
             " jobs_are_not_compared missing_record_is_taken unknown_is_open"
-            " outcomes_without_times").split()
+            " outcomes_without_times no_clearance clears_before_the_intent"
+            " own_attempts_are_not_looked_at skips_a_journal pending_is_opened"
+            " others_are_not_compared own_name_is_not_compared").split()
 MISTAKE = os.environ.get("AMO_MISTAKE")
 MOST_JOBS, MOST_WORKERS, MOST_BYTES = 4096, 16, 100000
 VERSION, OLD_VERSION = b"amo-run 2", b"amo-run 1"

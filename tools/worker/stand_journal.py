@@ -109,13 +109,13 @@ def why_refused(it, header, name: str, found: Appends) -> Optional[End]:
     return End(65, f"`{it.run}/{name}`: {wrong}; {KEEP}") if wrong else None
 
 
-def appends_of(it, header, name: str) -> Appends:
-    """The appends of a file whose lock this process doesn't hold, and that is read after the
-    header. Beside a writer a read may show bytes that never stood there, so the file is refused
+def appends_of(it, header, name: str, bytes_of=part) -> Appends:
+    """The appends of a file whose lock this process doesn't hold, and that `bytes_of` reads after
+    the header. Beside a writer a read may show bytes that never stood there, so the file is refused
     only if it shows the same ones again."""
     seen = None
     for _ in range(LOOKS):
-        found = appends_in(it, name, part(it, name))
+        found = appends_in(it, name, bytes_of(it, name))
         end = why_refused(it, header, name, found)
         if not end:
             return found
