@@ -396,8 +396,8 @@ def try_what_is_held(bench):
 
 
 def try_order_of_reads(bench):
-    """what persons found out is read before the journals, and these before the lines, so that nothing is of what isn't read; the locks
-    are asked for in one order"""
+    """what persons found out is read before the journals, and these before the lines, so that nothing is of what isn't read; an
+    intent is put before both are read for its clearance; the locks are asked for in one order"""
     if bench.is_slow():
         bench.skipped.append("the stand-in reads all twice")
         return
@@ -415,12 +415,24 @@ def try_order_of_reads(bench):
             wanted = ["answers", *(f"journal.{worker}" for worker in range(1, 17))]
         want(locks == wanted, f"{words} asks for the locks {locks}")
         begins = next((k for k, it in enumerate(calls) if it[2:4] == ["lock", "lock.round"]), 0)
-        reads = [it[3].split(".")[0] for it in calls[begins:] if it[2] == "read" and it[3] in ("answers", "journal.1", "jobs")]
+        intent = begins + next((k for k, it in enumerate(calls[begins:]) if it[2:4] == ["write", "journal.1"]), len(calls))
+        reads = [it[3].split(".")[0] for it in calls[begins:intent] if it[2] == "read" and it[3] in ("answers", "journal.1", "jobs")]
         places = {name: [k for k, it in enumerate(reads) if it == name] for name in ("answers", "journal", "jobs")}
         want(all(places.values()), f"{words} reads {reads}")
         wrongs += [words] if max(places["answers"]) > min(places["journal"]) else []
         wrongs += [words] if words[0] != "work" and max(places["journal"]) > min(places["jobs"]) else []
+        wrongs += [words] if words[0] == "work" and not is_cleared(calls[intent:]) else []
     want(not wrongs, f"in another order: {wrongs}")
+
+
+def is_cleared(calls):
+    """Whether `answers` and then each other journal is read after an intent was put, and before a line is said."""
+    end = next((k for k, it in enumerate(calls) if it[2] == "say"), len(calls))
+    last = max(k for k, it in enumerate(calls[:end]) if it[2:4] == ["sync", "journal.1"])
+    others = {f"journal.{worker}" for worker in range(2, 17)}
+    reads = [it[3] for it in calls[last:end] if it[2] == "read" and it[3] in {"answers", *others}]
+    places = [k for k, it in enumerate(reads) if it == "answers"]
+    return others <= set(reads) and places == list(range(len(places))) != []
 
 
 def try_cut_while_asked(bench):
