@@ -10,13 +10,15 @@ from worker.scene import LATER, WRITE, Runner, each, finish, live, serve, want
 
 
 def settle_doubts(scene):
-    """Sees the run out; a person finds out of each doubt how it was; then each line has been performed once."""
+    """Sees the run out; a person finds out of each doubt how it was, of one attempt at a line after
+    the other; then each line has been performed once."""
     workers = range(1, scene.workers + 1)
     scene.doubts()
     finish(scene, workers, is_over=False)
     performed = [it[2] for it in scene.effects()]
-    for worker, serial, line in scene.doubts():
-        scene.answer(worker, serial, line, "done" if line in performed else "not-done")
+    while doubts := scene.doubts():
+        for worker, serial, line in doubts:
+            scene.answer(worker, serial, line, "done" if line in performed else "not-done")
     finish(scene, workers)
     lines = list(range(1, len(scene.look().lines) + 1))
     want(sorted(it[2] for it in scene.effects()) == lines, f"performed: {scene.effects()}")

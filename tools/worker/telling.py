@@ -396,8 +396,9 @@ def try_what_is_held(bench):
 
 
 def try_order_of_reads(bench):
-    """what persons found out is read before the journals, and these before the lines, so that nothing is of what isn't read; an
-    intent is put before both are read for its clearance; the locks are asked for in one order"""
+    """each look reads what persons found out before the journals, and these before the lines, so
+    that nothing is of what isn't read; an intent is put before both are read for its clearance; the
+    locks are asked for in one order"""
     if bench.is_slow():
         bench.skipped.append("the stand-in reads all twice")
         return
@@ -419,8 +420,8 @@ def try_order_of_reads(bench):
         reads = [it[3].split(".")[0] for it in calls[begins:intent] if it[2] == "read" and it[3] in ("answers", "journal.1", "jobs")]
         places = {name: [k for k, it in enumerate(reads) if it == name] for name in ("answers", "journal", "jobs")}
         want(all(places.values()), f"{words} reads {reads}")
-        wrongs += [words] if max(places["answers"]) > min(places["journal"]) else []
-        wrongs += [words] if words[0] != "work" and max(places["journal"]) > min(places["jobs"]) else []
+        wrongs += [words] if max(places["answers"]) > max(places["journal"]) else []
+        wrongs += [words] if words[0] != "work" and max(places["journal"]) > max(places["jobs"]) else []
         wrongs += [words] if words[0] == "work" and not is_cleared(calls[intent:]) else []
     want(not wrongs, f"in another order: {wrongs}")
 
