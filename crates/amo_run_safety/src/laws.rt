@@ -132,8 +132,8 @@ pub fn commands_there_are()
 /// None of the three locks can be done without: by the other two a line is performed twice, though
 /// all that is said is true when it is said. Nor is it enough that no process is about to hand the
 /// line over: one that may still ask whether it may do so hands it over later. Nor can the truth be
-/// done without: by all three a line is performed twice where a person says of what was performed
-/// that it wasn't.
+/// done without: by all three a line is performed twice if a person says of what was performed that
+/// it wasn't.
 pub fn each_lock_is_needed()
     ensures journal { (actions : List Action) × AreActionsBy IsOverButForProcesses actions × IsTruthful actions × (lines_in (yard_of actions).performed ≡ 1 ∷ 1 ∷ []) }
     ensures runner { (actions : List Action) × AreActionsBy IsOverButForRunners actions × IsTruthful actions × (lines_in (yard_of actions).performed ≡ 1 ∷ 1 ∷ []) }
