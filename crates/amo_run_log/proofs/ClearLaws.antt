@@ -20,7 +20,7 @@ use Rattle.std.specs.Prelude.{◌==◌}
 
 -- the place of one journal, and the others
 
-here : {A : Type 0} (before after : List A) (x y : A) (p : ℕ) → p ≡ length before → slice_get (before ++ x ∷ after) p ≡ Some y → x ≡ y
+pub here : {A : Type 0} (before after : List A) (x y : A) (p : ℕ) → p ≡ length before → slice_get (before ++ x ∷ after) p ≡ Some y → x ≡ y
 here [] after x y zero is at = cc
 here [] after x y (suc p) is at = absurd (omega arith)
 here (b ∷ before) after x y zero is at = absurd (omega arith)
@@ -40,7 +40,7 @@ put (b ∷ before) after x (suc p) is = put before after x p (omega arith)
 
 -- the places before the last one
 
-not_last : {A : Type 0} (xs : List A) (x y : A) (s : ℕ) → s ≢ length xs → slice_get (xs ++ x ∷ []) s ≡ Some y → slice_get xs s ≡ Some y
+pub not_last : {A : Type 0} (xs : List A) (x y : A) (s : ℕ) → s ≢ length xs → slice_get (xs ++ x ∷ []) s ≡ Some y → slice_get xs s ≡ Some y
 not_last [] x y zero isnt at = absurd (isnt refl)
 not_last [] x y (suc s) isnt at = at
 not_last (z ∷ xs) x y zero isnt at = at
@@ -53,7 +53,7 @@ still (z ∷ xs) x y (suc s) at = let rest = still xs x y s at in (rest.0, omega
 
 -- what an answer leaves of each attempt
 
-record IsAnswered (es : List Attempt) (s : ℕ) (e : Attempt) : Type 0 where
+pub record IsAnswered (es : List Attempt) (s : ℕ) (e : Attempt) : Type 0 where
   pub was : Attempt
   pub at : slice_get es s ≡ Some was
   pub line : was.line ≡ e.line
@@ -69,7 +69,7 @@ answered_later : (d : Attempt) (es rest : List Attempt) (s : ℕ) (e : Attempt) 
 answered_later d es rest zero e each at = record { was = e; at = at; line = refl; opened = λ opened. opened }
 answered_later d es rest (suc s) e each at = let one = each s at in record { was = one.was; at = one.at; line = one.line; opened = one.opened }
 
-answered_each : (es next : List Attempt) (i s : ℕ) (a : Outcome) (e : Attempt) → answered es i a ≡ Some next → slice_get next s ≡ Some e → IsAnswered es s e
+pub answered_each : (es next : List Attempt) (i s : ℕ) (a : Outcome) (e : Attempt) → answered es i a ≡ Some next → slice_get next s ≡ Some e → IsAnswered es s e
 answered_each [] next i s a e h at = absurd (cc)
 answered_each (d ∷ es) next zero s a e h at =
     let (none, is) = head d es next a d.answer h in answered_first d es s a e (ap (λ (l : List Attempt). slice_get l s) is ∙ at) none

@@ -8,7 +8,7 @@ use Rattle.amo_run_log.specs.declared.finding.Finding.{Finding}
 use Rattle.amo_run_log.specs.declared.journal.Attempt.{Attempt}
 use Rattle.amo_run_log.specs.Findings.{is_undone}
 use Rattle.amo_run_log.specs.Journals.{noted, journal_from, journal_of}
-use Rattle.amo_run_log.specs.Open.{opens, any_closes, closed_by, is_open, OpensNone, OpensNot, IsAnswer, serial_of, IsOfLine, NoneOpens, HasIntent}
+use Rattle.amo_run_log.specs.Open.{opens, any_closes, closed_by, is_open, OpensNone, IsAnswer, serial_of, IsOfLine, NoneOpens, HasIntent}
 use Rattle.amo_run_log.proofs.OpenLaws.{noted_opens_none, noted_opens_own, intent_closes, answers_close_none}
 
 module _ (count : ℕ) (findings : List Finding) (line : ℕ) where
@@ -117,11 +117,16 @@ module _ (count : ℕ) (findings : List Finding) (line : ℕ) where
       only None = refl
       only (Some e) = refl
 
-  pub has_more : (s : ℕ) (entries : List Entry) (l : Entry) → HasIntent s line entries → OpensNot s l → HasIntent s line (entries ++ l ∷ [])
-  has_more s entries l has opens =
+  pub has_more : (s : ℕ) (entries more : List Entry) → HasIntent s line entries → NoneOpens s more → HasIntent s line (entries ++ more)
+  has_more s entries more has opens =
       let (front, time, back, split, none) = has in
-      (front, time, back ++ l ∷ [], ap (λ ls. ls ++ l ∷ []) split ∙ append_assoc front (Intent s line time ∷ back) (l ∷ []), none_more back none)
+      (front, time, back ++ more, ap (λ ls. ls ++ more) split ∙ append_assoc front (Intent s line time ∷ back) more, none_more back none)
     where
-      none_more : (ls : List Entry) → NoneOpens s ls → NoneOpens s (ls ++ l ∷ [])
-      none_more [] n = (opens, tt)
+      none_more : (ls : List Entry) → NoneOpens s ls → NoneOpens s (ls ++ more)
+      none_more [] n = opens
       none_more (x ∷ ls) n = (n.0, none_more ls n.1)
+
+  pub has_after : (s : ℕ) (entries more : List Entry) → HasIntent s line more → HasIntent s line (entries ++ more)
+  has_after s entries more has =
+      let (front, time, back, split, none) = has in
+      (entries ++ front, time, back, ap (λ ls. entries ++ ls) split ∙ sym (append_assoc entries front (Intent s line time ∷ back)), none)

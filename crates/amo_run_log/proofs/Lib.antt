@@ -1,7 +1,11 @@
+pub mod AppendTexts
 pub mod AttemptLemmas
+pub mod AttemptTexts
+pub mod ByLine
 pub mod ClearLaws
 pub mod Clearances
 pub mod ClosingWins
+pub mod EntryBytes
 pub mod EntryTexts
 pub mod FindingLaws
 pub mod FindingTexts

@@ -1,46 +1,33 @@
 -- What a file of the texts before a put, or after it, says, as entries or findings; and which lines its entries close.
 use Rattle.std.proofs.Common.{◌≡◌, ◌⊎◌, inl, inr, ⊎_elim, ℕ, ◌+◌, ◌^◌, ◌<◌, false, List, [], ◌∷◌, ◌++◌, length, Option, Some, Result, Ok, Err, refl, sym, ap, subst, ◌∙◌, arith}
-use Rattle.std.specs.Prelude.{codes, OnOk}
+use Rattle.std.specs.Prelude.{codes, option_map, OnOk}
 use Rattle.std.specs.Fmt.{decimal}
 use Rattle.amo_journal.specs.Device.{LeavesOnly}
 use Rattle.amo_journal.specs.Journal.{HasOneMoreOrNot}
 use Rattle.amo_journal.proofs.Logs.{log_records}
 use Rattle.amo_journal.specs.Appends.{records_in}
-use Rattle.amo_run_log.specs.declared.entry.Outcome.{Outcome}
-use Rattle.amo_run_log.specs.declared.entry.Outcome.TheVariants.{Done, Doubt, Unbegun, Untouched}
+use Rattle.amo_run_log.specs.declared.append.Append.{Append}
 use Rattle.amo_run_log.specs.declared.entry.Entry.{Entry}
-use Rattle.amo_run_log.specs.declared.entry.Entry.TheVariants.{Intent, Answer as Answered}
 use Rattle.amo_run_log.specs.declared.finding.Finding.{Finding}
 use Rattle.amo_run_log.specs.declared.finding.Resolution.{Resolution}
 use Rattle.amo_run_log.specs.declared.finding.Resolution.TheVariants.{Done as Found, NotDone}
 use Rattle.amo_run_log.specs.declared.journal.Attempt.{Attempt}
-use Rattle.amo_run_log.specs.Entries.{text_of, text_of_answer, Fits, FitsAnswer}
+use Rattle.amo_run_log.specs.Entries.{append_in, appends_in, entries_of_append, entries_of_appends}
 use Rattle.amo_run_log.specs.Findings.{word_of, text_of_finding, FitsFinding, is_undone}
 use Rattle.amo_run_log.specs.Numbers.{read_all}
-use Rattle.amo_run_log.specs.Open.{HasIntent, OpensNot}
-use Rattle.amo_run_log.specs.Puts.{entries_of, StandsForOneMoreOrNot, IsClosedIn}
-use Rattle.amo_run_log.proofs.ClosingWins.{closed_with, has_more}
+use Rattle.amo_run_log.specs.Open.{HasIntent, NoneOpens}
+use Rattle.amo_run_log.specs.Puts.{entries_of, StandsForMoreOrNot, IsClosedIn}
+use Rattle.amo_run_log.proofs.AppendTexts.{entries_more, map_some}
+use Rattle.amo_run_log.proofs.ClosingWins.{closed_with, has_after, has_more}
 use Rattle.amo_run_log.proofs.TextLists.{one_more}
 use Rattle.amo_run_log.proofs.Words.{Lacks, lacks_append, lacks_by_test, decimal_lacks}
 
--- the text of an entry is one line, and so is that of a finding
-
-two_lack : (a b : ℕ) → a < 2 ^ 64 → b < 2 ^ 64 → Lacks 10 (decimal a ++ 32 ∷ decimal b)
-two_lack a b fa fb = lacks_append 10 (decimal a) (32 ∷ decimal b) (decimal_lacks 10 a (omega arith) fa) ((λ e. omega arith), decimal_lacks 10 b (omega arith) fb)
+-- the text of a finding is one line
 
 three_lack : (a b c : ℕ) → a < 2 ^ 64 → b < 2 ^ 64 → c < 2 ^ 64 → Lacks 10 (decimal a ++ 32 ∷ (decimal b ++ 32 ∷ decimal c))
-three_lack a b c fa fb fc = lacks_append 10 (decimal a) (32 ∷ (decimal b ++ 32 ∷ decimal c)) (decimal_lacks 10 a (omega arith) fa) ((λ e. omega arith), two_lack b c fb fc)
-
-answer_lacks : (s : ℕ) (a : Outcome) → FitsAnswer s a → Lacks 10 (text_of_answer s a)
-answer_lacks s (Done c t) f = lacks_append 10 (codes "done ") (decimal s ++ 32 ∷ (decimal c ++ 32 ∷ decimal t)) (lacks_by_test 10 (codes "done ") refl) (three_lack s c t f.0 (omega (arith, f.1)) f.2)
-answer_lacks s (Doubt t) f = lacks_append 10 (codes "doubt ") (decimal s ++ 32 ∷ decimal t) (lacks_by_test 10 (codes "doubt ") refl) (two_lack s t f.0 f.1)
-answer_lacks s Unbegun f = lacks_append 10 (codes "unbegun ") (decimal s) (lacks_by_test 10 (codes "unbegun ") refl) (decimal_lacks 10 s (omega arith) f)
-answer_lacks s (Untouched c t) f =
-    lacks_append 10 (codes "untouched ") (decimal s ++ 32 ∷ (decimal c ++ 32 ∷ decimal t)) (lacks_by_test 10 (codes "untouched ") refl) (three_lack s c t f.0 (omega (arith, f.1)) f.2)
-
-pub one_line : (e : Entry) → Fits e → Lacks 10 (text_of e)
-one_line (Intent s l t) f = lacks_append 10 (codes "intent ") (decimal s ++ 32 ∷ (decimal l ++ 32 ∷ decimal t)) (lacks_by_test 10 (codes "intent ") refl) (three_lack s l t f.0 f.1 f.2)
-one_line (Answered s a) f = answer_lacks s a f
+three_lack a b c fa fb fc =
+    lacks_append 10 (decimal a) (32 ∷ (decimal b ++ 32 ∷ decimal c)) (decimal_lacks 10 a (omega arith) fa)
+    ((λ e. omega arith), lacks_append 10 (decimal b) (32 ∷ decimal c) (decimal_lacks 10 b (omega arith) fb) ((λ e. omega arith), decimal_lacks 10 c (omega arith) fc))
 
 word_lacks : (v : Resolution) → Lacks 10 (word_of v)
 word_lacks Found = lacks_by_test 10 (codes "done") refl
@@ -93,6 +80,32 @@ puts_one first read_as moment left_since seen old new result text x is put run n
   read = λ xs are. before_or_after first read_as (seen old) text xs x is are (seen new) now;
 }
 
+-- the same of entries: what a put of an append comes to
+pub record PutsAppend {D T E : Type 0} (moment : D → ℕ) (left_since : D → ℕ → List ℕ → Type 0) (seen : D → List ℕ) (old new : D) (result : Result T E) (append : Append) : Type 0 where
+  pub acknowledged : (entries : List Entry) → entries_of (seen old) ≡ Some entries → OnOk result (entries_of (seen new) ≡ Some (entries ++ entries_of_append append))
+  pub any_moment : (entries : List Entry) → entries_of (seen old) ≡ Some entries → LeavesOnly moment left_since old new (StandsForMoreOrNot entries (entries_of_append append))
+  pub read : (entries : List Entry) → entries_of (seen old) ≡ Some entries → StandsForMoreOrNot entries (entries_of_append append) (seen new)
+
+module _ (file : List ℕ) (xs : List Append) (entries : List Entry) (append : Append) (is : entries_of_appends xs ≡ entries) where
+  says_more : read_all append_in (records_in file) ≡ Some (xs ++ append ∷ []) → entries_of file ≡ Some (entries ++ entries_of_append append)
+  says_more are = ap (option_map entries_of_appends) are ∙ ap (λ l. Some l) (entries_more xs append ∙ ap (λ l. l ++ entries_of_append append) is)
+
+  says_same : read_all append_in (records_in file) ≡ Some xs → entries_of file ≡ Some entries
+  says_same are = ap (option_map entries_of_appends) are ∙ ap (λ l. Some l) is
+
+  stands : (read_all append_in (records_in file) ≡ Some xs) ⊎ (read_all append_in (records_in file) ≡ Some (xs ++ append ∷ [])) → StandsForMoreOrNot entries (entries_of_append append) file
+  stands either = ⊎_elim (λ same. inl (says_same same)) (λ more. inr (says_more more)) either
+
+pub puts_append : {D T E : Type 0} (moment : D → ℕ) (left_since : D → ℕ → List ℕ → Type 0) (seen : D → List ℕ) (old new : D) (result : Result T E) (append : Append)
+    → PutsOne append_in moment left_since seen old new result append → PutsAppend moment left_since seen old new result append
+puts_append moment left_since seen old new result append one = record {
+  acknowledged = λ entries are. let (xs, read, is) = map_some entries_of_appends (appends_in (records_in (seen old))) entries are in on_ok result (one.acknowledged xs read) (says_more (seen new) xs entries append is);
+  any_moment = λ entries are.
+      let (xs, read, is) = map_some entries_of_appends (appends_in (records_in (seen old))) entries are in
+      leaves moment left_since old new _ (StandsForMoreOrNot entries (entries_of_append append)) (one.any_moment xs read) (λ c. stands c xs entries append is);
+  read = λ entries are. let (xs, read, is) = map_some entries_of_appends (appends_in (records_in (seen old))) entries are in stands (seen new) xs entries append is (one.read xs read);
+}
+
 -- where nothing was done, only what might have been left before
 pub started : {D : Type 0} (moment : D → ℕ) (left_since : D → ℕ → List ℕ → Type 0) (file : D) (P : List ℕ → Type 0) → ((c : List ℕ) → left_since file (moment file) c → P c) → LeavesOnly moment left_since file file P
 started moment left_since file P now = record { later = omega arith; each = now; before = λ t c le left. inl left }
@@ -100,20 +113,20 @@ started moment left_since file P now = record { later = omega arith; each = now;
 same_some : (xs ys : List Entry) → Some xs ≡ Some ys → xs ≡ ys
 same_some xs ys e = cc
 
--- a file of the entries, or of one more, has the line closed
-pub law_crash : (count : ℕ) (findings : List Finding) (line : ℕ) (before after : List (List Attempt)) (s : ℕ) (entries : List Entry) (e : Entry)
-    → HasIntent s line entries → OpensNot s e → is_undone findings (length before + 1) s ≡ false → (c : List ℕ) → StandsForOneMoreOrNot entries e c → IsClosedIn count findings before after line c
-law_crash count findings line before after s entries e has opens f c stands read es reads h =
+-- a file of the entries, with others after them or without, has the line closed
+pub law_crash : (count : ℕ) (findings : List Finding) (line : ℕ) (before after : List (List Attempt)) (s : ℕ) (entries more : List Entry)
+    → HasIntent s line entries → NoneOpens s more → is_undone findings (length before + 1) s ≡ false → (c : List ℕ) → StandsForMoreOrNot entries more c → IsClosedIn count findings before after line c
+law_crash count findings line before after s entries more has opens f c stands read es reads h =
     ⊎_elim
     (λ same. closed_with count findings line before after s read (subst (λ (ls : List Entry). HasIntent s line ls) (same_some entries read (sym same ∙ reads)) has) f es h)
-    (λ more. closed_with count findings line before after s read (subst (λ (ls : List Entry). HasIntent s line ls) (same_some (entries ++ e ∷ []) read (sym more ∙ reads)) (has_more count findings line s entries e has opens)) f es h)
+    (λ all. closed_with count findings line before after s read (subst (λ (ls : List Entry). HasIntent s line ls) (same_some (entries ++ more) read (sym all ∙ reads)) (has_more count findings line s entries more has opens)) f es h)
     stands
 
--- so has one of the entries and the intent
-pub law_put : (count : ℕ) (findings : List Finding) (line : ℕ) (before after : List (List Attempt)) (s t : ℕ) (entries : List Entry)
-    → is_undone findings (length before + 1) s ≡ false → (c : List ℕ) → entries_of c ≡ Some (entries ++ Intent s line t ∷ []) → IsClosedIn count findings before after line c
-law_put count findings line before after s t entries f c stands read es reads h =
-    closed_with count findings line before after s read (entries, t, [], same_some read (entries ++ Intent s line t ∷ []) (sym reads ∙ stands), tt) f es h
+-- so has one of the entries and others with the intent
+pub law_put : (count : ℕ) (findings : List Finding) (line : ℕ) (before after : List (List Attempt)) (s : ℕ) (entries more : List Entry)
+    → HasIntent s line more → is_undone findings (length before + 1) s ≡ false → (c : List ℕ) → entries_of c ≡ Some (entries ++ more) → IsClosedIn count findings before after line c
+law_put count findings line before after s entries more has f c stands read es reads h =
+    closed_with count findings line before after s read (subst (λ (ls : List Entry). HasIntent s line ls) (same_some (entries ++ more) read (sym stands ∙ reads)) (has_after count findings line s entries more has)) f es h
 
 pub on_ok_both : {T E : Type 0} {P Q R : Type 0} (r : Result T E) → OnOk r P → OnOk r Q → (P → Q → R) → OnOk r R
 on_ok_both (Ok x) p q follows = follows p q

@@ -3,7 +3,7 @@ use Rattle.std.proofs.Common.{◌≡◌, ◌≢◌, ◌⊎◌, inl, inr, ℕ, �
 use Rattle.std.specs.Prelude.{nat_lt, not, ◌==◌, option_and_then}
 use Rattle.std.specs.Char.{digit_value}
 use Rattle.std.specs.Fmt.{decimal}
-use Rattle.std.specs.List.{AllByRecursion, position_or_len, list_all}
+use Rattle.std.specs.List.{AllByRecursion, after_first, before_first, position_or_len, list_all}
 use Rattle.std.specs.Str.{bytes_eq, IsAscii, IsUtf8}
 use Rattle.std.specs.Str.Parse.{AllDigits}
 use Rattle.std.proofs.lemmas.Bool.{and_parts}
@@ -16,7 +16,7 @@ use Rattle.std.proofs.lemmas.Str.{IsAscii-append}
 use Rattle.std.proofs.lemmas.Str.Ascii.{IsAscii-nil, IsAscii-cons}
 use Rattle.amo_decimal.specs.Numbers.{number_in}
 use Rattle.amo_decimal.proofs.NumberTexts.{reads_printed, printed_of_read}
-use Rattle.amo_run_log.specs.Numbers.{has_blank, first_word, other_words, two_in, three_in}
+use Rattle.amo_run_log.specs.Numbers.{has_byte, has_blank, first_word, other_words, two_in, three_in}
 use Rattle.amo_run_log.proofs.Readings.{no_text_by, none_some, some_is}
 
 pub equal : (a b : ℕ) → a ≡ b → (a == b) ≡ true
@@ -42,38 +42,70 @@ lacks_by_test c (b ∷ text) h =
     differs : (d : ℕ) → not (d == c) ≡ true → d ≢ c
     differs d t = grind (arith, nat_tests)
 
-pub digits_lack : (c : ℕ) (ds : List ℕ) → c < 48 → AllDigits 10 ds → Lacks c ds
-digits_lack c [] low all = tt
-digits_lack c (d ∷ ds) low all = (isnt d all.0, digits_lack c ds low all.1)
+-- no digit is this byte
+abbrev pub IsNoDigit : ℕ → Type 0
+IsNoDigit c = nat_lt (digit_value c) 10 ≡ false
+
+digits_without : (c : ℕ) (ds : List ℕ) → IsNoDigit c → AllDigits 10 ds → Lacks c ds
+digits_without c [] apart all = tt
+digits_without c (d ∷ ds) apart all = (λ is. neither (digit_value c) (subst (λ e. digit_value e < 10) is all.0) apart, digits_without c ds apart all.1)
   where
-    isnt : (e : ℕ) → digit_value e < 10 → e ≢ c
-    isnt e digit = grind (arith, nat_tests)
+    neither : (value : ℕ) → value < 10 → nat_lt value 10 ≡ false → ⊥
+    neither value low high = grind (arith, nat_tests)
 
+pub decimal_without : (c n : ℕ) → IsNoDigit c → n < 2 ^ 64 → Lacks c (decimal n)
+decimal_without c n apart fits = digits_without c (decimal n) apart (decimal_is_IsNumeral n fits).0.1
+
+-- no byte below the digits is one
 pub decimal_lacks : (c n : ℕ) → c < 48 → n < 2 ^ 64 → Lacks c (decimal n)
-decimal_lacks c n low fits = digits_lack c (decimal n) low (decimal_is_IsNumeral n fits).0.1
+decimal_lacks c n low fits = decimal_without c n (is_none c low) fits
+  where
+    is_none : (d : ℕ) → d < 48 → nat_lt (digit_value d) 10 ≡ false
+    is_none d below = grind (arith, nat_tests)
 
--- the first blank of two words
-pub place : (w r : List ℕ) → Lacks 32 w → position_or_len (λ b. b == 32) (w ++ 32 ∷ r) ≡ length w
-place [] r lacks = refl
-place (c ∷ w) r lacks =
-    ap (λ t. cond (not t) (1 + position_or_len (λ b. b == 32) (w ++ 32 ∷ r)) 0) (not_equal c 32 lacks.0) ∙ omega (arith, place w r lacks.1)
+-- the first place of a byte
+pub place : (c : ℕ) (w r : List ℕ) → Lacks c w → position_or_len (λ b. b == c) (w ++ c ∷ r) ≡ length w
+place c [] r lacks = ap (λ t. cond (not t) (1 + position_or_len (λ b. b == c) r) 0) (equal c c refl)
+place c (b ∷ w) r lacks =
+    ap (λ t. cond (not t) (1 + position_or_len (λ b. b == c) (w ++ c ∷ r)) 0) (not_equal b c lacks.0) ∙ omega (arith, place c w r lacks.1)
 
+-- a text that lacks the byte
+pub no_place : (c : ℕ) (text : List ℕ) → Lacks c text → has_byte c text ≡ false
+no_place c text lacks = not_less (position_or_len (λ b. b == c) text) (length text) (at_end text lacks)
+  where
+    at_end : (text : List ℕ) → Lacks c text → position_or_len (λ b. b == c) text ≡ length text
+    at_end [] lacks = refl
+    at_end (b ∷ text) lacks = ap (λ t. cond (not t) (1 + position_or_len (λ b. b == c) text) 0) (not_equal b c lacks.0) ∙ omega (arith, at_end text lacks.1)
+
+    not_less : (a b : ℕ) → a ≡ b → nat_lt a b ≡ false
+    not_less a b h = grind (arith, nat_tests)
+
+-- the text is w, this byte, and r, and the byte is not in w
+pub record AreParts (c : ℕ) (text w r : List ℕ) : Type 0 where
+  pub there : has_byte c text ≡ true
+  pub first : before_first (λ b. b == c) text ≡ w
+  pub rest : after_first (λ b. b == c) text ≡ r
+
+pub parts : (c : ℕ) (w r : List ℕ) → Lacks c w → AreParts c (w ++ c ∷ r) w r
+parts c w r lacks =
+    let at : position_or_len (λ b. b == c) (w ++ c ∷ r) ≡ length w = place c w r lacks in
+    record {
+      there = less_is (position_or_len (λ b. b == c) (w ++ c ∷ r)) (length (w ++ c ∷ r)) (omega (arith, at, length-append w (c ∷ r)));
+      first = ap (λ n. take n (w ++ c ∷ r)) at ∙ take_at w (c ∷ r) (length w) refl;
+      rest = ap (λ n. drop (n + 1) (w ++ c ∷ r)) at ∙ ap (drop (length w + 1)) (sym (append_assoc w (c ∷ []) r)) ∙ drop_at (w ++ c ∷ []) r (length w + 1) (length-append w (c ∷ []));
+    }
+  where
+    less_is : (a b : ℕ) → a < b → nat_lt a b ≡ true
+    less_is a b h = grind (arith, nat_tests)
+
+-- with a blank for the byte
 pub record AreWords (text w r : List ℕ) : Type 0 where
   pub blank : has_blank text ≡ true
   pub first : first_word text ≡ w
   pub rest : other_words text ≡ r
 
 pub words : (w r : List ℕ) → Lacks 32 w → AreWords (w ++ 32 ∷ r) w r
-words w r lacks =
-    let at : position_or_len (λ b. b == 32) (w ++ 32 ∷ r) ≡ length w = place w r lacks in
-    record {
-      blank = less_is (position_or_len (λ b. b == 32) (w ++ 32 ∷ r)) (length (w ++ 32 ∷ r)) (omega (arith, at, length-append w (32 ∷ r)));
-      first = ap (λ n. take n (w ++ 32 ∷ r)) at ∙ take_at w (32 ∷ r) (length w) refl;
-      rest = ap (λ n. drop (n + 1) (w ++ 32 ∷ r)) at ∙ ap (drop (length w + 1)) (sym (append_assoc w (32 ∷ []) r)) ∙ drop_at (w ++ 32 ∷ []) r (length w + 1) (length-append w (32 ∷ []));
-    }
-  where
-    less_is : (a b : ℕ) → a < b → nat_lt a b ≡ true
-    less_is a b h = grind (arith, nat_tests)
+words w r lacks = let p : AreParts 32 (w ++ 32 ∷ r) w r = parts 32 w r lacks in record { blank = p.there; first = p.first; rest = p.rest }
 
 -- so what is read of its parts is read of these
 pub word_reads : {A : Type 0} (read : List ℕ → List ℕ → Option A) (w r : List ℕ) → list_all (λ b. not (b == 32)) w ≡ true
@@ -83,18 +115,22 @@ word_reads read w r lacks =
     let p : AreWords text w r = words w r (lacks_by_test 32 w lacks) in
     ap (λ t. cond t (read (first_word text) (other_words text)) None) p.blank ∙ ap (λ f. read f (other_words text)) p.first ∙ ap (read w) p.rest
 
--- a text with a blank is its first word, a blank and the other words
-pub split : (text : List ℕ) → has_blank text ≡ true → text ≡ first_word text ++ 32 ∷ other_words text
-split text h =
-    let at = is_less (position_or_len (λ b. b == 32) text) (length text) h in
-    split_at_first (λ b. b == 32) text 0 at
-    ∙ ap (λ n. first_word text ++ n ∷ other_words text) (is_equal (get_or text (position_or_len (λ b. b == 32) text) 0) 32 (passes_at_first (λ b. b == 32) text 0 at))
+-- a text with this byte is what stands before it first, the byte, and what stands after it
+pub split_at : (c : ℕ) (text : List ℕ) → has_byte c text ≡ true → text ≡ before_first (λ b. b == c) text ++ c ∷ after_first (λ b. b == c) text
+split_at c text h =
+    let at = is_less (position_or_len (λ b. b == c) text) (length text) h in
+    split_at_first (λ b. b == c) text 0 at
+    ∙ ap (λ n. before_first (λ b. b == c) text ++ n ∷ after_first (λ b. b == c) text) (is_equal (get_or text (position_or_len (λ b. b == c) text) 0) c (passes_at_first (λ b. b == c) text 0 at))
   where
     is_less : (a b : ℕ) → nat_lt a b ≡ true → a < b
     is_less a b h = grind (arith, nat_tests)
 
     is_equal : (a b : ℕ) → (a == b) ≡ true → a ≡ b
     is_equal a b h = grind (arith, nat_tests)
+
+-- with a blank it is its first word, a blank and the other words
+pub split : (text : List ℕ) → has_blank text ≡ true → text ≡ first_word text ++ 32 ∷ other_words text
+split text h = split_at 32 text h
 
 pub blank_and : {A : Type 0} (b : Bool) (o : Option A) (y : A) → cond b o None ≡ Some y → (b ≡ true) × (o ≡ Some y)
 blank_and true o y h = (refl, h)

@@ -1,9 +1,12 @@
 -- The entries of a journal, as texts.
-use Rattle.std.specs.Prelude.{ℕ, ◌<◌, ◌^◌, nat_lt, List, ◌++◌, codes, Option, Some, None, option_and_then, if◌then◌else◌}
+use Rattle.std.specs.Prelude.{ℕ, ◌<◌, ◌^◌, ◌==◌, nat_lt, List, [], ◌∷◌, ◌++◌, codes, Option, Some, None, option_and_then, option_map, if◌then◌else◌}
 use Rattle.std.specs.Fmt.{decimal}
+use Rattle.std.specs.List.{after_first, before_first, flat_map}
 use Rattle.std.specs.Str.{bytes_eq}
 use Rattle.amo_decimal.specs.Numbers.{number_in}
-use Rattle.amo_run_log.specs.Numbers.{by_word, two_in, three_in, read_all}
+use Rattle.amo_run_log.specs.Numbers.{by_word, has_byte, two_in, three_in, read_all}
+use Rattle.amo_run_log.specs.declared.append.Append.{Append}
+use Rattle.amo_run_log.specs.declared.append.Append.TheVariants.{One, Two}
 use Rattle.amo_run_log.specs.declared.entry.Outcome.{Outcome}
 use Rattle.amo_run_log.specs.declared.entry.Outcome.TheVariants.{Done, Doubt, Unbegun, Untouched}
 use Rattle.amo_run_log.specs.declared.entry.Entry.{Entry}
@@ -56,6 +59,41 @@ entry_of_word word rest =
 abbrev pub entry_in : List ℕ → Option Entry
 entry_in text = by_word entry_of_word text
 
--- what texts say, each of them an entry
+-- the entries of an append, in order
+abbrev pub entries_of_append : Append → List Entry
+entries_of_append (One entry) = entry ∷ []
+entries_of_append (Two first second) = first ∷ second ∷ []
+
+-- the text of an append: one entry, or two with `; ` between them
+abbrev pub text_of_append : Append → List ℕ
+text_of_append (One entry) = text_of entry
+text_of_append (Two first second) = text_of first ++ (codes "; " ++ text_of second)
+
+-- each number of its entries fits
+abbrev pub FitsAppend : Append → Type 0
+FitsAppend (One entry) = Fits entry
+FitsAppend (Two first second) = Fits first × Fits second
+
+-- the entry that stands after one blank
+abbrev pub entry_after_blank : List ℕ → Option Entry
+entry_after_blank [] = None
+entry_after_blank (b ∷ text) = if b == 32 then entry_in text else None
+
+-- what the text of an append says: two entries if there is a semicolon in it, or else one
+abbrev pub append_in : List ℕ → Option Append
+append_in text =
+    if has_byte 59 text
+    then option_and_then (λ first. option_map (λ second. Two first second) (entry_after_blank (after_first (λ b. b == 59) text))) (entry_in (before_first (λ b. b == 59) text))
+    else option_map (λ entry. One entry) (entry_in text)
+
+-- what the texts of appends say, each of them an append
+abbrev pub appends_in : List (List ℕ) → Option (List Append)
+appends_in texts = read_all append_in texts
+
+-- the entries of all appends, in order
+abbrev pub entries_of_appends : List Append → List Entry
+entries_of_appends appends = flat_map entries_of_append appends
+
+-- the entries that the texts of appends say, in order
 abbrev pub entries_in : List (List ℕ) → Option (List Entry)
-entries_in texts = read_all entry_in texts
+entries_in texts = option_map entries_of_appends (appends_in texts)

@@ -6,7 +6,9 @@ use Rattle.amo_run_log.specs.declared.entry.Entry.{Entry}
 use Rattle.amo_run_log.specs.declared.entry.Entry.TheVariants.{Intent, Answer as Answered}
 use Rattle.amo_run_log.specs.declared.fault.Fault.{Fault}
 use Rattle.amo_run_log.specs.declared.fault.Fault.TheVariants.{Memory, Refused}
+use Rattle.amo_run_log.specs.declared.append.Append.{Append}
 use Rattle.amo_run_log.specs.declared.journal.Attempt.{Attempt}
+use Rattle.amo_run_log.specs.Entries.{entries_in, entries_of_append}
 
 -- the attempts once the one at this index has this answer
 abbrev pub answered : List Attempt → ℕ → Outcome → Option (List Attempt)
@@ -46,6 +48,20 @@ NotesOrNot count false old entry new = (noted count old entry ≡ None) × (new 
 abbrev pub IsRefused : ℕ → List Entry → Fault → Type 0
 IsRefused count entries Memory = Unit {0}
 IsRefused count entries (Refused number) = (1 ≤ number) × (number ≤ length entries) × (journal_of count (take (number - 1) entries) ≢ None) × (journal_of count (take number entries) ≡ None)
+
+-- the attempts once all entries of an append are noted; if they aren't, no journal has them
+abbrev pub NotesAllOrNot : ℕ → Bool → List Attempt → Append → List Attempt → Type 0
+NotesAllOrNot count true old append new = journal_from count old (entries_of_append append) ≡ Some new
+NotesAllOrNot count false old append new = journal_from count old (entries_of_append append) ≡ None
+
+-- the journal that the texts of appends say
+abbrev pub attempts_in : ℕ → List (List ℕ) → Option (List Attempt)
+attempts_in count texts = option_and_then (λ entries. journal_of count entries) (entries_in texts)
+
+-- the appends before the refused one say a journal, and with it they say none
+abbrev pub IsRefusedAppend : ℕ → List (List ℕ) → Fault → Type 0
+IsRefusedAppend count texts Memory = Unit {0}
+IsRefusedAppend count texts (Refused number) = (1 ≤ number) × (number ≤ length texts) × (attempts_in count (take (number - 1) texts) ≢ None) × (attempts_in count (take number texts) ≡ None)
 
 -- the serial numbers and lines of the intents without an answer
 abbrev pub pending_from : ℕ → List Attempt → List (ℕ × ℕ)

@@ -1,3 +1,4 @@
+pub mod ByLine
 pub mod Clearance
 pub mod Entries
 pub mod Faults

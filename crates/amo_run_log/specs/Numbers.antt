@@ -3,9 +3,13 @@ use Rattle.std.specs.Prelude.{ℕ, Bool, nat_lt, List, [], ◌∷◌, ◌==◌, 
 use Rattle.std.specs.List.{position_or_len, before_first, after_first}
 use Rattle.amo_decimal.specs.Numbers.{number_in}
 
+-- whether this byte is in the text
+abbrev pub has_byte : ℕ → List ℕ → Bool
+has_byte byte text = nat_lt (position_or_len (λ b. b == byte) text) (length text)
+
 -- whether there is a blank in the text
 abbrev pub has_blank : List ℕ → Bool
-has_blank text = nat_lt (position_or_len (λ b. b == 32) text) (length text)
+has_blank text = has_byte 32 text
 
 -- what stands before the first blank
 abbrev pub first_word : List ℕ → List ℕ

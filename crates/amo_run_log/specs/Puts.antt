@@ -9,13 +9,13 @@ use Rattle.amo_run_log.specs.Findings.{findings_in}
 use Rattle.amo_run_log.specs.Journals.{journal_of}
 use Rattle.amo_run_log.specs.Open.{is_open}
 
--- what a file says as entries
+-- what a file says: the entries of all its appends, in order
 abbrev pub entries_of : List ℕ → Option (List Entry)
 entries_of file = entries_in (records_in file)
 
--- a file of these entries, or of one more
-abbrev pub StandsForOneMoreOrNot : List Entry → Entry → List ℕ → Type 0
-StandsForOneMoreOrNot entries entry file = (entries_of file ≡ Some entries) ⊎ (entries_of file ≡ Some (entries ++ entry ∷ []))
+-- a file of these entries, with all of the others after them or with none
+abbrev pub StandsForMoreOrNot : List Entry → List Entry → List ℕ → Type 0
+StandsForMoreOrNot entries more file = (entries_of file ≡ Some entries) ⊎ (entries_of file ≡ Some (entries ++ more))
 
 -- what a file says as findings
 abbrev pub findings_of : List ℕ → Option (List Finding)

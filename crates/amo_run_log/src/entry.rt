@@ -4,7 +4,6 @@ ghost use Rattle.amo_run_log.specs.Entries.{text_of, text_of_answer, Fits, FitsA
 ghost use Rattle.amo_run_log.specs.declared.entry.Entry.{Entry as EntryView};
 
 use crate::numbers::{three, two};
-use crate::reading::FromText;
 use amo_decimal::number;
 use std::alloc::{AllocError, Global};
 use std::str;
@@ -54,14 +53,6 @@ impl Entry {
         ensures none { IfNone result ((entry : EntryView) → Fits entry → text_of entry ≡ bytes.now → ⊥) }
     {
         entry_of_bytes(bytes)
-    }
-}
-
-impl FromText for Entry {
-    ghost said = { entry_in };
-
-    fn from_text(text: &[u8]) -> Option<Entry> {
-        Entry::read(text)
     }
 }
 

@@ -1,10 +1,11 @@
 //! The journal that entries are: its intents, each with its answer.
-ghost use Rattle.std.specs.Prelude.{◌≡◌, true, false, Some, None, IfOk, IfErr, OnErr, map};
-ghost use Rattle.amo_run_log.specs.Entries.{entry_in, entries_in};
+ghost use Rattle.std.specs.Prelude.{◌≡◌, ◌++◌, true, false, Some, None, IfOk, IfErr, OnOk, OnErr, map};
+ghost use Rattle.amo_run_log.specs.Entries.{append_in, entries_in, entries_of_append, entries_of_appends};
 ghost use Rattle.amo_run_log.specs.Faults.{SaysNothing};
-ghost use Rattle.amo_run_log.specs.Journals.{answered_to, is_line, journal_of, pending_from, NotesOrNot, IsRefused};
+ghost use Rattle.amo_run_log.specs.Journals.{answered_to, attempts_in, is_line, journal_of, pending_from, NotesAllOrNot, NotesOrNot, IsRefused, IsRefusedAppend};
 ghost use Rattle.amo_run_log.specs.declared.entry.Entry.TheVariants.{Intent};
 
+use crate::append::Append;
 use crate::entry::{Entry, Outcome};
 use crate::fault::Fault;
 use crate::reading::read_each;
@@ -22,12 +23,58 @@ pub struct Attempt {
     pub answer: Option<Outcome>,
 }
 
-/// Reads each text of a journal as an entry. The first that is none is refused, by its number.
+/// Reads each text of a journal as an append, and returns the entries of all of them. The first
+/// text that says no append is refused, by its number.
 pub fn read_entries(alloc: Global, texts: &[Vec<u8>]) -> Result<Vec<Entry>, Fault>
     ensures exact { IfOk result (λ entries. entries_in (map (λ text. text.items) texts.now) ≡ Some entries.items) }
-    ensures refused { IfErr result (SaysNothing entry_in (map (λ text. text.items) texts.now)) }
+    ensures refused { IfErr result (SaysNothing append_in (map (λ text. text.items) texts.now)) }
 {
-    read_each(alloc, texts)
+    let appends = read_each(alloc, texts)?;
+    Ok(entries_of(alloc, &appends)?)
+}
+
+/// Returns the entries of these appends, in order.
+fn entries_of(alloc: Global, appends: &[Append]) -> Result<Vec<Entry>, AllocError>
+    ensures { IfOk result (λ entries. entries.items ≡ entries_of_appends appends.now) }
+{
+    let mut entries = Vec::new(alloc);
+    for append in appends {
+        push_append(&mut entries, *append)?;
+    }
+    Ok(entries)
+}
+
+/// Adds the entries of an append.
+fn push_append(entries: &mut Vec<Entry>, append: Append) -> Result<(), AllocError>
+    ensures { OnOk result (entries.new.items ≡ entries.old.items ++ entries_of_append append) }
+{
+    match append {
+        Append::One(entry) => entries.push(entry)?,
+        Append::Two(first, second) => {
+            entries.push(first)?;
+            entries.push(second)?;
+        }
+    }
+    Ok(())
+}
+
+/// Reads the appends of a journal, of a jobs' file that has so many lines, and returns its
+/// attempts. The first append that says no entries, or whose entries may not follow those before
+/// it, is refused, by its number.
+pub fn read_attempts(alloc: Global, count: u64, texts: &[Vec<u8>]) -> Result<Vec<Attempt>, Fault>
+    ensures exact { IfOk result (λ attempts. attempts_in count (map (λ text. text.items) texts.now) ≡ Some attempts.items) }
+    ensures refused { IfErr result (IsRefusedAppend count (map (λ text. text.items) texts.now)) }
+{
+    let mut noted = Vec::new(alloc);
+    for (i, text) in texts.iter().enumerate() {
+        let Some(append) = Append::read(text) else {
+            return Err(Fault::Refused(i + 1));
+        };
+        if !note_append(count, &mut noted, append)? {
+            return Err(Fault::Refused(i + 1));
+        }
+    }
+    Ok(noted)
 }
 
 /// The journal that the entries are, of a jobs' file that has so many lines. The first entry that
@@ -55,6 +102,28 @@ pub fn note(count: u64, attempts: &mut Vec<Attempt>, entry: Entry) -> Result<boo
     match entry {
         Entry::Intent { serial, line, time } => begin(count, attempts, serial, line, time),
         Entry::Answer { serial, answer } => Ok(settle(attempts, serial, answer)),
+    }
+}
+
+/// Notes the entries of an append, and says whether they may follow those that were noted. If they
+/// may not, or memory is wanting, the first of two may have been noted: the attempts are no
+/// journal's then.
+pub(crate) fn note_append(
+    count: u64,
+    attempts: &mut Vec<Attempt>,
+    append: Append,
+) -> Result<bool, AllocError>
+    ensures noted { IfOk result (λ noted. NotesAllOrNot count noted attempts.old.items append attempts.new.items) }
+{
+    match append {
+        Append::One(entry) => note(count, attempts, entry),
+        Append::Two(first, second) => {
+            if note(count, attempts, first)? {
+                note(count, attempts, second)
+            } else {
+                Ok(false)
+            }
+        }
     }
 }
 

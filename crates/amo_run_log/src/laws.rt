@@ -3,6 +3,7 @@
 ghost use Rattle.std.specs.Prelude.{◌≡◌, ◌≤◌, ◌<◌, ◌+◌, ◌^◌, ◌++◌, [], ◌∷◌, ℕ, true, false, List, Some, codes, length, map};
 ghost use Rattle.std.specs.Fmt.{decimal};
 ghost use Rattle.std.specs.List.{AllByRecursion};
+ghost use Rattle.amo_run_log.specs.declared.append.Append.{Append as AppendView};
 ghost use Rattle.amo_run_log.specs.declared.clearance.AttemptId.{AttemptId as AttemptIdView};
 ghost use Rattle.amo_run_log.specs.declared.entry.Entry.{Entry as EntryView};
 ghost use Rattle.amo_run_log.specs.declared.entry.Entry.TheVariants.{Answer as Answered, Intent};
@@ -10,17 +11,22 @@ ghost use Rattle.amo_run_log.specs.declared.entry.Outcome.TheVariants.{Doubt, Un
 ghost use Rattle.amo_run_log.specs.declared.finding.Finding.{Finding as FindingView};
 ghost use Rattle.amo_run_log.specs.declared.journal.Attempt.{Attempt as AttemptView};
 ghost use Rattle.amo_run_log.specs.Clearance.{IsClear, IsNoIntentAt, IsStanding};
-ghost use Rattle.amo_run_log.specs.Entries.{text_of, Fits, entries_in, entry_in};
+ghost use Rattle.amo_run_log.specs.Entries.{text_of, Fits, FitsAppend, entries_in, entries_of_appends, entry_in, text_of_append};
 ghost use Rattle.amo_run_log.specs.Findings.{text_of_finding, FitsFinding, findings_in, is_undone};
 ghost use Rattle.amo_run_log.specs.Grammar.{IsJournal};
 ghost use Rattle.amo_run_log.specs.Journals.{noted, journal_from, journal_of};
 ghost use Rattle.amo_run_log.specs.OldAnswers.{with_time};
-ghost use Rattle.amo_run_log.specs.Open.{is_open, IsOpen, HasIntent, OpensNot, OpensNone, IsAnswer, IsOfLine, NoneOpens, serial_of};
+ghost use Rattle.amo_run_log.specs.Open.{is_open, IsOpen, HasIntent, OpensNone, IsAnswer, IsOfLine, NoneOpens, serial_of};
 
-/// Each list of entries is read back as itself, and what is read was printed so.
+/// Each list of appends is read back as itself, and what is read was printed so. Its entries are
+/// those of all appends, in order.
 pub fn entries_are_read_back()
-    ensures back { (entries : List EntryView) → AllByRecursion Fits entries → entries_in (map text_of entries) ≡ Some entries }
-    ensures printed { (texts : List (List ℕ)) (entries : List EntryView) → entries_in texts ≡ Some entries → map text_of entries ≡ texts }
+    ensures back { (appends : List AppendView) → AllByRecursion FitsAppend appends → entries_in (map text_of_append appends) ≡ Some (entries_of_appends appends) }
+    ensures printed { (texts : List (List ℕ)) (entries : List EntryView) → entries_in texts ≡ Some entries
+        → (appends : List AppendView) × (map text_of_append appends ≡ texts) × (entries_of_appends appends ≡ entries) }
+    // Two lists of appends have the same texts only if they are the same.
+    ensures once { (appends others : List AppendView) → AllByRecursion FitsAppend appends → AllByRecursion FitsAppend others
+        → map text_of_append appends ≡ map text_of_append others → appends ≡ others }
 {}
 
 /// An answer that version 0.1.0 wrote without a time is read with the time 0. An entry of today
@@ -97,12 +103,12 @@ pub fn missed_findings_open_none()
         → is_open findings journals line ≡ true → is_open (findings ++ more) journals line ≡ true }
 {}
 
-/// An intent that was put closes its line, and goes on to where an entry that doesn't open it is
-/// put behind it.
+/// An intent that was put closes its line. It goes on to do so while entries follow that don't open
+/// it.
 pub fn an_intent_stays()
     ensures first { (entries : List EntryView) (serial line time : ℕ) → HasIntent serial line (entries ++ Intent serial line time ∷ []) }
-    ensures later { (entries : List EntryView) (serial line : ℕ) (entry : EntryView)
-        → HasIntent serial line entries → OpensNot serial entry → HasIntent serial line (entries ++ entry ∷ []) }
+    ensures later { (entries more : List EntryView) (serial line : ℕ)
+        → HasIntent serial line entries → NoneOpens serial more → HasIntent serial line (entries ++ more) }
 {}
 
 /// A line is clear for an attempt just if no other attempt at it stands.

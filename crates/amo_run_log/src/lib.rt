@@ -2,6 +2,8 @@
 //! a round is begun, and who acts as which of its workers. The theorems stand in the module `laws`.
 #![tactic(auto)]
 
+mod append;
+mod attempts_by_line;
 mod clearance;
 mod entry;
 mod fault;
@@ -14,14 +16,16 @@ mod open;
 mod put;
 mod reading;
 
-pub use clearance::{AttemptId, standing_attempt};
+pub use append::Append;
+pub use attempts_by_line::AttemptsByLine;
+pub use clearance::AttemptId;
 pub use entry::{Entry, Outcome, code_of};
 pub use fault::Fault;
 pub use finding::{
     Finding, Resolution, first_misplaced, has_finding, is_not_done, is_undone, read_findings,
 };
-pub use journal::{Attempt, journal_of, note, pending, read_entries};
+pub use journal::{Attempt, journal_of, note, pending, read_attempts, read_entries};
 pub use numbers::{three_of_bytes, two_of_bytes};
 pub use old_answer::with_time;
 pub use open::{open_lines, opens, reopens};
-pub use put::{append_entry, append_finding};
+pub use put::{append_entries, append_finding};

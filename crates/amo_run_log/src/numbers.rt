@@ -1,6 +1,7 @@
 //! Two and three numbers in a text.
-ghost use Rattle.std.specs.Prelude.{◌≡◌};
-ghost use Rattle.amo_run_log.specs.Numbers.{two_in, three_in};
+ghost use Rattle.std.specs.Prelude.{◌≡◌, ◌<◌, ◌==◌, true, false, position, length, IfSome, IfNone};
+ghost use Rattle.std.specs.List.{after_first, before_first};
+ghost use Rattle.amo_run_log.specs.Numbers.{has_byte, two_in, three_in};
 
 use amo_decimal::number;
 use std::str;
@@ -45,4 +46,21 @@ pub fn three_of_bytes(bytes: &[u8]) -> Option<(u64, u64, u64)>
         Ok(text) => three(text),
         Err(_) => None,
     }
+}
+
+/// Returns the bytes before the first of this byte in the text, and those after it.
+pub(crate) fn split_at_byte(text: &[u8], byte: u8) -> Option<(&[u8], &[u8])>
+    ensures some { IfSome result (λ p. (has_byte byte text.now ≡ true) × (p.0.now ≡ before_first (λ b. b == byte) text.now) × (p.1.now ≡ after_first (λ b. b == byte) text.now)) }
+    ensures none { IfNone result (has_byte byte text.now ≡ false) }
+{
+    let at = place_of_byte(text, byte)?;
+    Some((&text[..at], &text[at + 1..]))
+}
+
+/// Returns how many bytes stand before the first of this byte.
+fn place_of_byte(text: &[u8], byte: u8) -> Option<usize>
+    ensures place { result ≡ position (λ b. b == byte) text.now }
+    ensures within { IfSome result (λ at. at < length text.now) }
+{
+    text.iter().position(|b| *b == byte)
 }

@@ -1,10 +1,9 @@
 //! Answers of version 0.1.0, which noted no time for a doubt and for a command that did nothing.
-ghost use Rattle.std.specs.Prelude.{◌≡◌, ◌<◌, ◌==◌, true, false, position, length, IfOk, IfSome, IfNone};
-ghost use Rattle.amo_run_log.specs.Numbers.{first_word, has_blank, other_words};
+ghost use Rattle.std.specs.Prelude.{◌≡◌, IfOk};
 ghost use Rattle.amo_run_log.specs.OldAnswers.{old_answer_in, old_answer_of_word, with_time};
 
 use crate::entry::{Outcome, code_of, print_answer};
-use crate::numbers::two_of_bytes;
+use crate::numbers::{split_at_byte, two_of_bytes};
 use amo_decimal::number_of_bytes;
 use std::alloc::{AllocError, Global};
 
@@ -30,7 +29,7 @@ pub fn with_time(alloc: Global, text: &[u8]) -> Result<Vec<u8>, AllocError>
 fn old_answer(text: &[u8]) -> Option<(u64, Outcome)>
     ensures { result ≡ old_answer_in text.now }
 {
-    let (word, rest) = split_at_blank(text)?;
+    let (word, rest) = split_at_byte(text, b' ')?;
     old_answer_of_word(word, rest)
 }
 
@@ -47,21 +46,4 @@ fn old_answer_of_word(word: &[u8], rest: &[u8]) -> Option<(u64, Outcome)>
         return Some((serial, Outcome::Untouched { code, time: 0 }));
     }
     None
-}
-
-/// Returns what stands before the first blank, and what stands after it.
-fn split_at_blank(text: &[u8]) -> Option<(&[u8], &[u8])>
-    ensures some { IfSome result (λ p. (has_blank text.now ≡ true) × (p.0.now ≡ first_word text.now) × (p.1.now ≡ other_words text.now)) }
-    ensures none { IfNone result (has_blank text.now ≡ false) }
-{
-    let at = place_of_blank(text)?;
-    Some((&text[..at], &text[at + 1..]))
-}
-
-/// Returns how many bytes stand before the first blank.
-fn place_of_blank(text: &[u8]) -> Option<usize>
-    ensures place { result ≡ position (λ b. b == 32) text.now }
-    ensures within { IfSome result (λ at. at < length text.now) }
-{
-    text.iter().position(|b| *b == b' ')
 }

@@ -6,4 +6,4 @@ pub returns-clause-first : goal.returns-clause-first
 returns-clause-first c entries serial line time = (entries, time, [], refl, tt)
 
 pub returns-clause-later : goal.returns-clause-later
-returns-clause-later c entries serial line entry has opens = has_more 0 [] line serial entries entry has opens
+returns-clause-later c entries more serial line has opens = has_more 0 [] line serial entries more has opens
