@@ -4,6 +4,7 @@ pub mod JsonTexts
 pub mod Noting
 pub mod OneKind
 pub mod Opened
+pub mod Quiets
 pub mod RowSteps
 pub mod SaidTexts
 pub mod Settling

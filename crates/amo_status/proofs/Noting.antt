@@ -15,7 +15,7 @@ use Rattle.amo_status.specs.declared.state.AttemptId.{AttemptId}
 use Rattle.amo_status.specs.declared.state.State.{State}
 use Rattle.amo_status.specs.declared.state.State.TheVariants.{Open, Running}
 use Rattle.amo_status.specs.Deciding.{decided_of, decided_from}
-use Rattle.amo_status.specs.States.{is, state_of}
+use Rattle.amo_status.specs.States.{ended_at, is, state_of}
 use Rattle.amo_status.specs.Standings.{open_standing, standing_by, if_closing, closing_in, closing, foremost, deciding}
 use Rattle.amo_status.proofs.Closers.{open_state, AllClosed, all_closed}
 
@@ -34,11 +34,12 @@ module _ (findings : List Finding) (finals : List AttemptId) (worker serial : �
   pub of_another : (before : LineStatus) (line : ℕ) → e.line ≢ line → before ≡ decided_from before (if_closing findings finals worker serial e line)
   of_another before line isnt = ap (λ b. decided_from before (parted b (reopens e.answer || is_undone findings worker serial))) (sym (not_equal e.line line isnt))
 
-  pub decided_by_it : (before : LineStatus) (line : ℕ) (state : State) → e.line ≡ line → state ≡ state_of findings finals worker serial e.answer → is Open state ≡ false
-      → decided_of before (record { state = state; worker = worker; serial = serial; time = e.time }) ≡ decided_from before (if_closing findings finals worker serial e line)
-  decided_by_it before line state of_line stands closed =
+  pub decided_by_it : (before : LineStatus) (line : ℕ) (state : State) (ended : ℕ) → e.line ≡ line → state ≡ state_of findings finals worker serial e.answer → ended ≡ ended_at e.answer → is Open state ≡ false
+      → decided_of before (record { state = state; worker = worker; serial = serial; time = e.time; ended = ended }) ≡ decided_from before (if_closing findings finals worker serial e line)
+  decided_by_it before line state ended of_line stands end_is closed =
       let known : (reopens e.answer || is_undone findings worker serial) ≡ false = sym (open_state findings finals worker serial e.answer) ∙ ap (is Open) (sym stands) ∙ closed in
-      ap (λ (s : State). decided_of before (record { state = s; worker = worker; serial = serial; time = e.time })) stands
+      ap (λ (s : State). decided_of before (record { state = s; worker = worker; serial = serial; time = e.time; ended = ended })) stands
+      ∙ ap (λ n. decided_of before (record { state = state_of findings finals worker serial e.answer; worker = worker; serial = serial; time = e.time; ended = n })) end_is
       ∙ ap (λ b. decided_from before (parted true b)) (sym known) ∙ ap (λ b. decided_from before (parted b (reopens e.answer || is_undone findings worker serial))) (sym (equal e.line line of_line))
 
   -- at its place among all lines

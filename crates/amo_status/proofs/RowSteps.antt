@@ -1,5 +1,5 @@
 -- A number, a row or an object more of a list.
-use Rattle.std.proofs.Common.{◌≡◌, ℕ, ◌+◌, ◌<◌, Bool, true, cond, ◌||◌, List, [], ◌∷◌, ◌++◌, length, get_or, drop, sym, ap, ◌∙◌, append_assoc}
+use Rattle.std.proofs.Common.{◌≡◌, ℕ, ◌+◌, ◌<◌, Bool, true, cond, ◌||◌, List, [], ◌∷◌, ◌++◌, length, get_or, drop, Option, sym, ap, ◌∙◌, append_assoc}
 use Rattle.std.specs.Fmt.{decimal}
 use Rattle.std.proofs.lemmas.List.{drop_more}
 use Rattle.amo_status.specs.declared.standing.LineStatus.{LineStatus}
@@ -23,26 +23,26 @@ numbers_more numbers i d later old mid new all lt so_far comma is =
     ∙ so_far
 
 -- an object, put in three parts behind its comma
-pub row_put : (old mid new head middle tail : List ℕ) (timed later : Bool) (line : ℕ) (s : LineStatus) (text : List ℕ) → is_shown timed s.state ≡ true → mid ≡ old ++ comma_if later
-    → new ≡ mid ++ (head ++ (middle ++ tail)) → head ≡ json_head line s → middle ≡ text_or_null text → tail ≡ json_tail timed s → new ≡ old ++ json_row timed later line s text
-row_put old mid new head middle tail timed later line s text shown comma put h m t =
+pub row_put : (old mid new head middle tail : List ℕ) (clock : Option ℕ) (later : Bool) (line : ℕ) (s : LineStatus) (text : List ℕ) → is_shown clock s.state ≡ true → mid ≡ old ++ comma_if later
+    → new ≡ mid ++ (head ++ (middle ++ tail)) → head ≡ json_head line s → middle ≡ text_or_null text → tail ≡ json_tail clock s → new ≡ old ++ json_row clock later line s text
+row_put old mid new head middle tail clock later line s text shown comma put h m t =
     put
     ∙ ap (λ l. l ++ (head ++ (middle ++ tail))) comma
     ∙ append_assoc old (comma_if later) (head ++ (middle ++ tail))
     ∙ ap (λ x. old ++ (comma_if later ++ (x ++ (middle ++ tail)))) h
     ∙ ap (λ x. old ++ (comma_if later ++ (json_head line s ++ (x ++ tail)))) m
     ∙ ap (λ x. old ++ (comma_if later ++ (json_head line s ++ (text_or_null text ++ x)))) t
-    ∙ ap (λ b. old ++ cond b (comma_if later ++ (json_head line s ++ (text_or_null text ++ json_tail timed s))) []) (sym shown)
+    ∙ ap (λ b. old ++ cond b (comma_if later ++ (json_head line s ++ (text_or_null text ++ json_tail clock s))) []) (sym shown)
 
-pub row_more : (timed : Bool) (standings : List LineStatus) (i : ℕ) (d : LineStatus) (texts : List (List ℕ)) (later next : Bool) (old new all : List ℕ) → i < length standings
-    → old ++ json_rows timed later i (drop i standings) texts ≡ all → new ≡ old ++ json_row timed later (i + 1) (get_or standings i d) (get_or texts i [])
-    → next ≡ (later || is_shown timed (get_or standings i d).state)
-    → new ++ json_rows timed next (i + 1) (drop (i + 1) standings) texts ≡ all
-row_more timed standings i d texts later next old new all lt so_far is joins =
-    ap (λ l. l ++ json_rows timed next (i + 1) (drop (i + 1) standings) texts) is
-    ∙ ap (λ b. (old ++ json_row timed later (i + 1) (get_or standings i d) (get_or texts i [])) ++ json_rows timed b (i + 1) (drop (i + 1) standings) texts) joins
-    ∙ append_assoc old (json_row timed later (i + 1) (get_or standings i d) (get_or texts i [])) (json_rows timed (later || is_shown timed (get_or standings i d).state) (i + 1) (drop (i + 1) standings) texts)
-    ∙ ap (λ ss. old ++ json_rows timed later i ss texts) (sym (drop_more standings i d lt))
+pub row_more : (clock : Option ℕ) (standings : List LineStatus) (i : ℕ) (d : LineStatus) (texts : List (List ℕ)) (later next : Bool) (old new all : List ℕ) → i < length standings
+    → old ++ json_rows clock later i (drop i standings) texts ≡ all → new ≡ old ++ json_row clock later (i + 1) (get_or standings i d) (get_or texts i [])
+    → next ≡ (later || is_shown clock (get_or standings i d).state)
+    → new ++ json_rows clock next (i + 1) (drop (i + 1) standings) texts ≡ all
+row_more clock standings i d texts later next old new all lt so_far is joins =
+    ap (λ l. l ++ json_rows clock next (i + 1) (drop (i + 1) standings) texts) is
+    ∙ ap (λ b. (old ++ json_row clock later (i + 1) (get_or standings i d) (get_or texts i [])) ++ json_rows clock b (i + 1) (drop (i + 1) standings) texts) joins
+    ∙ append_assoc old (json_row clock later (i + 1) (get_or standings i d) (get_or texts i [])) (json_rows clock (later || is_shown clock (get_or standings i d).state) (i + 1) (drop (i + 1) standings) texts)
+    ∙ ap (λ ss. old ++ json_rows clock later i ss texts) (sym (drop_more standings i d lt))
     ∙ so_far
 
 -- the parts of a status, as they are added

@@ -21,7 +21,7 @@ use Rattle.amo_status.specs.declared.standing.LineStatus.{LineStatus}
 use Rattle.amo_status.specs.declared.state.AttemptId.{AttemptId}
 use Rattle.amo_status.specs.declared.state.State.{State}
 use Rattle.amo_status.specs.declared.state.State.TheVariants.{Open, Done, Failed, Running}
-use Rattle.amo_status.specs.States.{is, is_among, is_found_done, state_by, state_of}
+use Rattle.amo_status.specs.States.{ended_at, is, is_among, is_found_done, state_by, state_of}
 use Rattle.amo_status.specs.Standings.{attempt_of, if_closing, closing_in, closing, foremost, deciding, standing_of}
 use Rattle.amo_status.specs.Answers.{contrary, is_asked, is_closed_by, is_said, refusal_at, refusal_of, refusal_of_option, with_answer, MayBeTaken}
 use Rattle.amo_status.proofs.ByIntent.{ByIntent, in_journals}
@@ -32,7 +32,7 @@ abbrev runs : LineStatus → Bool
 runs s = is Running s.state
 
 abbrev stood : State → ℕ → ℕ → Attempt → LineStatus
-stood state w s e = record { state = state; worker = w; serial = s; time = e.time }
+stood state w s e = record { state = state; worker = w; serial = s; time = e.time; ended = ended_at e.answer }
 
 or_none : (a b : Bool) → b ≡ false → (a || b) ≡ a
 or_none true b h = refl

@@ -108,7 +108,7 @@ asked (Some Unbegun) final h = absurd (cc)
 asked (Some (Idle code time)) final h = refl
 
 module _ (findings : List Finding) (journals : List (List Attempt)) (finals : List AttemptId) (worker serial line : ℕ) (verdict : Resolution) where
-  may : refusal_of findings journals finals worker serial line verdict ≡ None → MayBeTaken findings journals finals worker serial line
+  pub may : refusal_of findings journals finals worker serial line verdict ≡ None → MayBeTaken findings journals finals worker serial line
   may h = by_option (attempt_of journals worker serial) refl h
     where
       by_option : (o : Option Attempt) → attempt_of journals worker serial ≡ o → refusal_of_option findings journals finals worker serial line verdict o ≡ None → MayBeTaken findings journals finals worker serial line
@@ -126,7 +126,7 @@ module _ (findings : List Finding) (journals : List (List Attempt)) (finals : Li
             closing = a.1;
           }
 
-  might : MayBeTaken findings journals finals worker serial line → refusal_of findings journals finals worker serial line verdict ≡ None
+  pub might : MayBeTaken findings journals finals worker serial line → refusal_of findings journals finals worker serial line verdict ≡ None
   might m =
       let (e, at, of_line, is) = m.asked in
       let none = or_parts (is_found_done findings worker serial) (is_undone findings worker serial) (sym (answered findings worker serial) ∙ m.unanswered) in

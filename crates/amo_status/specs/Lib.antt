@@ -1,3 +1,4 @@
+pub mod Ages
 pub mod Answers
 pub mod Counts
 pub mod Deciding

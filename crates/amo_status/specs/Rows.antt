@@ -8,6 +8,7 @@ use Rattle.amo_status.specs.declared.rows.Form.TheVariants.{Status, Doubts, Kind
 use Rattle.amo_status.specs.declared.standing.LineStatus.{LineStatus}
 use Rattle.amo_status.specs.declared.state.State.{State}
 use Rattle.amo_status.specs.declared.state.State.TheVariants.{Open, Done, Failed, Doubt, Untouched, Running}
+use Rattle.amo_status.specs.Ages.{age_of, age_word}
 use Rattle.amo_status.specs.Headings.{counts_text}
 use Rattle.amo_status.specs.States.{is}
 
@@ -48,7 +49,7 @@ kind_head line s =
 -- whether a line that stands so is listed in this form
 abbrev pub is_listed_in : Form → State → Bool
 is_listed_in Status state = is_listed state
-is_listed_in Doubts state = is Doubt state
+is_listed_in (Doubts now) state = is Doubt state
 is_listed_in (Kind kind) state = is kind state
 
 -- what stands before a line's text
@@ -56,9 +57,9 @@ abbrev pub row_head : Form → ℕ → LineStatus → List ℕ
 row_head (Kind kind) line s = kind_head line s
 row_head form line s = status_head line s
 
--- what stands behind it: its end, in the list of doubts after the time
+-- The text after a line's text: its end, in the list of doubts after the time at which it was begun, and how long ago it ended.
 abbrev pub row_tail : Form → LineStatus → List ℕ
-row_tail Doubts s = codes " " ++ (decimal s.time ++ line_end)
+row_tail (Doubts now) s = codes " " ++ (decimal s.time ++ (codes " " ++ (age_word (age_of now s.ended) ++ line_end)))
 row_tail form s = line_end
 
 -- the row of a line in this form
@@ -69,9 +70,9 @@ row_of form line s text = if is_listed_in form s.state then row_head form line s
 abbrev pub status_row : ℕ → LineStatus → List ℕ → List ℕ
 status_row = row_of Status
 
--- its row in the list of doubts
-abbrev pub doubt_row : ℕ → LineStatus → List ℕ → List ℕ
-doubt_row = row_of Doubts
+-- its row in the list of doubts, by a clock that shows this
+abbrev pub doubt_row : ℕ → ℕ → LineStatus → List ℕ → List ℕ
+doubt_row now = row_of (Doubts now)
 
 -- its row in the list of the lines that stand so
 abbrev pub kind_row : State → ℕ → LineStatus → List ℕ → List ℕ

@@ -7,7 +7,7 @@ use Rattle.amo_run_log.specs.Open.{closes, numbers}
 use Rattle.amo_status.specs.declared.standing.LineStatus.{LineStatus}
 use Rattle.amo_status.specs.declared.state.AttemptId.{AttemptId}
 use Rattle.amo_status.specs.declared.state.State.TheVariants.{Open, Running}
-use Rattle.amo_status.specs.States.{is, state_of}
+use Rattle.amo_status.specs.States.{ended_at, is, state_of}
 
 -- the intent of this worker and serial number, if there is one
 abbrev pub attempt_of : List (List Attempt) → ℕ → ℕ → Option Attempt
@@ -15,11 +15,12 @@ attempt_of journals worker serial = if nat_le 1 worker && nat_le 1 serial then s
 
 -- how a line stands that no intent closes
 abbrev pub open_standing : LineStatus
-open_standing = record { state = Open; worker = 0; serial = 0; time = 0 }
+open_standing = record { state = Open; worker = 0; serial = 0; time = 0; ended = 0 }
 
 -- how a line stands by this intent
 abbrev pub standing_by : List Finding → List AttemptId → ℕ → ℕ → Attempt → LineStatus
-standing_by findings finals worker serial e = record { state = state_of findings finals worker serial e.answer; worker = worker; serial = serial; time = e.time }
+standing_by findings finals worker serial e =
+    record { state = state_of findings finals worker serial e.answer; worker = worker; serial = serial; time = e.time; ended = ended_at e.answer }
 
 -- the same in a list, if the intent closes the line
 abbrev pub if_closing : List Finding → List AttemptId → ℕ → ℕ → Attempt → ℕ → List LineStatus

@@ -31,6 +31,14 @@ is_among intents worker serial = list_any (λ i. (i.worker == worker) && (i.seri
 abbrev pub is_found_done : List Finding → ℕ → ℕ → Bool
 is_found_done findings worker serial = list_any (λ f. not (is_not_done f.verdict) && is_of worker serial f) findings
 
+-- when an intent ended, by the time in its answer, in seconds since 1970; 0 stands for a time that is not known
+abbrev pub ended_at : Option Outcome → ℕ
+ended_at None = 0
+ended_at (Some (Ended code time)) = time
+ended_at (Some (Unknown time)) = time
+ended_at (Some Unbegun) = 0
+ended_at (Some (Idle code time)) = time
+
 -- how an intent stands by an answer
 abbrev pub state_in : Outcome → State
 state_in (Ended code time) = if code == 0 then Done else Failed

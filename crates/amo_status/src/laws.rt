@@ -1,6 +1,6 @@
 //! What follows for lines and answers, each as the contract of a function that does nothing.
 ghost use Rattle.std.specs.List.{AllByRecursion};
-ghost use Rattle.std.specs.Prelude.{◌≡◌, ◌≢◌, ◌+◌, ◌++◌, ℕ, true, false, List, Some, map, slice_get};
+ghost use Rattle.std.specs.Prelude.{◌≡◌, ◌≢◌, ◌+◌, ◌++◌, ℕ, true, false, List, Option, Some, map, slice_get};
 ghost use Rattle.amo_run_log.specs.declared.finding.Finding.{Finding as FindingView};
 ghost use Rattle.amo_run_log.specs.declared.finding.Resolution.{Resolution as VerdictView};
 ghost use Rattle.amo_run_log.specs.declared.finding.Resolution.TheVariants.{Done as FoundDone, NotDone};
@@ -9,12 +9,13 @@ ghost use Rattle.amo_run_log.specs.Findings.{word_of};
 ghost use Rattle.amo_run_log.specs.Numbers.{read_all};
 ghost use Rattle.amo_run_log.specs.Open.{closes, is_open};
 ghost use Rattle.amo_run_log.specs.Texts.{ended};
+ghost use Rattle.amo_status.specs.declared.answering.Quiet.{Quiet as QuietView};
 ghost use Rattle.amo_status.specs.declared.refusal.Refusal.TheVariants.{AnsweredOtherwise, AnsweredSo};
 ghost use Rattle.amo_status.specs.declared.standing.LineStatus.{LineStatus as StandingView};
 ghost use Rattle.amo_status.specs.declared.state.AttemptId.{AttemptId as IntentView};
 ghost use Rattle.amo_status.specs.declared.state.State.{State as StateView};
 ghost use Rattle.amo_status.specs.declared.state.State.TheVariants.{Open, Done, Running};
-ghost use Rattle.amo_status.specs.Answers.{contrary, is_closed_by, refusal_of, with_answer, MayBeTaken};
+ghost use Rattle.amo_status.specs.Answers.{contrary, is_closed_by, refusal_now, with_answer, MayBeTaken};
 ghost use Rattle.amo_status.specs.Rows.{kind_row, line_end, tab};
 ghost use Rattle.amo_status.specs.Said.{SaidView, FitsSaid, lines_in, said_in, said_text};
 ghost use Rattle.amo_status.specs.Standings.{open_standing, standing_of, IsByIntent};
@@ -42,12 +43,12 @@ pub fn an_answer_settles()
     ensures not_done { (findings : List FindingView) (journals : List (List AttemptView)) (finals : List IntentView) (worker serial line time : ℕ)
         → MayBeTaken findings journals finals worker serial line
         → is_closed_by (with_answer findings NotDone worker serial time) journals finals worker serial line ≡ false }
-    ensures so { (findings : List FindingView) (journals : List (List AttemptView)) (finals : List IntentView) (worker serial line time : ℕ) (verdict : VerdictView)
+    ensures so { (quiet : Option QuietView) (findings : List FindingView) (journals : List (List AttemptView)) (finals : List IntentView) (worker serial line time : ℕ) (verdict : VerdictView)
         → MayBeTaken findings journals finals worker serial line
-        → refusal_of (with_answer findings verdict worker serial time) journals finals worker serial line verdict ≡ Some AnsweredSo }
-    ensures otherwise { (findings : List FindingView) (journals : List (List AttemptView)) (finals : List IntentView) (worker serial line time : ℕ) (verdict : VerdictView)
+        → refusal_now quiet (with_answer findings verdict worker serial time) journals finals worker serial line verdict ≡ Some AnsweredSo }
+    ensures otherwise { (quiet : Option QuietView) (findings : List FindingView) (journals : List (List AttemptView)) (finals : List IntentView) (worker serial line time : ℕ) (verdict : VerdictView)
         → MayBeTaken findings journals finals worker serial line
-        → refusal_of (with_answer findings verdict worker serial time) journals finals worker serial line (contrary verdict) ≡ Some AnsweredOtherwise }
+        → refusal_now quiet (with_answer findings verdict worker serial time) journals finals worker serial line (contrary verdict) ≡ Some AnsweredOtherwise }
 {}
 
 /// Answers that are written a line each are read back as themselves, and what is read was written

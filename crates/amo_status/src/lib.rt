@@ -4,9 +4,11 @@
 #![tactic(auto)]
 
 mod again;
+mod age;
 mod answering;
 mod count;
 mod counting;
+mod early;
 mod heading;
 pub mod laws;
 mod listing;
@@ -19,9 +21,10 @@ mod standing;
 mod state;
 
 pub use again::untouched;
-pub use answering::may_answer;
+pub use answering::{Quiet, may_answer};
 pub use count::Counts;
 pub use counting::counts;
+pub use early::EarlyAnswers;
 pub use listing::{doubts_text, lines_text, status_text};
 pub use objects::{doubts_json, status_json};
 pub use refusal::Refusal;

@@ -47,17 +47,20 @@ pub fn lines_text(
     Ok(text)
 }
 
-/// A row for each line that is in doubt, `doubt P.S LINE TEXT TIME`.
+/// A row for each line that is in doubt, `doubt P.S LINE TEXT TIME AGE`. TIME is when it was begun,
+/// and AGE how many seconds ago it ended by a clock that shows `now`. AGE is `unknown` if no record
+/// says when it ended, and `ahead` if that is later than `now`.
 pub fn doubts_text(
     alloc: Global,
+    now: u64,
     standings: &[LineStatus],
     texts: &[&[u8]],
 ) -> Result<Vec<u8>, AllocError>
     requires { length standings.now ≤ length texts.now }
-    ensures { IfOk result (λ text. text.items ≡ rows_from doubt_row 0 standings.now (map (λ t. t.now) texts.now)) }
+    ensures { IfOk result (λ text. text.items ≡ rows_from (doubt_row now) 0 standings.now (map (λ t. t.now) texts.now)) }
 {
     let mut text = Vec::new(alloc);
-    push_rows(&mut text, alloc, Form::Doubts, standings, texts)?;
+    push_rows(&mut text, alloc, Form::Doubts(now), standings, texts)?;
     Ok(text)
 }
 

@@ -1,8 +1,9 @@
 //! The status of a run and the doubts, as JSON.
-ghost use Rattle.std.specs.Prelude.{◌≡◌, ◌≤◌, ◌<◌, ◌+◌, ◌++◌, ◌||◌, [], false, length, map, slice_index_or, string_bytes, IfOk, OnOk};
+ghost use Rattle.std.specs.Prelude.{◌≡◌, ◌≤◌, ◌<◌, ◌+◌, ◌++◌, ◌||◌, [], None, Some, false, length, map, slice_index_or, string_bytes, IfOk, OnOk};
 ghost use Rattle.json.specs.Print.{quoted};
 ghost use Rattle.amo_status.specs.Json.{comma_if, doubts_json, is_shown, json_head, json_numbers, json_row, json_rows, json_tail, status_json, text_or_null};
 
+use crate::age::{age_json, age_of, time_json};
 use crate::count::Counts;
 use crate::heading::{Style, push_counts};
 use crate::rows::{is_listed, push_parts, state_word, text_at};
@@ -31,24 +32,27 @@ pub fn status_json(
     text.extend_from_slice(b",\"alive\":[")?;
     push_numbers(&mut text, alloc, alive)?;
     text.extend_from_slice(b"],\"intents\":[")?;
-    push_json_rows(&mut text, alloc, false, standings, texts)?;
+    push_json_rows(&mut text, alloc, None, standings, texts)?;
     text.extend_from_slice(b"]}\n")?;
     Ok(text)
 }
 
-/// The lines that are in doubt, as a list of such objects, each with the time at which it was
-/// begun, and a line feed.
+/// The lines that are in doubt, as a list of such objects, and a line feed. Each has the time at
+/// which it was begun, the one at which it ended, and how many seconds ago that was by a clock that
+/// shows `now`. A time that is not known is `null`, and so is the age if the end is not known or
+/// ahead of the clock.
 pub fn doubts_json(
     alloc: Global,
+    now: u64,
     standings: &[LineStatus],
     texts: &[&[u8]],
 ) -> Result<Vec<u8>, AllocError>
     requires { length standings.now ≤ length texts.now }
-    ensures { IfOk result (λ text. text.items ≡ doubts_json standings.now (map (λ t. t.now) texts.now)) }
+    ensures { IfOk result (λ text. text.items ≡ doubts_json now standings.now (map (λ t. t.now) texts.now)) }
 {
     let mut text = Vec::new(alloc);
     text.push(b'[')?;
-    push_json_rows(&mut text, alloc, true, standings, texts)?;
+    push_json_rows(&mut text, alloc, Some(now), standings, texts)?;
     text.extend_from_slice(b"]\n")?;
     Ok(text)
 }
@@ -77,21 +81,21 @@ fn push_comma(text: &mut Vec<u8>, later: bool) -> Result<(), AllocError>
     Ok(())
 }
 
-/// Adds the objects of these lines, of those in doubt where times are wanted.
+/// Adds the objects of these lines: with a clock, those in doubt, with times.
 fn push_json_rows(
     text: &mut Vec<u8>,
     alloc: Global,
-    timed: bool,
+    clock: Option<u64>,
     standings: &[LineStatus],
     texts: &[&[u8]],
 ) -> Result<(), AllocError>
     requires { length standings.now ≤ length texts.now }
-    ensures { OnOk result (text.new.items ≡ text.old.items ++ json_rows timed false 0 standings.now (map (λ t. t.now) texts.now)) }
+    ensures { OnOk result (text.new.items ≡ text.old.items ++ json_rows clock false 0 standings.now (map (λ t. t.now) texts.now)) }
 {
     let mut later = false;
     for (i, standing) in standings.iter().enumerate() {
-        push_json_row(text, alloc, timed, later, i, standing, texts)?;
-        later = is_later(later, timed, standing.state);
+        push_json_row(text, alloc, clock, later, i, standing, texts)?;
+        later = is_later(later, clock, standing.state);
     }
     Ok(())
 }
@@ -100,40 +104,39 @@ fn push_json_rows(
 fn push_json_row(
     text: &mut Vec<u8>,
     alloc: Global,
-    timed: bool,
+    clock: Option<u64>,
     later: bool,
     i: usize,
     standing: &LineStatus,
     texts: &[&[u8]],
 ) -> Result<(), AllocError>
     requires { i < length texts.now }
-    ensures { OnOk result (text.new.items ≡ text.old.items ++ json_row timed later (i + 1) standing.now (slice_index_or (map (λ t. t.now) texts.now) i [])) }
+    ensures { OnOk result (text.new.items ≡ text.old.items ++ json_row clock later (i + 1) standing.now (slice_index_or (map (λ t. t.now) texts.now) i [])) }
 {
-    if !is_shown(timed, standing.state) {
+    if !is_shown(clock, standing.state) {
         return Ok(());
     }
     let head = json_head(alloc, i as u64 + 1, standing)?;
     let middle = text_or_null(alloc, text_at(texts, i))?;
-    let tail = json_tail(alloc, timed, standing)?;
+    let tail = json_tail(alloc, clock, standing)?;
     push_comma(text, later)?;
     push_parts(text, head.as_bytes(), middle.as_bytes(), tail.as_bytes())
 }
 
 /// Returns true if an object stands there, after this line.
-fn is_later(later: bool, timed: bool, state: State) -> bool
-    ensures { result ≡ (later || is_shown timed state) }
+fn is_later(later: bool, clock: Option<u64>, state: State) -> bool
+    ensures { result ≡ (later || is_shown clock state) }
 {
-    later || is_shown(timed, state)
+    later || is_shown(clock, state)
 }
 
 /// Returns true if a line that stands so is shown.
-fn is_shown(timed: bool, state: State) -> bool
-    ensures { result ≡ is_shown timed state }
+fn is_shown(clock: Option<u64>, state: State) -> bool
+    ensures { result ≡ is_shown clock state }
 {
-    if timed {
-        is(State::Doubt, state)
-    } else {
-        is_listed(state)
+    match clock {
+        Some(_) => is(State::Doubt, state),
+        None => is_listed(state),
     }
 }
 
@@ -145,16 +148,24 @@ fn json_head(alloc: Global, line: u64, standing: &LineStatus) -> Result<String, 
     format!(in alloc; "{{\"intent\":\"{worker}.{serial}\",\"line\":{line},\"text\":")
 }
 
-fn json_tail(alloc: Global, timed: bool, standing: &LineStatus) -> Result<String, AllocError>
-    ensures { IfOk result (λ text. string_bytes text ≡ json_tail timed standing.now) }
+fn json_tail(alloc: Global, clock: Option<u64>, standing: &LineStatus) -> Result<String, AllocError>
+    ensures { IfOk result (λ text. string_bytes text ≡ json_tail clock standing.now) }
+{
+    let word = state_word(standing.state);
+    match clock {
+        Some(now) => timed_tail(alloc, now, standing),
+        None => format!(in alloc; ",\"state\":\"{word}\"}}"),
+    }
+}
+
+fn timed_tail(alloc: Global, now: u64, standing: &LineStatus) -> Result<String, AllocError>
+    ensures { IfOk result (λ text. string_bytes text ≡ json_tail (Some now) standing.now) }
 {
     let word = state_word(standing.state);
     let time = standing.time;
-    if timed {
-        format!(in alloc; ",\"state\":\"{word}\",\"time\":{time}}}")
-    } else {
-        format!(in alloc; ",\"state\":\"{word}\"}}")
-    }
+    let ended = time_json(alloc, standing.ended)?;
+    let age = age_json(alloc, age_of(now, standing.ended))?;
+    format!(in alloc; ",\"state\":\"{word}\",\"time\":{time},\"ended\":{ended},\"age\":{age}}}")
 }
 
 /// A text as a JSON string. Bytes that are no text are `null`.

@@ -1,7 +1,9 @@
 //! Lines as they are listed, a row each.
 ghost use Rattle.std.specs.Prelude.{◌≡◌, ◌≤◌, ◌<◌, ◌++◌, [], length, map, slice_index_or, string_bytes, IfOk, OnOk};
+ghost use Rattle.amo_status.specs.declared.rows.Form.TheVariants.{Doubts};
 ghost use Rattle.amo_status.specs.Rows.{is_listed, is_listed_in, kind_head, row_head, row_of, row_tail, rows_from, state_word, status_head};
 
+use crate::age::{age_of, age_word};
 use crate::standing::LineStatus;
 use crate::state::{State, is};
 use std::alloc::{AllocError, Global};
@@ -11,8 +13,9 @@ use std::alloc::{AllocError, Global};
 pub(crate) enum Form {
     /// Those in doubt, untouched or running, by state, intent and line.
     Status,
-    /// Those in doubt, with the time at which they were begun.
-    Doubts,
+    /// The lines in doubt, with the time at which they were begun, and how long ago they ended by a
+    /// clock that shows this.
+    Doubts(u64),
     /// Those that stand so, by intent and line.
     Kind(State),
 }
@@ -68,7 +71,7 @@ fn is_listed_in(form: Form, state: State) -> bool
 {
     match form {
         Form::Status => is_listed(state),
-        Form::Doubts => is(State::Doubt, state),
+        Form::Doubts(_) => is(State::Doubt, state),
         Form::Kind(kind) => is(kind, state),
     }
 }
@@ -83,7 +86,7 @@ fn row_head(
     ensures { IfOk result (λ head. string_bytes head ≡ row_head form line standing.now) }
 {
     match form {
-        Form::Status | Form::Doubts => status_head(alloc, line, standing),
+        Form::Status | Form::Doubts(_) => status_head(alloc, line, standing),
         Form::Kind(_) => kind_head(alloc, line, standing),
     }
 }
@@ -92,11 +95,19 @@ fn row_head(
 fn row_tail(alloc: Global, form: Form, standing: &LineStatus) -> Result<String, AllocError>
     ensures { IfOk result (λ tail. string_bytes tail ≡ row_tail form standing.now) }
 {
-    let time = standing.time;
     match form {
-        Form::Doubts => format!(in alloc; " {time}\n"),
+        Form::Doubts(now) => doubt_tail(alloc, now, standing),
         Form::Status | Form::Kind(_) => String::from_str(alloc, "\n"),
     }
+}
+
+/// Returns the end of the row of a doubt, with its times.
+fn doubt_tail(alloc: Global, now: u64, standing: &LineStatus) -> Result<String, AllocError>
+    ensures { IfOk result (λ tail. string_bytes tail ≡ row_tail (Doubts now) standing.now) }
+{
+    let time = standing.time;
+    let age = age_word(alloc, age_of(now, standing.ended))?;
+    format!(in alloc; " {time} {age}\n")
 }
 
 /// What stands before a line's text, by state, intent and line.

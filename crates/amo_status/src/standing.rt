@@ -7,7 +7,7 @@ ghost use Rattle.amo_status.specs.Standings.{closing, closing_in, if_closing, op
 ghost use Rattle.amo_status.specs.States.{is};
 
 use crate::run_log::RunLog;
-use crate::state::{State, is, state_of};
+use crate::state::{State, ended_at, is, state_of};
 use amo_run_log::Attempt;
 use std::alloc::{AllocError, Global};
 
@@ -21,6 +21,8 @@ pub struct LineStatus {
     pub serial: u64,
     /// When it was begun, in seconds since 1970. 0 where the line is open.
     pub time: u64,
+    /// When it ended, by its answer, in seconds since 1970. 0 if that is not known.
+    pub ended: u64,
 }
 
 const OPEN: LineStatus = LineStatus {
@@ -28,6 +30,7 @@ const OPEN: LineStatus = LineStatus {
     worker: 0,
     serial: 0,
     time: 0,
+    ended: 0,
 };
 
 /// Returns how each of the lines 1..count stands, in order. If several intents close a line, one
@@ -101,11 +104,13 @@ fn decided_with(
         return before;
     }
     let time = attempt.time;
+    let ended = ended_at(attempt.answer);
     let standing = LineStatus {
         state,
         worker,
         serial,
         time,
+        ended,
     };
     decided_of(before, standing)
 }

@@ -1,6 +1,6 @@
 //! How an intent stands.
 ghost use Rattle.std.specs.Prelude.{◌≡◌};
-ghost use Rattle.amo_status.specs.States.{is, is_among, is_found_done, number_of, state_by, state_in, state_of};
+ghost use Rattle.amo_status.specs.States.{ended_at, is, is_among, is_found_done, number_of, state_by, state_in, state_of};
 
 use crate::run_log::RunLog;
 use amo_run_log::{Finding, Outcome, is_not_done, is_undone, reopens};
@@ -62,6 +62,18 @@ fn state_in(answer: Outcome) -> State
         Outcome::Doubt { .. } => State::Doubt,
         Outcome::Unbegun => State::Open,
         Outcome::Untouched { .. } => State::Untouched,
+    }
+}
+
+/// Returns when an intent ended, by its answer, in seconds since 1970; 0 if that is not known.
+pub(crate) fn ended_at(answer: Option<Outcome>) -> u64
+    ensures { result ≡ ended_at answer }
+{
+    match answer {
+        Some(Outcome::Done { time, .. }) => time,
+        Some(Outcome::Doubt { time }) => time,
+        Some(Outcome::Untouched { time, .. }) => time,
+        Some(Outcome::Unbegun) | None => 0,
     }
 }
 
