@@ -1,4 +1,6 @@
+pub mod Following
 pub mod Logs
 pub mod Names
+pub mod Owed
 pub mod Rounds
 pub mod Statuses

@@ -1,7 +1,7 @@
 -- With which status the program ends.
 use Rattle.std.specs.Prelude.{ℕ}
 use Rattle.amo_run_dir.specs.declared.error.Fault.{Fault}
-use Rattle.amo_run_dir.specs.declared.error.Fault.TheVariants.{Memory, List, Changed, Entry, Damaged, Lost, DamagedRun, Refused, Answer, NoAnswerOf, Missing, Empty, NoRun, NoId, OldRun, OtherId, HasId, NotNew, Forgotten, Left, Closed, NoSuchNumber, NoWay, Write, Journal, Read, Later, NoAnswer, Door}
+use Rattle.amo_run_dir.specs.declared.error.Fault.TheVariants.{Memory, List, Changed, Entry, Damaged, Lost, DamagedRun, Refused, Answer, Early, Untimed, NoAnswerOf, Missing, Empty, NoRun, NoId, OldRun, OtherId, HasId, NotNew, Forgotten, Left, Closed, NoSuchNumber, NoWay, Write, Journal, Read, Later, NoAnswer, Door}
 
 -- 65: a file's text is refused, or a file that a run has isn't there, or another run's, 69: the partner ended it, 70: no worker goes on, 71: no memory, 73: a file can't be written, 74: one
 -- can't be read, 75: come back later, 76: no answer, 77: the folder is refused
@@ -14,6 +14,7 @@ status_of (Lost item loss) = 65
 status_of DamagedRun = 65
 status_of (Refused item) = 65
 status_of (Answer number refusal) = 65
+status_of (Untimed answers) = 65
 status_of (NoAnswerOf number) = 65
 status_of (Missing item) = 65
 status_of (Empty item) = 65
@@ -32,6 +33,7 @@ status_of Memory = 71
 status_of (Write item error) = 73
 status_of (Journal item) = 73
 status_of (Read item error) = 74
+status_of (Early answers) = 75
 status_of (Later later) = 75
 status_of (NoAnswer text) = 76
 status_of (Door door) = 77

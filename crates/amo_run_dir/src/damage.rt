@@ -112,7 +112,7 @@ fn readable_log(
             records: Vec::new(rt.alloc()),
             wrong,
         }),
-        Some(Look::Read(log)) => Ok(ReadableLog {
+        Some(Look::Read(log, _)) => Ok(ReadableLog {
             records: log.records,
             wrong: None,
         }),

@@ -8,7 +8,7 @@ use crate::layout::Item;
 use crate::loss::Loss;
 use amo_journal::DamageKind;
 use amo_run_files::Why;
-use amo_status::Refusal;
+use amo_status::{EarlyAnswers, Refusal};
 use std::alloc::{AllocError, AllocFailed};
 use std::io;
 use thiserror::Error;
@@ -95,8 +95,8 @@ pub enum Fault {
     /// The line of this number is not what it was when the run first knew it.
     #[error("line {0} is not the line that the run knows; restore it from the run's file `jobs`, and add lines only at the end")]
     Changed(usize),
-    /// The entry of this number, from 1, can't stand where it does.
-    #[error("entry {1} is damaged, or was edited; undo the edit, or give up this run (with an older copy lines would be performed twice)")]
+    /// The append of this number, from 1, can't come after those before it.
+    #[error("append {1} is damaged, or was edited; undo the edit, or give up this run (with an older copy lines would be performed twice)")]
     Entry(Item, usize),
     /// The journal is damaged at the append of this number, from 1.
     #[error("append {1}: {2}; leave the file as it is, and read docs/JOBS.md, `A journal is refused`")]
@@ -113,6 +113,12 @@ pub enum Fault {
     /// The answer of this number, from 1, is refused.
     #[error("answer {0}: {1}")]
     Answer(usize, Refusal),
+    /// Some answers come too early. The same call may be taken later.
+    #[error("{0}")]
+    Early(EarlyAnswers),
+    /// Some answers come too early, and of one of their attempts nobody knows when it ended.
+    #[error("{0}")]
+    Untimed(EarlyAnswers),
     /// The answer of this number, from 1, can't be read, or has another text than the line.
     #[error("answer {0}: it must be P.S, LINE, TEXT and done or not-done, of one line of the run; copy the first three from `doubts` or `status`")]
     NoAnswerOf(usize),
@@ -194,6 +200,7 @@ impl Fault {
             Fault::Forgotten | Fault::DamagedRun | Fault::Door(_) => Some(Item::Run),
             Fault::Later(later) => later.item(),
             Fault::Memory | Fault::Answer(..) | Fault::NoAnswerOf(_) => None,
+            Fault::Early(_) | Fault::Untimed(_) => None,
             Fault::Left | Fault::Closed | Fault::NoAnswer(_) => None,
         }
     }
@@ -221,7 +228,7 @@ impl Fault {
         match self {
             Fault::List(..) | Fault::Changed(_) | Fault::Entry(..) | Fault::Refused(_) => 65,
             Fault::Damaged(..) | Fault::Lost(..) | Fault::DamagedRun => 65,
-            Fault::Answer(..) | Fault::NoAnswerOf(_) => 65,
+            Fault::Answer(..) | Fault::Untimed(_) | Fault::NoAnswerOf(_) => 65,
             Fault::Missing(_) | Fault::Empty(_) | Fault::NoRun | Fault::NoId => 65,
             Fault::OldRun | Fault::OtherId | Fault::HasId | Fault::NotNew(_) => 65,
             Fault::Forgotten => 65,
@@ -230,7 +237,7 @@ impl Fault {
             Fault::Memory => 71,
             Fault::Write(..) | Fault::Journal(_) => 73,
             Fault::Read(..) => 74,
-            Fault::Later(_) => 75,
+            Fault::Early(_) | Fault::Later(_) => 75,
             Fault::NoAnswer(_) => 76,
             Fault::Door(_) => 77,
         }

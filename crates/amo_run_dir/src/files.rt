@@ -3,10 +3,15 @@ use crate::error::{Fault, had, written};
 use crate::layout::Item;
 use crate::settings::Setting;
 use amo_fs::{create_private, open_private, read_file, replace_file, sync_folder};
+use std::alloc::Global;
 use std::fs;
 use std::fs::File;
 use std::io::ErrorKind;
+use std::os::unix::fs::FileExt;
 use std::rt::HostRuntime;
+
+/// How many bytes of a file are read at once.
+const CHUNK: usize = 4096;
 
 /// The path of a file of the run.
 pub fn path_of(rt: HostRuntime, setting: &Setting<'_>, item: Item) -> Result<String, Fault> {
@@ -22,6 +27,24 @@ pub fn bytes_of(
 ) -> Result<Option<Vec<u8>>, Fault> {
     let path = path_of(rt, setting, item)?;
     had(item, read_file(&rt, path.as_str()))
+}
+
+/// Returns the bytes of an open file from this place on. It doesn't move the handle's own place.
+///
+/// # Errors
+/// `Read` for the system's.
+pub fn bytes_from(alloc: Global, item: Item, file: &File, start: u64) -> Result<Vec<u8>, Fault> {
+    let mut bytes = Vec::new(alloc);
+    let mut chunk = [0u8; CHUNK];
+    for _chunk in 0..u64::MAX {
+        let at = start.saturating_add(bytes.len() as u64);
+        let count = had(item, file.read_at(&mut chunk, at))?;
+        if count == 0 || count > CHUNK {
+            break;
+        }
+        bytes.extend_from_slice(&chunk[..count])?;
+    }
+    Ok(bytes)
 }
 
 /// Opens a file of the run to read and write. The lock of a runner is made if there is none; every

@@ -1,56 +1,40 @@
 //! To read a run's answers and journals on while others append to them, and to find out whether a
 //! line may be handed over.
-ghost use Rattle.std.specs.Prelude.{map, IfNone, IfOk, IfSome};
+ghost use Rattle.std.specs.Prelude.{◌≡◌, ◌<◌, ◌≤◌, length, map, IfNone, IfOk, IfSome, OnOk};
+ghost use Rattle.amo_run_dir.specs.Following.{AreReadOn};
 ghost use Rattle.amo_run_log.specs.Clearance.{IsClear, IsStanding};
 
-use crate::error::{Fault, Later, had, written};
-use crate::files::{opened_to_read, path_of};
-use crate::identity::first_checksum;
+use crate::error::{Fault, Later};
+use crate::follower::Follower;
 use crate::layout::Item;
-use crate::logs::{LOOKS, log_of};
 use crate::settings::Setting;
-use amo_fs::is_at;
 use amo_givens::MAX_WORKERS;
-use amo_journal::{Log, Place, ReadOnError, read_on};
+use amo_journal::Log;
 use amo_run_files::RoundFile;
-use amo_run_log::{Attempt, AttemptId, Entry, Finding, note, standing_attempt};
-use std::alloc::Global;
+use amo_run_log::{Append, AttemptId, AttemptsByLine, Finding};
+use std::alloc::AllocError;
 use std::fs::File;
-use std::os::unix::fs::FileExt;
 use std::rt::HostRuntime;
-
-/// How many bytes of a file are read at once.
-const CHUNK: usize = 4096;
 
 /// The answers and the journals of a run, as far as this process has read them.
 #[derive(Drop)]
 pub struct Followed {
-    /// How many lines the run knows.
-    count: u64,
     answers: Follower,
     findings: Vec<Finding>,
     /// The journals of the workers 1, 2 and so on.
     journals: Vec<Follower>,
-    /// The attempts that each of these journals has.
-    attempts: Vec<Vec<Attempt>>,
-}
-
-/// A journal that is read on.
-#[derive(Drop)]
-struct Follower {
-    item: Item,
-    path: String,
-    file: File,
-    place: Place,
+    /// The attempts that these journals have.
+    attempts: AttemptsByLine,
+    ghost all: { length journals.items ≡ 16 },
 }
 
 impl Followed {
-    /// Reads answers and journals from their beginning. `last` is the file of the round, which this
-    /// process has read before, and `count` is how many lines the run knows. `guard` is the handle
-    /// that has the lock on this worker's journal.
+    /// Reads answers and journals from their beginning, each once: the answers first. `last` is the
+    /// file of the round, which this process has read before, and `count` is how many lines the run
+    /// knows. `guard` is the handle that has the lock on this worker's journal.
     ///
     /// # Errors
-    /// As [`log_of`], and `Later` if a file is replaced meanwhile.
+    /// As `Follower::open`, and `Later` if an append has no entry that may stand there.
     pub fn begin(
         rt: HostRuntime,
         setting: &Setting<'_>,
@@ -58,26 +42,52 @@ impl Followed {
         count: u64,
         worker: u64,
         guard: &File,
-    ) -> Result<Followed, Fault> {
+    ) -> Result<Followed, Fault>
+        ensures lines { IfOk result (λ followed. length followed.attempts.lines.items ≡ count) }
+    {
         let alloc = rt.alloc();
-        let answers = Follower::open(rt, setting, last, Item::Answers, None)?;
+        let mut attempts = AttemptsByLine::new(alloc, MAX_WORKERS as usize)?;
+        attempts.grow(alloc, count)?;
+        let mut findings = Vec::new(alloc);
+        let (answers, log) = Follower::open(rt, setting, last, Item::Answers, None)?;
+        push_findings(&mut findings, &log)?;
         let mut journals = Vec::new(alloc);
-        let mut attempts = Vec::new(alloc);
-        for other in 1..=MAX_WORKERS as u64 {
+        for place in 0..MAX_WORKERS {
+            let other = place as u64 + 1;
             let own = if other == worker { Some(guard) } else { None };
-            let item = Item::Journal(other);
-            journals.push(Follower::open(rt, setting, last, item, own)?)?;
-            attempts.push(Vec::new(alloc))?;
+            let (journal, log) = Follower::open(rt, setting, last, Item::Journal(other), own)?;
+            push_attempts(other, &mut attempts, &log)?;
+            journals.push(journal)?;
         }
-        let mut followed = Followed {
-            count,
+        Ok(Followed {
             answers,
-            findings: Vec::new(alloc),
+            findings,
             journals,
             attempts,
-        };
-        followed.read_on(rt)?;
-        Ok(followed)
+        })
+    }
+
+    /// Stays for the next round: reads on, and compares what was read with what the file of that
+    /// round counts. `last` is that file, which this process has read before, and `count` is how
+    /// many lines the run knows now.
+    ///
+    /// # Errors
+    /// As [`Followed::standing`]. `Lost` if the file counts more appends of a journal than were
+    /// read, or another last one. `Refused` if it doesn't count a journal.
+    pub fn stay(
+        &mut self,
+        rt: HostRuntime,
+        setting: &Setting<'_>,
+        last: &RoundFile,
+        count: u64,
+    ) -> Result<(), Fault>
+        ensures lines { OnOk result (count ≤ length self.new.attempts.lines.items) }
+        ensures answers { OnOk result (self.old.answers.reads < self.new.answers.reads) }
+        ensures journals { OnOk result (AreReadOn self.old.journals.items self.new.journals.items) }
+    {
+        self.attempts.grow(rt.alloc(), count)?;
+        self.read_on(rt)?;
+        self.check(rt, setting, last)
     }
 
     /// Reads on, and returns an attempt that stands against handing this line over by the attempt
@@ -94,22 +104,34 @@ impl Followed {
         line: u64,
     ) -> Result<Option<AttemptId>, Fault>
         // By what was read, the line is clear just if `None` is returned.
-        ensures clear { IfOk result (λ other. IfNone other (IsClear self.new.findings.items (map (λ journal. journal.items) self.new.attempts.items) own line)) }
-        ensures standing { IfOk result (λ other. IfSome other (IsStanding self.new.findings.items (map (λ journal. journal.items) self.new.attempts.items) own line)) }
+        ensures clear { IfOk result (λ other. IfNone other (IsClear self.new.findings.items (map (λ journal. journal.items) self.new.attempts.journals.items) own line)) }
+        ensures standing { IfOk result (λ other. IfSome other (IsStanding self.new.findings.items (map (λ journal. journal.items) self.new.attempts.journals.items) own line)) }
+        // The answers and each of the 16 journals were read on.
+        ensures answers { OnOk result (self.old.answers.reads < self.new.answers.reads) }
+        ensures journals { OnOk result (AreReadOn self.old.journals.items self.new.journals.items) }
     {
         self.read_on(rt)?;
-        Ok(standing_attempt(&self.findings, &self.attempts, own, line))
+        Ok(self.attempts.standing(&self.findings, own, line))
+    }
+
+    /// Compares what was read with what the file of a later round counts.
+    fn check(&self, rt: HostRuntime, setting: &Setting<'_>, last: &RoundFile) -> Result<(), Fault> {
+        self.answers.check(rt, setting, last)?;
+        for journal in &self.journals {
+            journal.check(rt, setting, last)?;
+        }
+        Ok(())
     }
 
     /// Reads on: the answers first, and then the journals.
-    fn read_on(&mut self, rt: HostRuntime) -> Result<(), Fault> {
+    fn read_on(&mut self, rt: HostRuntime) -> Result<(), Fault>
+        ensures lines { length self.new.attempts.lines.items ≡ length self.old.attempts.lines.items }
+        ensures answers { OnOk result (self.old.answers.reads < self.new.answers.reads) }
+        ensures journals { OnOk result (AreReadOn self.old.journals.items self.new.journals.items) }
+    {
         let log = self.answers.more(rt)?;
         push_findings(&mut self.findings, &log)?;
-        for (journal, attempts) in self.journals.iter_mut().zip(self.attempts.iter_mut()) {
-            let log = journal.more(rt)?;
-            push_attempts(self.count, journal.item, attempts, &log)?;
-        }
-        Ok(())
+        read_journals_on(rt, &mut self.journals, &mut self.attempts)
     }
 }
 
@@ -124,93 +146,52 @@ fn push_findings(findings: &mut Vec<Finding>, log: &Log) -> Result<(), Fault> {
     Ok(())
 }
 
-/// Adds the attempts of these appends, and what came of them, to those of a journal.
-fn push_attempts(
-    count: u64,
-    item: Item,
-    attempts: &mut Vec<Attempt>,
-    log: &Log,
-) -> Result<(), Fault> {
+/// Reads the journals of the workers 1, 2 and so on on, and adds their attempts.
+fn read_journals_on(
+    rt: HostRuntime,
+    journals: &mut [Follower],
+    attempts: &mut AttemptsByLine,
+) -> Result<(), Fault>
+    ensures lines { length attempts.new.lines.items ≡ length attempts.old.lines.items }
+    ensures journals { OnOk result (AreReadOn journals.old journals.new) }
+{
+    for (p, journal) in journals.iter_mut().enumerate() {
+        let log = journal.more(rt)?;
+        push_attempts(p as u64 + 1, attempts, &log)?;
+    }
+    Ok(())
+}
+
+/// Adds the attempts of these appends, and what came of them, to those of a worker's journal.
+fn push_attempts(worker: u64, attempts: &mut AttemptsByLine, log: &Log) -> Result<(), Fault>
+    ensures lines { length attempts.new.lines.items ≡ length attempts.old.lines.items }
+{
     for records in &log.records {
-        let Some(entry) = Entry::read(records) else {
-            return Err(Fault::Later(Later::Changed(item)));
+        let Some(append) = Append::read(records) else {
+            return Err(Fault::Later(Later::Changed(Item::Journal(worker))));
         };
-        if !note(count, attempts, entry)? {
-            return Err(Fault::Later(Later::Changed(item)));
+        if !note_append(worker, attempts, append)? {
+            return Err(Fault::Later(Later::Changed(Item::Journal(worker))));
         }
     }
     Ok(())
 }
 
-impl Follower {
-    /// Opens a journal that can be read and keeps what was counted of it. Nothing of it counts as
-    /// read yet. `own` is the handle that is taken in place of a new one.
-    fn open(
-        rt: HostRuntime,
-        setting: &Setting<'_>,
-        last: &RoundFile,
-        item: Item,
-        own: Option<&File>,
-    ) -> Result<Follower, Fault> {
-        let file = match own {
-            Some(guard) => written(item, guard.try_clone())?,
-            None => match opened_to_read(rt, setting, item)? {
-                Some(file) => file,
-                None => return Err(Fault::Missing(item)),
-            },
-        };
-        log_of(rt, setting, item, Some(last))?;
-        let first = first_checksum(rt, setting, item)?;
-        Ok(Follower {
-            item,
-            path: path_of(rt, setting, item)?,
-            file,
-            place: Place::new(rt.alloc(), &first),
-        })
-    }
-
-    /// Reads on, and returns the appends that were not read before. If they can't be read, they are
-    /// read once more, as long as the file shows other bytes: its writer may be at work.
-    fn more(&mut self, rt: HostRuntime) -> Result<Log, Fault> {
-        if !had(self.item, is_at(&rt, &self.file, self.path.as_str()))? {
-            return Err(Fault::Later(Later::Changed(self.item)));
-        }
-        let mut bytes = self.rest(rt.alloc())?;
-        let mut read = read_on(rt.alloc(), &self.place, &bytes);
-        for _look in 0..LOOKS {
-            if read.is_ok() {
-                break;
+/// Notes the entries of an append, and says whether they may follow those that were noted.
+fn note_append(
+    worker: u64,
+    attempts: &mut AttemptsByLine,
+    append: Append,
+) -> Result<bool, AllocError>
+    ensures lines { length attempts.new.lines.items ≡ length attempts.old.lines.items }
+{
+    match append {
+        Append::One(entry) => attempts.note(worker, entry),
+        Append::Two(first, second) => {
+            if !attempts.note(worker, first)? {
+                return Ok(false);
             }
-            let again = self.rest(rt.alloc())?;
-            let is_same = again.as_slice() == bytes.as_slice();
-            bytes = again;
-            if is_same {
-                break;
-            }
-            read = read_on(rt.alloc(), &self.place, &bytes);
+            attempts.note(worker, second)
         }
-        match read {
-            Ok((log, place)) => {
-                self.place = place;
-                Ok(log)
-            }
-            Err(ReadOnError::Memory) => Err(Fault::Memory),
-            Err(_) => Err(Fault::Later(Later::Changed(self.item))),
-        }
-    }
-
-    /// Returns the bytes of the file from the last append on that was read.
-    fn rest(&self, alloc: Global) -> Result<Vec<u8>, Fault> {
-        let mut bytes = Vec::new(alloc);
-        let mut chunk = [0u8; CHUNK];
-        for _chunk in 0..u64::MAX {
-            let at = (self.place.start() as u64).saturating_add(bytes.len() as u64);
-            let count = had(self.item, self.file.read_at(&mut chunk, at))?;
-            if count == 0 || count > CHUNK {
-                break;
-            }
-            bytes.extend_from_slice(&chunk[..count])?;
-        }
-        Ok(bytes)
     }
 }

@@ -10,6 +10,7 @@ mod damage;
 mod disk;
 mod error;
 mod files;
+mod follower;
 mod following;
 mod identity;
 mod journal;
@@ -33,7 +34,9 @@ pub use following::Followed;
 pub use identity::{Age, check_id, check_kept};
 pub use journal::OpenJournal;
 pub use layout::Item;
-pub use locks::{LockedJournal, Tried, lock_of, lock_within, settled, take_number, try_lock_of};
+pub use locks::{
+    LockedJournal, Tried, check_number, lock_of, lock_within, settled, take_number, try_lock_of,
+};
 pub use logs::{Logs, log_of, read_logs};
 pub use loss::Loss;
 pub use names::is_id;
@@ -41,4 +44,4 @@ pub use new_round::begin;
 pub use registers::Words;
 pub use round::{JoinedRound, join, record_of};
 pub use settings::{ListSettings, Setting};
-pub use state::{RawLogs, RunState, attempts_of, known};
+pub use state::{RawLogs, RunState, attempts_of, has_lines_of, known};

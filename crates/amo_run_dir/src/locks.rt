@@ -95,11 +95,26 @@ fn still_there(
     item: Item,
     file: File,
 ) -> Result<Option<File>, Fault> {
-    let path = path_of(rt, setting, item)?;
-    if !had(item, is_at(&rt, &file, path.as_str()))? {
-        return Err(Fault::Later(Later::Replaced));
-    }
+    check_name(rt, setting, item, &file)?;
     Ok(Some(file))
+}
+
+/// Checks that the file of a handle still has this name.
+///
+/// # Errors
+/// `Later` if the file was removed or replaced.
+fn check_name(
+    rt: HostRuntime,
+    setting: &Setting<'_>,
+    item: Item,
+    file: &File,
+) -> Result<(), Fault> {
+    let path = path_of(rt, setting, item)?;
+    if had(item, is_at(&rt, file, path.as_str()))? {
+        Ok(())
+    } else {
+        Err(Fault::Later(Later::Replaced))
+    }
 }
 
 /// Recovers the journal of a handle that has its lock, and syncs the folder. The journal is first
@@ -151,6 +166,21 @@ pub fn take_number(
         }
         None => Err(Fault::Later(holder(rt, setting, item))),
     }
+}
+
+/// Checks that this process still has the number of a worker. The folder must still be the run's,
+/// and the worker's journal the file of `guard`, the handle that has its lock.
+///
+/// # Errors
+/// As [`check_kept`], and `Later` if the journal was removed or replaced.
+pub fn check_number(
+    rt: HostRuntime,
+    setting: &Setting<'_>,
+    worker: u64,
+    guard: &File,
+) -> Result<(), Fault> {
+    check_kept(rt, setting)?;
+    check_name(rt, setting, Item::Journal(worker), guard)
 }
 
 /// The result of a try to lock a file that may be missing.

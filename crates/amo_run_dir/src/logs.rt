@@ -1,22 +1,24 @@
 //! To read the journals of a run: each by its checksums, and by what the last round's header
 //! counts.
-ghost use Rattle.std.specs.Prelude.{◌≡◌, ◌<◌, ◌≤◌, IfOk, IfErr};
+ghost use Rattle.std.specs.Prelude.{◌≡◌, ◌<◌, ◌≤◌, IfNone, IfSome, IfOk, IfErr};
 ghost use Rattle.amo_journal.specs.Appends.{IsLog};
+ghost use Rattle.amo_journal.specs.Following.{IsPlace};
 ghost use Rattle.amo_journal.specs.Logs.{checksums_from, checksums_of, records_of};
-ghost use Rattle.amo_run_dir.specs.Logs.{Keeps, IsWhyUnread};
+ghost use Rattle.amo_run_dir.specs.Logs.{IsKept, IsWhyLost, IsWhyUnread, Keeps};
 ghost use Rattle.amo_run_dir.specs.declared.logs.Unread.TheVariants.{Fewer, Other};
 
 use crate::error::Fault;
-use crate::files::bytes_of;
+use crate::files::{bytes_from, opened_to_read};
 use crate::identity::first_checksum;
 use crate::layout::Item;
 use crate::loss::Loss;
 use crate::round::record_of;
 use crate::settings::Setting;
 use amo_givens::MAX_WORKERS;
-use amo_journal::{Checksum, DamageKind, Log, ReadError, read_log};
+use amo_journal::{Checksum, DamageKind, Log, Place, ReadError, read_whole};
 use amo_run_files::{Count, Extent, RoundFile};
 use std::alloc::Global;
+use std::fs::File;
 use std::rt::HostRuntime;
 
 /// The journals of a run, and the answers of operators, which have the same form.
@@ -79,15 +81,37 @@ pub fn log_of(
     let first = first_checksum(rt, setting, item)?;
     let counted = counted_in(rt, item, last)?;
     match look_at_log(rt, setting, item, first, counted)? {
-        Look::Read(log) => begun(rt, setting, last, log),
+        Look::Read(log, _) => begun(rt, setting, last, log),
         Look::Refused(why, _) => Err(fault_of(item, why, counted, last)),
+    }
+}
+
+/// Reads a journal as [`log_of`] does, by a handle of its file. `last` is the file of the last
+/// round, which the caller has read before. Returns the place of its last append too, from which it
+/// is read on.
+///
+/// # Errors
+/// As [`log_of`], but never `Missing`.
+pub(crate) fn log_in(
+    rt: HostRuntime,
+    setting: &Setting<'_>,
+    item: Item,
+    last: &RoundFile,
+    file: &File,
+) -> Result<(Log, Place), Fault> {
+    let first = first_checksum(rt, setting, item)?;
+    let counted = counted_in(rt, item, Some(last))?;
+    match look_in(rt.alloc(), item, file, first, counted)? {
+        Look::Read(log, place) => Ok((log, place)),
+        Look::Refused(why, _) => Err(fault_of(item, why, counted, Some(last))),
     }
 }
 
 /// The result of a look at a journal.
 #[derive(Drop)]
 pub(crate) enum Look {
-    Read(Log),
+    /// It was read. The place is that of its last append.
+    Read(Log, Place),
     /// It isn't read, for this reason; these are its bytes.
     Refused(Unread, Vec<u8>),
 }
@@ -103,14 +127,31 @@ pub(crate) fn look_at_log(
     first: Checksum,
     counted: Option<Count>,
 ) -> Result<Look, Fault> {
-    let mut bytes = whole_of(rt, setting, item)?;
-    let mut read = checked_log(rt.alloc(), first, counted, &bytes);
+    match opened_to_read(rt, setting, item)? {
+        Some(file) => look_in(rt.alloc(), item, &file, first, counted),
+        None => Err(Fault::Missing(item)),
+    }
+}
+
+/// Reads a journal as [`look_at_log`] does, by a handle of its file.
+///
+/// # Errors
+/// `Empty` if it has no byte, and `Read`.
+fn look_in(
+    alloc: Global,
+    item: Item,
+    file: &File,
+    first: Checksum,
+    counted: Option<Count>,
+) -> Result<Look, Fault> {
+    let mut bytes = whole_of(alloc, item, file)?;
+    let mut read = checked_log(alloc, first, counted, &bytes);
     for _look in 0..LOOKS {
         let Err(why) = read else {
             break;
         };
-        let again = whole_of(rt, setting, item)?;
-        let next = checked_log(rt.alloc(), first, counted, &again);
+        let again = whole_of(alloc, item, file)?;
+        let next = checked_log(alloc, first, counted, &again);
         if is_same(&bytes, why, &again, &next) {
             break;
         }
@@ -118,7 +159,7 @@ pub(crate) fn look_at_log(
         read = next;
     }
     match read {
-        Ok(log) => Ok(Look::Read(log)),
+        Ok((log, place)) => Ok(Look::Read(log, place)),
         Err(why) => Ok(Look::Refused(why, bytes)),
     }
 }
@@ -164,28 +205,45 @@ pub(crate) fn extent_in<'a>(extents: &'a [Extent], name: &[u8]) -> Option<&'a Ex
     extents.iter().find(|extent| extent.name.as_slice() == name)
 }
 
-/// Reads a journal from its bytes, and compares it with what was counted.
+/// Reads a journal from its bytes, and compares it with what was counted. Returns the place of its
+/// last append too.
 pub(crate) fn checked_log(
     alloc: Global,
     first: Checksum,
     counted: Option<Count>,
     bytes: &[u8],
-) -> Result<Log, Unread>
-    ensures log { IfOk result (λ log. IsLog first.digits (records_of log.records.items) bytes.now) }
-    ensures checksums { IfOk result (λ log. checksums_of log.checksums.items ≡ checksums_from first.digits (records_of log.records.items)) }
-    ensures kept { IfOk result (λ log. Keeps counted first.digits (records_of log.records.items)) }
+) -> Result<(Log, Place), Unread>
+    ensures log { IfOk result (λ read. IsLog first.digits (records_of read.0.records.items) bytes.now) }
+    ensures checksums { IfOk result (λ read. checksums_of read.0.checksums.items ≡ checksums_from first.digits (records_of read.0.records.items)) }
+    ensures place { IfOk result (λ read. IsPlace first.digits (records_of read.0.records.items) read.1) }
+    ensures kept { IfOk result (λ read. Keeps counted first.digits (records_of read.0.records.items)) }
     ensures refused { IfErr result (λ why. IsWhyUnread why counted first.digits bytes.now) }
 {
-    let log = match read_log(alloc, &first, bytes) {
-        Ok(log) => log,
+    let (log, place) = match read_whole(alloc, &first, bytes) {
+        Ok(both) => both,
         Err(ReadError::Memory) => return Err(Unread::Memory),
         Err(ReadError::Damaged { number, kind }) => return Err(Unread::Damaged(number, kind)),
     };
+    match loss_in(first, counted, &log.checksums) {
+        Some(why) => Err(why),
+        None => Ok((log, place)),
+    }
+}
+
+/// Returns why a journal with these checksums isn't read, if it doesn't keep what was counted.
+pub(crate) fn loss_in(
+    first: Checksum,
+    counted: Option<Count>,
+    checksums: &[Checksum],
+) -> Option<Unread>
+    ensures none { IfNone result (IsKept counted first.digits (checksums_of checksums.now)) }
+    ensures some { IfSome result (λ why. IsWhyLost why counted first.digits (checksums_of checksums.now)) }
+{
     match counted {
-        Some(count) if !count.is_kept_by(first, &log.checksums) => {
-            Err(loss_of(&count, log.checksums.len()))
+        Some(count) if !count.is_kept_by(first, checksums) => {
+            Some(loss_of(&count, checksums.len()))
         }
-        _ => Ok(log),
+        _ => None,
     }
 }
 
@@ -203,7 +261,7 @@ fn loss_of(count: &Count, appends: usize) -> Unread
 
 /// Returns true if a second read of a journal was refused as the first one was, and shows the same
 /// bytes.
-fn is_same(bytes: &[u8], why: Unread, again: &[u8], next: &Result<Log, Unread>) -> bool {
+fn is_same(bytes: &[u8], why: Unread, again: &[u8], next: &Result<(Log, Place), Unread>) -> bool {
     match next {
         Err(other) => *other == why && again.starts_with(bytes),
         Ok(_) => false,
@@ -243,10 +301,13 @@ pub(crate) fn fault_of(
 }
 
 /// Returns the bytes of a journal.
-fn whole_of(rt: HostRuntime, setting: &Setting<'_>, item: Item) -> Result<Vec<u8>, Fault> {
-    match bytes_of(rt, setting, item)? {
-        Some(bytes) if bytes.is_empty() => Err(Fault::Empty(item)),
-        Some(bytes) => Ok(bytes),
-        None => Err(Fault::Missing(item)),
+///
+/// # Errors
+/// `Empty` if the file has no byte, and `Read`.
+fn whole_of(alloc: Global, item: Item, file: &File) -> Result<Vec<u8>, Fault> {
+    let bytes = bytes_from(alloc, item, file, 0)?;
+    if bytes.is_empty() {
+        return Err(Fault::Empty(item));
     }
+    Ok(bytes)
 }

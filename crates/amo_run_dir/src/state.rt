@@ -6,7 +6,7 @@ use crate::logs::{Logs, extent_in};
 use crate::settings::Setting;
 use amo_run_files::{Jobs, JobsFault, RoundFile};
 use amo_run_log::{
-    Attempt, Fault as Misread, Finding, first_misplaced, journal_of, read_entries, read_findings,
+    Attempt, Fault as Misread, Finding, first_misplaced, read_attempts, read_findings,
 };
 use amo_status::{AttemptId, RunLog};
 use std::alloc::Global;
@@ -69,6 +69,12 @@ pub fn known(
     }
 }
 
+/// Returns true if these lines begin with those that the run knew when this round began. They were
+/// read before, so the file `jobs` needs no other look.
+pub fn has_lines_of(jobs: &Jobs, round: &RoundFile) -> bool {
+    is_as_counted(jobs.bytes(), Some(round))
+}
+
 /// Returns true if the lines begin with those of the last round, if there was one.
 fn is_as_counted(bytes: &[u8], last: Option<&RoundFile>) -> bool {
     let Some(last) = last else {
@@ -113,8 +119,7 @@ pub fn attempts_of(
     count: u64,
     texts: &[Vec<u8>],
 ) -> Result<Vec<Attempt>, Fault> {
-    let entries = taken(item, read_entries(alloc, texts))?;
-    taken(item, journal_of(alloc, count, &entries))
+    taken(item, read_attempts(alloc, count, texts))
 }
 
 /// What persons found out, each of an intent that there is, and no two of one.
@@ -130,7 +135,7 @@ fn findings_of(
     }
 }
 
-/// What was read of a file, or the fault that names it and the entry.
+/// Returns what was read of a file, or the fault that names the file and the append.
 fn taken<T>(item: Item, read: Result<T, Misread>) -> Result<T, Fault> {
     match read {
         Ok(value) => Ok(value),
