@@ -16,7 +16,8 @@ pub enum Try {
     Clear(u64, u32),
     /// To have this job performed, by the intent of this serial number.
     Perform(u64, u32),
-    /// To put into the journal what became of the intent of this serial number.
+    /// To hand to the journal what became of the intent of this serial number. The journal may hold
+    /// that back until the next intent, and then append both at once.
     Note(u64, JobResult),
     /// To ask what became of the intent of this serial number, left by a former process, of this
     /// line.
@@ -40,7 +41,8 @@ pub enum Deed {
     /// The partner was told to perform this job, by the intent of this serial number, and this came
     /// in answer.
     Performed(u64, u32, Reply),
-    /// What became of the intent of this serial number is in the journal.
+    /// The journal has what became of the intent of this serial number, or holds it back until the
+    /// next intent.
     Noted(u64, JobResult),
     /// It has asked what became of the intent of this serial number, of this line, and this came in
     /// answer.

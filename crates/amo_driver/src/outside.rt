@@ -60,8 +60,9 @@ pub trait Outside {
         ensures done { IfOk result (λ reply. deeds self.new ≡ with_deed (deeds self.old) (Performed serial job reply)) }
         ensures fails { OnErr result (deeds self.new ≡ with_deed (deeds self.old) (Fell (Perform serial job))) };
 
-    /// Puts into the journal what became of an intent, so that every crash from now on leaves it
-    /// there.
+    /// Hands the journal what became of an intent. It is recorded, so that every crash leaves it
+    /// there, at the latest once the next intent is, or when the process ends its work. A crash
+    /// before that leaves the intent without an answer, though the job is recorded as done.
     fn note(&mut self, serial: u64, answer: JobResult) -> Result<(), Failed>
         requires { may self.old (Note serial answer) }
         ensures done { OnOk result (deeds self.new ≡ with_deed (deeds self.old) (Noted serial answer)) }

@@ -86,6 +86,15 @@ IsSaid text reply = (text_of reply ≡ Some text) × Fits reply
 way_printed : (w : List ℕ) (way : Way) → way_in w ≡ Some way → w ≡ word_of way
 way_printed w way h = ⊎_elim (λ p. p.0 ∙ ap word_of p.1) (λ p. p.0 ∙ ap word_of p.1) (either_word w (codes "go") (codes "leave") Go Leave way h)
 
+-- the clauses of `over_reply_in`
+
+pub way_heard : (text : List ℕ) (r : Option Way) → r ≡ way_in text → IfSome r (λ way. word_of way ≡ text)
+way_heard text None is = tt
+way_heard text (Some way) is = sym (way_printed text way (sym is))
+
+pub way_was_said : (text : List ℕ) (r : Option Way) → r ≡ way_in text → (way : Way) → word_of way ≡ text → r ≡ Some way
+way_was_said text r is way said = is ∙ ap way_in (sym said) ∙ way_reads way
+
 number_printed : (text : List ℕ) (n : ℕ × Way) → number_and_way_in text ≡ Some n → (decimal n.0 ++ 32 ∷ word_of n.1 ≡ text) × (n.0 < 2 ^ 64)
 number_printed text n h =
     let (blank, read) = blank_and (has_blank text) _ n h in

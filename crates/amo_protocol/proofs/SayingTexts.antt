@@ -7,7 +7,7 @@ use Rattle.amo_decimal.specs.Numbers.{number_in}
 use Rattle.amo_run_log.specs.Numbers.{first_word, other_words}
 use Rattle.amo_decimal.proofs.NumberTexts.{reads_printed}
 use Rattle.amo_run_log.proofs.Words.{Lacks, lacks_append, decimal_lacks, AreWords, words}
-use Rattle.amo_protocol.specs.Sayings.{job_line, perform_text, was_text, IsOneEndedLine}
+use Rattle.amo_protocol.specs.Sayings.{job_line, over_text, perform_text, was_text, IsOneEndedLine}
 
 some_is : {A : Type 0} {x y : A} → Some x ≡ Some y → x ≡ y
 some_is e = cc
@@ -32,11 +32,18 @@ told_apart word s l k m t u fs fl fk fm e =
     let (lines, texts) = front_is l m (t ++ 10 ∷ []) (u ++ 10 ∷ []) fl fm more in
     (serials, lines, append_cancel_right t u (10 ∷ []) texts)
 
+differ : (a b : ℕ) → a < b → a ≡ b → ⊥
+differ a b lt same = omega arith
+
 pub words_differ : (s l k m : ℕ) (t u : List ℕ) → perform_text s l t ≢ was_text k m u
 words_differ s l k m t u e = differ 112 119 (omega arith) (ap (λ (bytes : List ℕ). get_or bytes 0 0) e)
-  where
-    differ : (a b : ℕ) → a < b → a ≡ b → ⊥
-    differ a b lt same = omega arith
+
+-- `over` begins with another byte
+pub over_differs : (s l : ℕ) (t : List ℕ) → (perform_text s l t ≢ over_text) × (was_text s l t ≢ over_text)
+over_differs s l t = (
+  λ e. differ 111 112 (omega arith) (sym (ap (λ (bytes : List ℕ). get_or bytes 0 0) e)),
+  λ e. differ 111 119 (omega arith) (sym (ap (λ (bytes : List ℕ). get_or bytes 0 0) e)),
+)
 
 pub is_one_line : (word : List ℕ) (s l : ℕ) (t : List ℕ) → Lacks 10 word → s < 2 ^ 64 → l < 2 ^ 64 → IsOneLine t → IsOneEndedLine (job_line word s l t)
 is_one_line word s l t w fs fl one = (

@@ -15,6 +15,10 @@ perform_text serial line text = job_line (codes "perform") serial line text
 abbrev pub was_text : ℕ → ℕ → List ℕ → List ℕ
 was_text serial line text = job_line (codes "was") serial line text
 
+-- the worker has done its part of the round: may it stay for the next one?
+abbrev pub over_text : List ℕ
+over_text = codes "over\n"
+
 -- one line, and its end
 abbrev pub IsOneEndedLine : List ℕ → Type 0
 IsOneEndedLine said = (line : List ℕ) × (said ≡ line ++ 10 ∷ []) × IsOneLine line

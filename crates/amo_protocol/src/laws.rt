@@ -1,7 +1,7 @@
 //! What follows for the lines to the partner, each as the contract of a function that does nothing.
 ghost use Rattle.std.specs.Prelude.{◌≡◌, ◌≢◌, ◌<◌, ◌^◌, ℕ, List};
 ghost use Rattle.amo_journal.specs.Texts.{IsOneLine};
-ghost use Rattle.amo_protocol.specs.Sayings.{perform_text, was_text, IsOneEndedLine};
+ghost use Rattle.amo_protocol.specs.Sayings.{over_text, perform_text, was_text, IsOneEndedLine};
 
 /// No two lines to the partner are the same that don't say the same: one word, one serial number,
 /// one line and one text.
@@ -11,10 +11,12 @@ pub fn lines_are_told_apart()
     ensures was { (serial line other_serial other_line : ℕ) (text other : List ℕ) → serial < 2 ^ 64 → line < 2 ^ 64 → other_serial < 2 ^ 64 → other_line < 2 ^ 64
         → was_text serial line text ≡ was_text other_serial other_line other → (serial ≡ other_serial) × (line ≡ other_line) × (text ≡ other) }
     ensures words { (serial line other_serial other_line : ℕ) (text other : List ℕ) → perform_text serial line text ≢ was_text other_serial other_line other }
+    ensures over { (serial line : ℕ) (text : List ℕ) → (perform_text serial line text ≢ over_text) × (was_text serial line text ≢ over_text) }
 {}
 
-/// A job's text that is one line is told in one line.
+/// The lines `perform`, `was` and `over` are each one line, if the job's text is one.
 pub fn one_line_is_told_in_one()
     ensures perform { (serial line : ℕ) (text : List ℕ) → serial < 2 ^ 64 → line < 2 ^ 64 → IsOneLine text → IsOneEndedLine (perform_text serial line text) }
     ensures was { (serial line : ℕ) (text : List ℕ) → serial < 2 ^ 64 → line < 2 ^ 64 → IsOneLine text → IsOneEndedLine (was_text serial line text) }
+    ensures over { IsOneEndedLine over_text }
 {}

@@ -13,6 +13,6 @@ mod wire;
 
 pub use remote::Lines;
 pub use remote_texts::text_of;
-pub use replies::reply_in;
-pub use requests::{perform_text, was_text};
+pub use replies::{over_reply_in, reply_in};
+pub use requests::{over_text, perform_text, was_text};
 pub use wire::{Wire, whole_line};

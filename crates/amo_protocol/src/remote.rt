@@ -101,7 +101,7 @@ impl<W: Wire> Outside for Lines<W> {
 fn clear_in(line: &[u8]) -> Option<bool>
     ensures { result ≡ clear_in line.now }
 {
-    if line == b"ok".as_slice() {
+    if line == b"clear".as_slice() {
         Some(true)
     } else if line == b"taken".as_slice() {
         Some(false)

@@ -1,7 +1,8 @@
 //! What a worker hears from its partner.
 ghost use Rattle.std.specs.Prelude.{◌≡◌, ◌≢◌, Some, IfSome};
 ghost use Rattle.amo_driver.specs.declared.answer.Reply.{Reply as ReplyView};
-ghost use Rattle.amo_protocol.specs.Replies.{text_of, Fits, way_in, number_and_way_in, code_and_way_in, reply_of_word, said_in, reply_in};
+ghost use Rattle.amo_driver.specs.declared.answer.Way.{Way as WayView};
+ghost use Rattle.amo_protocol.specs.Replies.{text_of, Fits, word_of, way_in, number_and_way_in, code_and_way_in, reply_of_word, said_in, reply_in};
 
 use amo_decimal::number;
 use amo_driver::{JobResult, Reply, Way};
@@ -19,6 +20,18 @@ pub fn reply_in(said: &[u8]) -> Reply
     ensures somebody { result ≢ Reply.Closed }
 {
     reply_of_bytes(said)
+}
+
+/// Returns the answer to `over` that a line says, without its end: the worker stays for the next
+/// round, or leaves. Returns `None` if the line is invalid.
+pub fn over_reply_in(said: &[u8]) -> Option<Way>
+    ensures exact { result ≡ way_in said.now }
+    // Each answer that is read was printed so.
+    ensures heard { IfSome result (λ way. word_of way ≡ said.now) }
+    // Each answer that was printed is read.
+    ensures was_said { (way : WayView) → word_of way ≡ said.now → result ≡ Some way }
+{
+    way_of(said)
 }
 
 /// What the bytes say. What is no text is no answer.
@@ -84,16 +97,18 @@ fn number_and_way(text: &str) -> Option<(u64, Way)>
 {
     let (serial, way) = text.split_once(' ')?;
     let serial = number(serial)?;
-    let way = way_of(way)?;
+    let way = way_of(way.as_bytes())?;
     Some((serial, way))
 }
 
-fn way_of(word: &str) -> Option<Way>
+fn way_of(word: &[u8]) -> Option<Way>
     ensures { result ≡ way_in word.now }
 {
-    match word {
-        "go" => Some(Way::Go),
-        "leave" => Some(Way::Leave),
-        _ => None,
+    if word == b"go".as_slice() {
+        Some(Way::Go)
+    } else if word == b"leave".as_slice() {
+        Some(Way::Leave)
+    } else {
+        None
     }
 }

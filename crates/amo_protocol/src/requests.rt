@@ -1,6 +1,6 @@
 //! What a worker says to its partner.
 ghost use Rattle.std.specs.Prelude.{◌≡◌, IfOk};
-ghost use Rattle.amo_protocol.specs.Sayings.{job_line, perform_text, was_text};
+ghost use Rattle.amo_protocol.specs.Sayings.{job_line, over_text, perform_text, was_text};
 
 use std::alloc::{AllocError, Global};
 
@@ -24,6 +24,14 @@ pub fn was_text(alloc: Global, serial: u64, line: u64, text: &[u8]) -> Result<Ve
     ensures { IfOk result (λ said. said.items ≡ was_text serial line text.now) }
 {
     job_line(alloc, "was", serial, line, text)
+}
+
+/// Returns the line by which a worker reports that its part of the round is over and that it stays
+/// for the next one, if the runner agrees. The line feed is part of it.
+pub fn over_text() -> &'static [u8]
+    ensures { result.now ≡ over_text }
+{
+    b"over\n".as_slice()
 }
 
 /// A line that begins with this word.

@@ -1,5 +1,5 @@
 use Rattle.std.specs.Prelude.{codes}
-use Rattle.amo_protocol.proofs.SayingTexts.{told_apart, words_differ}
+use Rattle.amo_protocol.proofs.SayingTexts.{told_apart, words_differ, over_differs}
 use Rattle.amo_protocol.proofs.laws.lines_are_told_apart.Goals as goal
 
 pub returns-clause-perform : goal.returns-clause-perform
@@ -10,3 +10,6 @@ returns-clause-was c s l k m t u fs fl fk fm e = told_apart (codes "was") s l k 
 
 pub returns-clause-words : goal.returns-clause-words
 returns-clause-words c s l k m t u = words_differ s l k m t u
+
+pub returns-clause-over : goal.returns-clause-over
+returns-clause-over c s l t = over_differs s l t

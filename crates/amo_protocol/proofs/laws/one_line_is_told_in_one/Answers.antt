@@ -9,3 +9,6 @@ returns-clause-perform c s l t fs fl one = is_one_line (codes "perform") s l t (
 
 pub returns-clause-was : goal.returns-clause-was
 returns-clause-was c s l t fs fl one = is_one_line (codes "was") s l t (lacks_by_test 10 (codes "was") refl) fs fl one
+
+pub returns-clause-over : goal.returns-clause-over
+returns-clause-over c = (codes "over", refl, lacks_by_test 10 (codes "over") refl)
