@@ -10,7 +10,7 @@ use amo_givens::Givens;
 use amo_journal::{Checksum, Journal, read_log};
 use amo_run_files::givens_of;
 use amo_run_log::{
-    Attempt, Entry, Outcome, append_entry, journal_of, open_lines, pending, read_entries,
+    Append, Attempt, Entry, Outcome, append_entries, open_lines, pending, read_attempts,
 };
 use amo_sim_disk::{Call, Disk};
 use std::alloc::{AllocError, Global};
@@ -90,6 +90,8 @@ struct Run {
     is_prompt: bool,
     /// The intent that is still to be put.
     late: Option<Entry>,
+    /// The answer that the next append takes along.
+    owed: Option<Entry>,
 }
 
 impl Run {
@@ -111,6 +113,7 @@ impl Run {
             cut_at,
             is_prompt,
             late: None,
+            owed: None,
         })
     }
 
@@ -127,7 +130,8 @@ impl Run {
         }
     }
 
-    /// Puts an entry into the journal of who is at work, which is opened for that.
+    /// Puts an entry, and in front of it the answer that is owed, into the journal of who is at
+    /// work, which is opened for that.
     fn put(&mut self, entry: Entry) -> Result<(), Failed> {
         let at = self.worker.saturating_sub(1) as usize;
         if at >= self.files.len() {
@@ -138,9 +142,13 @@ impl Run {
         let Ok(disk) = Disk::new(self.alloc, &file, Some(failing)) else {
             return Err(Failed);
         };
+        let append = match self.owed.take() {
+            Some(owed) => Append::Two(owed, entry),
+            None => Append::One(entry),
+        };
         let mut journal = Journal::new(disk, first());
         let is_put = journal.recover(self.alloc).is_ok()
-            && append_entry(&mut journal, self.alloc, entry).is_ok();
+            && append_entries(&mut journal, self.alloc, append).is_ok();
         let disk = journal.device;
         self.disk_calls = self.disk_calls.saturating_add(disk.calls().len() as u64);
         if is_put {
@@ -258,7 +266,13 @@ impl Outside for Run {
     }
 
     fn note(&mut self, serial: u64, answer: Became) -> Result<(), Failed> {
-        self.note_answer(serial, answer)
+        let fate = self.fate();
+        if fate == Fate::Unmade {
+            return Err(Failed);
+        }
+        self.put_late()?;
+        self.owed = Some(answer_entry(serial, answer));
+        fate.heard(())
     }
 }
 
@@ -281,25 +295,35 @@ impl Past for Run {
     }
 
     fn note(&mut self, serial: u64, answer: Became) -> Result<(), Failed> {
-        self.note_answer(serial, answer)
-    }
-}
-
-impl Run {
-    fn note_answer(&mut self, serial: u64, answer: Became) -> Result<(), Failed> {
         let fate = self.fate();
         if fate == Fate::Unmade {
             return Err(Failed);
         }
-        let answer = match answer {
-            Became::Done(code) => Outcome::Done { code, time: 0 },
-            Became::Doubt => Outcome::Doubt { time: 0 },
-            Became::Unbegun => Outcome::Unbegun,
-            Became::Untouched(code) => Outcome::Untouched { code, time: 0 },
-        };
-        self.put_late()?;
-        self.put(Entry::Answer { serial, answer })?;
+        self.put(answer_entry(serial, answer))?;
         fate.heard(())
+    }
+}
+
+/// The entry of an answer.
+fn answer_entry(serial: u64, answer: Became) -> Entry {
+    let answer = match answer {
+        Became::Done(code) => Outcome::Done { code, time: 0 },
+        Became::Doubt => Outcome::Doubt { time: 0 },
+        Became::Unbegun => Outcome::Unbegun,
+        Became::Untouched(code) => Outcome::Untouched { code, time: 0 },
+    };
+    Entry::Answer { serial, answer }
+}
+
+impl Run {
+    /// Puts the answer that is owed at the end of a life, alone, unless the process is killed
+    /// before.
+    fn pay(&mut self) {
+        if let Some(answer) = self.owed.take() {
+            if self.fate() != Fate::Unmade {
+                let _ = self.put(answer);
+            }
+        }
     }
 
     /// Begins a round over the lines that are open, with new words.
@@ -313,6 +337,7 @@ impl Run {
     /// One life of some worker: it asks what became of its pending intents, and works.
     fn live(&mut self, givens: Givens) -> Result<(), Fail> {
         self.late = None;
+        self.owed = None;
         self.worker = 1 + self.chance.next() % WORKERS;
         self.calls_left = self.chance.next() / 4;
         let worker = self.worker as u32;
@@ -328,7 +353,10 @@ impl Run {
             intents.push(Intent { serial, line })?;
         }
         if ask_pending(&intents, self).is_ok() && !self.words.is_empty() {
-            let _end = work(self.alloc, givens, worker, attempts.len() as u64 + 1, self);
+            let end = work(self.alloc, givens, worker, attempts.len() as u64 + 1, self);
+            if end.is_ok() {
+                self.pay();
+            }
         }
         Ok(())
     }
@@ -373,7 +401,7 @@ fn first() -> Checksum {
 /// The journal that a file holds.
 fn attempts_in(alloc: Global, file: &[u8]) -> Result<Vec<Attempt>, Fail> {
     let log = read_log(alloc, &first(), file)?;
-    Ok(journal_of(alloc, LINES, &read_entries(alloc, &log.records)?)?)
+    Ok(read_attempts(alloc, LINES, &log.records)?)
 }
 
 /// The lines that are open by these files.
@@ -391,7 +419,11 @@ fn texts_by_eye<'a>(alloc: Global, file: &'a [u8]) -> Result<Vec<&'a str>, Fail>
     for line in str::from_utf8(file)?.split_inclusive('\n') {
         match line.strip_prefix('+') {
             Some(text) if text.ends_with('\n') => match text.trim_end().rsplit_once(' ') {
-                Some((records, _)) => texts.push(records)?,
+                Some((records, _)) => {
+                    for text in records.split("; ") {
+                        texts.push(text)?;
+                    }
+                }
                 None => break,
             },
             _ => break,
