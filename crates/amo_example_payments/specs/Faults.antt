@@ -8,7 +8,7 @@ use Rattle.amo_journal.specs.declared.journal.RecoverError.TheVariants.{Device a
 use Rattle.amo_run_log.specs.declared.entry.Entry.{Entry as LedgerEntry}
 use Rattle.amo_run_log.specs.declared.fault.Fault.{Fault as LedgerFault}
 use Rattle.amo_run_log.specs.declared.fault.Fault.TheVariants.{Memory as NoMemoryToRead, Refused}
-use Rattle.amo_run_log.specs.Entries.{entry_in}
+use Rattle.amo_run_log.specs.Entries.{append_in}
 use Rattle.amo_run_log.specs.Faults.{SaysNothing}
 use Rattle.amo_run_log.specs.Journals.{IsRefused}
 use Rattle.amo_run_log.specs.Puts.{entries_of}
@@ -46,9 +46,10 @@ abbrev pub fault_of_reading : LedgerFault → Fault
 fault_of_reading NoMemoryToRead = Memory
 fault_of_reading (Refused number) = Entry number
 
--- In the file of a journal the text of this number is no entry, or may not follow those before it, of a day of so many payments.
+-- In the file of a journal the append of this number says no entries. Or the entry of this number may
+-- not follow those before it, of a day of so many payments.
 abbrev pub IsRefusedIn : ℕ → List ℕ → ℕ → Type 0
-IsRefusedIn lines file number = SaysNothing entry_in (records_in file) (Refused number)
+IsRefusedIn lines file number = SaysNothing append_in (records_in file) (Refused number)
     ⊎ ((entries : List LedgerEntry) × (entries_of file ≡ Some entries) × IsRefused lines entries (Refused number))
 
 -- the input says no day

@@ -12,7 +12,9 @@ use crate::day::Payment;
 use crate::fault::Fault;
 use crate::restarting::{Earlier, follow};
 use amo_journal::{Checksum, Device, Journal};
-use amo_run_log::{Attempt, Entry, Outcome, append_entry, journal_of, note, read_entries};
+use amo_run_log::{
+    Append, Attempt, Entry, Outcome, append_entries, journal_of, note, read_entries,
+};
 use std::alloc::Global;
 use std::collections::BTreeSet;
 
@@ -50,7 +52,7 @@ impl<D: Device + Drop> Ledger<D> {
     ghost use Rattle.amo_run_log.specs.declared.entry.Entry.{Entry as EntryView};
     ghost use Rattle.amo_run_log.specs.declared.entry.Entry.TheVariants.{Intent as IntentEntry, Answer as AnswerEntry};
     ghost use Rattle.amo_run_log.specs.Journals.{noted};
-    ghost use Rattle.amo_run_log.specs.Puts.{entries_of, StandsForOneMoreOrNot};
+    ghost use Rattle.amo_run_log.specs.Puts.{entries_of, StandsForMoreOrNot};
     ghost use Rattle.amo_example_payments.specs.declared.fault.Fault.TheVariants.{Entry as NoEntry};
     ghost use Rattle.amo_example_payments.specs.Faults.{IsOfOpening, IsRefusedIn};
     ghost use Rattle.amo_example_payments.specs.Ledgers.{AreKept};
@@ -93,9 +95,9 @@ impl<D: Device + Drop> Ledger<D> {
         ensures kept { (entries : List EntryView) → entries_of (D.seen self.old.journal.device) ≡ Some entries
             → result ≡ true → AreKept D.seen D.may_leave self.new.journal.device (entries ++ entry ∷ []) }
         ensures read { (entries : List EntryView) → entries_of (D.seen self.old.journal.device) ≡ Some entries
-            → StandsForOneMoreOrNot entries entry (D.seen self.new.journal.device) }
+            → StandsForMoreOrNot entries (entry ∷ []) (D.seen self.new.journal.device) }
         ensures any_moment { (entries : List EntryView) → self.old.broken ≡ false → entries_of (D.seen self.old.journal.device) ≡ Some entries
-            → LeavesOnly D.moment D.left_since self.old.journal.device self.new.journal.device (StandsForOneMoreOrNot entries entry) }
+            → LeavesOnly D.moment D.left_since self.old.journal.device self.new.journal.device (StandsForMoreOrNot entries (entry ∷ [])) }
         ensures noted { result ≡ true → noted self.old.lines self.old.attempts.items entry ≡ Some self.new.attempts.items }
         ensures whole { result ≡ true → (self.old.broken ≡ false) × (self.new.broken ≡ false) }
         ensures broken { result ≡ false → self.new.broken ≡ true }
@@ -114,7 +116,7 @@ impl<D: Device + Drop> Ledger<D> {
         if !follow(&mut self.intents, entry) {
             return false;
         }
-        match append_entry(&mut self.journal, self.alloc, entry) {
+        match append_entries(&mut self.journal, self.alloc, Append::One(entry)) {
             Ok(()) => {
                 self.broken = false;
                 true
@@ -140,10 +142,10 @@ impl<D: Device + Drop> Ledger<D> {
         // A kill, or a crash at any moment of the call, leaves the entries from before it, with the
         // intent or without.
         ensures read { (entries : List EntryView) → entries_of (D.seen self.old.journal.device) ≡ Some entries
-            → StandsForOneMoreOrNot entries (IntentEntry (length self.old.attempts.items + 1) payment.id time) (D.seen self.new.journal.device) }
+            → StandsForMoreOrNot entries (IntentEntry (length self.old.attempts.items + 1) payment.id time ∷ []) (D.seen self.new.journal.device) }
         ensures any_moment { (entries : List EntryView) → self.old.broken ≡ false → entries_of (D.seen self.old.journal.device) ≡ Some entries
             → LeavesOnly D.moment D.left_since self.old.journal.device self.new.journal.device
-            (StandsForOneMoreOrNot entries (IntentEntry (length self.old.attempts.items + 1) payment.id time)) }
+            (StandsForMoreOrNot entries (IntentEntry (length self.old.attempts.items + 1) payment.id time ∷ [])) }
     {
         let line = payment.id();
         let serial = self.attempts.len() as u64 + 1;
@@ -165,10 +167,10 @@ impl<D: Device + Drop> Ledger<D> {
         ensures kept { (entries : List EntryView) → entries_of (D.seen self.old.journal.device) ≡ Some entries
             → OnOk result (AreKept D.seen D.may_leave self.new.journal.device (entries ++ AnswerEntry given.serial (Done 0 time) ∷ [])) }
         ensures read { (entries : List EntryView) → entries_of (D.seen self.old.journal.device) ≡ Some entries
-            → StandsForOneMoreOrNot entries (AnswerEntry given.serial (Done 0 time)) (D.seen self.new.journal.device) }
+            → StandsForMoreOrNot entries (AnswerEntry given.serial (Done 0 time) ∷ []) (D.seen self.new.journal.device) }
         ensures any_moment { (entries : List EntryView) → self.old.broken ≡ false → entries_of (D.seen self.old.journal.device) ≡ Some entries
             → LeavesOnly D.moment D.left_since self.old.journal.device self.new.journal.device
-            (StandsForOneMoreOrNot entries (AnswerEntry given.serial (Done 0 time))) }
+            (StandsForMoreOrNot entries (AnswerEntry given.serial (Done 0 time) ∷ [])) }
     {
         let serial = given.serial();
         let answer = Outcome::Done { code: 0, time };
