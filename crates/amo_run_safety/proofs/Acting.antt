@@ -1,5 +1,6 @@
 -- What a process does, or what comes about behind its back, keeps the rounds good and each process where it may be.
-use Rattle.std.proofs.Common.{◌≡◌, ℕ, ◌+◌, ◌≤◌, List, [], ◌∷◌, ◌++◌, Option, Some, None, refl, sym, subst}
+use Rattle.std.proofs.Common.{◌≡◌, ℕ, false, ◌+◌, ◌≤◌, List, [], ◌∷◌, ◌++◌, Option, Some, None, refl, sym, subst, arith}
+use Rattle.std.specs.List.{AllByRecursion}
 use Rattle.std.proofs.lemmas.Bool.{true≢false}
 use Rattle.amo_givens.specs.Givens.{IsWorker}
 use Rattle.amo_driver.specs.declared.model.Deed.{Deed}
@@ -11,15 +12,16 @@ use Rattle.amo_driver_safety.specs.declared.model.Moment.{Moment}
 use Rattle.amo_driver_safety.specs.declared.model.Moment.TheVariants.{Does, Loses, Begins}
 use Rattle.amo_run_log.specs.declared.entry.Entry.{Entry}
 use Rattle.amo_run_log.specs.Grammar.{intents}
+use Rattle.amo_run_log.specs.Open.{IsAnswer}
 use Rattle.amo_run_files.proofs.SeatLaws.{in_range}
-use Rattle.amo_run_safety.specs.File.{File, after_put}
+use Rattle.amo_run_safety.specs.File.{File, behind, with_put, after_put}
 use Rattle.amo_run_safety.specs.Site.{Whereabouts, Away, Before, Inside, Round, Site, with_at, lines_of, lines_at}
-use Rattle.amo_run_safety.specs.Run.{entries_of_try, has_fallen, whereabouts_after, whereabouts_missing, with_moment, with_moment_at, MayJoin, MayBeIn, MayAct, MayMiss}
-use Rattle.amo_run_safety.proofs.Files.{after_tight, after_kept}
+use Rattle.amo_run_safety.specs.Run.{entries_of_try, with_owed, appended, has_fallen, whereabouts_after, whereabouts_missing, with_moment, with_moment_at, MayJoin, MayBeIn, MayAct, MayMiss}
+use Rattle.amo_run_safety.proofs.Files.{after_grows, after_tight, after_kept}
 use Rattle.amo_run_safety.proofs.Moments.{longer, stands_after, stands_broken, stands_first}
 use Rattle.amo_run_safety.proofs.Records.{sound_parts}
-use Rattle.amo_run_safety.proofs.Stages.{not_broken, asks_on, entries_of_deed, IsPut, put_then}
-use Rattle.amo_run_safety.proofs.Counted.{IsCounted, counted_then, counted_grown}
+use Rattle.amo_run_safety.proofs.Stages.{not_broken, asks_on, entries_of_deed, IsPut, put_stays, put_then}
+use Rattle.amo_run_safety.proofs.Counted.{intents-append, no_intents, IsCounted, counted_then, counted_grown}
 use Rattle.amo_run_safety.proofs.Sane.{at_number, IsGood, IsGoodIf, IsReady, FitsIn, HasSeat, seat_in, Fits, fits_still}
 
 -- a round with one moment more is as good
@@ -34,27 +36,53 @@ good_in (Some r) m good may = good_more r m good may
 pub good_with : (rounds : ℕ → Option Round) → ((i : ℕ) → IsGoodIf (rounds i)) → (k : ℕ) (m : Moment) → MayBeIn (rounds k) m → (i : ℕ) → IsGoodIf (with_at rounds k (with_moment m (rounds k)) i)
 good_with rounds good k m may i = at_number IsGoodIf rounds k (with_moment m (rounds k)) i (λ e. good_in (rounds k) m (good k) may) (λ n. good i)
 
-module _ (rounds : ℕ → Option Round) (last : ℕ) (good : (k : ℕ) → IsGoodIf (rounds k)) (p : ℕ) where
-  -- a deed
+-- what is paid is no intent: it leaves each number, and what stands in the journal
 
-  module _ (time : ℕ) (d : Deed) where
+paid_counted : (kept loose owed : List Entry) → AllByRecursion IsAnswer owed → intents (behind kept loose owed).kept ≡ intents kept
+paid_counted kept [] owed answers =
+    let both = intents-append kept owed in
+    let none = no_intents owed answers in
+    omega (arith, both, none)
+paid_counted kept (x ∷ loose) owed answers = refl
+
+paid_ready : (lines : List ℕ) (f : File Entry) (s : Stage) (owed : List Entry) → AllByRecursion IsAnswer owed → IsReady lines f s → IsReady lines (with_put f owed) s
+paid_ready lines f s owed answers ready = (
+  (λ b. after_tight false f owed (ready.0 b)),
+  put_stays lines f.kept (with_put f owed).kept (after_grows false f owed) s ready.1,
+  subst (λ k. IsCounted k s) (sym (paid_counted f.kept f.loose owed answers)) ready.2,
+)
+
+paid_in : (o : Option Round) (f : File Entry) (p q : ℕ) (owed : List Entry) → AllByRecursion IsAnswer owed → FitsIn o f p q → FitsIn o (with_put f owed) p q
+paid_in None f p q owed answers h = h
+paid_in (Some r) f p q owed answers h = (h.0, paid_ready r.written.lines f (stage_at (scene_of r.givens r.moments) q) owed answers h.1)
+
+pub paid_fits : (rounds : ℕ → Option Round) (last : ℕ) (f : File Entry) (p : ℕ) (whereabouts : Whereabouts) (owed : List Entry) → AllByRecursion IsAnswer owed
+    → Fits rounds last f p whereabouts → Fits rounds last (with_put f owed) p whereabouts
+paid_fits rounds last f p Away owed answers h = h
+paid_fits rounds last f p (Before s) owed answers h = (h.0, (λ b. after_tight false f owed (h.1 b)))
+paid_fits rounds last f p (Inside k q) owed answers h = (h.0, paid_in (rounds k) f p q owed answers h.1)
+
+module _ (rounds : ℕ → Option Round) (last : ℕ) (good : (k : ℕ) → IsGoodIf (rounds k)) (p : ℕ) where
+  -- a deed of a process that owes this
+
+  module _ (owed : List Entry) (answers : AllByRecursion IsAnswer owed) (time : ℕ) (d : Deed) where
     pub acted_good : (whereabouts : Whereabouts) → MayAct rounds whereabouts d → (i : ℕ) → IsGoodIf (with_moment_at whereabouts (λ q. Does q d) rounds i)
     acted_good Away may i = absurd may
     acted_good (Before s) may i = good i
     acted_good (Inside k q) may i = good_with rounds good k (Does q d) may i
 
     abbrev after_deed : List ℕ → File Entry → File Entry
-    after_deed lines f = after_put (has_fallen d) f (entries_of_try lines time (try_of d))
+    after_deed lines f = after_put (has_fallen d) f (with_owed owed lines time (try_of d))
 
     ready_then : (lines : List ℕ) (f : File Entry) (s : Stage) → due s ≡ Some (try_of d) → IsReady lines f s → IsReady lines (after_deed lines f) (stage_after s d)
     ready_then lines f s e ready =
         let tight = ready.0 (not_broken s (try_of d) e) in
-        let es = entries_of_try lines time (try_of d) in
+        let es = with_owed owed lines time (try_of d) in
         let kept = after_kept (has_fallen d) f es tight in (
           (λ b. after_tight (has_fallen d) f es tight),
-          subst (λ x. IsPut lines x (stage_after s d)) (sym kept) (put_then lines time f.kept s d e ready.1),
+          subst (λ x. IsPut lines x (stage_after s d)) (sym kept) (put_then owed lines time f.kept s d e ready.1),
           subst (λ x. IsCounted (intents x) (stage_after s d)) (sym kept)
-              (counted_grown (intents f.kept) (entries_of_deed lines time d) (stage_after s d) (counted_then (intents f.kept) lines time s d e ready.2) f.kept refl),
+              (counted_grown (intents f.kept) (entries_of_deed owed lines time d) (stage_after s d) (counted_then (intents f.kept) owed answers lines time s d e ready.2) f.kept refl),
         )
 
     acted_in : (o : Option Round) → IsGoodIf o → (f : File Entry) (q : ℕ) → MayBeIn o (Does q d) → FitsIn o f p q
@@ -67,7 +95,7 @@ module _ (rounds : ℕ → Option Round) (last : ℕ) (good : (k : ℕ) → IsGo
     )
 
     pub acted_fits : (f : File Entry) (whereabouts : Whereabouts) → MayAct rounds whereabouts d → Fits rounds last f p whereabouts
-        → Fits (with_moment_at whereabouts (λ q. Does q d) rounds) last (after_deed (lines_at rounds whereabouts) f) p (whereabouts_after whereabouts d)
+        → Fits (with_moment_at whereabouts (λ q. Does q d) rounds) last (after_put (has_fallen d) f (appended whereabouts owed (lines_at rounds whereabouts) time (try_of d))) p (whereabouts_after whereabouts d)
     acted_fits f Away may h = absurd may
     acted_fits f (Before s) may h = (asks_on s d h.0, (λ b. after_tight (has_fallen d) f (entries_of_try [] time (try_of d)) (h.1 (not_broken s (try_of d) may))))
     acted_fits f (Inside k q) may h = (

@@ -77,7 +77,7 @@ alone_after w said sane h was unsaid alone e may on p n number there unsaid_then
     (λ (yes : is_among said h.worker h.serial ≡ true). true≢false (sym yes ∙ unsaid))
     (λ (handed : has (handed_jobs it.round.moments) it.job ≡ true). none_intends it.round it.good it.moment n it.job it.may it.tries handed)
     (past it.job (job_of it) it.line_is)))
-    (entry_was w e on p n h.line there)
+    (entry_was w sane.owing e on p n h.line there)
 
 -- who hands something over tries no intent
 
@@ -116,4 +116,4 @@ alone_now w said sane closing e h one now on p n number there unsaid_then = ⊎_
     ))
     (taken now.job here.job now.line))
     (λ (new : TriesIntent w e p n h.line). absurd (hands_or_tries w e h p n h.line one new))
-    (entry_was w e on p n h.line there)
+    (entry_was w sane.owing e on p n h.line there)

@@ -7,7 +7,7 @@ use Rattle.amo_driver.specs.declared.model.Try.{Try}
 use Rattle.amo_driver.specs.Stage.{Stage, Asking, Broken}
 use Rattle.amo_driver.specs.Course.{try_of, due, stage_after, Stands}
 use Rattle.amo_driver.proofs.Deeds.{stage_after_more, due_more}
-use Rattle.amo_run_safety.specs.Site.{Whereabouts, Away, Before, Inside, Round, Site, first_site, Event, Dies, Starts, RoundBegins, Joins, Acts, Misses, Says, SaysUnheard, SaysUnread, Stops}
+use Rattle.amo_run_safety.specs.Site.{Whereabouts, Away, Before, Inside, Round, Site, first_site, Event, Dies, Starts, RoundBegins, Joins, Acts, Misses, Pays, PaysUnheard, PaysUnread, Says, SaysUnheard, SaysUnread, Stops, with_at}
 use Rattle.amo_run_safety.specs.Run.{left_in, whereabouts_after, whereabouts_missing, site_after, MayAct, MayMiss, MayHappen, IsRunFrom, IsRun, site_after_all, site_of}
 use Rattle.amo_run_safety.specs.Asked.{Asker, with_more, asker_after, asker_after_all, asker_of}
 use Rattle.amo_run_safety.proofs.Sane.{at_number, at_both}
@@ -35,8 +35,11 @@ missed_asked rounds a (Before s) t h may = more_asked a s Broken (Fell t) h may 
 missed_asked rounds a (Inside k q) t h may = tt
 
 module _ (p : ℕ) where
+  gone : (w : Site) (a : Option Asker) (q : ℕ) → AskedBy a (w.whereabouts p) → AskedBy a (with_at w.whereabouts q Away p)
+  gone w a q h = at_number (λ whereabouts. AskedBy a whereabouts) w.whereabouts q Away p (λ e. tt) (λ n. h)
+
   event_asked : (w : Site) (a : Option Asker) (e : Event) → AskedBy a (w.whereabouts p) → MayHappen w e → AskedBy (asker_after p a e) ((site_after w e).whereabouts p)
-  event_asked w a (Dies q) h may = at_number (λ whereabouts. AskedBy a whereabouts) w.whereabouts q Away p (λ e. tt) (λ n. h)
+  event_asked w a (Dies q) h may = gone w a q h
   event_asked w a (Starts q es) h may = at_both (λ x whereabouts. AskedBy x whereabouts) (λ k. a) w.whereabouts q (Some (record { attempts = es; deeds = [] })) (Before (Asking (left_in es))) p (λ e. (tt, refl)) (λ n. h)
   event_asked w a (RoundBegins g r lines) h may = h
   event_asked w a (Joins q seat n) h may = at_number (λ whereabouts. AskedBy a whereabouts) w.whereabouts q (Inside w.last seat) p (λ e. tt) (λ n. h)
@@ -44,6 +47,9 @@ module _ (p : ℕ) where
       (λ e. acted_asked w.rounds a (w.whereabouts q) d (subst (λ x. AskedBy a (w.whereabouts x)) e h) may.1) (λ n. h)
   event_asked w a (Misses q time t) h may = at_both (λ x whereabouts. AskedBy x whereabouts) (λ k. a) w.whereabouts q (with_more a (Fell t)) (whereabouts_missing (w.whereabouts q)) p
       (λ e. missed_asked w.rounds a (w.whereabouts q) t (subst (λ x. AskedBy a (w.whereabouts x)) e h) may.1) (λ n. h)
+  event_asked w a (Pays q) h may = h
+  event_asked w a (PaysUnheard q) h may = gone w a q h
+  event_asked w a (PaysUnread q) h may = gone w a q h
   event_asked w a (Says f) h may = h
   event_asked w a (SaysUnheard f) h may = h
   event_asked w a (SaysUnread f) h may = h

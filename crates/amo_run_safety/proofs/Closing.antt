@@ -12,7 +12,7 @@ use Rattle.amo_driver_safety.specs.declared.model.Moment.{Moment}
 use Rattle.amo_driver_safety.specs.declared.model.Moment.TheVariants.{Does, Loses, Begins}
 use Rattle.amo_run_files.specs.Rounds.{seat_of}
 use Rattle.amo_run_safety.specs.File.{read_of}
-use Rattle.amo_run_safety.specs.Site.{Whereabouts, Away, Before, Inside, Round, Site, first_site, Event, Dies, Starts, RoundBegins, Joins, Acts, Misses, Says, SaysUnheard, SaysUnread, Stops, IsNumber, is_inside, with_at}
+use Rattle.amo_run_safety.specs.Site.{Whereabouts, Away, Before, Inside, Round, Site, first_site, Event, Dies, Starts, RoundBegins, Joins, Acts, Misses, Pays, PaysUnheard, PaysUnread, Says, SaysUnheard, SaysUnread, Stops, IsNumber, is_inside, with_at}
 use Rattle.amo_run_safety.specs.Run.{left_in, whereabouts_after, whereabouts_missing, with_moment, with_moment_at, site_after, MayHappen, openings_by, is_among}
 use Rattle.amo_run_safety.specs.Commands.{is_stop}
 use Rattle.amo_run_safety.proofs.Openings.{among_more}
@@ -100,8 +100,11 @@ module _ (w : Site) (said : List (ℕ × ℕ)) (sane : IsSane w said) where
       record { before = it.round.moments; moment = it.moment; after = []; is = refl; tries = it.tries ∙ ap (λ k. Some (Intend n k)) one; seat = it.seat }))
 
   module _ (closing : IsClosing w said) where
+    gone : (q p : ℕ) → is_inside (with_at w.whereabouts q Away p) ≡ true → w.joinable ≡ true
+    gone q p h = at_number (λ whereabouts. is_inside whereabouts ≡ true → w.joinable ≡ true) w.whereabouts q Away p (λ e no. absurd (true≢false (sym no))) (λ n. closing.joinable p) h
+
     joinable_after : (e : Event) → MayHappen w e → (p : ℕ) → is_inside ((site_after w e).whereabouts p) ≡ true → (site_after w e).joinable ≡ true
-    joinable_after (Dies q) may p h = at_number (λ whereabouts. is_inside whereabouts ≡ true → w.joinable ≡ true) w.whereabouts q Away p (λ e no. absurd (true≢false (sym no))) (λ n. closing.joinable p) h
+    joinable_after (Dies q) may p h = gone q p h
     joinable_after (Starts q es) may p h =
         at_number (λ whereabouts. is_inside whereabouts ≡ true → w.joinable ≡ true) w.whereabouts q (Before (Asking (left_in es))) p (λ e no. absurd (true≢false (sym no))) (λ n. closing.joinable p) h
     joinable_after (RoundBegins g r lines) may p h = refl
@@ -110,6 +113,9 @@ module _ (w : Site) (said : List (ℕ × ℕ)) (sane : IsSane w said) where
         (λ e yes. closing.joinable q (sym (inside_after (w.whereabouts q) d) ∙ yes)) (λ n. closing.joinable p) h
     joinable_after (Misses q time t) may p h = at_number (λ whereabouts. is_inside whereabouts ≡ true → w.joinable ≡ true) w.whereabouts q (whereabouts_missing (w.whereabouts q)) p
         (λ e yes. closing.joinable q (sym (inside_missing (w.whereabouts q)) ∙ yes)) (λ n. closing.joinable p) h
+    joinable_after (Pays q) may p h = closing.joinable p h
+    joinable_after (PaysUnheard q) may p h = gone q p h
+    joinable_after (PaysUnread q) may p h = gone q p h
     joinable_after (Says f) may p h = closing.joinable p h
     joinable_after (SaysUnheard f) may p h = closing.joinable p h
     joinable_after (SaysUnread f) may p h = closing.joinable p h
@@ -132,6 +138,9 @@ module _ (w : Site) (said : List (ℕ × ℕ)) (sane : IsSane w said) where
     old_taken (Misses q time t) may can p n line number has =
         let more = openings_by w (Misses q time t) in
         taken_at w.rounds w.last (said ++ more) p n line (taken_more (w.rounds w.last) said more p n line (closing.taken can p n line number has)) (w.whereabouts q) (λ seat. Loses seat t)
+    old_taken (Pays q) may can p n line number has = taken_more (w.rounds w.last) said [] p n line (closing.taken can p n line number has)
+    old_taken (PaysUnheard q) may can p n line number has = taken_more (w.rounds w.last) said [] p n line (closing.taken can p n line number has)
+    old_taken (PaysUnread q) may can p n line number has = taken_more (w.rounds w.last) said [] p n line (closing.taken can p n line number has)
     old_taken (Says f) may can p n line number has = taken_more (w.rounds w.last) said (openings_by w (Says f)) p n line (closing.taken can p n line number has)
     old_taken (SaysUnheard f) may can p n line number has = taken_more (w.rounds w.last) said (openings_by w (SaysUnheard f)) p n line (closing.taken can p n line number has)
     old_taken (SaysUnread f) may can p n line number has = taken_more (w.rounds w.last) said (openings_by w (SaysUnread f)) p n line (closing.taken can p n line number has)
@@ -146,5 +155,5 @@ module _ (w : Site) (said : List (ℕ × ℕ)) (sane : IsSane w said) where
       taken = λ can p n line number has. ⊎_elim
           (λ (old : HasEntry n line (read_of (w.journals p))). old_taken e may can p n line number old)
           (λ (new : TriesIntent w e p n line). new_taken e may p n line new)
-          (entry_was w e (goes_on e can) p n line has);
+          (entry_was w sane.owing e (goes_on e can) p n line has);
     }

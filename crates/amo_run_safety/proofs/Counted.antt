@@ -1,36 +1,43 @@
 -- The serial numbers of a journal's intents count on without a gap: by the number of those that there are.
 use Rattle.std.proofs.Common.{◌≡◌, ℕ, zero, suc, ◌+◌, ◌<◌, ◌≤◌, Bool, true, false, List, [], ◌∷◌, ◌++◌, length, Option, Some, None, refl, sym, ap, ◌∙◌, subst, arith}
+use Rattle.std.specs.List.{AllByRecursion}
 use Rattle.std.specs.Prelude.{⊤, is_none, option_map, ◌==◌, ◌&&◌, if◌then◌else◌}
 use Rattle.std.proofs.lemmas.Bool.{true≢false}
 use Rattle.std.proofs.lemmas.Option.{none-some, same_Some, cond_some, option_and_then_some}
 use Rattle.std.proofs.lemmas.List.{length_push}
-use Rattle.amo_process.specs.Heard.{told_by, doubted_by}
-use Rattle.amo_process.specs.Stepped.{ProcessView, process_after, may_leave, is_refused}
+use Rattle.amo_sets.specs.Lists.{numbered}
+use Rattle.amo_process.specs.Stepped.{ProcessView, process_after}
 use Rattle.amo_driver.specs.declared.answer.JobResult.{JobResult}
 use Rattle.amo_driver.specs.declared.answer.Reply.{Reply}
 use Rattle.amo_driver.specs.declared.answer.Reply.TheVariants.{Answered, Running, Garbled, Closed}
 use Rattle.amo_driver.specs.declared.answer.Way.{Way}
-use Rattle.amo_driver.specs.declared.answer.Way.TheVariants.{Go, Leave}
 use Rattle.amo_driver.specs.declared.model.Deed.{Deed}
 use Rattle.amo_driver.specs.declared.model.Deed.TheVariants.{Loaded, Stored, Found, Intended, Cleared, Performed, Noted, Asked, Fell}
 use Rattle.amo_driver.specs.declared.model.Try.TheVariants.{Intend}
-use Rattle.amo_driver.specs.Stage.{Stage, Going, Finding, Intending, Clearing, Performing, Noting, Leaving, Asking, Settling, Unanswered, Refused}
-use Rattle.amo_driver.specs.Course.{try_of, due, stage_by_jobs, stage_heard, stage_told, stage_replied, stage_after}
+use Rattle.amo_driver.specs.Stage.{Stage, Going, Finding, Intending, Clearing, Performing, Noting, Leaving, Asking, Settling, Unanswered}
+use Rattle.amo_driver.specs.Course.{try_of, due, stage_told, stage_replied, stage_after}
 use Rattle.amo_driver_safety.proofs.Stages.{intending_at}
 use Rattle.amo_run_log.specs.declared.entry.Outcome.{Outcome as NotedAnswer}
 use Rattle.amo_run_log.specs.declared.entry.Entry.{Entry}
 use Rattle.amo_run_log.specs.declared.entry.Entry.TheVariants.{Intent as IntentOf, Answer as AnswerTo}
 use Rattle.amo_run_log.specs.declared.journal.Attempt.{Attempt}
 use Rattle.amo_run_log.specs.Grammar.{intent_in, intents}
+use Rattle.amo_run_log.specs.Open.{IsAnswer}
 use Rattle.amo_run_log.specs.Journals.{answered, is_line, noted, journal_from, journal_of}
 use Rattle.amo_run_safety.proofs.Files.{Grows}
-use Rattle.amo_run_safety.proofs.Stages.{is_performing, any_then, entries_of_deed}
+use Rattle.amo_run_safety.proofs.Stages.{by_value, is_performing, any_then, entries_of_deed}
 
 -- how many there are
 
-intents-append : (xs ys : List Entry) → intents (xs ++ ys) ≡ intents xs + intents ys
+pub intents-append : (xs ys : List Entry) → intents (xs ++ ys) ≡ intents xs + intents ys
 intents-append [] ys = omega arith
 intents-append (x ∷ xs) ys = let rest = intents-append xs ys in omega (arith, rest)
+
+-- answers have no intent among them
+pub no_intents : (xs : List Entry) → AllByRecursion IsAnswer xs → intents xs ≡ 0
+no_intents [] h = refl
+no_intents (IntentOf n line time ∷ xs) h = absurd h.0
+no_intents (AnswerTo n a ∷ xs) h = ap (λ k. 0 + k) (no_intents xs h.1)
 
 pub intents_grow : (old new : List Entry) → Grows old new → intents old ≤ intents new
 intents_grow old new grows = let both = ap intents grows.1 ∙ intents-append old grows.0 in omega (arith, both)
@@ -75,25 +82,8 @@ IsCounted k (Settling n c way rest) = ⊥
 IsCounted k s = ⊤
 
 module _ (k : ℕ) where
-  jobs_counted : (n : ℕ) → n ≡ k + 1 → (a : ProcessView) (t d : ℕ) → IsCounted k (stage_by_jobs n a t d)
-  jobs_counted n h a zero zero = h
-  jobs_counted n h a zero (suc j) = h
-  jobs_counted n h a (suc j) d = h
-
-  heard_counted : (n : ℕ) → n ≡ k + 1 → (way : Way) (a : ProcessView) → IsCounted k (stage_heard n way a)
-  heard_counted n h Go a = jobs_counted n h a (told_by a.standing) (doubted_by a.standing)
-  heard_counted n h Leave a = by (may_leave a.standing)
-    where
-      by : (b : Bool) → IsCounted k (if b then Leaving a else Going n a Leave)
-      by true = tt
-      by false = h
-
   told_counted : (w v n : ℕ) → n ≡ k + 1 → (way : Way) (a : ProcessView) → IsCounted k (stage_told w v n way a)
-  told_counted w v n h way a = by (is_refused a.standing)
-    where
-      by : (b : Bool) → IsCounted k (if b then Refused w v else stage_heard n way a)
-      by true = tt
-      by false = heard_counted n h way a
+  told_counted w v n h way a = by_value (IsCounted k) n a (λ x. h) (λ j. h) (λ j. h) tt w v tt way
 
   replied_counted : (n : ℕ) → n ≡ k → (a : ProcessView) (reply : Reply) → IsCounted k (stage_replied n a reply)
   replied_counted n h a (Answered m c way) = by (m == n)
@@ -141,26 +131,30 @@ module _ (k : ℕ) where
   asked_for_counted s n line reply h = h
 
 module _ (k : ℕ) where
+  pub quiet : (s : Stage) → IsCounted k s → IsCounted (k + 0) s
+  quiet s h = let same : k ≡ k + 0 = omega arith in subst (λ x. IsCounted x s) same h
+
   intended_counted : (s : Stage) (n j : ℕ) → due s ≡ Some (Intend n j) → IsCounted k s → IsCounted (k + 1) (stage_after s (Intended n j))
   intended_counted s n j e h =
       let at = intending_at s n j e in
       let was : IsCounted k (Intending n at.0 j) = subst (IsCounted k) at.1 h in
       subst (λ x. IsCounted (k + 1) (stage_after x (Intended n j))) (sym at.1) was
 
-  quiet : (s : Stage) → IsCounted k s → IsCounted (k + 0) s
-  quiet s h = let same : k ≡ k + 0 = omega arith in subst (λ x. IsCounted x s) same h
-
   -- the same once a deed that was due is done
-  pub counted_then : (lines : List ℕ) (time : ℕ) (s : Stage) (d : Deed) → due s ≡ Some (try_of d) → IsCounted k s → IsCounted (k + intents (entries_of_deed lines time d)) (stage_after s d)
-  counted_then lines time s (Loaded w v) e h = quiet (stage_after s (Loaded w v)) (loaded_counted k s w v h)
-  counted_then lines time s (Stored w v) e h = quiet (stage_after s (Stored w v)) (stored_counted k s w v h)
-  counted_then lines time s (Found j) e h = quiet (stage_after s (Found j)) (found_counted k s j h)
-  counted_then lines time s (Intended n j) e h = intended_counted s n j e h
-  counted_then lines time s (Cleared n j clear) e h = quiet (stage_after s (Cleared n j clear)) (cleared_counted k s n j clear h)
-  counted_then lines time s (Performed n j reply) e h = quiet (stage_after s (Performed n j reply)) (performed_counted k s n j reply h)
-  counted_then lines time s (Noted n c) e h = quiet (stage_after s (Noted n c)) (noted_counted k s n c h)
-  counted_then lines time s (Asked n line reply) e h = quiet (stage_after s (Asked n line reply)) (asked_for_counted k s n line reply h)
-  counted_then lines time s (Fell t) e h = tt
+  pub counted_then : (owed : List Entry) → AllByRecursion IsAnswer owed → (lines : List ℕ) (time : ℕ) (s : Stage) (d : Deed) → due s ≡ Some (try_of d) → IsCounted k s
+      → IsCounted (k + intents (entries_of_deed owed lines time d)) (stage_after s d)
+  counted_then owed answers lines time s (Loaded w v) e h = quiet (stage_after s (Loaded w v)) (loaded_counted k s w v h)
+  counted_then owed answers lines time s (Stored w v) e h = quiet (stage_after s (Stored w v)) (stored_counted k s w v h)
+  counted_then owed answers lines time s (Found j) e h = quiet (stage_after s (Found j)) (found_counted k s j h)
+  counted_then owed answers lines time s (Intended n j) e h =
+      let intent = IntentOf n (numbered 0 lines j) time ∷ [] in
+      let one : intents (owed ++ intent) ≡ 1 = intents-append owed intent ∙ ap (λ x. x + intents intent) (no_intents owed answers) in
+      subst (λ x. IsCounted (k + x) (stage_after s (Intended n j))) (sym one) (intended_counted s n j e h)
+  counted_then owed answers lines time s (Cleared n j clear) e h = quiet (stage_after s (Cleared n j clear)) (cleared_counted k s n j clear h)
+  counted_then owed answers lines time s (Performed n j reply) e h = quiet (stage_after s (Performed n j reply)) (performed_counted k s n j reply h)
+  counted_then owed answers lines time s (Noted n c) e h = quiet (stage_after s (Noted n c)) (noted_counted k s n c h)
+  counted_then owed answers lines time s (Asked n line reply) e h = quiet (stage_after s (Asked n line reply)) (asked_for_counted k s n line reply h)
+  counted_then owed answers lines time s (Fell t) e h = tt
 
   pub counted_grown : (xs : List Entry) (s : Stage) → IsCounted (k + intents xs) s → (ys : List Entry) → intents ys ≡ k → IsCounted (intents (ys ++ xs)) s
   counted_grown xs s h ys is = subst (λ x. IsCounted x s) (ap (λ x. x + intents xs) (sym is) ∙ sym (intents-append ys xs)) h

@@ -46,7 +46,7 @@ each P all p is = up_to MAX_WORKERS P all p is.low is.high
 abbrev one_job : Givens
 one_job = record { jobs = 1; workers = 1; beta = 1; limits = within_limits 1 1 1 refl }
 
-only_worker : IsWorker one_job 1
+pub only_worker : IsWorker one_job 1
 only_worker = record { low = omega arith; high = omega arith }
 
 pub number_1 : IsNumber 1
@@ -124,14 +124,14 @@ abbrev pub truly : ℕ → ℕ → Bool
 truly p n = p == 2
 
 -- a round may be begun by these findings and journals, each of which is all that is read
-module _ (w : Site) (findings : List Finding) (entries : ℕ → List Entry) (attempts : ℕ → List Attempt) where
+module _ (w : Site) (lines : ℕ) (findings : List Finding) (entries : ℕ → List Entry) (attempts : ℕ → List Attempt) where
   abbrev IsReadAt : ℕ → Type 0
-  IsReadAt p = (is_inside (w.whereabouts p) ≡ false) × (read_of (w.journals p) ≡ entries p ++ []) × (journal_of 1 (entries p) ≡ Some (attempts p))
+  IsReadAt p = (is_inside (w.whereabouts p) ≡ false) × (read_of (w.journals p) ≡ entries p ++ []) × (journal_of lines (entries p) ≡ Some (attempts p))
 
-  may_begin : (p round : ℕ) → read_of w.findings ≡ findings ++ [] → AllUpTo MAX_WORKERS IsReadAt
-      → ((line : ℕ) → has (1 ∷ []) line ≡ true → has (open_lines findings (table MAX_WORKERS attempts) 1) line ≡ true) → is_sound (record_by round p) ≡ true
-      → MayBegin w one_job (record_by round p) 1
-  may_begin p round read all lines sound = record {
+  pub may_begin : (g : Givens) (r : RecordView) → read_of w.findings ≡ findings ++ [] → AllUpTo MAX_WORKERS IsReadAt
+      → ((line : ℕ) → has r.lines line ≡ true → has (open_lines findings (table MAX_WORKERS attempts) lines) line ≡ true) → is_sound r ≡ true
+      → g.jobs ≡ r.givens.jobs → g.workers ≡ r.givens.workers → MayBegin w g r lines
+  may_begin g r read all are_open sound jobs workers = record {
     nobody = λ q is. (each IsReadAt all q is).0;
     findings = findings;
     findings_seen = ([], read);
@@ -139,23 +139,23 @@ module _ (w : Site) (findings : List Finding) (entries : ℕ → List Entry) (at
     entries_seen = λ q is. ([], (each IsReadAt all q is).1, tt);
     attempts = attempts;
     journals = λ q is. (each IsReadAt all q is).2;
-    are_open = lines;
+    are_open = are_open;
     sound = sound;
-    jobs = refl;
-    workers = refl;
+    jobs = jobs;
+    workers = workers;
   }
 
 pub is_run : IsRun events
 is_run =
     (number_1, refl) ▸
-    may_begin _ [] (λ p. []) (λ p. []) 1 1 refl ((((((((((((((((tt, (refl, refl, refl)), (refl, refl, refl)), (refl, refl, refl)), (refl, refl, refl)), (refl, refl, refl)), (refl, refl, refl)), (refl, refl, refl)), (refl, refl, refl)), (refl, refl, refl)), (refl, refl, refl)), (refl, refl, refl)), (refl, refl, refl)), (refl, refl, refl)), (refl, refl, refl)), (refl, refl, refl)), (refl, refl, refl)) (λ line h. h) refl ▸
+    may_begin _ 1 [] (λ p. []) (λ p. []) one_job (record_by 1 1) refl ((((((((((((((((tt, (refl, refl, refl)), (refl, refl, refl)), (refl, refl, refl)), (refl, refl, refl)), (refl, refl, refl)), (refl, refl, refl)), (refl, refl, refl)), (refl, refl, refl)), (refl, refl, refl)), (refl, refl, refl)), (refl, refl, refl)), (refl, refl, refl)), (refl, refl, refl)), (refl, refl, refl)), (refl, refl, refl)), (refl, refl, refl)) (λ line h. h) refl refl refl ▸
     record { asked = refl; joinable = refl; round = _; stands = refl; seat = refl; attempts = []; journal = refl; next = refl } ▸
     (number_1, (only_worker, refl, refl)) ▸ (number_1, (only_worker, refl, refl)) ▸ (number_1, (only_worker, refl, refl)) ▸
     (number_1, (only_worker, refl, tt)) ▸ (number_1, (only_worker, refl, tt)) ▸
     (number_1, (only_worker, refl)) ▸
     tt ▸
     (number_1, refl) ▸
-    may_begin _ [] (λ p. []) (λ p. []) 1 2 refl ((((((((((((((((tt, (refl, refl, refl)), (refl, refl, refl)), (refl, refl, refl)), (refl, refl, refl)), (refl, refl, refl)), (refl, refl, refl)), (refl, refl, refl)), (refl, refl, refl)), (refl, refl, refl)), (refl, refl, refl)), (refl, refl, refl)), (refl, refl, refl)), (refl, refl, refl)), (refl, refl, refl)), (refl, refl, refl)), (refl, refl, refl)) (λ line h. h) refl ▸
+    may_begin _ 1 [] (λ p. []) (λ p. []) one_job (record_by 2 1) refl ((((((((((((((((tt, (refl, refl, refl)), (refl, refl, refl)), (refl, refl, refl)), (refl, refl, refl)), (refl, refl, refl)), (refl, refl, refl)), (refl, refl, refl)), (refl, refl, refl)), (refl, refl, refl)), (refl, refl, refl)), (refl, refl, refl)), (refl, refl, refl)), (refl, refl, refl)), (refl, refl, refl)), (refl, refl, refl)), (refl, refl, refl)) (λ line h. h) refl refl refl ▸
     record { asked = refl; joinable = refl; round = _; stands = refl; seat = refl; attempts = []; journal = refl; next = refl } ▸
     (number_1, (only_worker, refl, refl)) ▸ (number_1, (only_worker, refl, refl)) ▸ (number_1, (only_worker, refl, refl)) ▸
     (number_1, (only_worker, refl, tt)) ▸ (number_1, (only_worker, refl, tt)) ▸
@@ -167,7 +167,7 @@ is_run =
     tt ▸
     record { attempts = in_doubt ∷ []; journal = refl; high = omega arith } ▸
     (number_2, refl) ▸
-    may_begin _ (undone ∷ []) (λ p. if p == 1 then IntentOf 1 1 20 ∷ AnswerTo 1 (NotedDoubt 30) ∷ [] else []) (λ p. if p == 1 then in_doubt ∷ [] else []) 2 3 refl ((((((((((((((((tt, (refl, refl, refl)), (refl, refl, refl)), (refl, refl, refl)), (refl, refl, refl)), (refl, refl, refl)), (refl, refl, refl)), (refl, refl, refl)), (refl, refl, refl)), (refl, refl, refl)), (refl, refl, refl)), (refl, refl, refl)), (refl, refl, refl)), (refl, refl, refl)), (refl, refl, refl)), (refl, refl, refl)), (refl, refl, refl)) (λ line h. h) refl ▸
+    may_begin _ 1 (undone ∷ []) (λ p. if p == 1 then IntentOf 1 1 20 ∷ AnswerTo 1 (NotedDoubt 30) ∷ [] else []) (λ p. if p == 1 then in_doubt ∷ [] else []) one_job (record_by 3 2) refl ((((((((((((((((tt, (refl, refl, refl)), (refl, refl, refl)), (refl, refl, refl)), (refl, refl, refl)), (refl, refl, refl)), (refl, refl, refl)), (refl, refl, refl)), (refl, refl, refl)), (refl, refl, refl)), (refl, refl, refl)), (refl, refl, refl)), (refl, refl, refl)), (refl, refl, refl)), (refl, refl, refl)), (refl, refl, refl)), (refl, refl, refl)) (λ line h. h) refl refl refl ▸
     record { asked = refl; joinable = refl; round = _; stands = refl; seat = refl; attempts = []; journal = refl; next = refl } ▸
     (number_2, (only_worker, refl, refl)) ▸ (number_2, (only_worker, refl, refl)) ▸ (number_2, (only_worker, refl, refl)) ▸
     (number_2, (only_worker, refl, tt)) ▸ (number_2, (only_worker, refl, tt)) ▸

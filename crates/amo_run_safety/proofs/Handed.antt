@@ -26,9 +26,9 @@ use Rattle.amo_run_log.specs.Findings.{is_undone}
 use Rattle.amo_run_log.specs.Grammar.{intents}
 use Rattle.amo_run_log.specs.Open.{OpensNot, NoneOpens, is_open}
 use Rattle.amo_run_files.specs.Records.{RecordView}
-use Rattle.amo_run_safety.specs.File.{File, read_of, settled, with_unheard, after_put}
-use Rattle.amo_run_safety.specs.Site.{Whereabouts, Away, Before, Inside, Round, Site, Event, Dies, Starts, RoundBegins, Joins, Acts, Misses, Says, SaysUnheard, SaysUnread, Stops, IsNumber, with_at, lines_of, lines_at}
-use Rattle.amo_run_safety.specs.Run.{entries_of_try, has_fallen, with_moment, with_moment_at, site_after, MayBegin, MayBeIn, MayAct, MayMiss, MayHappen, IsRunFrom, site_after_all, Handing, handings_of_try, handings_by, openings_by, openings_from, is_among, IsOneOf}
+use Rattle.amo_run_safety.specs.File.{File, read_of, settled, with_put, with_unheard, with_unread, after_put}
+use Rattle.amo_run_safety.specs.Site.{Whereabouts, Away, Before, Inside, Round, Site, Event, Dies, Starts, RoundBegins, Joins, Acts, Misses, Pays, PaysUnheard, PaysUnread, Says, SaysUnheard, SaysUnread, Stops, IsNumber, with_at, lines_of, lines_at}
+use Rattle.amo_run_safety.specs.Run.{appended, has_fallen, with_moment, with_moment_at, site_after, MayBegin, MayBeIn, MayAct, MayMiss, MayHappen, IsRunFrom, site_after_all, Handing, handings_of_try, handings_by, openings_by, openings_from, is_among, IsOneOf}
 use Rattle.amo_run_safety.proofs.Files.{Grows, grows_none, after_grows}
 use Rattle.amo_run_safety.proofs.Openings.{among_more, all_left, undone_left}
 use Rattle.amo_run_safety.proofs.Entries.{HasEntry, entry_stays, entry_before, stays_closed, among_table, open_there}
@@ -52,6 +52,13 @@ pub record WasHanded (w : Site) (said : List (ℕ × ℕ)) (h : Handing) : Type 
 
 -- what is kept stays
 
+unheard_grows : (w : Site) (o p : ℕ) (es : List Entry) → Grows (w.journals p).kept (with_at w.journals o (with_unheard (w.journals o) es) p).kept
+unheard_grows w o p es =
+    let f = with_unheard (w.journals o) es in
+    at_number (λ (f : File Entry). Grows (w.journals p).kept f.kept) w.journals o f p
+    (λ e. subst (λ x. Grows (w.journals x).kept f.kept) (sym e) (grows_none (w.journals o).kept))
+    (λ n. grows_none (w.journals p).kept)
+
 pub kept_grows : (w : Site) (e : Event) (p : ℕ) → Grows (w.journals p).kept ((site_after w e).journals p).kept
 kept_grows w (Dies o) p = grows_none (w.journals p).kept
 kept_grows w (Starts o es) p = at_number (λ (f : File Entry). Grows (w.journals p).kept f.kept) w.journals o (settled (w.journals o)) p
@@ -60,13 +67,20 @@ kept_grows w (Starts o es) p = at_number (λ (f : File Entry). Grows (w.journals
 kept_grows w (RoundBegins g r lines) p = grows_none (w.journals p).kept
 kept_grows w (Joins o q n) p = grows_none (w.journals p).kept
 kept_grows w (Acts o time d) p =
-    let es = entries_of_try (lines_at w.rounds (w.whereabouts o)) time (try_of d) in
+    let es = appended (w.whereabouts o) (w.owed o) (lines_at w.rounds (w.whereabouts o)) time (try_of d) in
     let f = after_put (has_fallen d) (w.journals o) es in
     at_number (λ (f : File Entry). Grows (w.journals p).kept f.kept) w.journals o f p
     (λ e. subst (λ x. Grows (w.journals x).kept f.kept) (sym e) (after_grows (has_fallen d) (w.journals o) es))
     (λ n. grows_none (w.journals p).kept)
-kept_grows w (Misses o time t) p =
-    let f = with_unheard (w.journals o) (entries_of_try (lines_at w.rounds (w.whereabouts o)) time t) in
+kept_grows w (Misses o time t) p = unheard_grows w o p (appended (w.whereabouts o) (w.owed o) (lines_at w.rounds (w.whereabouts o)) time t)
+kept_grows w (Pays o) p =
+    let f = with_put (w.journals o) (w.owed o) in
+    at_number (λ (f : File Entry). Grows (w.journals p).kept f.kept) w.journals o f p
+    (λ e. subst (λ x. Grows (w.journals x).kept f.kept) (sym e) (after_grows false (w.journals o) (w.owed o)))
+    (λ n. grows_none (w.journals p).kept)
+kept_grows w (PaysUnheard o) p = unheard_grows w o p (w.owed o)
+kept_grows w (PaysUnread o) p =
+    let f = with_unread (w.journals o) (w.owed o) in
     at_number (λ (f : File Entry). Grows (w.journals p).kept f.kept) w.journals o f p
     (λ e. subst (λ x. Grows (w.journals x).kept f.kept) (sym e) (grows_none (w.journals o).kept))
     (λ n. grows_none (w.journals p).kept)
@@ -137,6 +151,9 @@ module _ (w : Site) (said : List (ℕ × ℕ)) (sane : IsSane w said) (h : Handi
   past_after (Joins p q n) may = past_in w.rounds w.last (Begins q n) w.last (said ++ []) h (still [])
   past_after (Acts p time d) may = past_at (w.whereabouts p) (λ q. Does q d) w.rounds w.last (said ++ openings_by w (Acts p time d)) h (still (openings_by w (Acts p time d)))
   past_after (Misses p time t) may = past_at (w.whereabouts p) (λ q. Loses q t) w.rounds w.last (said ++ openings_by w (Misses p time t)) h (still (openings_by w (Misses p time t)))
+  past_after (Pays p) may = still []
+  past_after (PaysUnheard p) may = still []
+  past_after (PaysUnread p) may = still []
   past_after (Says f) may = still (openings_by w (Says f))
   past_after (SaysUnheard f) may = still (openings_by w (SaysUnheard f))
   past_after (SaysUnread f) may = still (openings_by w (SaysUnread f))

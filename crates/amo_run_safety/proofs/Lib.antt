@@ -6,6 +6,7 @@ mod Records
 mod Stages
 mod Counted
 mod Sane
+mod Owed
 mod Acting
 mod Events
 mod Handed
@@ -14,6 +15,8 @@ mod Intending
 mod Closing
 mod Alone
 mod Once
+mod Debts
+mod Standing
 mod Named
 mod Low
 mod Said
@@ -21,6 +24,7 @@ mod Yards
 mod Begun
 mod Taken
 mod Example
+mod Owing
 mod Commanded
 mod Needed
 mod Exact

@@ -18,7 +18,7 @@ use Rattle.amo_driver_safety.proofs.Stages.{serial_in, no_other}
 use Rattle.amo_run_log.specs.declared.journal.Attempt.{Attempt}
 use Rattle.amo_run_log.specs.Journals.{pending_from}
 use Rattle.amo_run_safety.specs.File.{read_of, settled}
-use Rattle.amo_run_safety.specs.Site.{Whereabouts, Away, Before, Inside, Site, first_site, Event, Dies, Starts, RoundBegins, Joins, Acts, Misses, Says, SaysUnheard, SaysUnread, Stops}
+use Rattle.amo_run_safety.specs.Site.{Whereabouts, Away, Before, Inside, Site, first_site, Event, Dies, Starts, RoundBegins, Joins, Acts, Misses, Pays, PaysUnheard, PaysUnread, Says, SaysUnheard, SaysUnread, Stops, with_at}
 use Rattle.amo_run_safety.specs.Run.{intent_of, left_in, whereabouts_after, whereabouts_missing, site_after, MayHappen}
 use Rattle.amo_run_safety.proofs.Stages.{is_asking}
 use Rattle.amo_run_safety.proofs.Counted.{size_is, intents_grow, IsCounted}
@@ -125,8 +125,11 @@ module _ (w : Site) (said : List (ℕ × ℕ)) (sane : IsSane w said) (low : Are
   grown : (e : Event) (p : ℕ) → LowAt (intents ((site_after w e).journals p).kept) (w.whereabouts p)
   grown e p = higher_at (intents (w.journals p).kept) (intents ((site_after w e).journals p).kept) (intents_grow (w.journals p).kept ((site_after w e).journals p).kept (kept_grows w e p)) (w.whereabouts p) (low p)
 
+  gone : (e : Event) (q p : ℕ) → LowAt (intents ((site_after w e).journals p).kept) (with_at w.whereabouts q Away p)
+  gone e q p = at_number (λ whereabouts. LowAt (intents ((site_after w e).journals p).kept) whereabouts) w.whereabouts q Away p (λ e. tt) (λ n. grown e p)
+
   pub low_then_all : (e : Event) → MayHappen w e → AreAllLow (site_after w e)
-  low_then_all (Dies q) may p = at_number (λ whereabouts. LowAt (intents (w.journals p).kept) whereabouts) w.whereabouts q Away p (λ e. tt) (λ n. low p)
+  low_then_all (Dies q) may p = gone (Dies q) q p
   low_then_all (Starts q es) may p = at_both (λ f whereabouts. LowAt (intents f.kept) whereabouts) w.journals w.whereabouts q (settled (w.journals q)) (Before (Asking (left_in es))) p
       (λ e. let size = size_is w.lines (read_of (w.journals q)) es may.1 in left_low 1 es (intents (read_of (w.journals q))) (omega (arith, size)))
       (λ n. low p)
@@ -138,6 +141,9 @@ module _ (w : Site) (said : List (ℕ × ℕ)) (sane : IsSane w said) (low : Are
   low_then_all (Misses q time t) may p = at_number (λ whereabouts. LowAt (intents ((site_after w (Misses q time t)).journals p).kept) whereabouts) w.whereabouts q (whereabouts_missing (w.whereabouts q)) p
       (λ e. low_missing (intents ((site_after w (Misses q time t)).journals p).kept) (w.whereabouts q))
       (λ n. grown (Misses q time t) p)
+  low_then_all (Pays q) may p = grown (Pays q) p
+  low_then_all (PaysUnheard q) may p = gone (PaysUnheard q) q p
+  low_then_all (PaysUnread q) may p = gone (PaysUnread q) q p
   low_then_all (Says f) may p = low p
   low_then_all (SaysUnheard f) may p = low p
   low_then_all (SaysUnread f) may p = low p

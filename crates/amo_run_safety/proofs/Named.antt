@@ -1,75 +1,42 @@
 -- No intent is handed over twice: its worker and its serial number are of one intent.
 use Rattle.std.proofs.Common.{◌≡◌, ⊎_elim, ℕ, ◌+◌, ◌<◌, ◌≤◌, true, false, ◌&&◌, List, [], ◌∷◌, ◌++◌, Option, Some, None, refl, sym, ap, ◌∙◌, subst, arith, inl, inr}
-use Rattle.std.specs.Prelude.{⊤, ◌==◌}
+use Rattle.std.specs.Prelude.{◌==◌}
 use Rattle.std.proofs.lemmas.Bool.{true≢false, and_parts, or_from, false_from_ne_true, eqb-true}
 use Rattle.amo_driver.specs.declared.model.Deed.{Deed}
 use Rattle.amo_driver.specs.declared.model.Try.{Try}
 use Rattle.amo_driver.specs.Stage.{Stage, Clearing, Performing, Asking}
 use Rattle.amo_driver.specs.Course.{try_of, due, stage_after}
 use Rattle.amo_driver_safety.specs.Scene.{stage_at, scene_of}
-use Rattle.amo_driver_safety.specs.Tries.{worker_of}
-use Rattle.amo_driver_safety.specs.declared.model.Moment.{Moment}
 use Rattle.amo_driver_safety.specs.declared.model.Moment.TheVariants.{Does, Loses, Begins}
 use Rattle.amo_driver_safety.proofs.Spent.{is_spent, after_handing}
 use Rattle.amo_run_log.specs.declared.entry.Entry.{Entry}
 use Rattle.amo_run_log.specs.Grammar.{intents}
 use Rattle.amo_run_safety.specs.File.{File}
-use Rattle.amo_run_safety.specs.Site.{Whereabouts, Away, Before, Inside, Round, Site, first_site, Event, Dies, Starts, RoundBegins, Joins, Acts, Misses, Says, SaysUnheard, SaysUnread, Stops, IsNumber, is_inside, with_at, lines_at}
+use Rattle.amo_run_safety.specs.Site.{Whereabouts, Away, Before, Inside, Round, Site, first_site, Event, Dies, Starts, RoundBegins, Joins, Acts, Misses, Pays, PaysUnheard, PaysUnread, Says, SaysUnheard, SaysUnread, Stops, with_at, lines_at}
 use Rattle.amo_run_safety.specs.Run.{left_in, whereabouts_after, whereabouts_missing, with_moment, with_moment_at, site_after, MayJoin, MayBeIn, MayAct, MayMiss, MayHappen, IsRunFrom, IsRun, Handing, handings_by, handings_from, handings, openings_by, is_among, IsOneOf, names_of, AreDifferent}
 use Rattle.amo_run_safety.proofs.Moments.{stands_after, stands_broken, stands_first}
 use Rattle.amo_run_safety.proofs.Stages.{is_performing}
 use Rattle.amo_run_safety.proofs.Counted.{intents_grow, IsBehind, behind_unless, behind_then}
-use Rattle.amo_run_safety.proofs.Sane.{at_number, IsGood, IsGoodIf, FitsIn, HasSeat, seat_in, number_in, Fits, stands_still, IsSane, first_sane}
+use Rattle.amo_run_safety.proofs.Sane.{at_number, IsGood, IsGoodIf, FitsIn, Fits, IsSane, first_sane}
+use Rattle.amo_run_safety.proofs.Standing.{StandsIn, StandsAt, stands_any, others_stand_in, others_stand_at}
 use Rattle.amo_run_safety.proofs.Acting.{seat_worker, seat_joined}
 use Rattle.amo_run_safety.proofs.Events.{sane_after}
 use Rattle.amo_run_safety.proofs.Handed.{kept_grows, IsNow, handed_now, of_try, one_at_most, split_one}
 
 -- the next intent that this worker of the round hands over has a greater number
 abbrev pub BehindIn : Option Round → ℕ → ℕ → Type 0
-BehindIn None q m = ⊤
-BehindIn (Some r) q m = IsBehind m (stage_at (scene_of r.givens r.moments) q)
+BehindIn o q m = StandsIn (IsBehind m) o q
 
--- the same of who is here
+-- the same of a process that is here
 abbrev pub BehindAt : (ℕ → Option Round) → Whereabouts → ℕ → Type 0
-BehindAt rounds Away m = ⊤
-BehindAt rounds (Before s) m = ⊤
-BehindAt rounds (Inside k q) m = BehindIn (rounds k) q m
+BehindAt rounds whereabouts m = StandsAt (IsBehind m) rounds whereabouts
 
 -- It was handed over: what its worker is still to hand over has another number.
 pub record WasNamed (w : Site) (h : Handing) : Type 0 where
   pub few : h.serial ≤ intents (w.journals h.worker).kept
   pub behind : BehindAt w.rounds (w.whereabouts h.worker) h.serial
 
--- where nobody was in a round, whichever rounds there are
-behind_any : (rounds others : ℕ → Option Round) (last : ℕ) → ((k : ℕ) → IsGoodIf (rounds k)) → (f : File Entry) (p : ℕ) (whereabouts : Whereabouts) → (IsNumber p → is_inside whereabouts ≡ false)
-    → Fits rounds last f p whereabouts → (m : ℕ) → BehindAt others whereabouts m
-behind_any rounds others last good f p Away nobody h m = tt
-behind_any rounds others last good f p (Before s) nobody h m = tt
-behind_any rounds others last good f p (Inside k q) nobody h m = absurd (true≢false (nobody (number_in (rounds k) (good k) f p q h.1)))
-
--- a moment of worker p, and the whereabouts of another one
-
-still_in : (o : Option Round) → IsGoodIf o → (moment : Moment) (p : ℕ) → HasSeat o p (worker_of moment) → (other : ℕ) → (other ≡ p → ⊥) → (f : File Entry) (q : ℕ) → FitsIn o f other q
-    → (m : ℕ) → BehindIn o q m → BehindIn (with_moment moment o) q m
-still_in None good moment p seat other n f q fits m h = h
-still_in (Some r) good moment p seat other n f q fits m h = subst (IsBehind m) (sym (stands_still r good moment p seat other n q fits.0)) h
-
 module _ (rounds : ℕ → Option Round) (last : ℕ) (good : (k : ℕ) → IsGoodIf (rounds k)) where
-  others_behind : (k : ℕ) (moment : Moment) (p : ℕ) → HasSeat (rounds k) p (worker_of moment) → (other : ℕ) → (other ≡ p → ⊥) → (f : File Entry) (there : Whereabouts)
-      → Fits rounds last f other there → (m : ℕ) → BehindAt rounds there m → BehindAt (with_at rounds k (with_moment moment (rounds k))) there m
-  others_behind k moment p seat other n f Away fits m h = tt
-  others_behind k moment p seat other n f (Before s) fits m h = tt
-  others_behind k moment p seat other n f (Inside i q) fits m h = at_number (λ o. BehindIn o q m) rounds k (with_moment moment (rounds k)) i
-      (λ e. still_in (rounds k) (good k) moment p seat other n f q (subst (λ x. FitsIn (rounds x) f other q) e fits.1) m (subst (λ x. BehindIn (rounds x) q m) e h))
-      (λ n. h)
-
-  others_at : (whereabouts : Whereabouts) (moment : ℕ → Moment) → ((q : ℕ) → worker_of (moment q) ≡ q) → (g : File Entry) (p : ℕ) → Fits rounds last g p whereabouts
-      → (other : ℕ) → (other ≡ p → ⊥) → (f : File Entry) (there : Whereabouts) → Fits rounds last f other there → (m : ℕ) → BehindAt rounds there m → BehindAt (with_moment_at whereabouts moment rounds) there m
-  others_at Away moment is g p own other n f there fits m h = h
-  others_at (Before s) moment is g p own other n f there fits m h = h
-  others_at (Inside k q) moment is g p own other n f there fits m h =
-      others_behind k (moment q) p (subst (HasSeat (rounds k) p) (sym (is q)) (seat_in (rounds k) g p q own.1)) other n f there fits m h
-
   -- its own whereabouts
 
   acted_in : (o : Option Round) → IsGoodIf o → (f : File Entry) (p q : ℕ) (d : Deed) → MayBeIn o (Does q d) → FitsIn o f p q → (m : ℕ) → m ≤ intents f.kept → BehindIn o q m
@@ -132,24 +99,30 @@ module _ (w : Site) (said : List (ℕ × ℕ)) (sane : IsSane w said) where
       (λ n. absurd (n refl))
 
   module _ (h : Handing) (was : WasNamed w h) where
+    gone : (p : ℕ) → BehindAt w.rounds (with_at w.whereabouts p Away h.worker) h.serial
+    gone p = at_number (λ whereabouts. BehindAt w.rounds whereabouts h.serial) w.whereabouts p Away h.worker (λ e. tt) (λ n. was.behind)
+
     behind_after : (e : Event) → MayHappen w e → BehindAt (site_after w e).rounds ((site_after w e).whereabouts h.worker) h.serial
-    behind_after (Dies p) may = at_number (λ whereabouts. BehindAt w.rounds whereabouts h.serial) w.whereabouts p Away h.worker (λ e. tt) (λ n. was.behind)
+    behind_after (Dies p) may = gone p
     behind_after (Starts p es) may = at_number (λ whereabouts. BehindAt w.rounds whereabouts h.serial) w.whereabouts p (Before (Asking (left_in es))) h.worker (λ e. tt) (λ n. was.behind)
-    behind_after (RoundBegins g r lines) may = behind_any w.rounds (with_at w.rounds (w.last + 1) (Some (record { givens = g; written = r; moments = [] }))) w.last sane.rounds
-        (w.journals h.worker) h.worker (w.whereabouts h.worker) (may.nobody h.worker) (sane.whereabouts h.worker) h.serial
+    behind_after (RoundBegins g r lines) may = stands_any (IsBehind h.serial) w.rounds (with_at w.rounds (w.last + 1) (Some (record { givens = g; written = r; moments = [] }))) w.last sane.rounds
+        (w.journals h.worker) h.worker (w.whereabouts h.worker) (may.nobody h.worker) (sane.whereabouts h.worker)
     behind_after (Joins p q n) may = at_number (λ whereabouts. BehindAt (with_at w.rounds w.last (with_moment (Begins q n) (w.rounds w.last))) whereabouts h.serial) w.whereabouts p (Inside w.last q) h.worker
         (λ e. joined p q n may h.serial)
-        (λ m. others_behind w.rounds w.last sane.rounds w.last (Begins q n) p (seat_joined w p q n may (subst IsGoodIf may.stands (sane.rounds w.last)))
-        h.worker m (w.journals h.worker) (w.whereabouts h.worker) (sane.whereabouts h.worker) h.serial was.behind)
+        (λ m. others_stand_in (IsBehind h.serial) w.rounds w.last sane.rounds w.last (Begins q n) p (seat_joined w p q n may (subst IsGoodIf may.stands (sane.rounds w.last)))
+        h.worker m (w.journals h.worker) (w.whereabouts h.worker) (sane.whereabouts h.worker) was.behind)
     behind_after (Acts p time d) may = at_number (λ whereabouts. BehindAt (with_moment_at (w.whereabouts p) (λ q. Does q d) w.rounds) whereabouts h.serial) w.whereabouts p (whereabouts_after (w.whereabouts p) d) h.worker
         (λ e. acted_behind w.rounds w.last sane.rounds (w.whereabouts p) (w.journals p) p d may.1 (sane.whereabouts p) h.serial
         (subst (λ x. h.serial ≤ intents (w.journals x).kept) e was.few) (subst (λ x. BehindAt w.rounds (w.whereabouts x) h.serial) e was.behind))
-        (λ m. others_at w.rounds w.last sane.rounds (w.whereabouts p) (λ q. Does q d) (λ q. refl) (w.journals p) p (sane.whereabouts p)
-        h.worker m (w.journals h.worker) (w.whereabouts h.worker) (sane.whereabouts h.worker) h.serial was.behind)
+        (λ m. others_stand_at (IsBehind h.serial) w.rounds w.last sane.rounds (w.whereabouts p) (λ q. Does q d) (λ q. refl) (w.journals p) p (sane.whereabouts p)
+        h.worker m (w.journals h.worker) (w.whereabouts h.worker) (sane.whereabouts h.worker) was.behind)
     behind_after (Misses p time t) may = at_number (λ whereabouts. BehindAt (with_moment_at (w.whereabouts p) (λ q. Loses q t) w.rounds) whereabouts h.serial) w.whereabouts p (whereabouts_missing (w.whereabouts p)) h.worker
         (λ e. missed_behind w.rounds w.last sane.rounds (w.whereabouts p) t may.1 h.serial)
-        (λ m. others_at w.rounds w.last sane.rounds (w.whereabouts p) (λ q. Loses q t) (λ q. refl) (w.journals p) p (sane.whereabouts p)
-        h.worker m (w.journals h.worker) (w.whereabouts h.worker) (sane.whereabouts h.worker) h.serial was.behind)
+        (λ m. others_stand_at (IsBehind h.serial) w.rounds w.last sane.rounds (w.whereabouts p) (λ q. Loses q t) (λ q. refl) (w.journals p) p (sane.whereabouts p)
+        h.worker m (w.journals h.worker) (w.whereabouts h.worker) (sane.whereabouts h.worker) was.behind)
+    behind_after (Pays p) may = was.behind
+    behind_after (PaysUnheard p) may = gone p
+    behind_after (PaysUnread p) may = gone p
     behind_after (Says f) may = was.behind
     behind_after (SaysUnheard f) may = was.behind
     behind_after (SaysUnread f) may = was.behind
@@ -185,6 +158,9 @@ module _ (w : Site) (said : List (ℕ × ℕ)) (sane : IsSane w said) where
       let of = of_try p (lines_at w.rounds (w.whereabouts p)) t k one in
       subst (λ (x : Handing). BehindAt (site_after w (Misses p time t)).rounds ((site_after w (Misses p time t)).whereabouts x.worker) x.serial) of.is
       (missed_now p time t may.1 of.serial)
+  now_behind (Pays p) may k one = absurd one
+  now_behind (PaysUnheard p) may k one = absurd one
+  now_behind (PaysUnread p) may k one = absurd one
   now_behind (Says f) may k one = absurd one
   now_behind (SaysUnheard f) may k one = absurd one
   now_behind (SaysUnread f) may k one = absurd one

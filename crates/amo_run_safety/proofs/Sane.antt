@@ -1,6 +1,7 @@
 -- What holds in each run at each moment, of the intents of which it was said that they weren't begun or done.
 use Rattle.std.proofs.Common.{◌≡◌, ⊎_elim, ℕ, true, false, List, [], ◌∷◌, ◌++◌, Option, Some, None, refl, sym, ap, ◌∙◌, subst}
 use Rattle.std.specs.Prelude.{⊤, if◌then◌else◌}
+use Rattle.std.specs.List.{AllByRecursion}
 use Rattle.std.proofs.lemmas.Bool.{true≢false, cases_eq, eq-eqb, ne_eqb}
 use Rattle.amo_driver.specs.Stage.{Stage}
 use Rattle.amo_driver_safety.specs.Scene.{stage_at, scene_of, IsHistory}
@@ -9,7 +10,7 @@ use Rattle.amo_driver_safety.specs.declared.model.Moment.{Moment}
 use Rattle.amo_run_log.specs.declared.entry.Entry.{Entry}
 use Rattle.amo_run_log.specs.Findings.{is_undone}
 use Rattle.amo_run_log.specs.Grammar.{intents}
-use Rattle.amo_run_log.specs.Open.{NoneOpens}
+use Rattle.amo_run_log.specs.Open.{IsAnswer, NoneOpens}
 use Rattle.amo_run_files.specs.Records.{is_sound}
 use Rattle.amo_run_files.specs.Rounds.{seat_of}
 use Rattle.amo_run_files.proofs.SeatLaws.{one_each}
@@ -79,12 +80,14 @@ Fits rounds last f p (Inside k q) = (k ≡ last) × FitsIn (rounds k) f p q
 
 pub record IsSane (w : Site) (said : List (ℕ × ℕ)) : Type 0 where
   pub answers : (p n : ℕ) → is_among said p n ≡ false → NoneOpens n (all_of (w.journals p))
+  pub owed : (p n : ℕ) → is_among said p n ≡ false → NoneOpens n (w.owed p)
+  pub owing : (p : ℕ) → AllByRecursion IsAnswer (w.owed p)
   pub findings : (p n : ℕ) → is_among said p n ≡ false → is_undone (all_of w.findings) p n ≡ false
   pub rounds : (k : ℕ) → IsGoodIf (w.rounds k)
   pub whereabouts : (p : ℕ) → Fits w.rounds w.last (w.journals p) p (w.whereabouts p)
 
 pub first_sane : IsSane first_site []
-first_sane = record { answers = λ p n h. tt; findings = λ p n h. refl; rounds = λ k. tt; whereabouts = λ p. tt }
+first_sane = record { answers = λ p n h. tt; owed = λ p n h. tt; owing = λ p. tt; findings = λ p n h. refl; rounds = λ k. tt; whereabouts = λ p. tt }
 
 -- where nobody was in a round, all may be where they are, whichever rounds there are
 pub fits_any : (rounds others : ℕ → Option Round) (last next : ℕ) → ((k : ℕ) → IsGoodIf (rounds k)) → (f : File Entry) (p : ℕ) (whereabouts : Whereabouts) → (IsNumber p → is_inside whereabouts ≡ false)

@@ -1,6 +1,6 @@
 -- If a process may hand a job over, or asks whether it may, the job's intent is in the journal. A
 -- process that asks for intents hands nothing over.
-use Rattle.std.proofs.Common.{◌≡◌, ℕ, zero, suc, ◌+◌, Bool, true, false, List, [], ◌∷◌, ◌++◌, Some, refl, sym, ap, ◌∙◌, subst}
+use Rattle.std.proofs.Common.{◌≡◌, ℕ, zero, suc, ◌+◌, Bool, true, false, List, [], ◌∷◌, ◌++◌, Some, refl, sym, ap, ◌∙◌, subst, append_assoc}
 use Rattle.std.specs.Prelude.{⊤, if◌then◌else◌}
 use Rattle.std.proofs.lemmas.Bool.{true≢false}
 use Rattle.std.proofs.lemmas.Option.{none-some}
@@ -22,7 +22,7 @@ use Rattle.amo_driver.specs.Course.{try_of, due, stage_by_jobs, stage_heard, sta
 use Rattle.amo_driver_safety.proofs.Stages.{after_reply, after_settling, after_question, performing_only, serial_in, job_in}
 use Rattle.amo_run_log.specs.declared.entry.Entry.{Entry}
 use Rattle.amo_run_log.specs.declared.entry.Entry.TheVariants.{Intent as IntentOf}
-use Rattle.amo_run_safety.specs.Run.{entries_of_try, has_fallen}
+use Rattle.amo_run_safety.specs.Run.{with_owed, has_fallen}
 use Rattle.amo_run_safety.proofs.Files.{Grows}
 use Rattle.amo_run_safety.proofs.Entries.{HasEntry, entry_stays}
 
@@ -48,7 +48,7 @@ is_asking s = false
 asking_then : (way : Way) (rest : List Intent) → is_asking (stage_asking way rest) ≡ true
 asking_then way rest = after_settling (λ z. is_asking z ≡ true) (λ left. refl) (λ left. refl) way rest
 
-asked_then : (intents : List Intent) (reply : Reply) → is_asking (stage_asked intents reply) ≡ true
+pub asked_then : (intents : List Intent) (reply : Reply) → is_asking (stage_asked intents reply) ≡ true
 asked_then intents reply = after_question (λ z. is_asking z ≡ true) (λ left. refl) (λ left. refl) intents reply (λ s c way left. refl) (λ s r. refl)
 
 loaded_asks : (s : Stage) (w v : ℕ) → is_asking s ≡ true → is_asking (stage_after s (Loaded w v)) ≡ true
@@ -106,25 +106,30 @@ is_performing (Clearing n a j) = true
 is_performing (Performing n a j) = true
 is_performing s = false
 
-by_jobs : (n : ℕ) (a : ProcessView) (t d : ℕ) → is_performing (stage_by_jobs n a t d) ≡ false
-by_jobs n a zero zero = refl
-by_jobs n a zero (suc j) = refl
-by_jobs n a (suc j) d = refl
+-- A process that has just loaded or stored something goes on, finds a job, is to intend one, is to leave, or refuses the value.
+module _ (P : Stage → Type 0) (n : ℕ) (a : ProcessView) (going : (way : Way) → P (Going n a way)) (finding : (j : ℕ) → P (Finding n a j)) (intending : (j : ℕ) → P (Intending n a j)) (leaving : P (Leaving a)) where
+  by_jobs : (t d : ℕ) → P (stage_by_jobs n a t d)
+  by_jobs zero zero = going Go
+  by_jobs zero (suc j) = finding (suc j)
+  by_jobs (suc j) d = intending (suc j)
 
-by_way : (n : ℕ) (way : Way) (a : ProcessView) → is_performing (stage_heard n way a) ≡ false
-by_way n Go a = by_jobs n a (told_by a.standing) (doubted_by a.standing)
-by_way n Leave a = by (may_leave a.standing)
-  where
-    by : (b : Bool) → is_performing (if b then Leaving a else Going n a Leave) ≡ false
-    by true = refl
-    by false = refl
+  by_way : (way : Way) → P (stage_heard n way a)
+  by_way Go = by_jobs (told_by a.standing) (doubted_by a.standing)
+  by_way Leave = by (may_leave a.standing)
+    where
+      by : (b : Bool) → P (if b then Leaving a else Going n a Leave)
+      by true = leaving
+      by false = going Leave
 
-by_value : (w v n : ℕ) (way : Way) (a : ProcessView) → is_performing (stage_told w v n way a) ≡ false
-by_value w v n way a = by (is_refused a.standing)
-  where
-    by : (b : Bool) → is_performing (if b then Refused w v else stage_heard n way a) ≡ false
-    by true = refl
-    by false = by_way n way a
+  pub by_value : (w v : ℕ) → P (Refused w v) → (way : Way) → P (stage_told w v n way a)
+  by_value w v refused way = by (is_refused a.standing)
+    where
+      by : (b : Bool) → P (if b then Refused w v else stage_heard n way a)
+      by true = refused
+      by false = by_way way
+
+not_performing : (w v n : ℕ) (way : Way) (a : ProcessView) → is_performing (stage_told w v n way a) ≡ false
+not_performing w v n way a = by_value (λ z. is_performing z ≡ false) n a (λ x. refl) (λ j. refl) (λ j. refl) refl w v refl way
 
 by_reply : (n : ℕ) (a : ProcessView) (reply : Reply) → is_performing (stage_replied n a reply) ≡ false
 by_reply n a reply = after_reply (λ z. is_performing z ≡ false) n a reply (λ c way. refl) (λ way. refl) (λ r. refl)
@@ -141,11 +146,11 @@ asks_no s h = refl
 module _ (Q R : Stage → Type 0) (unless : (s : Stage) → is_performing s ≡ false → R s) (stays : (s : Stage) → Q s → R s)
     (clears : (n : ℕ) (a : ProcessView) (j : ℕ) → Q (Clearing n a j) → R (Performing n a j)) where
   loaded_then : (s : Stage) (w v : ℕ) → Q s → R (stage_after s (Loaded w v))
-  loaded_then (Going n a way) w v h = unless (stage_told w v n way (process_after a v)) (by_value w v n way (process_after a v))
+  loaded_then (Going n a way) w v h = unless (stage_told w v n way (process_after a v)) (not_performing w v n way (process_after a v))
   loaded_then s w v h = stays s h
 
   stored_then : (s : Stage) (w v : ℕ) → Q s → R (stage_after s (Stored w v))
-  stored_then (Going n a way) w v h = unless (stage_told w v n way (process_after a 0)) (by_value w v n way (process_after a 0))
+  stored_then (Going n a way) w v h = unless (stage_told w v n way (process_after a 0)) (not_performing w v n way (process_after a 0))
   stored_then (Leaving a) w v h = unless Gone refl
   stored_then s w v h = stays s h
 
@@ -182,9 +187,9 @@ module _ (Q R : Stage → Type 0) (unless : (s : Stage) → is_performing s ≡ 
   any_then s (Asked n line reply) intended h = asked_for_then s n line reply h
   any_then s (Fell t) intended h = unless Broken refl
 
--- what a deed puts: nothing, where it has failed
-abbrev pub entries_of_deed : List ℕ → (time : ℕ) → Deed → List Entry
-entries_of_deed lines time d = if has_fallen d then [] else entries_of_try lines time (try_of d)
+-- The entries that a deed appends in a round if these are owed: none, if it has failed.
+abbrev pub entries_of_deed : (owed : List Entry) → List ℕ → (time : ℕ) → Deed → List Entry
+entries_of_deed owed lines time d = if has_fallen d then [] else with_owed owed lines time (try_of d)
 
 -- the intent of the job that is to be handed over, or about which the process is to ask, is among
 -- these entries, if the jobs are these lines
@@ -198,23 +203,32 @@ put_unless lines kept (Clearing n a j) h = absurd (true≢false h)
 put_unless lines kept (Performing n a j) h = absurd (true≢false h)
 put_unless lines kept s h = tt
 
-put_stays : (lines : List ℕ) (old new : List Entry) → Grows old new → (s : Stage) → IsPut lines old s → IsPut lines new s
+pub put_stays : (lines : List ℕ) (old new : List Entry) → Grows old new → (s : Stage) → IsPut lines old s → IsPut lines new s
 put_stays lines old new grows (Clearing n a j) h = entry_stays n (numbered 0 lines j) old new grows h
 put_stays lines old new grows (Performing n a j) h = entry_stays n (numbered 0 lines j) old new grows h
 put_stays lines old new grows s h = tt
 
-module _ (lines : List ℕ) (time : ℕ) (kept : List Entry) where
-  intended_put : (s : Stage) (n j : ℕ) → due s ≡ Some (Intend n j) → IsPut lines kept s → IsPut lines (kept ++ IntentOf n (numbered 0 lines j) time ∷ []) (stage_after s (Intended n j))
+module _ (owed : List Entry) (lines : List ℕ) (time : ℕ) (kept : List Entry) where
+  -- with this intent, and what is owed
+  abbrev with_intent : (n j : ℕ) → List Entry
+  with_intent n j = kept ++ (owed ++ IntentOf n (numbered 0 lines j) time ∷ [])
+
+  intended_put : (s : Stage) (n j : ℕ) → due s ≡ Some (Intend n j) → IsPut lines kept s → IsPut lines (with_intent n j) (stage_after s (Intended n j))
   intended_put (Intending m a i) n j e h =
       let serial : n ≡ m = sym (ap serial_in e) in
-      let job : j ≡ i = sym (ap job_in e) in
-      (kept, time, [], ap (λ k. kept ++ IntentOf k (numbered 0 lines j) time ∷ []) serial ∙ ap (λ k. kept ++ IntentOf m (numbered 0 lines k) time ∷ []) job)
-  intended_put s n j e h = put_stays lines kept (kept ++ IntentOf n (numbered 0 lines j) time ∷ []) (IntentOf n (numbered 0 lines j) time ∷ [], refl) s h
+      let job : j ≡ i = sym (ap job_in e) in (
+        kept ++ owed,
+        time,
+        [],
+        sym (append_assoc kept owed (IntentOf n (numbered 0 lines j) time ∷ []))
+            ∙ ap (λ k. (kept ++ owed) ++ IntentOf k (numbered 0 lines j) time ∷ []) serial ∙ ap (λ k. (kept ++ owed) ++ IntentOf m (numbered 0 lines k) time ∷ []) job,
+      )
+  intended_put s n j e h = put_stays lines kept (with_intent n j) (owed ++ IntentOf n (numbered 0 lines j) time ∷ [], refl) s h
 
-  -- once a deed that was due is done, and what it puts is kept
-  pub put_then : (s : Stage) (d : Deed) → due s ≡ Some (try_of d) → IsPut lines kept s → IsPut lines (kept ++ entries_of_deed lines time d) (stage_after s d)
+  -- once a deed that was due is done, and what it appends is kept
+  pub put_then : (s : Stage) (d : Deed) → due s ≡ Some (try_of d) → IsPut lines kept s → IsPut lines (kept ++ entries_of_deed owed lines time d) (stage_after s d)
   put_then s d e h =
-      let new = kept ++ entries_of_deed lines time d in
-      any_then (IsPut lines kept) (IsPut lines new) (put_unless lines new) (put_stays lines kept new (entries_of_deed lines time d, refl))
-      (λ m a i was. entry_stays m (numbered 0 lines i) kept new (entries_of_deed lines time d, refl) was) s d
-      (λ n j is. subst (λ x. IsPut lines (kept ++ entries_of_deed lines time x) (stage_after s x)) (sym is) (intended_put s n j (e ∙ ap (λ x. Some (try_of x)) is) h)) h
+      let new = kept ++ entries_of_deed owed lines time d in
+      any_then (IsPut lines kept) (IsPut lines new) (put_unless lines new) (put_stays lines kept new (entries_of_deed owed lines time d, refl))
+      (λ m a i was. entry_stays m (numbered 0 lines i) kept new (entries_of_deed owed lines time d, refl) was) s d
+      (λ n j is. subst (λ x. IsPut lines (kept ++ entries_of_deed owed lines time x) (stage_after s x)) (sym is) (intended_put s n j (e ∙ ap (λ x. Some (try_of x)) is) h)) h

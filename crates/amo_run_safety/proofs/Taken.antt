@@ -12,7 +12,7 @@ use Rattle.amo_driver_safety.proofs.Spent.{after_taking}
 use Rattle.amo_run_log.specs.Grammar.{intents}
 use Rattle.amo_run_safety.specs.Site.{Whereabouts, Away, Before, Inside, Round, Site, Acts}
 use Rattle.amo_run_safety.specs.Run.{site_after, MayBeIn, MayAct, MayMiss, Handing, is_among, IsOneOf, names_of}
-use Rattle.amo_run_safety.specs.Commands.{Action, Happens, Begins, Performs, Ends, Drops, Lists, Yard, first_yard, yard_after, IsOver, MayFollow, AreActionsFrom, AreActions, yard_after_all, yard_of, said_by}
+use Rattle.amo_run_safety.specs.Commands.{Action, Happens, Begins, Sends, Arrives, Vanishes, Ends, Drops, Lists, Yard, first_yard, yard_after, IsOver, MayFollow, AreActionsFrom, AreActions, yard_after_all, yard_of, said_by}
 use Rattle.amo_run_safety.proofs.Openings.{among_neither}
 use Rattle.amo_run_safety.proofs.Stages.{is_asking, asks_only}
 use Rattle.amo_run_safety.proofs.Counted.{intents_grow, IsCounted, IsBehind}
@@ -91,11 +91,12 @@ module _ (w : Site) (said : List (ℕ × ℕ)) (sane : IsSane w said) (p n : ℕ
       let counted = asked_at (w.whereabouts p) j refl may in
       record { few = omega (arith, counted, more); behind = acted_now w said sane p time (Cleared n j false) may (λ s due_there. after_taking s n j due_there) n }
 
--- It was found taken: no command of it may begin, or has begun.
+-- It was found taken: no command of it may begin, has begun, or has sent a request.
 record WasTaken (y : Yard) (p n : ℕ) : Type 0 where
   pub name : WasNamed y.site (named p n)
   pub waits : is_among (names_of y.waiting) p n ≡ false
   pub runs : is_among (names_of y.running) p n ≡ false
+  pub sent : is_among (names_of y.sent) p n ≡ false
   pub begun : is_among (names_of y.begun) p n ≡ false
   pub performed : is_among (names_of y.performed) p n ≡ false
 
@@ -119,8 +120,9 @@ module _ (p n : ℕ) where
         waits = ap (λ l. is_among (names_of l) p n) (append-nil y.waiting)
             ∙ unnamed y.waiting p n (λ k one first second. new k (orderly.going k (one_left y.waiting y.running k one)).name first second);
         runs = unnamed y.running p n (λ k one first second. new k (orderly.going k (one_right y.waiting y.running k one)).name first second);
+        sent = unnamed y.sent p n (λ k one first second. new k (orderly.past k (one_left y.sent y.performed k one)).name first second);
         begun = unnamed y.begun p n (λ k one first second. new k (orderly.begun k one).name first second);
-        performed = unnamed y.performed p n (λ k one first second. new k (orderly.performed k one).1 first second);
+        performed = unnamed y.performed p n (λ k one first second. new k (orderly.past k (one_right y.sent y.performed k one)).name first second);
       }
 
   taken_after : (y : Yard) (said : List (ℕ × ℕ)) → IsOrderly y said → WasTaken y p n → (a : Action) → MayFollow IsOver y a → WasTaken (yard_after y a) p n
@@ -128,6 +130,7 @@ module _ (p n : ℕ) where
     name = named_after y.site said orderly.sane (named p n) was.name e may.0;
     waits = waits_not y said orderly e may (named p n) was.name was.waits;
     runs = still_none e y.running p n was.runs;
+    sent = was.sent;
     begun = was.begun;
     performed = was.performed;
   }
@@ -135,20 +138,39 @@ module _ (p n : ℕ) where
     name = was.name;
     waits = without_less k y.waiting p n was.waits;
     runs = another y.waiting y.running k may was.waits was.runs;
+    sent = was.sent;
     begun = another y.waiting y.begun k may was.waits was.begun;
     performed = was.performed;
   }
-  taken_after y said orderly was (Performs k) may = record {
+  taken_after y said orderly was (Sends k) may = record {
     name = was.name;
     waits = was.waits;
     runs = was.runs;
+    sent = another y.running y.sent k may was.runs was.sent;
     begun = was.begun;
-    performed = another y.running y.performed k may.0 was.runs was.performed;
+    performed = was.performed;
+  }
+  taken_after y said orderly was (Arrives k) may = record {
+    name = was.name;
+    waits = was.waits;
+    runs = was.runs;
+    sent = without_less k y.sent p n was.sent;
+    begun = was.begun;
+    performed = another y.sent y.performed k may.0 was.sent was.performed;
+  }
+  taken_after y said orderly was (Vanishes k) may = record {
+    name = was.name;
+    waits = was.waits;
+    runs = was.runs;
+    sent = without_less k y.sent p n was.sent;
+    begun = was.begun;
+    performed = was.performed;
   }
   taken_after y said orderly was (Ends k) may = record {
     name = was.name;
     waits = was.waits;
     runs = without_less k y.running p n was.runs;
+    sent = was.sent;
     begun = was.begun;
     performed = was.performed;
   }
@@ -156,19 +178,20 @@ module _ (p n : ℕ) where
     name = was.name;
     waits = without_less k y.waiting p n was.waits;
     runs = was.runs;
+    sent = was.sent;
     begun = was.begun;
     performed = was.performed;
   }
   taken_after y said orderly was (Lists q m l) may = was
 
-  -- it is over, and no command of it has begun, or performed its line
+  -- it is over, no command of it has begun, no request of it is under way, and its line was not performed
   abbrev pub IsLeft : Yard → Type 0
-  IsLeft y = IsOver y p n × (is_among (names_of y.begun) p n ≡ false) × (is_among (names_of y.performed) p n ≡ false)
+  IsLeft y = IsOver y p n × (is_among (names_of y.begun) p n ≡ false) × (is_among (names_of y.sent) p n ≡ false) × (is_among (names_of y.performed) p n ≡ false)
 
   left_by : (y : Yard) (said : List (ℕ × ℕ)) → IsOrderly y said → WasTaken y p n → IsLeft y
   left_by y said orderly was =
       let none = named_not_due y.site said orderly.sane p n was.name in
-      (record { asked = λ j. (none j).0; due = λ j. (none j).1; waits = was.waits; runs = was.runs }, was.begun, was.performed)
+      (record { asked = λ j. (none j).0; due = λ j. (none j).1; waits = was.waits; runs = was.runs }, was.begun, was.sent, was.performed)
 
   left_all : (y : Yard) (said : List (ℕ × ℕ)) (actions : List Action) → IsOrderly y said → WasTaken y p n → AreActionsFrom IsOver y actions → IsLeft (yard_after_all y actions)
   left_all y said [] orderly was may = left_by y said orderly was

@@ -12,27 +12,32 @@ pub data Action : Type 0 where
   Happens : Event → Action
   -- a runner begins the command of what was handed to it
   Begins : Handing → Action
-  -- the command performs its line
-  Performs : Handing → Action
-  -- nothing of a command is left: its lock is free
+  -- the command sends the request to perform its line
+  Sends : Handing → Action
+  -- the request arrives at its receiver, who performs the line
+  Arrives : Handing → Action
+  -- the request is lost: it won't arrive
+  Vanishes : Handing → Action
+  -- nothing of a command is left here: its lock is free
   Ends : Handing → Action
   -- what was handed to a runner will not be begun: it has declined it, or dropped it, or is gone
   Drops : Handing → Action
   -- the intent of this worker and serial number is listed as in doubt; it is of this line
   Lists : (worker serial line : ℕ) → Action
 
--- What there is: the site of the run, what was handed to runners and may still be begun, the commands of which something is left,
--- all that have begun, and all that have performed their line, in their order.
+-- The site of the run; what was handed to runners and may still be begun; the commands of which something is left here; those whose
+-- requests are under way; all commands that have begun, and all that have performed their line, in their order.
 pub record Yard : Type 0 where
   pub site : Site
   pub waiting : List Handing
   pub running : List Handing
+  pub sent : List Handing
   pub begun : List Handing
   pub performed : List Handing
 
 -- nothing was done yet
 abbrev pub first_yard : Yard
-first_yard = record { site = first_site; waiting = []; running = []; begun = []; performed = [] }
+first_yard = record { site = first_site; waiting = []; running = []; sent = []; begun = []; performed = [] }
 
 -- those of another worker or serial number
 abbrev pub without : Handing → List Handing → List Handing
@@ -44,7 +49,7 @@ abbrev pub is_stop : Event → Bool
 is_stop (Stops left n) = true
 is_stop e = false
 
--- these, if the machine goes on; where it stops all runners and commands are gone
+-- the same if the machine goes on; if it stops all runners and commands are gone, but not the requests that they have sent
 abbrev pub unless_stopped : Event → List Handing → List Handing
 unless_stopped e hs = if is_stop e then [] else hs
 
@@ -56,15 +61,18 @@ yard_after y (Happens e) = record y {
   running = unless_stopped e y.running;
 }
 yard_after y (Begins h) = record y { waiting = without h y.waiting; running = y.running ++ h ∷ []; begun = y.begun ++ h ∷ [] }
-yard_after y (Performs h) = record y { performed = y.performed ++ h ∷ [] }
+yard_after y (Sends h) = record y { sent = y.sent ++ h ∷ [] }
+yard_after y (Arrives h) = record y { sent = without h y.sent; performed = y.performed ++ h ∷ [] }
+yard_after y (Vanishes h) = record y { sent = without h y.sent }
 yard_after y (Ends h) = record y { running = without h y.running }
 yard_after y (Drops h) = record y { waiting = without h y.waiting }
 yard_after y (Lists p n line) = y
 
--- The intent of worker p with this serial number is over. No process is about to ask whether it may
--- hand it over, or to hand it over. No runner is about to begin its command, and nothing is left of
--- that command. The intent is over if the one that claims this holds the locks of the journal, of
--- the runner and of the command.
+-- The intent of worker p with this serial number is over on this machine. No process is about to ask
+-- whether it may hand it over, or to hand it over. No runner is about to begin its command, and
+-- nothing is left here of that command. The intent is over if the one that claims this holds the
+-- locks of the journal, of the runner and of the command. A request that the command has sent may
+-- still be under way.
 pub record IsOver (y : Yard) (p n : ℕ) : Type 0 where
   pub asked : (j : ℕ) → MayMiss y.site.rounds (y.site.whereabouts p) (Clear n j) → ⊥
   pub due : (j : ℕ) → MayMiss y.site.rounds (y.site.whereabouts p) (Perform n j) → ⊥
@@ -80,11 +88,14 @@ pub record MayList (over : Yard → (p n : ℕ) → Type 0) (y : Yard) (p n line
   pub there : n ≤ length attempts
   pub its_end : over y p n
 
--- Of an intent it is said that it wasn't begun, or wasn't done, only once it is over. A command performs its line once at most.
+-- An intent is said not to have been begun, or done, only once it is over. A command sends its request only while something
+-- of it is left here. The request arrives at any later time, and of one command the line is performed once at most.
 abbrev pub MayFollow : (over : Yard → (p n : ℕ) → Type 0) → Yard → Action → Type 0
 MayFollow over y (Happens e) = MayHappen y.site e × ((p n : ℕ) → is_among (openings_by y.site e) p n ≡ true → over y p n)
 MayFollow over y (Begins h) = IsOneOf y.waiting h
-MayFollow over y (Performs h) = IsOneOf y.running h × (is_among (names_of y.performed) h.worker h.serial ≡ false)
+MayFollow over y (Sends h) = IsOneOf y.running h
+MayFollow over y (Arrives h) = IsOneOf y.sent h × (is_among (names_of y.performed) h.worker h.serial ≡ false)
+MayFollow over y (Vanishes h) = ⊤
 MayFollow over y (Ends h) = ⊤
 MayFollow over y (Drops h) = ⊤
 MayFollow over y (Lists p n line) = MayList over y p n line
@@ -125,18 +136,22 @@ said_from y (a ∷ actions) = said_by y a ++ said_from (yard_after y a) actions
 abbrev pub said_in : List Action → List (ℕ × ℕ)
 said_in actions = said_from first_yard actions
 
--- none of these intents was performed by then
-abbrev pub AreTrue : (performed : List Handing) → List (ℕ × ℕ) → Type 0
-AreTrue performed is = (p n : ℕ) → is_among is p n ≡ true → is_among (names_of performed) p n ≡ false
+-- none of these intents stands there
+abbrev pub AreNotAmong : List Handing → List (ℕ × ℕ) → Type 0
+AreNotAmong hs is = (p n : ℕ) → is_among is p n ≡ true → is_among (names_of hs) p n ≡ false
 
--- What is said not to have been begun or done wasn't performed until then.
-abbrev pub IsTruthfulFrom : Yard → List Action → Type 0
-IsTruthfulFrom y [] = ⊤
-IsTruthfulFrom y (a ∷ actions) = AreTrue y.performed (said_by y a) × IsTruthfulFrom (yard_after y a) actions
+-- An intent that is said not to have been begun or done is not among the selected ones when it is said.
+abbrev pub IsSaidOfNone : (Yard → List Handing) → Yard → List Action → Type 0
+IsSaidOfNone these y [] = ⊤
+IsSaidOfNone these y (a ∷ actions) = AreNotAmong (these y) (said_by y a) × IsSaidOfNone these (yard_after y a) actions
 
--- and so from the first on
+-- An intent that is said not to have been begun or done wasn't performed until then.
 abbrev pub IsTruthful : List Action → Type 0
-IsTruthful actions = IsTruthfulFrom first_yard actions
+IsTruthful actions = IsSaidOfNone (λ (y : Yard). y.performed) first_yard actions
+
+-- When it is said of an intent, none of its requests is under way: the one who says it has waited for that.
+abbrev pub IsPatient : List Action → Type 0
+IsPatient actions = IsSaidOfNone (λ (y : Yard). y.sent) first_yard actions
 
 -- their lines, in their order
 abbrev pub lines_in : List Handing → List ℕ

@@ -29,7 +29,7 @@ use Rattle.amo_run_log.specs.Open.{opens, open_lines, IsAnswer}
 use Rattle.amo_run_files.specs.Records.{RecordView, is_sound}
 use Rattle.amo_run_files.specs.Rounds.{seat_of}
 use Rattle.amo_run_safety.specs.File.{read_of, settled, with_put, with_unheard, with_unread, after_put, after_stop}
-use Rattle.amo_run_safety.specs.Site.{Whereabouts, Away, Before, Inside, Round, Site, first_site, Event, Dies, Starts, RoundBegins, Joins, Acts, Misses, Says, SaysUnheard, SaysUnread, Stops, IsNumber, is_inside, with_at, lines_at}
+use Rattle.amo_run_safety.specs.Site.{Whereabouts, Away, Before, Inside, Round, Site, first_site, Event, Dies, Starts, RoundBegins, Joins, Acts, Misses, Pays, PaysUnheard, PaysUnread, Says, SaysUnheard, SaysUnread, Stops, IsNumber, is_inside, with_at, lines_at}
 
 -- what comes into a journal
 
@@ -40,18 +40,43 @@ as_noted time Doubt = NotedDoubt time
 as_noted time Unbegun = NotedUnbegun
 as_noted time (Untouched code) = NotedUntouched code time
 
--- the entry that this try puts, where the jobs of the round are these lines, as a list of one or none
+-- The entry of this try, if the jobs of the round are these lines, as a list of one or none.
 abbrev pub entries_of_try : List ℕ → (time : ℕ) → Try → List Entry
 entries_of_try lines time (Intend n j) = IntentOf n (numbered 0 lines j) time ∷ []
 entries_of_try lines time (Note n answer) = AnswerTo n (as_noted time answer) ∷ []
 entries_of_try lines time t = []
 
--- whether what was tried has failed
+-- In a round a process that tries this, and owes these outcomes, appends these entries. It appends an intent, and in the same append
+-- the outcomes that it owes. It appends no note: an outcome is owed once it is noted.
+abbrev pub with_owed : (owed : List Entry) → List ℕ → (time : ℕ) → Try → List Entry
+with_owed owed lines time (Intend n j) = owed ++ IntentOf n (numbered 0 lines j) time ∷ []
+with_owed owed lines time t = []
+
+-- The entries that a process appends that is here. Before it has joined a round it appends each note at once.
+abbrev pub appended : Whereabouts → (owed : List Entry) → List ℕ → (time : ℕ) → Try → List Entry
+appended Away owed lines time t = []
+appended (Before s) owed lines time t = entries_of_try lines time t
+appended (Inside k q) owed lines time t = with_owed owed lines time t
+
+-- The outcomes that it owes in a round once it has tried this, or has tried it and failed.
+abbrev pub still_owed : (failed : Bool) → (owed : List Entry) → (time : ℕ) → Try → List Entry
+still_owed failed owed time (Intend n j) = []
+still_owed true owed time (Note n answer) = owed
+still_owed false owed time (Note n answer) = owed ++ AnswerTo n (as_noted time answer) ∷ []
+still_owed failed owed time t = owed
+
+-- The outcomes that a process owes that is here: none but those that it has noted in a round.
+abbrev pub owed_after : Whereabouts → (failed : Bool) → (owed : List Entry) → (time : ℕ) → Try → List Entry
+owed_after Away failed owed time t = owed
+owed_after (Before s) failed owed time t = owed
+owed_after (Inside k q) failed owed time t = still_owed failed owed time t
+
+-- Whether what was tried has failed.
 abbrev pub has_fallen : Deed → Bool
 has_fallen (Fell t) = true
 has_fallen d = false
 
--- what there is after the next event
+-- The site after the next event.
 
 -- an intent of a journal, by its serial number and its line
 abbrev pub intent_of : (ℕ × ℕ) → Intent
@@ -86,8 +111,12 @@ with_moment_at (Inside k q) moment rounds = with_at rounds k (with_moment (momen
 
 -- the site after the next event
 abbrev pub site_after : Site → Event → Site
-site_after w (Dies p) = record w { whereabouts = with_at w.whereabouts p Away }
-site_after w (Starts p es) = record w { journals = with_at w.journals p (settled (w.journals p)); whereabouts = with_at w.whereabouts p (Before (Asking (left_in es))) }
+site_after w (Dies p) = record w { owed = with_at w.owed p []; whereabouts = with_at w.whereabouts p Away }
+site_after w (Starts p es) = record w {
+  journals = with_at w.journals p (settled (w.journals p));
+  owed = with_at w.owed p [];
+  whereabouts = with_at w.whereabouts p (Before (Asking (left_in es)));
+}
 site_after w (RoundBegins g r lines) = record w {
   lines = lines;
   rounds = with_at w.rounds (w.last + 1) (Some (record { givens = g; written = r; moments = [] }));
@@ -96,14 +125,27 @@ site_after w (RoundBegins g r lines) = record w {
 }
 site_after w (Joins p q n) = record w { rounds = with_at w.rounds w.last (with_moment (Begins q n) (w.rounds w.last)); whereabouts = with_at w.whereabouts p (Inside w.last q) }
 site_after w (Acts p time d) = record w {
-  journals = with_at w.journals p (after_put (has_fallen d) (w.journals p) (entries_of_try (lines_at w.rounds (w.whereabouts p)) time (try_of d)));
+  journals = with_at w.journals p (after_put (has_fallen d) (w.journals p) (appended (w.whereabouts p) (w.owed p) (lines_at w.rounds (w.whereabouts p)) time (try_of d)));
+  owed = with_at w.owed p (owed_after (w.whereabouts p) (has_fallen d) (w.owed p) time (try_of d));
   rounds = with_moment_at (w.whereabouts p) (λ q. Does q d) w.rounds;
   whereabouts = with_at w.whereabouts p (whereabouts_after (w.whereabouts p) d);
 }
 site_after w (Misses p time t) = record w {
-  journals = with_at w.journals p (with_unheard (w.journals p) (entries_of_try (lines_at w.rounds (w.whereabouts p)) time t));
+  journals = with_at w.journals p (with_unheard (w.journals p) (appended (w.whereabouts p) (w.owed p) (lines_at w.rounds (w.whereabouts p)) time t));
+  owed = with_at w.owed p (owed_after (w.whereabouts p) false (w.owed p) time t);
   rounds = with_moment_at (w.whereabouts p) (λ q. Loses q t) w.rounds;
   whereabouts = with_at w.whereabouts p (whereabouts_missing (w.whereabouts p));
+}
+site_after w (Pays p) = record w { journals = with_at w.journals p (with_put (w.journals p) (w.owed p)); owed = with_at w.owed p [] }
+site_after w (PaysUnheard p) = record w {
+  journals = with_at w.journals p (with_unheard (w.journals p) (w.owed p));
+  owed = with_at w.owed p [];
+  whereabouts = with_at w.whereabouts p Away;
+}
+site_after w (PaysUnread p) = record w {
+  journals = with_at w.journals p (with_unread (w.journals p) (w.owed p));
+  owed = with_at w.owed p [];
+  whereabouts = with_at w.whereabouts p Away;
 }
 site_after w (Says f) = record w { findings = with_put (settled w.findings) (f ∷ []) }
 site_after w (SaysUnheard f) = record w { findings = with_unheard (settled w.findings) (f ∷ []) }
@@ -111,6 +153,7 @@ site_after w (SaysUnread f) = record w { findings = with_unread (settled w.findi
 site_after w (Stops left n) = record w {
   journals = λ p. after_stop (left p) (w.journals p);
   findings = after_stop n w.findings;
+  owed = λ p. [];
   joinable = false;
   whereabouts = λ p. Away;
 }
@@ -141,7 +184,8 @@ pub record MayBegin (w : Site) (g : Givens) (r : RecordView) (lines : ℕ) : Typ
   pub jobs : g.jobs ≡ r.givens.jobs
   pub workers : g.workers ≡ r.givens.workers
 
--- The process has asked for all that was left, the last round is of this boot, and it has its seat by the record. Its next intent is the next of its journal.
+-- The process has asked for all that was left, the last round is of this boot, and it has its seat by the record. It owes nothing, since
+-- it was in no round. Its next intent is the next of its journal.
 pub record MayJoin (w : Site) (p q n : ℕ) : Type 0 where
   pub asked : w.whereabouts p ≡ Before (Asking [])
   pub joinable : w.joinable ≡ true
@@ -169,6 +213,10 @@ MayMiss rounds Away t = ⊥
 MayMiss rounds (Before s) t = due s ≡ Some t
 MayMiss rounds (Inside k q) t = MayBeIn (rounds k) (Loses q t)
 
+-- the process of worker p owes something
+abbrev pub IsOwing : Site → (p : ℕ) → Type 0
+IsOwing w p = w.owed p ≡ [] → ⊥
+
 -- A person speaks of an intent of which it is known that every stop leaves it: the journal was settled behind it.
 pub record IsOfIntent (w : Site) (f : Finding) : Type 0 where
   pub attempts : List Attempt
@@ -183,6 +231,9 @@ MayHappen w (RoundBegins g r lines) = MayBegin w g r lines
 MayHappen w (Joins p q n) = MayJoin w p q n
 MayHappen w (Acts p time d) = IsNumber p × MayAct w.rounds (w.whereabouts p) d
 MayHappen w (Misses p time t) = IsNumber p × MayMiss w.rounds (w.whereabouts p) t
+MayHappen w (Pays p) = IsOwing w p
+MayHappen w (PaysUnheard p) = IsOwing w p
+MayHappen w (PaysUnread p) = IsOwing w p
 MayHappen w (Says f) = IsOfIntent w f
 MayHappen w (SaysUnheard f) = IsOfIntent w f
 MayHappen w (SaysUnread f) = IsOfIntent w f
@@ -244,7 +295,7 @@ opened_by_entries p (AnswerTo n answer ∷ es) = if opens answer then (p, n) ∷
 abbrev pub opened_by_finding : Finding → List (ℕ × ℕ)
 opened_by_finding f = if is_not_done f.verdict then (f.worker, f.serial) ∷ [] else []
 
--- the intents of which an event says so, whether it is heard, lost, or fails
+-- The intents that an event says this of, also if it is lost or fails. A note counts from then on, whether appended or owed.
 abbrev pub openings_by : Site → Event → List (ℕ × ℕ)
 openings_by w (Acts p time d) = opened_by_entries p (entries_of_try (lines_at w.rounds (w.whereabouts p)) time (try_of d))
 openings_by w (Misses p time t) = opened_by_entries p (entries_of_try (lines_at w.rounds (w.whereabouts p)) time t)

@@ -31,9 +31,11 @@ pub record Round : Type 0 where
 pub record Site : Type 0 where
   pub journals : ℕ → File Entry
   pub findings : File Finding
-  -- how many lines the run knows
+  -- The outcomes that a process in a round has noted, and has not appended yet.
+  pub owed : ℕ → List Entry
+  -- How many lines the run knows.
   pub lines : ℕ
-  -- the rounds that were begun, by their numbers, that of the last, and whether that can be joined: its words are of this boot
+  -- The rounds that were begun, by their numbers; the last one's number; whether that can be joined, as its words are of this boot.
   pub rounds : ℕ → Option Round
   pub last : ℕ
   pub joinable : Bool
@@ -41,11 +43,11 @@ pub record Site : Type 0 where
 
 -- nothing was done yet
 abbrev pub first_site : Site
-first_site = record { journals = λ p. empty; findings = empty; lines = 0; rounds = λ k. None; last = 0; joinable = false; whereabouts = λ p. Away }
+first_site = record { journals = λ p. empty; findings = empty; owed = λ p. []; lines = 0; rounds = λ k. None; last = 0; joinable = false; whereabouts = λ p. Away }
 
 -- What happens next. A first number is the worker's.
 pub data Event : Type 0 where
-  -- the process of the worker dies
+  -- the process of the worker dies, or leaves its round; what it owes is lost
   Dies : ℕ → Event
   -- A process of the worker begins, the one before it being dead. Its journal says this, and it settles it.
   Starts : ℕ → List Attempt → Event
@@ -53,18 +55,25 @@ pub data Event : Type 0 where
   RoundBegins : Givens → RecordView → (lines : ℕ) → Event
   -- The process joins the last round, as this one of its workers. The last is the serial number of its next intent.
   Joins : ℕ → (seat serial : ℕ) → Event
-  -- At this time the process has done this, and knows it. Where it fell, it has not come about; but of an entry that it was to put a
-  -- stop of the machine may leave it.
+  -- At this time the process has done this, and knows it. If it fell, it has not come about; but of the entries that it was to append a
+  -- stop of the machine may leave some.
   Acts : ℕ → (time : ℕ) → Deed → Event
   -- At this time what the process tries comes about, and it never hears of it: the call fails, or it dies in it.
   Misses : ℕ → (time : ℕ) → Try → Event
+  -- the process appends what it owes, without an intent, and knows that it is written
+  Pays : ℕ → Event
+  -- It appends what it owes, and dies, and the append comes about.
+  PaysUnheard : ℕ → Event
+  -- The append of what it owes fails, so it ends. It isn't read, but a stop of the machine may leave it.
+  PaysUnread : ℕ → Event
   -- a person says what became of an intent
   Says : Finding → Event
   -- it is written, and nobody hears that it is
   SaysUnheard : Finding → Event
   -- the put of it fails, and it isn't read, but a stop of the machine may leave it
   SaysUnread : Finding → Event
-  -- The machine stops. Of the entries in each journal that aren't kept, and of the findings that aren't, so many are left.
+  -- The machine stops. So many are left of the entries in each journal that aren't kept, and of the findings that aren't. Owed
+  -- outcomes are lost.
   Stops : (ℕ → ℕ) → ℕ → Event
 
 -- a worker's number

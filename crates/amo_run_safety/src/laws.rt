@@ -3,23 +3,28 @@ ghost use Rattle.std.specs.Prelude.{◌≡◌, ◌⊎◌, ◌≤◌, ◌+◌, �
 ghost use Rattle.amo_sets.specs.Sets.{AreDistinct};
 ghost use Rattle.amo_driver.specs.Course.{AreDue, first_stage, Stands, MayTry};
 ghost use Rattle.amo_driver.specs.declared.model.Deed.{Deed};
-ghost use Rattle.amo_driver.specs.declared.model.Deed.TheVariants.{Cleared};
+ghost use Rattle.amo_driver.specs.declared.model.Deed.TheVariants.{Intended, Cleared};
 ghost use Rattle.amo_driver.specs.declared.model.Try.{Try};
 ghost use Rattle.amo_driver.specs.Stage.{Stage, Asking};
 ghost use Rattle.amo_driver_safety.specs.Log.{Log, log_of};
 ghost use Rattle.amo_driver_safety.specs.Scene.{scene_of, IsTrue, IsHistory};
 ghost use Rattle.amo_journal.specs.Device.{LeavesOnly};
-ghost use Rattle.amo_journal.specs.Appends.{IsLog};
+ghost use Rattle.amo_journal.specs.Appends.{records_in, IsLog};
 ghost use Rattle.amo_journal.specs.Journal.{IsAtRest, HasAllOrNotTheLast};
+ghost use Rattle.amo_run_log.specs.declared.append.Append.{Append};
+ghost use Rattle.amo_run_log.specs.declared.entry.Outcome.TheVariants.{Done};
 ghost use Rattle.amo_run_log.specs.declared.entry.Entry.{Entry};
+ghost use Rattle.amo_run_log.specs.declared.entry.Entry.TheVariants.{Intent, Answer};
 ghost use Rattle.amo_run_log.specs.declared.finding.Finding.{Finding};
-ghost use Rattle.amo_run_log.specs.Puts.{entries_of, findings_of, StandsForOneMoreOrNot, SaysOneMoreOrNot};
+ghost use Rattle.amo_run_log.specs.declared.journal.Attempt.{Attempt};
+ghost use Rattle.amo_run_log.specs.Entries.{appends_in, entries_of_append, entries_of_appends};
+ghost use Rattle.amo_run_log.specs.Puts.{entries_of, findings_of, StandsForMoreOrNot, SaysOneMoreOrNot};
 ghost use Rattle.amo_run_safety.specs.File.{read_of, with_unheard, with_unread, after_stop};
 ghost use Rattle.amo_run_safety.specs.Shown.{all_kept, IsShownBy};
 ghost use Rattle.amo_run_safety.specs.Asked.{Asker, asker_of};
-ghost use Rattle.amo_run_safety.specs.Site.{Before, Inside, Round, Event, Acts};
+ghost use Rattle.amo_run_safety.specs.Site.{Before, Inside, Round, Event, Dies, Starts, Acts, Pays, is_inside};
 ghost use Rattle.amo_run_safety.specs.Run.{left_in, MayAct, MayMiss, IsRun, site_of, Handing, handings_by, handings, openings, is_among, AreUnperformed, performed_lines, IsOneOf, names_of, AreDifferent, common, names_of_line, IsKept};
-ghost use Rattle.amo_run_safety.specs.Commands.{Action, Happens, Lists, IsOver, AreActionsBy, AreActions, yard_of, said_in, IsTruthful, lines_in, events_of};
+ghost use Rattle.amo_run_safety.specs.Commands.{Action, Happens, Sends, Arrives, Lists, IsOver, AreActionsBy, AreActions, yard_of, said_in, IsTruthful, IsPatient, lines_in, events_of};
 ghost use Rattle.amo_run_safety.specs.Fewer.{IsOverButForProcesses, IsOverButForRunners, IsOverButForCommands, IsOverButForAsking};
 
 use amo_journal::Device;
@@ -87,32 +92,63 @@ pub fn runs_there_are()
         × (names_of (handings es) ≡ (1, 1) ∷ (2, 1) ∷ []) × (performed_lines performed (handings es) ≡ 1 ∷ []) }
 {}
 
-/// However often rounds are begun, whichever processes, runners and commands die, and whenever the
-/// machine stops: commands perform each line of the jobs' file at most once. It is supposed that
-/// whoever says of an intent that it wasn't begun or done says so once it is over, and truly of
-/// what was performed until then. That nothing performs it afterwards isn't supposed: it follows.
-/// And no command begins twice, whatever is said.
+/// An outcome that a process in a round has noted is owed until it is appended. If the process dies
+/// before, the outcome is lost. Then the attempt is pending, and the next process asks for it and
+/// notes the answer. The outcome is kept if it is appended alone, or in one append with the next
+/// intent.
+pub fn outcomes_are_owed_until_they_are_appended()
+    ensures lost { (before : List Event) × (attempt : Attempt) × (after : List Event) × IsRun (before ++ Dies 1 ∷ Starts 1 (attempt ∷ []) ∷ after)
+        × ((site_of before).owed 1 ≡ Answer 1 (Done 0 20) ∷ [])
+        × ((site_of (before ++ Dies 1 ∷ Starts 1 (attempt ∷ []) ∷ [])).whereabouts 1 ≡ Before (Asking (record { serial = 1; line = 1 } ∷ [])))
+        × (read_of ((site_of (before ++ Dies 1 ∷ Starts 1 (attempt ∷ []) ∷ after)).journals 1) ≡ Intent 1 1 20 ∷ Answer 1 (Done 0 30) ∷ []) }
+    ensures alone { (before : List Event) × (attempt : Attempt) × IsRun (before ++ Pays 1 ∷ Dies 1 ∷ Starts 1 (attempt ∷ []) ∷ [])
+        × ((site_of before).owed 1 ≡ Answer 1 (Done 0 20) ∷ [])
+        × ((site_of (before ++ Pays 1 ∷ Dies 1 ∷ Starts 1 (attempt ∷ []) ∷ [])).whereabouts 1 ≡ Before (Asking [])) }
+    ensures next { (before : List Event) × IsRun (before ++ Acts 1 30 (Intended 2 2) ∷ [])
+        × ((site_of before).owed 1 ≡ Answer 1 (Done 0 20) ∷ [])
+        × (((site_of before).journals 1).kept ≡ Intent 1 1 20 ∷ [])
+        × (((site_of (before ++ Acts 1 30 (Intended 2 2) ∷ [])).journals 1).kept ≡ Intent 1 1 20 ∷ Answer 1 (Done 0 20) ∷ Intent 2 2 30 ∷ []) }
+{}
+
+/// A process owes one outcome at most, so an append has two entries at most. A process that is in
+/// no round owes nothing: it appends what it owes before it leaves, or loses it.
+pub fn one_outcome_is_owed_at_most()
+    ensures few { (es : List Event) (p : ℕ) → IsRun es → length ((site_of es).owed p) ≤ 1 }
+    ensures outside { (es : List Event) (p : ℕ) → IsRun es → is_inside ((site_of es).whereabouts p) ≡ false → (site_of es).owed p ≡ [] }
+{}
+
+/// Commands perform each line of the jobs' file at most once. Rounds may be begun as often as you
+/// like, any processes, runners and commands may die, and the machine may stop at any time. A
+/// command performs its line by a request, which may arrive at any later time. Somebody may say of
+/// an intent that it wasn't begun or done. We assume that the intent is over then, that no request
+/// of it is under way, and that its line wasn't performed until then. We don't assume that nothing
+/// performs the line afterwards: it follows. And no command begins twice, whatever is said.
 pub fn commands_perform_each_line_at_most_once()
-    ensures lines { (actions : List Action) → AreActions actions → IsTruthful actions → AreDistinct (lines_in (yard_of actions).performed) }
+    ensures lines { (actions : List Action) → AreActions actions → IsTruthful actions → IsPatient actions → AreDistinct (lines_in (yard_of actions).performed) }
     ensures commands { (actions : List Action) → AreActions actions → AreDifferent (names_of (yard_of actions).begun) }
 {}
 
-/// Once an intent was listed as in doubt, no command of its line may begin, and nothing of one is
-/// left: not until it is said of that intent, by a `not-done` or an `unbegun`, that it may. So who
-/// does the job by hand, and then says `done`, does it alone.
+/// Once an intent was listed as in doubt, no command of its line may begin here, nothing of one is
+/// left here, and none sends a request. Only a request that was sent before may still arrive. So it
+/// is until somebody says of that intent, by a `not-done` or an `unbegun`, that it may.
 pub fn a_listed_doubt_is_final()
-    ensures { (p n line : ℕ) (before after : List Action) (h : Handing) → AreActions (before ++ Lists p n line ∷ after)
+    ensures here { (p n line : ℕ) (before after : List Action) (h : Handing) → AreActions (before ++ Lists p n line ∷ after)
         → IsOneOf ((yard_of (before ++ Lists p n line ∷ after)).waiting ++ (yard_of (before ++ Lists p n line ∷ after)).running) h → h.line ≡ line
         → is_among (said_in (before ++ Lists p n line ∷ after)) p n ≡ true }
+    ensures sends { (p n line : ℕ) (before mid after : List Action) (h : Handing) → AreActions (before ++ Lists p n line ∷ mid ++ Sends h ∷ after) → h.line ≡ line
+        → is_among (said_in (before ++ Lists p n line ∷ mid)) p n ≡ true }
+    ensures arrives { (p n line : ℕ) (before mid after : List Action) (h : Handing) → AreActions (before ++ Lists p n line ∷ mid ++ Arrives h ∷ after) → h.line ≡ line
+        → (is_among (said_in (before ++ Lists p n line ∷ mid)) p n ≡ true) ⊎ IsOneOf (yard_of before).sent h }
 {}
 
-/// Once the job of an intent was found taken, the intent is over, whatever happens then: no command
-/// of it has begun, none begins, and none has performed its line. So what its process notes of it,
-/// that it wasn't begun, is true, and nothing is supposed for it.
+/// Once the job of an intent was found taken, the intent is over, whatever happens then. No command
+/// of it has begun, has sent a request or has performed its line, and none begins. So the note that
+/// it wasn't begun is true, and nothing is assumed for it.
 pub fn a_taken_intent_is_over()
     ensures { (p n time j : ℕ) (before after : List Action) → AreActions (before ++ Happens (Acts p time (Cleared n j false)) ∷ after)
         → IsOver (yard_of (before ++ Happens (Acts p time (Cleared n j false)) ∷ after)) p n
         × (is_among (names_of (yard_of (before ++ Happens (Acts p time (Cleared n j false)) ∷ after)).begun) p n ≡ false)
+        × (is_among (names_of (yard_of (before ++ Happens (Acts p time (Cleared n j false)) ∷ after)).sent) p n ≡ false)
         × (is_among (names_of (yard_of (before ++ Happens (Acts p time (Cleared n j false)) ∷ after)).performed) p n ≡ false) }
 {}
 
@@ -121,25 +157,34 @@ pub fn commands_stand_over_runs()
     ensures { (actions : List Action) → AreActions actions → IsRun (events_of actions) × ((yard_of actions).site ≡ site_of (events_of actions)) }
 {}
 
-/// There are such actions: in the run of `runs_there_are` the first command begins and does
-/// nothing, its intent is listed as in doubt, and a person says truly that it wasn't done; then
-/// another worker's command performs the line.
+/// There are such actions. In the run of `runs_there_are` the first command begins and does
+/// nothing. Its intent is listed as in doubt, and a person says truly that it wasn't done. Then
+/// another worker's command sends its request and ends, the machine stops, and the request arrives.
 pub fn commands_there_are()
-    ensures { (actions : List Action) × AreActions actions × IsTruthful actions × (names_of (yard_of actions).begun ≡ (1, 1) ∷ (2, 1) ∷ [])
+    ensures { (actions : List Action) × AreActions actions × IsTruthful actions × IsPatient actions × (names_of (yard_of actions).begun ≡ (1, 1) ∷ (2, 1) ∷ [])
         × (names_of (yard_of actions).performed ≡ (2, 1) ∷ []) }
 {}
 
-/// None of the three locks can be done without: by the other two a line is performed twice, though
-/// all that is said is true when it is said. Nor is it enough that no process is about to hand the
-/// line over: one that may still ask whether it may do so hands it over later. Nor can the truth be
-/// done without: by all three a line is performed twice if a person says of what was performed that
-/// it wasn't.
+/// None of the three locks can be done without. By the other two a line is performed twice, though
+/// all that is said is true when it is said, and no request of it is under way. Nor is it enough
+/// that no process is about to hand the line over: a process that may still ask whether it may do
+/// so hands it over later. Nor can the truth be done without. By all three locks a line is
+/// performed twice if a person says of a line that was performed that it wasn't.
 pub fn each_lock_is_needed()
-    ensures journal { (actions : List Action) × AreActionsBy IsOverButForProcesses actions × IsTruthful actions × (lines_in (yard_of actions).performed ≡ 1 ∷ 1 ∷ []) }
-    ensures runner { (actions : List Action) × AreActionsBy IsOverButForRunners actions × IsTruthful actions × (lines_in (yard_of actions).performed ≡ 1 ∷ 1 ∷ []) }
-    ensures command { (actions : List Action) × AreActionsBy IsOverButForCommands actions × IsTruthful actions × (lines_in (yard_of actions).performed ≡ 1 ∷ 1 ∷ []) }
-    ensures asking { (actions : List Action) × AreActionsBy IsOverButForAsking actions × IsTruthful actions × (lines_in (yard_of actions).performed ≡ 1 ∷ 1 ∷ []) }
-    ensures truth { (actions : List Action) × AreActions actions × (lines_in (yard_of actions).performed ≡ 1 ∷ 1 ∷ []) }
+    ensures journal { (actions : List Action) × AreActionsBy IsOverButForProcesses actions × IsTruthful actions × IsPatient actions × (lines_in (yard_of actions).performed ≡ 1 ∷ 1 ∷ []) }
+    ensures runner { (actions : List Action) × AreActionsBy IsOverButForRunners actions × IsTruthful actions × IsPatient actions × (lines_in (yard_of actions).performed ≡ 1 ∷ 1 ∷ []) }
+    ensures command { (actions : List Action) × AreActionsBy IsOverButForCommands actions × IsTruthful actions × IsPatient actions × (lines_in (yard_of actions).performed ≡ 1 ∷ 1 ∷ []) }
+    ensures asking { (actions : List Action) × AreActionsBy IsOverButForAsking actions × IsTruthful actions × IsPatient actions × (lines_in (yard_of actions).performed ≡ 1 ∷ 1 ∷ []) }
+    ensures truth { (actions : List Action) × AreActions actions × IsPatient actions × (lines_in (yard_of actions).performed ≡ 1 ∷ 1 ∷ []) }
+{}
+
+/// If a request is under way when its intent is said not to be done, a line is performed twice. The
+/// first command sends its request and ends. Its intent is over, it is listed as in doubt, and a
+/// person says truly that it wasn't done. Another worker performs the line. Then the first request
+/// arrives.
+pub fn a_request_on_its_way_performs_a_line_twice()
+    ensures { (before : List Action) × (after : List Action) × AreActions (before ++ Lists 1 1 1 ∷ after) × IsTruthful (before ++ Lists 1 1 1 ∷ after)
+        × (lines_in (yard_of (before ++ Lists 1 1 1 ∷ after)).performed ≡ 1 ∷ 1 ∷ []) }
 {}
 
 /// What the contract of `work` says of a log is what a run asks of a process that is in a round: a
@@ -168,36 +213,37 @@ pub fn settled_journals_are_kept<D: Device>()
         → IsShownBy D.seen D.may_leave device (all_kept entries) }
 {}
 
-/// By the contracts of `append_entry` and `append_finding`, a crash at any moment of a call leaves
-/// what a stop leaves if nobody has learned of the put.
+/// By the contracts of `append_entries` and `append_finding`, a crash at any moment of a call
+/// leaves what a stop leaves if nobody has learned of the append. An append has one entry or two. A
+/// crash leaves all of them or none; a stop may leave the first one alone, which is more.
 pub fn puts_are_there_or_not()
-    ensures entry { (entries : List Entry) (entry : Entry) (file : List ℕ) → StandsForOneMoreOrNot entries entry file
-        → (n : ℕ) × (entries_of file ≡ Some (read_of (after_stop n (with_unheard (all_kept entries) (entry ∷ []))))) }
+    ensures entries { (entries more : List Entry) (file : List ℕ) → StandsForMoreOrNot entries more file
+        → (n : ℕ) × (entries_of file ≡ Some (read_of (after_stop n (with_unheard (all_kept entries) more)))) }
     ensures finding { (findings : List Finding) (finding : Finding) (file : List ℕ) → SaysOneMoreOrNot findings finding file
         → (n : ℕ) × (findings_of file ≡ Some (read_of (after_stop n (with_unheard (all_kept findings) (finding ∷ []))))) }
 {}
 
-/// Once `append_entry` has ended, whatever it returns, the journal shows what an event leaves. By
-/// the contract of `append_entry` there are three cases. The entry is kept, as the law above states
-/// of a settled journal. Or it isn't read, and a stop may leave it. Or it is read, and a stop may
-/// take it.
+/// Once `append_entries` has ended, whatever it returns, the journal shows what an event leaves. By
+/// the contract of `append_entries` there are three cases. The entries are kept, as the law above
+/// states of a settled journal. Or they aren't read, and a stop may leave them. Or they are read,
+/// and a stop may take them.
 pub fn ended_puts_are_events<D: Device>()
-    ensures { (old new : _) (entries : List Entry) (entry : Entry) → StandsForOneMoreOrNot entries entry (D.seen new)
-        → LeavesOnly D.moment D.left_since old new (StandsForOneMoreOrNot entries entry)
-        → IsShownBy D.seen D.may_leave new (with_unread (all_kept entries) (entry ∷ []))
-        ⊎ IsShownBy D.seen D.may_leave new (with_unheard (all_kept entries) (entry ∷ [])) }
+    ensures { (old new : _) (entries more : List Entry) → StandsForMoreOrNot entries more (D.seen new)
+        → LeavesOnly D.moment D.left_since old new (StandsForMoreOrNot entries more)
+        → IsShownBy D.seen D.may_leave new (with_unread (all_kept entries) more)
+        ⊎ IsShownBy D.seen D.may_leave new (with_unheard (all_kept entries) more) }
 {}
 
 /// By the contract of `Journal::recover`, a crash at any moment of a call leaves what a stop leaves
 /// of the journal as it was read. That is all of it, if each crash before would have left all.
-/// Otherwise it is all, or all but the last entry.
+/// Otherwise it is all, or all but the last append.
 pub fn settling_takes_what_a_stop_takes<D: Device>()
     ensures kept { (old new : _) (first : List ℕ) (all : List (List ℕ)) (entries : List Entry) (left : List ℕ)
         → IsLog first all (D.seen old) → entries_of (D.seen old) ≡ Some entries
         → LeavesOnly D.moment D.left_since old new (IsLog first all) → D.left_since new (D.moment old) left
         → (n : ℕ) × (entries_of left ≡ Some (read_of (after_stop n (all_kept entries)))) }
-    ensures loose { (old new : _) (first : List ℕ) (all : List (List ℕ)) (entries : List Entry) (entry : Entry) (left : List ℕ)
-        → IsLog first all (D.seen old) → entries_of (D.seen old) ≡ Some (entries ++ entry ∷ [])
+    ensures loose { (old new : _) (first : List ℕ) (all : List (List ℕ)) (appends : List Append) (append : Append) (left : List ℕ)
+        → IsLog first all (D.seen old) → appends_in (records_in (D.seen old)) ≡ Some (appends ++ append ∷ [])
         → LeavesOnly D.moment D.left_since old new (HasAllOrNotTheLast first all) → D.left_since new (D.moment old) left
-        → (n : ℕ) × (entries_of left ≡ Some (read_of (after_stop n (with_unheard (all_kept entries) (entry ∷ []))))) }
+        → (n : ℕ) × (entries_of left ≡ Some (read_of (after_stop n (with_unheard (all_kept (entries_of_appends appends)) (entries_of_append append))))) }
 {}
