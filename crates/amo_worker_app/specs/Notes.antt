@@ -1,11 +1,12 @@
 -- Within this crate: what is noted of what a partner says.
-use Rattle.std.specs.Prelude.{ℕ, Bool, true, false}
+use Rattle.std.specs.Prelude.{ℕ, Bool, true, false, List, Option, Some, None}
 use Rattle.amo_driver.specs.declared.answer.JobResult.{JobResult}
 use Rattle.amo_driver.specs.declared.answer.JobResult.TheVariants.{Done, Doubt, Unbegun, Untouched}
 use Rattle.amo_driver.specs.declared.answer.Reply.{Reply}
 use Rattle.amo_driver.specs.declared.answer.Reply.TheVariants.{Answered as Replied, Running, Garbled, Closed}
 use Rattle.amo_driver.specs.declared.answer.Way.{Way}
 use Rattle.amo_driver.specs.declared.answer.Way.TheVariants.{Go, Leave}
+use Rattle.amo_protocol.specs.Replies.{way_in}
 use Rattle.amo_run_log.specs.declared.entry.Outcome.{Outcome as Noted}
 use Rattle.amo_run_log.specs.declared.entry.Outcome.TheVariants.{Done as DoneAt, Doubt as DoubtNoted, Unbegun as UnbegunNoted, Untouched as UntouchedNoted}
 use Rattle.amo_run_log.specs.declared.entry.Entry.{Entry}
@@ -32,3 +33,13 @@ abbrev pub dismisses : Reply → Bool
 dismisses (Replied serial answer way) = is_leave way
 dismisses (Running serial way) = is_leave way
 dismisses reply = false
+
+-- whether a reply says that the attempt still runs
+abbrev pub leaves_running : Reply → Bool
+leaves_running (Running serial way) = true
+leaves_running reply = false
+
+-- what a runner answers to `over` by this line, without its end; by no whole line, nothing
+abbrev pub over_way : Option (List ℕ) → Option Way
+over_way (Some line) = way_in line
+over_way None = None

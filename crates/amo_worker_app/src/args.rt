@@ -34,10 +34,11 @@ pub(crate) enum Request<'a> {
     Damaged,
     /// Prints the doubts that are final.
     Doubts(Form),
-    /// Takes an answer: attempt, line, text and verdict.
-    Answer(&'a str, &'a str, &'a str, &'a str),
-    /// Takes the answers of a file.
-    AnswerFrom(&'a str),
+    /// Takes an answer: attempt, line, text and verdict. `not-done` is taken once the attempt has
+    /// been over for so many seconds, or at once.
+    Answer(&'a str, &'a str, &'a str, &'a str, Option<u64>),
+    /// Takes the answers of a file, by the same rule.
+    AnswerFrom(&'a str, Option<u64>),
     /// Opens untouched lines again.
     Again,
 }
@@ -52,6 +53,8 @@ pub(crate) enum Misuse {
     Number(&'static str, u64, u64),
     /// The argument of this name must be this.
     Word(&'static str, &'static str),
+    /// The runner of `lines` doesn't say that it speaks the protocol of this version.
+    Protocol,
 }
 
 impl From<AllocError> for Misuse {
@@ -71,6 +74,12 @@ impl From<Error> for Misuse {
 }
 
 const BOOT: &str = "/proc/sys/kernel/random/boot_id";
+
+/// The largest number of seconds that `--quiet` takes: some 31 years.
+const MAX_QUIET: u64 = 1_000_000_000;
+
+/// The protocol of `lines`: since 2 the runner answers `clear`.
+const PROTOCOL: &str = "2";
 
 const EXAMPLES: &str = "Examples:
   amo_worker door tonight.run --workers 2 tonight.txt
@@ -173,7 +182,15 @@ fn speaking<'a>(alloc: Global) -> Result<Command<'a>, AllocError> {
     let command = command.arg(required(alloc, "P", "the number of the worker, 1 to WORKERS"))?;
     let command = command.arg(required(alloc, "WORKERS", "the number of workers, 1 to 16"))?;
     let command = command.arg(required(alloc, "BETA", "the threshold, WORKERS to 65535"))?;
-    command.arg(required(alloc, "N", "the number of jobs, 0 to 4096"))
+    let protocol = valued(
+        alloc,
+        "protocol",
+        "VERSION",
+        "the protocol of the runner: 2, in which it answers `clear` (must be given)",
+    );
+    command
+        .arg(required(alloc, "N", "the number of jobs, 0 to 4096"))?
+        .arg(protocol)
 }
 
 fn doubting<'a>(alloc: Global) -> Result<Command<'a>, AllocError> {
@@ -206,7 +223,8 @@ fn showing<'a>(alloc: Global) -> Result<Command<'a>, AllocError> {
 
 fn answering<'a>(alloc: Global) -> Result<Command<'a>, AllocError> {
     let about = "Records what you found out about an attempt";
-    let command = with_answer(alloc, over_run(alloc, "answer", about)?)?;
+    let command = with_quiet(alloc, over_run(alloc, "answer", about)?)?;
+    let command = with_answer(alloc, command)?;
     let sheet = valued(
         alloc,
         "from",
@@ -214,6 +232,22 @@ fn answering<'a>(alloc: Global) -> Result<Command<'a>, AllocError> {
         "take the answers of this file: P.S, LINE, TEXT and VERDICT a line, with tabs (default: the arguments)",
     );
     command.arg(sheet.conflicts_with("INTENT")?)
+}
+
+/// Adds the options that say how long `not-done` has to wait.
+fn with_quiet<'a>(alloc: Global, command: Command<'a>) -> Result<Command<'a>, AllocError> {
+    let quiet = valued(
+        alloc,
+        "quiet",
+        "SECONDS",
+        "refuse `not-done` until so many seconds have passed since the attempt ended, 0 to 1000000000; a request may arrive late",
+    );
+    let now = flag(
+        alloc,
+        "now",
+        "take `not-done` at once, whenever the attempt ended (default: wait as --quiet says)",
+    );
+    command.arg(quiet.default_value("60"))?.arg(now)
 }
 
 /// Adds the arguments of one answer.
@@ -303,9 +337,19 @@ fn form_of(matches: &ArgMatches<'_>) -> Result<Form, Misuse> {
     }
 }
 
+/// Returns for how many seconds an attempt must have been over, or `None` if that doesn't matter.
+fn quiet_of(matches: &ArgMatches<'_>) -> Result<Option<u64>, Misuse> {
+    let seconds = number_at(matches, "quiet", "--quiet", 0, MAX_QUIET)?;
+    if matches.get_flag("now") {
+        return Ok(None);
+    }
+    Ok(Some(seconds))
+}
+
 fn answer_of<'a>(matches: &ArgMatches<'a>) -> Result<Request<'a>, Misuse> {
+    let quiet = quiet_of(matches)?;
     if let Some(sheet) = matches.get_str("from") {
-        return Ok(Request::AnswerFrom(sheet));
+        return Ok(Request::AnswerFrom(sheet, quiet));
     }
     let intent = matches.get_str("INTENT");
     let line = matches.get_str("LINE");
@@ -313,14 +357,21 @@ fn answer_of<'a>(matches: &ArgMatches<'a>) -> Result<Request<'a>, Misuse> {
     let verdict = matches.get_str("VERDICT");
     match (intent, line, text, verdict) {
         (Some(intent), Some(line), Some(text), Some(verdict)) => {
-            Ok(Request::Answer(intent, line, text, verdict))
+            Ok(Request::Answer(intent, line, text, verdict, quiet))
         }
         _ => Err(Misuse::Word("answer", "INTENT LINE TEXT done|not-done, or --from FILE")),
     }
 }
 
 /// Returns the worker that `lines` names.
+///
+/// # Errors
+/// `Protocol` if `--protocol` is missing or names another version. `Number` if a number is out of
+/// its range.
 fn by_lines_of(matches: &ArgMatches<'_>) -> Result<ByLines, Misuse> {
+    if matches.get_str("protocol").unwrap_or("") != PROTOCOL {
+        return Err(Misuse::Protocol);
+    }
     let workers = number_at(matches, "WORKERS", "WORKERS", 1, MAX_WORKERS as u64)?;
     let worker = number_at(matches, "P", "P", 1, workers)?;
     let beta = number_at(matches, "BETA", "BETA", workers, MAX_BETA as u64)?;

@@ -59,7 +59,7 @@ fn file_of<'a>(request: &Request<'a>) -> &'a str {
     match request {
         Request::Door(jobs, _) => jobs.list,
         Request::Work(jobs, _) => jobs.list,
-        Request::AnswerFrom(sheet) => *sheet,
+        Request::AnswerFrom(sheet, _) => *sheet,
         _ => "",
     }
 }
@@ -127,6 +127,11 @@ fn tell_misuse(rt: HostRuntime, misuse: &Misuse) -> u8 {
         Misuse::Word(name, what) => {
             let _ = eprintln!(rt; "amo_worker: `{name}`: it must be {what}; see amo_worker --help");
         }
+        Misuse::Protocol => {
+            let _ = eprintln!(rt;
+                "amo_worker: `--protocol`: it must be 2, since a runner of protocol 1 doesn't answer `clear`; see docs/STORES.md, then give --protocol 2"
+            );
+        }
     }
     64
 }
@@ -170,13 +175,14 @@ fn done(rt: HostRuntime, setting: &Setting<'_>, request: Request<'_>) -> Result<
             let age = look_to_read(rt, setting)?;
             show_doubts(rt, setting, age, form)
         }
-        Request::Answer(intent, line, text, verdict) => {
+        Request::Answer(intent, line, text, verdict, quiet) => {
             look_to_write(rt, setting)?;
-            answer(rt, setting, said_by(rt, intent, line, text, verdict)?)
+            let said = said_by(rt, intent, line, text, verdict)?;
+            answer(rt, setting, quiet, said)
         }
-        Request::AnswerFrom(sheet) => {
+        Request::AnswerFrom(sheet, quiet) => {
             look_to_write(rt, setting)?;
-            answer_from(rt, setting, sheet)
+            answer_from(rt, setting, quiet, sheet)
         }
         Request::Again => {
             look_to_write(rt, setting)?;

@@ -1,7 +1,7 @@
 //! To show what can be read of a run that is refused.
 use crate::print::print;
 use amo_run_dir::{DamagedRun, Fault, Item, ReadableLog, Setting, look_for_damage};
-use amo_run_log::Entry;
+use amo_run_log::{Append, Entry};
 use std::alloc::{AllocError, Global};
 use std::rt::HostRuntime;
 
@@ -128,12 +128,23 @@ fn named_in(alloc: Global, logs: &[ReadableLog]) -> Result<Vec<Named>, AllocErro
 /// Adds the intents of a worker.
 fn push_named(named: &mut Vec<Named>, worker: u64, log: &ReadableLog) -> Result<(), AllocError> {
     for records in &log.records {
-        match Entry::read(records) {
-            Some(Entry::Intent { serial, line, .. }) if line > 0 => {
-                named.push((line, worker, serial))?;
+        match Append::read(records) {
+            Some(Append::One(entry)) => push_intent(named, worker, entry)?,
+            Some(Append::Two(first, second)) => {
+                push_intent(named, worker, first)?;
+                push_intent(named, worker, second)?;
             }
-            _ => {}
+            None => {}
         }
+    }
+    Ok(())
+}
+
+/// Adds the entry, if it is an intent.
+fn push_intent(named: &mut Vec<Named>, worker: u64, entry: Entry) -> Result<(), AllocError> {
+    match entry {
+        Entry::Intent { serial, line, .. } if line > 0 => named.push((line, worker, serial))?,
+        _ => {}
     }
     Ok(())
 }

@@ -2,7 +2,8 @@
 ghost use Rattle.std.specs.Prelude.{◌≡◌, ◌≤◌, length, IfOk};
 
 use crate::args::Form;
-use crate::snapshot::{Snapshot, look};
+use crate::session::now;
+use crate::snapshot::{Finals, Snapshot, look};
 use amo_run_dir::{Age, Fault, Item, Setting, written};
 use amo_run_files::Jobs;
 use amo_status::{
@@ -24,7 +25,8 @@ pub(crate) fn show_status(
     print(rt, &text)
 }
 
-/// Writes the doubts that are final, in the same way.
+/// Writes the doubts that are final, in the same way. Those that nobody has recorded are recorded,
+/// so that it is known from now on how long ago they ended.
 pub(crate) fn show_doubts(
     rt: HostRuntime,
     setting: &Setting<'_>,
@@ -41,7 +43,7 @@ fn status_now(
     age: Age,
     form: Form,
 ) -> Result<Vec<u8>, Fault> {
-    let seen = look(rt, setting, age)?;
+    let seen = look(rt, setting, age, Finals::Shown)?;
     let standings = seen.standings(rt.alloc())?;
     let texts = texts_of(rt.alloc(), &seen.books.jobs, standings.len())?;
     Ok(status_in(rt.alloc(), form, &seen, &standings, &texts)?)
@@ -53,10 +55,10 @@ fn doubts_now(
     age: Age,
     form: Form,
 ) -> Result<Vec<u8>, Fault> {
-    let seen = look(rt, setting, age)?;
+    let seen = look(rt, setting, age, Finals::Recorded)?;
     let standings = seen.standings(rt.alloc())?;
     let texts = texts_of(rt.alloc(), &seen.books.jobs, standings.len())?;
-    Ok(doubts_in(rt.alloc(), form, &standings, &texts)?)
+    Ok(doubts_in(rt.alloc(), form, now(rt), &standings, &texts)?)
 }
 
 /// The texts of the first so many lines. A line that isn't there has none.
@@ -90,14 +92,15 @@ fn status_in(
 fn doubts_in(
     alloc: Global,
     form: Form,
+    now: u64,
     standings: &[LineStatus],
     texts: &[&[u8]],
 ) -> Result<Vec<u8>, AllocError>
     requires { length standings.now ≤ length texts.now }
 {
     match form {
-        Form::Json => doubts_json(alloc, standings, texts),
-        Form::Text | Form::Lines(_) => doubts_text(alloc, standings, texts),
+        Form::Json => doubts_json(alloc, now, standings, texts),
+        Form::Text | Form::Lines(_) => doubts_text(alloc, now, standings, texts),
     }
 }
 

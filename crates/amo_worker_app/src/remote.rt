@@ -33,11 +33,7 @@ struct Streams {
 impl Wire for Streams {
     ghost done = { λ _. None };
 
-    // For now each job is clear, and the partner is not asked for it. It is asked next.
     fn ask(&mut self, asked: Try) -> Result<Option<Vec<u8>>, Failed> {
-        if let Try::Clear(..) = asked {
-            return self.agrees();
-        }
         let Ok(line) = text_of(self.rt.alloc(), asked) else {
             self.fault = Some(Fault::Memory);
             return Err(Failed);
@@ -52,22 +48,12 @@ impl Wire for Streams {
     }
 }
 
-impl Streams {
-    /// The line that agrees.
-    fn agrees(&mut self) -> Result<Option<Vec<u8>>, Failed> {
-        match b"ok".to_vec(self.rt.alloc()) {
-            Ok(line) => Ok(Some(line)),
-            Err(_) => {
-                self.fault = Some(Fault::Memory);
-                Err(Failed)
-            }
-        }
-    }
-}
-
-/// Works as this worker to the end of this process: each word that it loads or stores, each intent,
-/// each job and each note is a line to the partner. Ends well where the worker wants nothing more;
-/// every other end is a fault.
+/// Works as this worker to the end of this process. Each load, store, intent, question for
+/// clearance, job and note is a line to the partner. Returns `Ok` if the worker wants nothing more.
+///
+/// # Errors
+/// `Left`, `Closed` or `NoAnswer` by the partner's last line, `NoSuchNumber` for an impossible
+/// word, `Memory`, and `NoWay`.
 pub(crate) fn work_by_lines(rt: HostRuntime, asked: ByLines) -> Result<(), Fault> {
     let Ok(givens) = Givens::try_new(asked.jobs, asked.workers, asked.beta) else {
         return Err(Fault::NoWay);

@@ -1,16 +1,18 @@
 //! To look at a run, as a person does: with what nobody is at any more held, so that it stays so
 //! while it is looked at.
-use amo_fs::is_at;
+use crate::session::now;
+use amo_fs::{FileDevice, is_at};
 use amo_givens::MAX_WORKERS;
-use amo_journal::texts_in;
+use amo_journal::{AppendError, DeviceError, texts_in};
 use amo_run_dir::{
-    Age, Fault, Item, RawLogs, RunState, Setting, Tried, attempts_of, bytes_of, had, known,
-    lock_of, lock_within, log_of, path_of, read_logs, record_of, settled, try_lock_of,
+    Age, Fault, Item, OpenJournal, RawLogs, RunState, Setting, Tried, attempts_of, bytes_of, had,
+    known, lock_of, lock_within, log_of, path_of, read_logs, record_of, settled, try_lock_of,
 };
 use amo_run_files::RoundFile;
-use amo_run_log::{pending, with_time};
+use amo_run_log::{Entry, Outcome, note, pending, with_time};
 use amo_status::{AttemptId, LineStatus, standings};
 use std::alloc::{AllocError, Global};
+use std::fs;
 use std::fs::File;
 use std::rt::HostRuntime;
 
@@ -27,14 +29,33 @@ pub(crate) struct Snapshot {
     held: Vec<File>,
 }
 
+/// The use of pending intents that nobody can answer any more.
+#[derive(Clone, Copy, PartialEq, Eq)]
+pub(crate) enum Finals {
+    /// They are shown as in doubt, and nothing is written.
+    Shown,
+    /// They are recorded as in doubt, with the time, if the disk takes that. Otherwise they are
+    /// shown, and it isn't known when they ended.
+    Recorded,
+}
+
 /// What is held of a worker's files, and its texts.
 #[derive(Drop)]
 struct Corner {
     texts: Vec<Vec<u8>>,
     alive: bool,
-    /// Whether an intent is pending and nobody runs this worker, so that its commands may be looked
-    /// at.
-    idle: bool,
+    /// There if an intent is pending and nobody runs this worker, so that its commands may be
+    /// looked at.
+    idle: Option<Idle>,
+}
+
+/// A worker that nobody runs, and that has a pending intent. The locks of its journal and of its
+/// runner are held.
+#[derive(Drop)]
+struct Idle {
+    worker: u64,
+    /// Its journal, which was recovered. None in a folder of version 0.1.0.
+    journal: Option<OpenJournal<FileDevice>>,
 }
 
 impl Corner {
@@ -43,7 +64,7 @@ impl Corner {
         Corner {
             texts,
             alive,
-            idle: false,
+            idle: None,
         }
     }
 }
@@ -52,18 +73,23 @@ impl Corner {
 /// looks holds the lock of what persons found out meanwhile, so that one doesn't find what another
 /// holds and take it for a worker's. Where that lock isn't got it looks all the same: it may then
 /// say of a worker that nobody runs that it is at work, and of a doubt that its command runs.
-pub(crate) fn look(rt: HostRuntime, setting: &Setting<'_>, age: Age) -> Result<Snapshot, Fault> {
+pub(crate) fn look(
+    rt: HostRuntime,
+    setting: &Setting<'_>,
+    age: Age,
+    finals: Finals,
+) -> Result<Snapshot, Fault> {
     let lock = among_readers(rt, setting, age)?;
     let mut seen = match age {
         Age::Now => {
             let last = record_of(rt, setting)?;
             check_run(rt, setting, last.as_ref())?;
             let answers = log_of(rt, setting, Item::Answers, last.as_ref())?;
-            look_through(rt, setting, age, last.as_ref(), answers.records)?
+            look_through(rt, setting, age, finals, last.as_ref(), answers.records)?
         }
         Age::Old => {
             let answers = old_texts_of(rt, setting, Item::Answers)?;
-            look_through(rt, setting, age, None, answers)?
+            look_through(rt, setting, age, finals, None, answers)?
         }
     };
     if let Some(lock) = lock {
@@ -88,10 +114,11 @@ pub(crate) fn look_behind(
     rt: HostRuntime,
     setting: &Setting<'_>,
     answers: Vec<Vec<u8>>,
+    finals: Finals,
 ) -> Result<Snapshot, Fault> {
     let last = record_of(rt, setting)?;
     check_run(rt, setting, last.as_ref())?;
-    look_through(rt, setting, Age::Now, last.as_ref(), answers)
+    look_through(rt, setting, Age::Now, finals, last.as_ref(), answers)
 }
 
 /// Refuses a run that can't be read, before a journal of it is recovered.
@@ -111,6 +138,7 @@ fn look_through(
     rt: HostRuntime,
     setting: &Setting<'_>,
     age: Age,
+    use_of: Finals,
     last: Option<&RoundFile>,
     answers: Vec<Vec<u8>>,
 ) -> Result<Snapshot, Fault> {
@@ -119,21 +147,25 @@ fn look_through(
     let mut idle = Vec::new(rt.alloc());
     let mut journals = Vec::new(rt.alloc());
     for worker in 1..=MAX_WORKERS as u64 {
-        let corner = match age {
+        let Corner {
+            texts,
+            alive: is_alive,
+            idle: its_journal,
+        } = match age {
             Age::Now => corner_of(rt, setting, worker, last, &mut held)?,
             Age::Old => old_corner_of(rt, setting, worker, &mut held)?,
         };
-        if corner.alive {
+        if is_alive {
             alive.push(worker)?;
         }
-        if corner.idle {
-            idle.push(worker)?;
+        if let Some(one) = its_journal {
+            idle.push(one)?;
         }
-        journals.push(corner.texts)?;
+        journals.push(texts)?;
     }
     let jobs = known(rt, setting, last)?;
-    let books = RunState::read(rt.alloc(), &RawLogs { answers, journals }, jobs)?;
-    let finals = finals_of(rt, setting, &books, &idle, &mut held)?;
+    let mut books = RunState::read(rt.alloc(), &RawLogs { answers, journals }, jobs)?;
+    let finals = finals_of(rt, setting, use_of, &mut books, idle, &mut held)?;
     Ok(Snapshot {
         books,
         alive,
@@ -195,7 +227,10 @@ fn corner_behind(
     Ok(Corner {
         texts: guarded.texts,
         alive: false,
-        idle: true,
+        idle: Some(Idle {
+            worker,
+            journal: Some(guarded.journal),
+        }),
     })
 }
 
@@ -226,7 +261,10 @@ fn old_corner_of(
     Ok(Corner {
         texts,
         alive: false,
-        idle: true,
+        idle: Some(Idle {
+            worker,
+            journal: None,
+        }),
     })
 }
 
@@ -261,28 +299,33 @@ fn has_pending(alloc: Global, item: Item, texts: &[Vec<u8>]) -> Result<bool, Fau
 fn finals_of(
     rt: HostRuntime,
     setting: &Setting<'_>,
-    books: &RunState,
-    idle: &[u64],
+    use_of: Finals,
+    books: &mut RunState,
+    idle: Vec<Idle>,
     held: &mut Vec<File>,
 ) -> Result<Vec<AttemptId>, Fault> {
     let mut finals = Vec::new(rt.alloc());
-    for worker in idle {
-        push_finals(rt, setting, books, *worker, &mut finals, held)?;
+    for one in idle {
+        let found = finals_in(rt, setting, books, one.worker, held)?;
+        finals.extend_from_slice(&found)?;
+        if let (Finals::Recorded, Some(journal)) = (use_of, one.journal) {
+            put_doubts(rt, setting, books, journal, &found)?;
+        }
     }
     Ok(finals)
 }
 
-/// Adds those of this worker.
-fn push_finals(
+/// Returns those of this worker.
+fn finals_in(
     rt: HostRuntime,
     setting: &Setting<'_>,
     books: &RunState,
     worker: u64,
-    finals: &mut Vec<AttemptId>,
     held: &mut Vec<File>,
-) -> Result<(), Fault> {
+) -> Result<Vec<AttemptId>, Fault> {
+    let mut finals = Vec::new(rt.alloc());
     let Some(journal) = books.journals.get(worker.saturating_sub(1) as usize) else {
-        return Ok(());
+        return Ok(finals);
     };
     for (serial, _line) in &pending(rt.alloc(), journal)? {
         if has_ended(rt, setting, Item::Command(worker, *serial), held)? {
@@ -291,6 +334,38 @@ fn push_finals(
                 serial: *serial,
             })?;
         }
+    }
+    Ok(finals)
+}
+
+/// Records intents of a worker as in doubt, one after the other, and notes each that is recorded.
+/// The file that its command had locked is removed then, since no runner asks for it any more. If
+/// the disk doesn't take one, the others aren't tried: nothing follows a failed append.
+fn put_doubts(
+    rt: HostRuntime,
+    setting: &Setting<'_>,
+    books: &mut RunState,
+    journal: OpenJournal<FileDevice>,
+    finals: &[AttemptId],
+) -> Result<(), Fault> {
+    let count = books.jobs.count();
+    let mut journal = journal;
+    for AttemptId { worker, serial } in finals {
+        let answer = Outcome::Doubt { time: now(rt) };
+        let entry = Entry::Answer {
+            serial: *serial,
+            answer,
+        };
+        journal = match journal.put(rt.alloc(), entry) {
+            Ok(journal) => journal,
+            Err(AppendError::Device(DeviceError::Memory)) => return Err(Fault::Memory),
+            Err(_) => return Ok(()),
+        };
+        if let Some(attempts) = books.journals.get_mut(worker.saturating_sub(1) as usize) {
+            note(count, attempts, entry)?;
+        }
+        let path = path_of(rt, setting, Item::Command(*worker, *serial))?;
+        let _ = fs::remove_file(&rt, path.as_str());
     }
     Ok(())
 }

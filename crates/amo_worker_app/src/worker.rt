@@ -8,20 +8,24 @@ use amo_driver::{Asked, Intent, LifeEnd, Stop, ask_pending};
 use amo_givens::Givens;
 use amo_run_dir::{
     Fault, Followed, Item, JoinedRound, Later, ListSettings, LockedJournal, Setting, attempts_of,
-    begin, enter, had, join, known, lock_of, record_of, take_number,
+    begin, check_number, enter, had, has_lines_of, join, known, lock_of, record_of, take_number,
 };
 use amo_run_log::pending;
 use amo_status::Counts;
 use std::alloc::Global;
 use std::fs;
+use std::fs::File;
 use std::rt::HostRuntime;
 
 /// The longest id of a boot.
 const LONGEST_BOOT: usize = 200;
 
 /// Lives as this worker: takes its number, asks what became of the intents that its journal has
-/// pending, begins a round where nobody is at work, and works in it. Answers where all lines stand
-/// where none is open; every other end is a fault, `Later` where there is more to do.
+/// pending, and works in one round after the other, as long as its runner has it go on. Returns how
+/// all lines stand once none is open.
+///
+/// # Errors
+/// Each other end: `Later` if there is more to do.
 pub(crate) fn work(
     rt: HostRuntime,
     setting: &Setting<'_>,
@@ -30,44 +34,55 @@ pub(crate) fn work(
 ) -> Result<Counts, Fault> {
     enter(rt, setting)?;
     let boot = boot_id(rt, setting)?;
-    let guarded = take_number(rt, setting, worker)?;
-    live(rt, setting, jobs, worker, &boot, guarded)
-}
-
-/// The same from there on where this process has the number. The lock on the journal is kept to the
-/// end.
-fn live(
-    rt: HostRuntime,
-    setting: &Setting<'_>,
-    jobs: &ListSettings<'_>,
-    worker: u64,
-    boot: &[u8],
-    guarded: LockedJournal,
-) -> Result<Counts, Fault> {
     let LockedJournal {
         journal,
         texts,
         lock: guard,
-    } = guarded;
+    } = take_number(rt, setting, worker)?;
     let last = record_of(rt, setting)?;
-    let mut talk = Session {
+    let mut session = Session {
         rt,
         worker,
         journal: Some(journal),
         jobs: known(rt, setting, last.as_ref())?,
+        serial: 1,
         partner: Runner::new(rt),
         is_dismissed: false,
+        has_running: false,
         fault: None,
     };
-    let serial = ask_past(rt.alloc(), &mut talk, &texts)?;
-    if let Some(counts) = begun(rt, setting, jobs, worker, boot)? {
-        return Ok(counts);
+    session.serial = ask_past(rt.alloc(), &mut session, &texts)?;
+    live(rt, setting, jobs, &guard, boot, session)
+}
+
+/// Works in one round after the other, each with its own boot id, handles, header and registers.
+/// The lock on the journal is kept to the end, by the handle `guard`. Returns how all lines stand
+/// once none is open.
+fn live(
+    rt: HostRuntime,
+    setting: &Setting<'_>,
+    jobs: &ListSettings<'_>,
+    guard: &File,
+    boot: Vec<u8>,
+    session: Session,
+) -> Result<Counts, Fault> {
+    let worker = session.worker;
+    let mut boot = boot;
+    let mut session = session;
+    let mut followed = None;
+    for _round in 0..u64::MAX {
+        if let Some(counts) = begun(rt, setting, jobs, worker, &boot)? {
+            return Ok(counts);
+        }
+        let joined = join(rt, setting, worker, &boot)?;
+        let (stays, read) = work_in(rt, setting, joined, guard, session, followed)?;
+        session = stays;
+        followed = Some(read);
+        session.stay()?;
+        check_number(rt, setting, worker, guard)?;
+        boot = boot_id(rt, setting)?;
     }
-    let joined = join(rt, setting, worker, boot)?;
-    talk.jobs = known(rt, setting, Some(&joined.file))?;
-    let count = talk.jobs.count();
-    let followed = Followed::begin(rt, setting, &joined.file, count, worker, &guard)?;
-    Err(work_in(rt.alloc(), talk, joined, followed, serial))
+    Err(Fault::NoWay)
 }
 
 /// Begins a round, where nobody is at work in another. Answers where all lines stand, if none is
@@ -119,40 +134,77 @@ fn ask_past(alloc: Global, talk: &mut Session, texts: &[Vec<u8>]) -> Result<u64,
     }
 }
 
-/// Works in a round to the end of this process.
+/// Works in a round until the worker's part of it is over. The round's lock is closed before this
+/// returns, so that the last worker to end its part leaves the next round to be begun by any.
+///
+/// # Errors
+/// Each other end of the worker.
 fn work_in(
-    alloc: Global,
-    talk: Session,
+    rt: HostRuntime,
+    setting: &Setting<'_>,
     joined: JoinedRound,
-    followed: Followed,
-    serial: u64,
-) -> Fault {
+    guard: &File,
+    session: Session,
+    followed: Option<Followed>,
+) -> Result<(Session, Followed), Fault> {
     let JoinedRound {
         file,
         words,
         seat,
-        lock: _round,
+        lock,
     } = joined;
-    let record = file.header;
-    let sizes = record.givens;
-    let Ok(givens) = Givens::try_new(sizes.jobs, sizes.workers, sizes.beta) else {
-        return Fault::Refused(Item::Record);
-    };
-    if seat < 1 || seat > givens.workers as u64 {
-        return Fault::Later(Later::NoSeat);
+    let mut talk = session;
+    if !has_lines_of(&talk.jobs, &file) {
+        talk.jobs = known(rt, setting, Some(&file))?;
     }
-    let mut desk = WorkerIo {
+    let count = talk.jobs.count();
+    let followed = match followed {
+        Some(read) => {
+            let mut read = read;
+            read.stay(rt, setting, &file, count)?;
+            read
+        }
+        None => Followed::begin(rt, setting, &file, count, talk.worker, guard)?,
+    };
+    let mut outside = WorkerIo {
         talk,
         words,
-        record,
+        record: file.header,
         followed,
     };
-    match amo_driver::work(alloc, givens, seat as u32, serial, &mut desk) {
+    take_part(rt.alloc(), seat, &mut outside)?;
+    drop(lock);
+    let WorkerIo { talk, followed, .. } = outside;
+    Ok((talk, followed))
+}
+
+/// Takes part in a round by this number until that is over, and appends what the worker owes then.
+///
+/// # Errors
+/// Each other end of the worker.
+fn take_part(alloc: Global, seat: u64, outside: &mut WorkerIo) -> Result<(), Fault> {
+    let sizes = outside.record.givens;
+    let Ok(givens) = Givens::try_new(sizes.jobs, sizes.workers, sizes.beta) else {
+        return Err(Fault::Refused(Item::Record));
+    };
+    if seat < 1 || seat > givens.workers as u64 {
+        return Err(Fault::Later(Later::NoSeat));
+    }
+    let serial = outside.talk.serial;
+    let end = amo_driver::work(alloc, givens, seat as u32, serial, outside);
+    if end.is_ok() {
+        outside.talk.settle_up()?;
+    }
+    match end {
         // Who was told to leave after its last job had nothing to leave.
-        Ok(LifeEnd::Over) if !desk.talk.is_dismissed => Fault::Later(Later::Over),
-        Ok(LifeEnd::Over | LifeEnd::Left) => Fault::Left,
-        Ok(LifeEnd::Cut(_)) => Fault::Closed,
-        Err(stop) => fault_of(stop, &mut desk.talk),
+        Ok(LifeEnd::Over) if !outside.talk.is_dismissed => Ok(()),
+        Ok(LifeEnd::Over | LifeEnd::Left) => Err(Fault::Left),
+        Ok(LifeEnd::Cut(_)) => Err(Fault::Closed),
+        Err(stop) => {
+            let fault = fault_of(stop, &mut outside.talk);
+            let _ = outside.talk.pay();
+            Err(fault)
+        }
     }
 }
 

@@ -1,7 +1,7 @@
 //! What is outside of a worker in a round: its words, its journal, its partner.
 ghost use Rattle.std.specs.Prelude.{◌≡◌, None};
 
-use crate::session::{Session, now};
+use crate::session::{Session, note_of, now};
 use amo_driver::{Failed, JobResult, Outside, Past, Reply};
 use amo_run_dir::{Fault, Followed, Words};
 use amo_run_files::RoundHeader;
@@ -64,7 +64,9 @@ impl Outside for WorkerIo {
     fn intend(&mut self, serial: u64, job: u32) -> Result<(), Failed> {
         let line = self.line_of(job)?;
         let time = now(self.talk.rt);
-        self.talk.put(Entry::Intent { serial, line, time })
+        self.talk.put(Entry::Intent { serial, line, time })?;
+        self.talk.serial = serial.saturating_add(1);
+        Ok(())
     }
 
     // If the journals can't be read on, the line isn't handed over. Its intent is noted as not
@@ -91,7 +93,9 @@ impl Outside for WorkerIo {
         self.talk.perform(serial, line)
     }
 
+    // It is appended with the next intent, or once the work in the round ends.
     fn note(&mut self, serial: u64, answer: JobResult) -> Result<(), Failed> {
-        Past::note(&mut self.talk, serial, answer)
+        let entry = note_of(serial, answer, now(self.talk.rt));
+        self.talk.owe(entry)
     }
 }
