@@ -1,0 +1,184 @@
+"""The calls of the system that runners and crews make, each in a few lines and without a rule.
+
+`runner` and `crew` decide nothing here. They need Linux 5.3 (pidfd) and Python 3.9.
+"""
+
+from __future__ import annotations
+
+import ctypes
+import fcntl
+import os
+import signal
+from contextlib import suppress
+from typing import Dict, List, Mapping, NamedTuple, Optional, Sequence, Tuple
+
+SET_CHILD_SUBREAPER = 36  # of prctl
+ABOVE = 100  # no process gets one of its files under so high a number
+IGNORED_BY_PYTHON = (signal.SIGPIPE, signal.SIGXFSZ)  # and handed on by exec, if nobody resets them
+
+
+class Process(NamedTuple):
+    """A process. A number is given again after its end, so its start belongs to its name."""
+    number: int
+    start: int  # in ticks since the machine was started
+
+
+class Ended(NamedTuple):
+    """A child that has ended and was reaped. A status below 0 is the negative of a signal."""
+    number: int
+    status: int
+
+
+def become_subreaper() -> None:
+    """Has the kernel make every orphan below this process its child. Raises OSError."""
+    call = ctypes.CDLL(None, use_errno=True).prctl
+    if call(SET_CHILD_SUBREAPER, 1, 0, 0, 0):
+        raise OSError(ctypes.get_errno(), os.strerror(ctypes.get_errno()), "PR_SET_CHILD_SUBREAPER")
+
+
+def check_pidfd() -> None:
+    """Raises OSError if this system can't name a process by a descriptor."""
+    os.close(os.pidfd_open(os.getpid()))
+
+
+def open_children() -> int:
+    """Opens the list of this process's children, which `read_children` reads again and again."""
+    path = f"/proc/self/task/{os.getpid()}/children"
+    return os.open(path, os.O_RDONLY | os.O_CLOEXEC)
+
+
+def read_children(file: int) -> List[int]:
+    """Returns the numbers of the children in such a list, those that nobody has reaped too.
+
+    The list is exact for this process's own children, since nobody else reaps them. Of another
+    process it may lack a child while others end.
+    """
+    data = b""
+    while part := os.pread(file, 1 << 16, len(data)):
+        data += part
+    return [int(it) for it in data.split()]
+
+
+def children_of(number: int) -> List[int]:
+    """Returns the children of another process, of all of its threads; none if it is gone."""
+    found: List[int] = []
+    with suppress(OSError):
+        for thread in os.listdir(f"/proc/{number}/task"):
+            with suppress(OSError), open(f"/proc/{number}/task/{thread}/children", "rb") as file:
+                found += [int(it) for it in file.read().split()]
+    return found
+
+
+def start_of(number: int) -> Optional[int]:
+    """Returns when a process was started; None if there is none with this number."""
+    with suppress(OSError), open(f"/proc/{number}/stat", "rb") as file:
+        return int(file.read().rpartition(b")")[2].split()[19])
+    return None
+
+
+def program_of(number: int) -> str:
+    """Returns the base name of the file that a process executes; an empty text if the system
+    doesn't show it."""
+    with suppress(OSError):
+        path = os.readlink(f"/proc/{number}/exe")
+        deleted = " (deleted)"
+        return os.path.basename(path[:-len(deleted)] if path.endswith(deleted) else path)
+    return ""
+
+
+def words_of(number: int) -> List[str]:
+    """Returns the words of a process's command line; none if the system doesn't show them."""
+    with suppress(OSError), open(f"/proc/{number}/cmdline", "rb") as file:
+        text = file.read().rstrip(b"\0").decode("utf-8", "replace")
+        return text.split("\0") if text else []
+    return []
+
+
+def files_of(number: int) -> Optional[List[str]]:
+    """Returns the paths of a process's open files; None if the system doesn't show them."""
+    found: List[str] = []
+    try:
+        for file in os.listdir(f"/proc/{number}/fd"):
+            with suppress(FileNotFoundError):
+                found.append(os.readlink(f"/proc/{number}/fd/{file}"))
+    except OSError:
+        return None
+    return found
+
+
+def send(process: Process, number: int) -> None:
+    """Sends a signal to this process and to no other one. Raises OSError, but not if the process is
+    gone."""
+    with suppress(ProcessLookupError):
+        handle = os.pidfd_open(process.number)
+        try:
+            if start_of(process.number) == process.start:
+                signal.pidfd_send_signal(handle, number)
+        finally:
+            os.close(handle)
+
+
+def reap() -> Tuple[List[Ended], bool]:
+    """Reaps the children that have ended. Returns them, and whether any child is left."""
+    found: List[Ended] = []
+    with suppress(ChildProcessError):
+        while True:
+            number, status = os.waitpid(-1, os.WNOHANG)
+            if number == 0:
+                return found, True
+            found.append(Ended(number, os.waitstatus_to_exitcode(status)))
+    return found, False
+
+
+def spawn(words: List[bytes], surroundings: Mapping[bytes, bytes], files: Dict[int, int]) -> int:
+    """Starts a program in a session of its own, and returns its process. It gets these files alone:
+    each number has one of this process's descriptors, and no descriptor is one of the numbers.
+
+    Raises OSError only if no process was made, or if the program could not be executed and the
+    child was reaped.
+    """
+    actions = [(os.POSIX_SPAWN_DUP2, file, number) for number, file in files.items()]
+    return os.posix_spawnp(words[0], words, surroundings, file_actions=actions, setsid=True,
+                           setsigdef=IGNORED_BY_PYTHON)
+
+
+def sign(path: str) -> None:
+    """Writes this process's number into a file whose lock it has, so that others can name it."""
+    with suppress(OSError), open(path, "w", encoding="ascii") as file:
+        file.write(f"{os.getpid()}\n")
+
+
+def signed(path: str) -> int:
+    """Returns the number of the process that has signed this file; 0 if none has."""
+    with suppress(OSError, ValueError), open(path, encoding="ascii") as file:
+        return int(file.read())
+    return 0
+
+
+def lifted(file: int) -> int:
+    """Returns a second descriptor of an open file, with a number that is no child's."""
+    return fcntl.fcntl(file, fcntl.F_DUPFD_CLOEXEC, ABOVE)
+
+
+class Bell:
+    """A pipe that wakes a process which polls, whenever a child has ended or a signal has come."""
+
+    def __init__(self, numbers: Sequence[int]):
+        self.wake, self.ring = os.pipe2(os.O_NONBLOCK | os.O_CLOEXEC)
+        self.signals: List[int] = []
+        signal.set_wakeup_fd(self.ring, warn_on_full_buffer=False)
+        signal.signal(signal.SIGCHLD, lambda *_: None)
+        for number in numbers:
+            # a signal that was ignored at the start, as under nohup, stays ignored
+            if number == signal.SIGTERM or signal.getsignal(number) != signal.SIG_IGN:
+                signal.signal(number, lambda number, _: self.signals.append(number))
+
+    def quiet(self) -> None:
+        """Takes the bytes by which the pipe woke this process."""
+        with suppress(BlockingIOError):
+            os.read(self.wake, 1 << 16)
+
+    def taken(self) -> List[int]:
+        """Returns the signals that came since the last call, in their order."""
+        found, self.signals = self.signals, []
+        return found

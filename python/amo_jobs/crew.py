@@ -1,0 +1,290 @@
+"""The supervisor of a crew: the runners' processes, and a blocking loop over `poll`.
+
+Begin with `Crew`, and `work` for a runner without a supervisor. What a supervisor does about each
+event is in `crew_rules`.
+"""
+
+from __future__ import annotations
+
+import os
+import random
+import select
+import sys
+from time import monotonic
+from typing import Any, Callable, Dict, List, Optional, Set
+
+from amo_jobs import calls, crew_rules, reports
+from amo_jobs.crew_rules import (
+    Action, End, Event, LetGo, Locked, Number, Occupied, Order, Orphans, Pause, PauseOver, Phase,
+    Reported, RunnerEnded, Say, SignalOrphans, Signalled, Start, StartFailed, State
+)
+from amo_jobs.desk import OwnDesk, SupervisedDesk
+from amo_jobs.locks import close_all, locked, locked_soon, PATIENCE
+from amo_jobs.messages import End as Refusal, reason, Screen, visible
+from amo_jobs.processes import described, Family, has_open, Signals
+from amo_jobs.progress import Progress
+from amo_jobs.runner import Runner, SIGNALS
+from amo_jobs.settings import next_command, Settings
+from amo_jobs.statuses import Status
+from amo_jobs.worker import HERE, Program
+
+SOON, LATER = 0.05, 0.5  # seconds until a lock is tried again, and after some seconds
+LOCK, REPORTS, ORDERS = 3, 4, 5  # a runner's files
+
+
+def state_of(settings: Settings, numbers: List[int]) -> State:
+    """Returns what is known before anything has happened."""
+    return State(settings.command[0], settings.results, next_command(settings, "status"),
+                 {it: Number() for it in numbers}, settings.halt)
+
+
+def words_of(settings: Settings, program: str) -> List[str]:
+    """Returns the words that a runner gets, after those of its own. All paths are absolute."""
+    options = {"run": settings.run, "results": settings.results, "worker-program": program,
+               "file-system": settings.file_system, "id": settings.id,
+               "workers": settings.workers, "beta": settings.beta, "timeout": settings.timeout,
+               "grace": settings.grace, "linger": settings.linger,
+               "untouched": ",".join(map(str, settings.untouched)),
+               "may-leave": ",".join(settings.may_leave)}
+    words = [f"--{name}={value}" for name, value in options.items() if value not in ("", None)]
+    return [*words, settings.jobs, "--", *settings.command]
+
+
+def work(settings: Settings, program: Program) -> int:
+    """Runs one worker in this process, and returns the status."""
+    worker = settings.worker
+    state = state_of(settings, [worker])
+    progress = Progress(settings, program, state)
+    lock = locked_soon(f"{settings.run}/runner.{worker}", True)
+    if lock is None:
+        Screen.tell(f"worker {worker}: another runner has its number; wait until that crew has"
+                    f" ended, or stop it (status {Status.LATER:d})")
+        return progress.conclude(Status.LATER)
+    crew_rules.take(state, Locked(worker))
+    desk = OwnDesk(worker, state, progress)
+    Runner(settings, program, worker, desk).run()
+    close_all([lock])  # no worker is started any more
+    desk.take(RunnerEnded(worker, 0))
+    return progress.conclude(desk.status)
+
+
+def supervised(settings: Settings, program: Program) -> int:
+    """Runs one worker of a crew in this process, and returns the status. The lock of its number
+    came with the process."""
+    os.set_inheritable(LOCK, False)
+    desk = SupervisedDesk(settings.worker, REPORTS, ORDERS)
+    return max(Runner(settings, program, settings.worker, desk).run(), Status.DONE)
+
+
+class Post:
+    """The process of a runner, and the pipes from and to it."""
+
+    def __init__(self, words: List[str], lock: int):
+        """Starts it. Raises OSError."""
+        self.rest, self.is_open = b"", True
+        self.files: List[int] = []
+        handed: List[int] = []
+        try:
+            reads, writes = os.pipe(), os.pipe()
+            self.files = [reads[0], writes[1]]
+            handed = [reads[1], writes[0], os.open(os.devnull, os.O_RDWR)]
+            lifted = [calls.lifted(it) for it in (handed[2], lock, *handed[:2])]
+            handed += lifted
+            self.process = calls.spawn([os.fsencode(it) for it in words], dict(os.environb),
+                                       dict(zip((0, LOCK, REPORTS, ORDERS), lifted)))
+        except OSError:
+            self.close()
+            raise
+        finally:
+            close_all(handed)
+        for file in self.files:
+            os.set_blocking(file, False)
+
+    def read(self) -> List[reports.Report]:
+        """Returns the reports that there are. Those of a pipe that is at its end are all."""
+        data = b""
+        try:
+            while part := os.read(self.files[0], 1 << 16):
+                data += part
+            self.is_open = False
+        except OSError:
+            pass
+        *lines, self.rest = (self.rest + data).split(b"\n")
+        return [reports.report_of(it) for it in lines]
+
+    def order(self, text: str) -> None:
+        """Gives an order. A runner that is gone needs none."""
+        try:
+            os.write(self.files[1], f"{text}\n".encode())
+        except OSError:
+            pass
+
+    def close(self) -> None:
+        """Closes the pipes."""
+        close_all(self.files)
+
+
+class Crew:
+    """The supervisor of the runners of some numbers."""
+
+    def __init__(self, settings: Settings, program: Program, version: str):
+        """Raises OSError, and an end if another crew works in the folder."""
+        self.settings, self.program, self.version = settings, program, version
+        self.folder = os.path.realpath(settings.run)
+        self.numbers = list(range(1, settings.workers + 1))
+        self.state = state_of(settings, self.numbers)
+        self.lock = self.take_crew()
+        calls.check_pidfd()
+        calls.become_subreaper()
+        self.family, self.signals = Family(settings.may_leave), Signals(Screen.tell)
+        self.bell = calls.Bell(SIGNALS)
+        self.progress = Progress(settings, program, self.state)
+        self.locks: Dict[int, int] = {}
+        self.posts: Dict[int, Post] = {}
+        self.pauses: Dict[int, float] = {}
+        self.patience, self.try_at, self.look_at = monotonic() + PATIENCE, 0.0, 0.0
+        self.is_over, self.status = False, None  # type: bool, Optional[int]
+
+    def take_crew(self) -> List[int]:
+        """Takes the lock that a folder's supervisor has as long as it lives."""
+        path = f"{self.settings.run}/crew"
+        lock = locked(path, True)
+        if lock is None:
+            process = calls.signed(path)
+            named = f", process {process}," if process else ""
+            raise Refusal(Status.LATER, f"`{visible(self.settings.run)}`: another crew{named} works"
+                          " in this folder; wait until it has ended, or stop it")
+        calls.sign(path)
+        return [lock]
+
+    def run(self) -> int:
+        """Runs all runners to their end, and returns the crew's status."""
+        while not self.is_over:
+            self.turn()
+        close_all(list(self.locks.values()))  # no worker is started any more
+        return self.progress.conclude(self.status)
+
+    def turn(self) -> None:
+        """Takes what has happened, and waits until something does."""
+        self.try_locks()
+        self.progress.show()
+        ready = self.poll()
+        if self.bell.wake in ready:
+            self.bell.quiet()
+            for number in self.bell.taken():
+                self.feed(Signalled(number))
+        for worker, post in list(self.posts.items()):
+            if post.files[0] in ready:
+                self.take_reports(worker, post)
+        self.take_ended(self.bell.wake in ready)
+        for worker, due in list(self.pauses.items()):
+            if due <= monotonic():
+                del self.pauses[worker]
+                self.feed(PauseOver(worker))
+
+    def poll(self) -> Set[int]:
+        """Waits for reports, signals, ends of children, and times."""
+        if self.is_over:
+            return set()
+        poll = select.poll()
+        for file in [self.bell.wake, *(it.files[0] for it in self.posts.values() if it.is_open)]:
+            poll.register(file, select.POLLIN)
+        dues = [self.progress.due, *self.pauses.values()]
+        dues += [self.try_at] if self.untaken() else []
+        dues += [self.look_at] if self.state.has_orphans else []
+        return {file for file, _ in poll.poll(max(min(dues) - monotonic(), 0) * 1000 + 1)}
+
+    def untaken(self) -> List[int]:
+        """Returns the numbers whose lock another runner has."""
+        return [worker for worker, it in self.state.numbers.items() if it.phase is Phase.LOCKS]
+
+    def try_locks(self) -> None:
+        """Tries the locks that it doesn't have. (`doubts` has such a lock for a moment.)"""
+        if monotonic() < self.try_at:
+            return
+        is_late = monotonic() > self.patience
+        self.try_at = monotonic() + (LATER if is_late else SOON)
+        for worker in self.untaken():
+            path = f"{self.settings.run}/runner.{worker}"
+            lock = locked(path, True)
+            if lock is not None:
+                self.locks[worker] = lock
+                self.feed(Locked(worker))
+            elif is_late:
+                self.feed(Occupied(worker, calls.signed(path)))
+
+    def take_reports(self, worker: int, post: Post) -> None:
+        """Takes the reports that there are."""
+        for report in post.read():
+            self.feed(Reported(worker, report))
+
+    def take_ended(self, has_rung: bool) -> None:
+        """Reaps the children that have ended. What a runner has reported comes before its end."""
+        if not has_rung and (not self.state.has_orphans or monotonic() < self.look_at):
+            return
+        for ended in calls.reap()[0]:
+            for worker, post in list(self.posts.items()):
+                if post.process == ended.number:
+                    self.take_reports(worker, post)
+                    del self.posts[worker]
+                    post.close()
+                    self.feed(RunnerEnded(worker, ended.status))
+        self.look_at = monotonic() + LATER
+        self.feed(self.orphans())
+
+    def orphans(self) -> Orphans:
+        """Looks at the children that are no runners."""
+        try:
+            left = self.orphans_below()
+        except OSError as error:
+            return Orphans(True, f"processes that can't be seen ({reason(error)})")
+        unseen = [it for it in left if not has_open(it, (f"{self.folder}/command.",))]
+        return Orphans(bool(left), described(unseen))
+
+    def orphans_below(self) -> List[calls.Process]:
+        """Returns the children that are no runners, and all below them. Raises OSError."""
+        return self.family.rest((), [it.process for it in self.posts.values()])
+
+    def feed(self, event: Event) -> None:
+        """Has the rules take an event, and does what they ask for."""
+        for action in crew_rules.take(self.state, event):
+            ACTIONS[type(action)](self, action)
+
+    def start(self, action: Start) -> None:
+        """Starts a runner."""
+        words = [sys.executable, "-I", "-S", f"{HERE}/amo_jobs", "work", f"--as={self.version}",
+                 f"--worker={action.worker}", *words_of(self.settings, self.program.path)]
+        try:
+            self.posts[action.worker] = Post(words, self.locks[action.worker])
+        except OSError as error:
+            self.feed(StartFailed(action.worker, reason(error)))
+
+    def order(self, action: Order) -> None:
+        """Gives a runner an order."""
+        if action.worker in self.posts:
+            self.posts[action.worker].order(action.text)
+
+    def pause(self, action: Pause) -> None:
+        """Has a pause begin, which differs each time."""
+        seconds = random.uniform(action.seconds / 2, action.seconds)
+        self.pauses[action.worker] = monotonic() + seconds
+
+    def let_go(self, action: LetGo) -> None:
+        """Closes a number's lock."""
+        if action.worker in self.locks:
+            close_all([self.locks.pop(action.worker)])
+
+    def signal_orphans(self, action: SignalOrphans) -> None:
+        """Sends a signal to what runners have left behind."""
+        self.signals.send(action.number, self.orphans_below)
+
+    def end(self, action: End) -> None:
+        """Ends."""
+        self.is_over, self.status = True, action.status
+
+
+ACTIONS: Dict[type, Callable[[Crew, Any], None]] = {
+    Start: Crew.start, Order: Crew.order, Pause: Crew.pause, LetGo: Crew.let_go,
+    SignalOrphans: Crew.signal_orphans, End: Crew.end,
+    Say: lambda _, action: Screen.tell(action.text),
+}

@@ -1,0 +1,376 @@
+"""The rules of a crew: what its supervisor does about each event.
+
+`take` changes a `State` and returns actions. Nothing here calls the system. `crew` makes the
+events, and carries the actions out in their order. A runner without a supervisor, as `amo_jobs
+work` has it, is a crew of one number that runs in the same process.
+"""
+
+from __future__ import annotations
+
+import signal
+from dataclasses import dataclass, field
+from enum import Enum
+from typing import Any, Callable, Dict, List, NamedTuple, Optional, Union
+
+from amo_jobs import reports
+from amo_jobs.messages import visible
+from amo_jobs.reports import Report
+from amo_jobs.runner_state import LONGEST, SHORTEST
+from amo_jobs.statuses import Status
+
+MOST_FIRST_FAILURES, MOST_TAKEN = 10, 10
+IN_ORDER = (Status.DONE, Status.LEFT, Status.LATER)  # of a worker that needn't be looked at
+NO_END = 1 << 60
+
+
+class Phase(Enum):
+    """How far a number of the crew is."""
+
+    LOCKS = 0  # another runner has its lock
+    RUNS = 1  # its runner lives
+    DEAD = 2  # its runner was killed, and something of it may be left
+    PAUSES = 3  # before its runner is started again
+    ENDED = 4
+
+
+# The supervisor has got the lock of a number.
+Locked = NamedTuple("Locked", [("worker", int)])
+# Another runner has had that lock for some seconds. 0: its process isn't known.
+Occupied = NamedTuple("Occupied", [("worker", int), ("process", int)])
+# A runner reports.
+Reported = NamedTuple("Reported", [("worker", int), ("report", Report)])
+# A runner has ended. A code below 0 is the negative of a signal.
+RunnerEnded = NamedTuple("RunnerEnded", [("worker", int), ("code", int)])
+# A runner could not be started.
+StartFailed = NamedTuple("StartFailed", [("worker", int), ("why", str)])
+# A pause is over.
+PauseOver = NamedTuple("PauseOver", [("worker", int)])
+# The supervisor has looked at its children that are no runners. `unseen` names those of them that
+# don't hold the lock of a command, so that nobody else sees them.
+Orphans = NamedTuple("Orphans", [("are_there", bool), ("unseen", str)])
+# The supervisor got a signal.
+Signalled = NamedTuple("Signalled", [("number", int)])
+Event = Union[Locked, Occupied, Reported, RunnerEnded, StartFailed, PauseOver, Orphans, Signalled]
+
+# Start the runner of a number.
+Start = NamedTuple("Start", [("worker", int)])
+# Give a runner an order.
+Order = NamedTuple("Order", [("worker", int), ("text", str)])
+# Print a message.
+Say = NamedTuple("Say", [("text", str)])
+# Have a PauseOver come after a random part of so many seconds.
+Pause = NamedTuple("Pause", [("worker", int), ("seconds", float)])
+# Close the handle of a number's lock.
+LetGo = NamedTuple("LetGo", [("worker", int)])
+# Send a signal to the children that are no runners, and to all below them.
+SignalOrphans = NamedTuple("SignalOrphans", [("number", int)])
+# End with this status. None: the counts of the lines decide.
+End = NamedTuple("End", [("status", Optional[int])])
+Action = Union[Start, Order, Say, Pause, LetGo, SignalOrphans, End]
+Actions = List[Action]
+
+
+@dataclass
+class Number:
+    """A number of the crew."""
+
+    phase: Phase = Phase.LOCKS
+    pause: float = SHORTEST / 2
+    status: Optional[int] = None  # of its worker at last, or of a runner that failed
+    has_begun: bool = False  # whether it ever had a runner
+    is_refused: bool = False  # whether the status is one that the operator has to look at
+    running: int = 0  # the attempt whose command has run for a moment
+    waits: bool = False  # its runner waits for processes that only it sees
+    is_told: bool = False  # that another runner has its lock
+
+
+@dataclass
+class State:
+    """What a supervisor knows."""
+
+    command: str  # the name of the program that is run for each line
+    results: str  # the folder of the outputs
+    status_command: str
+    numbers: Dict[int, Number]
+    halt: Optional[int] = None
+    is_stopping: bool = False
+    asked: int = 0  # signals
+    ended: int = 0
+    good: int = 0
+    row: int = 0  # failures in a row
+    taken: int = 0  # lines against which another attempt stands
+    has_orphans: bool = False
+    unseen: str = ""
+    has_told_unseen: bool = False
+    is_over: bool = False
+
+    def running(self) -> List[str]:
+        """Returns the names of the attempts whose commands have run for a moment."""
+        return [f"{worker}.{it.running}" for worker, it in self.numbers.items() if it.running]
+
+
+def take(state: State, event: Event) -> Actions:
+    """Takes an event, and returns what the supervisor does about it."""
+    return [] if state.is_over else HANDLERS[type(event)](state, event)
+
+
+def locked(state: State, it: Locked) -> Actions:
+    """Starts the runner of a number."""
+    number = state.numbers[it.worker]
+    if state.is_stopping or number.phase is not Phase.LOCKS:
+        return [LetGo(it.worker)]
+    number.phase, number.has_begun = Phase.RUNS, True
+    return [Start(it.worker)]
+
+
+def occupied(state: State, it: Occupied) -> Actions:
+    """Prints, once, that an earlier crew's runner has a number."""
+    number = state.numbers[it.worker]
+    if number.is_told:
+        return []
+    number.is_told = True
+    process = f", process {it.process}," if it.process else ""
+    return [Say(f"worker {it.worker}: the runner of an earlier crew{process} ends its command; this"
+                " worker begins after that")]
+
+
+def reported(state: State, it: Reported) -> Actions:
+    """Takes a report."""
+    return REPORTS[it.report.kind](state, it.worker, it.report)
+
+
+def command_ended(state: State, worker: int, report: Report) -> Actions:
+    """Counts an end. Failures in a row stop the crew, and a few are enough if no line was done
+    before: so a misspelt command uses up no list."""
+    number, name = state.numbers[worker], f"{worker}.{report.serial}"
+    state.ended, number.running, number.pause = state.ended + 1, 0, SHORTEST / 2
+    if report.word == "done" and report.code == 0:
+        state.good, state.row = state.good + 1, 0
+        return []
+    state.row += report.word != "untouched"
+    ended_by = "the timeout" if report.is_late else "a signal"
+    how = {"doubt": f"is in doubt, since {ended_by} ended it; find out whether it took effect",
+           "untouched": f"did nothing (status {report.code})",
+           "done": f"failed with status {report.code}"}[report.word]
+    return [Say(f"line {report.line}: attempt {name} {how}"), *after_failure(state, worker, report)]
+
+
+def after_failure(state: State, worker: int, report: Report) -> Actions:
+    """Stops the crew after too many failures in a row, or lets the runner go on that waits."""
+    most = state.halt if state.good or state.halt == 0 else min(
+        state.halt or NO_END, MOST_FIRST_FAILURES)
+    if most and state.row >= most:
+        return stop(state, f"crew: {state.row} failures in a row"
+                    + ("" if state.good else ", and no line was done before"),
+                    f"; see the files err.P.S in `{visible(state.results)}` for the cause")
+    return go(state, worker) if report.is_failure() else []
+
+
+def go(state: State, worker: int) -> Actions:
+    """Lets a runner go on that waits. After a stop it has the order to stop."""
+    return [] if state.is_stopping else [Order(worker, reports.GO)]
+
+
+def unbegun(state: State, worker: int, report: Report) -> Actions:
+    """Stops the crew, since a line can't be started."""
+    is_known = state.is_stopping
+    more = stop(state, "crew: a line cannot be started")
+    return more if is_known else [
+        Say(f"line {report.line}: cannot start `{visible(state.command)}`: {report.text}"), *more]
+
+
+def lost(state: State, worker: int, report: Report) -> Actions:
+    """Prints that nobody saw the end of an attempt."""
+    name = f"{worker}.{report.serial}"
+    return [*go(state, worker),
+            Say(f"line {report.line}: attempt {name} is in doubt, since its runner was gone before"
+                " the end was recorded; find out whether it took effect")]
+
+
+def runs(state: State, worker: int, report: Report) -> Actions:
+    """Notes that a command runs."""
+    state.numbers[worker].running = report.serial
+    return []
+
+
+def left_behind(state: State, worker: int, report: Report) -> Actions:
+    """Prints that something of a command still runs."""
+    state.numbers[worker].running = 0
+    name = f"{worker}.{report.serial}"
+    return [Say(f"line {report.line}: attempt {name} has ended, and something that it started still"
+                f" runs; wait for it, or end it ({state.status_command} names the process)")]
+
+
+def waits(state: State, worker: int, report: Report) -> Actions:
+    """Prints for whom a runner waits at last."""
+    state.numbers[worker].waits = True
+    return [Say(f"worker {worker}: it has ended, and its runner waits for {report.text}, since"
+                " nobody else can see that something of a command is left; to send TERM: send two"
+                " signals to the crew")]
+
+
+def was_taken(state: State, worker: int, report: Report) -> Actions:
+    """Prints that a line was not started, since another attempt stands against it. Of many such
+    messages the first are enough; the end has the count of the others."""
+    state.taken += report.code or 1
+    return [Say(report.text)] if report.text and state.taken <= MOST_TAKEN else []
+
+
+def tries(state: State, worker: int, report: Report) -> Actions:
+    """Prints that ends wait to be recorded."""
+    return [Say(f"worker {worker}: {report.text}. It goes on trying, since {report.code} ends are"
+                " not recorded yet")]
+
+
+def asked(state: State, worker: int, report: Report) -> Actions:
+    """Stops the crew, since a runner got a signal of its own."""
+    return stop(state, f"worker {worker}: its runner got {signal.Signals(report.code).name}")
+
+
+def says(state: State, worker: int, report: Report) -> Actions:
+    """Prints what a runner says."""
+    return [Say(report.text)]
+
+
+def over(state: State, worker: int, report: Report) -> Actions:
+    """Takes a worker's last status. If it isn't started again, the crew stops, and the operator has
+    to look."""
+    number = state.numbers[worker]
+    number.status, number.running, number.waits = report.code, 0, False
+    if report.code in IN_ORDER or report.code < 0:
+        return []
+    number.is_refused = report.code != Status.MEMORY
+    return [Say(f"worker {worker}: {report.text} (status {report.code})"),
+            *stop(state, f"worker {worker}: it isn't started again")]
+
+
+def stop(state: State, why: str, remedy: str = "") -> Actions:
+    """Starts no further command. Those that run go on to their end."""
+    if state.is_stopping:
+        return []
+    state.is_stopping, running = True, len(state.running())
+    more = f" (commands that go on to their end: {running})" if running else ""
+    actions: Actions = [Say(f"{why}, so no further job is started{more}{remedy}")]
+    for worker, number in state.numbers.items():
+        if number.phase is Phase.RUNS:
+            actions.append(Order(worker, reports.STOP))
+        if number.phase is Phase.PAUSES:
+            number.phase = Phase.DEAD
+        if number.phase is Phase.LOCKS:
+            number.phase = Phase.ENDED
+    return [*actions, *settle(state)]
+
+
+def runner_ended(state: State, it: RunnerEnded) -> Actions:
+    """Takes the end of a runner. One that has reported its worker's status has ended in order. If
+    another one was killed, it is started again. If it has failed, the crew stops."""
+    number = state.numbers[it.worker]
+    number.running = 0
+    if number.status is not None and it.code >= 0:
+        number.phase = Phase.ENDED
+        return [LetGo(it.worker), *orders(state, reports.NEWS), *settle(state)]
+    number.phase, number.status, state.has_orphans = Phase.DEAD, None, True
+    state.unseen = f"processes of worker {it.worker}"  # until that is looked at
+    if it.code >= 0:
+        number.status, number.is_refused = it.code or Status.BUILD, True
+        return stop(state, f"worker {it.worker}: its runner has failed (status {it.code})")
+    name = signal.Signals(-it.code).name
+    return [Say(f"worker {it.worker}: its runner was ended by {name}"
+                + ("" if state.is_stopping else "; it is started again once nothing that it has"
+                   " started is left"))]
+
+
+def orders(state: State, text: str) -> Actions:
+    """Gives all living runners an order."""
+    return [Order(worker, text) for worker, it in state.numbers.items() if it.phase is Phase.RUNS]
+
+
+def start_failed(state: State, it: StartFailed) -> Actions:
+    """Stops the crew, since a runner can't be started."""
+    number = state.numbers[it.worker]
+    number.phase, number.status, number.is_refused = Phase.ENDED, Status.READ, True
+    return [Say(f"worker {it.worker}: {it.why} (status {Status.READ:d})"), LetGo(it.worker),
+            *stop(state, f"worker {it.worker}: it isn't started again"), *settle(state)]
+
+
+def pause_over(state: State, it: PauseOver) -> Actions:
+    """Starts a runner again, unless another one has left something meanwhile."""
+    number = state.numbers[it.worker]
+    if number.phase is not Phase.PAUSES:
+        return []
+    number.phase = Phase.DEAD if state.has_orphans else Phase.RUNS
+    return [] if state.has_orphans else [Start(it.worker)]
+
+
+def orphans(state: State, it: Orphans) -> Actions:
+    """Takes what is left of runners that are gone."""
+    state.has_orphans, state.unseen = it.are_there, it.unseen
+    return settle(state)
+
+
+def settle(state: State) -> Actions:
+    """Goes on with the numbers whose runner was killed, once nothing is left that it has started,
+    and ends once there is nothing more to do."""
+    actions: Actions = []
+    for worker, number in state.numbers.items():
+        if number.phase is not Phase.DEAD or state.has_orphans and state.unseen:
+            continue
+        if state.is_stopping:
+            number.phase = Phase.ENDED
+            actions.append(LetGo(worker))
+        elif not state.has_orphans:
+            number.phase, number.pause = Phase.PAUSES, min(2 * number.pause, LONGEST)
+            actions.append(Pause(worker, number.pause))
+    return [*actions, *end(state)]
+
+
+def end(state: State) -> Actions:
+    """Ends once all numbers have. If the lines are closed, none is waited for that another runner
+    has."""
+    phases = {it.phase for it in state.numbers.values()}
+    is_closed = any(it.status == Status.DONE for it in state.numbers.values())
+    is_waiting = Phase.LOCKS in phases and not is_closed
+    if is_waiting or phases & {Phase.RUNS, Phase.PAUSES, Phase.DEAD}:
+        return []
+    if state.unseen:
+        is_told, state.has_told_unseen = state.has_told_unseen, True
+        return [] if is_told else [Say(
+            f"crew: it waits for {state.unseen}, since nobody else can see that something of a"
+            " command is left; to send TERM: send two signals to the crew")]
+    state.is_over = True
+    return [End(last_status(state))]
+
+
+def last_status(state: State) -> Optional[int]:
+    """Returns the status of a worker that was refused, or that another runner has all numbers."""
+    refused = [it.status for it in state.numbers.values() if it.is_refused]
+    has_begun = any(it.has_begun for it in state.numbers.values())
+    return refused[0] if refused else None if has_begun else Status.LATER
+
+
+def signalled(state: State, it: Signalled) -> Actions:
+    """Takes a signal. The first one stops the crew in order, and each further one is passed on to
+    the commands that run. What is waited for at last gets TERM."""
+    state.asked += 1
+    name = signal.Signals(it.number).name
+    if state.asked == 1:
+        return stop(state, f"crew: it got {name}",
+                    "; to pass a signal on to the commands: send one more")
+    waiting = [f"the processes for which worker {worker} waits"
+               for worker, number in state.numbers.items() if number.waits]
+    waiting += [state.unseen] if state.unseen else []
+    found = ", ".join(state.running() + waiting) or "no command, since none runs"
+    return [Say(f"crew: it got {name} again, and passes it on to {found}"),
+            *orders(state, f"{reports.PASS} {it.number}"),
+            *([SignalOrphans(signal.SIGTERM)] if state.unseen else [])]
+
+
+REPORTS: Dict[str, Callable[[State, int, Report], Actions]] = {
+    reports.ENDED: command_ended, reports.UNBEGUN: unbegun, reports.LOST: lost, reports.RUNS: runs,
+    reports.LEFT_BEHIND: left_behind, reports.WAITS: waits, reports.TAKEN: was_taken,
+    reports.TRIES: tries, reports.ASKED: asked, reports.SAYS: says, reports.OVER: over,
+}
+HANDLERS: Dict[type, Callable[[State, Any], Actions]] = {
+    Locked: locked, Occupied: occupied, Reported: reported, RunnerEnded: runner_ended,
+    StartFailed: start_failed, PauseOver: pause_over, Orphans: orphans, Signalled: signalled,
+}

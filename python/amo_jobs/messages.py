@@ -1,0 +1,92 @@
+"""The messages of amo_jobs and amo_share.
+
+A message is `object: problem; remedy`. The operator reads it at night, and decides by it.
+"""
+
+from __future__ import annotations
+
+import errno
+import os
+from contextlib import suppress
+from typing import Optional
+
+from amo_jobs.statuses import Status
+
+REMEDIES = {
+    errno.ENOENT: "check the path", errno.ENOTDIR: "check the path", errno.EISDIR: "check the path",
+    errno.ELOOP: "check the path", errno.ENAMETOOLONG: "choose a shorter path",
+    errno.EACCES: "change its mode, or run this as a user who may",
+    errno.EPERM: "change its owner, or run this as a user who may",
+    errno.EROFS: "choose a place where files can be made", errno.EIO: "check the disk",
+    errno.ENOSPC: "make room, then start again", errno.EDQUOT: "make room, then start again",
+    errno.EMFILE: "allow more open files (ulimit -n), then start again",
+    errno.ENFILE: "allow more open files, then start again",
+    errno.EAGAIN: "allow more processes, or end some, then start again",
+    errno.ENOMEM: "free some memory, then start again",
+    errno.ENOEXEC: "give it a first line like #!/bin/sh", errno.ETXTBSY: "wait until it is written",
+}
+
+
+class End(Exception):
+    """The end of a program: its status, and its message. The text is None if another program has
+    reported why."""
+
+    def __init__(self, status: int, text: Optional[str]):
+        super().__init__(status, text)
+        self.status, self.text = status, text
+
+
+class Screen:
+    """Standard error, and on a terminal a last line that shows how far the run is. If the terminal
+    is gone, the program goes on."""
+
+    clear, shown = "\r\033[K" if os.isatty(2) else "", ""
+
+    @classmethod
+    def tell(cls, text: str, end: str = "\n") -> None:
+        """Prints a message."""
+        cls.shown = ""
+        with suppress(OSError):
+            os.write(2, f"{cls.clear}amo_jobs: {text}{end}".encode("utf-8", "replace"))
+
+    @classmethod
+    def show(cls, text: str) -> None:
+        """Shows how far the run is, unless that is shown already."""
+        if text != cls.shown:
+            cls.tell(text[:69] if cls.clear else text, "" if cls.clear else "\n")
+            cls.shown = text
+
+
+def visible(text: str) -> str:
+    """Returns a text as it may be written to a terminal."""
+    return "".join(it if it.isprintable() else it.encode("unicode_escape", "replace").decode()
+                   for it in text)
+
+
+def lowered(error: OSError) -> str:
+    """Returns the text of an error of the system, for the middle of a message."""
+    text = error.strerror or (os.strerror(error.errno) if error.errno else str(error))
+    return f"{text[:1].lower()}{text[1:]}"
+
+
+def reason(error: Exception) -> str:
+    """Returns the message of a failed call of the system: the object, the problem, the remedy."""
+    if not isinstance(error, OSError) or error.errno is None:
+        return visible(str(error)) or type(error).__name__
+    path = error.filename
+    named = "standard output" if error.errno == errno.EPIPE else "a call of the system"
+    if isinstance(path, (str, bytes, os.PathLike)):
+        named = f"`{visible(os.fsdecode(path))}`"
+    remedy = REMEDIES.get(error.errno, "correct that, then start again")
+    return f"{named}: {lowered(error)}; {remedy}"
+
+
+def refused(text: str) -> End:
+    """Returns the end of a program that refuses something."""
+    return End(Status.REFUSED, visible(text))
+
+
+def give_up_output() -> None:
+    """Discards what standard output has not taken; else Python reports it at its end."""
+    with suppress(OSError):
+        os.dup2(os.open(os.devnull, os.O_WRONLY), 1)

@@ -1,0 +1,50 @@
+"""How far a crew is: the line on the terminal while it works, and the counts at its end."""
+
+from __future__ import annotations
+
+from time import monotonic
+from typing import Any, Dict, Optional
+
+from amo_jobs.crew_rules import MOST_TAKEN, State
+from amo_jobs.messages import Screen
+from amo_jobs.settings import next_command, Settings
+from amo_jobs.status import counted, listed, outlook, status_of
+from amo_jobs.statuses import KINDS, Status
+from amo_jobs.worker import Program
+
+OFTEN, SELDOM = 0.5, 30.0  # seconds, on a terminal and else
+
+
+class Progress:
+    """How far a crew is."""
+
+    def __init__(self, settings: Settings, program: Program, state: State):
+        """Counts the lines. Raises OSError, and the end of the worker's program."""
+        self.settings, self.program, self.state = settings, program, state
+        self.begun, self.due = monotonic(), 0.0
+        self.before: Dict[str, Any] = program.status(settings.run)
+        with open(settings.jobs, "rb") as file:
+            self.lines = sum(1 for _ in file)
+
+    def show(self) -> None:
+        """Shows how far the crew is, once that is due."""
+        if monotonic() < self.due:
+            return
+        self.due = monotonic() + (OFTEN if Screen.clear else SELDOM)
+        ended = self.state.ended
+        closed = min(sum(self.before[it] for it in KINDS[:5]) + ended, self.lines)
+        pace = ended / max(monotonic() - self.begun, 1)
+        Screen.show(f"{closed} of {self.lines} lines, {len(self.state.running())} running"
+                    f"{outlook(pace, self.lines - closed)}")
+
+    def conclude(self, status: Optional[int]) -> int:
+        """Prints how all lines stand. Returns this status, or the one by the counts."""
+        found = self.program.status(self.settings.run)
+        if self.state.taken > MOST_TAKEN:
+            Screen.tell(f"{self.state.taken - MOST_TAKEN} more lines were not started, since"
+                        " another attempt stands against each")
+        more = next_command(self.settings, "doubts")
+        doubts = f"; see the doubts: {more}" if found["doubt"] else ""
+        rows = listed(self.settings.run, found, ["running"])
+        Screen.tell("\n".join([counted(found) + doubts, *rows]))
+        return status_of(found, Status.LEFT) if status is None else status

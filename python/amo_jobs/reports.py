@@ -1,0 +1,53 @@
+"""The lines between the runners of a crew and their supervisor, by a pipe in each direction.
+
+A report is a JSON list. An order is a word: `go` after a line that failed, `stop`, `pass N` for a
+further signal, and `news` if another runner has ended.
+"""
+
+from __future__ import annotations
+
+import json
+from typing import NamedTuple
+
+GO, STOP, PASS, NEWS = "go", "stop", "pass", "news"
+# The kinds of reports.
+ENDED = "ended"  # a command has ended, and nothing of it is left
+UNBEGUN = "unbegun"  # a command could not be started; the text has the reason
+LOST = "lost"  # nobody saw the end of an attempt of an earlier runner: it is in doubt
+RUNS = "runs"  # a command has run for a moment
+LEFT_BEHIND = "left"  # a command has ended, and something of it still runs
+WAITS = "waits"  # the runner would end, and waits for these processes; the text names them
+TAKEN = "taken"  # another attempt stands against a line, or against so many (the code)
+TRIES = "tries"  # the worker has failed, and is started again since ends aren't recorded yet
+ASKED = "asked"  # the runner itself got a signal (the code)
+SAYS = "says"  # a text for the operator
+OVER = "over"  # the last report, with the worker's status (the code) and its message
+
+
+class Report(NamedTuple):
+    """What a runner has to say. Most kinds need only some of these."""
+    kind: str
+    serial: int = 0
+    line: int = 0
+    word: str = ""  # what came of the attempt: done, doubt or untouched
+    code: int = 0
+    is_late: bool = False  # whether the timeout ended it
+    text: str = ""
+
+    def is_failure(self) -> bool:
+        """Returns whether no command may be started before the supervisor says `go`."""
+        is_bad_end = self.word == "doubt" or self.word == "done" and self.code != 0
+        return self.kind in (UNBEGUN, LOST) or self.kind == ENDED and is_bad_end
+
+
+def line_of(report: Report) -> bytes:
+    """Returns the line of a report."""
+    return json.dumps(list(report)).encode() + b"\n"
+
+
+def report_of(line: bytes) -> Report:
+    """Returns the report of a line. Raises ValueError if it is none."""
+    found = json.loads(line)
+    if not isinstance(found, list) or len(found) != len(Report._fields):
+        raise ValueError(line)
+    return Report(*found)

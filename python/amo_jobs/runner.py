@@ -1,0 +1,293 @@
+"""The runner of one worker: its process, and a blocking loop over `poll`.
+
+Begin with `Runner`. What it does about each event is in `runner_rules`; here the events are made,
+and the actions are carried out. docs/PROCESSES.md explains the lines between worker and runner.
+"""
+
+from __future__ import annotations
+
+import errno
+import os
+import random
+import select
+import signal
+from contextlib import suppress
+from time import monotonic, time
+from typing import Any, Callable, Dict, List, Optional, Set, Tuple
+
+from amo_jobs import calls, reports, runner_rules
+from amo_jobs.command import Command, Commands, is_free, NotStarted
+from amo_jobs.desk import Desk
+from amo_jobs.messages import reason
+from amo_jobs.processes import described, Family, Signals
+from amo_jobs.reports import Report
+from amo_jobs.runner_events import (
+    Action, Answer, Begin, CommandEnded, Elapsed, End, Event, GRACE, LINGER, Look, Looked, MOMENT,
+    PAUSE, Plain, Rest, Send, StartFailed, StartWorker, Tell, TIMEOUT, Wait, WorkerEnded
+)
+from amo_jobs.runner_state import Options, State
+from amo_jobs.settings import Settings
+from amo_jobs.statuses import Status
+from amo_jobs.worker import Program
+from amo_jobs.worker_process import said_by, WorkerProcess
+
+SIGNALS = (signal.SIGINT, signal.SIGTERM, signal.SIGHUP)
+SOON, LATER = 0.02, 1.0  # seconds until a runner looks again what is left, if no child ends
+PACE = 1.0  # seconds between two notes of the pace
+MOST_TAKEN = 10  # messages that a runner hands on
+
+
+def options_of(settings: Settings) -> Options:
+    """Returns what the operator has asked for, of all commands."""
+    return Options(settings.timeout, settings.grace, settings.linger,
+                   frozenset(settings.untouched))
+
+
+class Runner:
+    """The runner of one worker, whose number it has."""
+
+    def __init__(self, settings: Settings, program: Program, worker: int, desk: Desk):
+        """Raises OSError if the system can't show a process's children, or can't name a process."""
+        self.settings, self.program, self.worker, self.desk = settings, program, worker, desk
+        self.surroundings: Dict[bytes, bytes] = dict(os.environb)
+        calls.check_pidfd()
+        calls.become_subreaper()
+        calls.sign(f"{settings.run}/runner.{worker}")
+        self.family = Family(settings.may_leave)
+        self.commands = Commands(settings, worker, self.family)
+        self.signals = Signals(lambda text: self.desk.report(Report(reports.SAYS, text=text)))
+        self.bell = calls.Bell(SIGNALS)
+        self.state = State(worker, options_of(settings))
+        self.process: Optional[WorkerProcess] = None
+        self.attempts: Dict[int, Command] = {}  # those of which something may be left
+        self.timers: Dict[Tuple[str, int], float] = {}
+        self.look_at = 0.0  # when to look again what is left
+        self.taken, self.ends, self.begun, self.paced = 0, 0, time(), 0.0
+        self.status: Optional[int] = None
+
+    def run(self) -> int:
+        """Runs to the end, and returns the worker's last status."""
+        self.act(runner_rules.begin(self.state))
+        while self.status is None:
+            self.turn()
+        self.commands.close()
+        self.desk.close()
+        return self.status
+
+    def turn(self) -> None:
+        """Waits until something has happened, and takes it."""
+        while self.desk.events:
+            self.feed(self.desk.events.pop(0))
+        self.desk.show()
+        ready = self.poll()
+        if self.bell.wake in ready:
+            self.bell.quiet()
+            for number in self.bell.taken():
+                self.desk.signalled(number)
+        self.take_ended()
+        reads, writes = self.desk.files()
+        if set(reads) & ready:
+            self.desk.read()
+        if set(writes) & ready:
+            self.desk.write()
+        self.take_left(self.bell.wake in ready)
+        self.take_worker(ready)
+        self.take_times()
+
+    def poll(self) -> Set[int]:
+        """Waits for the files and times, and returns the files that are ready."""
+        if self.status is not None:
+            return set()
+        reads, writes = self.desk.files()
+        poll = select.poll()
+        for file in [self.bell.wake, *reads, *(self.process.files() if self.process else [])]:
+            poll.register(file, select.POLLIN)
+        for file in writes:
+            poll.register(file, select.POLLOUT)
+        dues = [*self.timers.values(), *([self.look_at] if self.waits_for() else [])]
+        dues += [it for it in [self.desk.due()] if it is not None]
+        left = max(min(dues) - monotonic(), 0) * 1000 + 1 if dues else None
+        return {file for file, _ in poll.poll(left)}
+
+    def waits_for(self) -> List[int]:
+        """Returns the attempts whose commands have ended, and of which something is left."""
+        return [serial for serial, it in self.attempts.items() if not it.process]
+
+    def worker_number(self) -> List[int]:
+        """Returns the worker's process, if it isn't reaped."""
+        return [self.process.process] if self.process and self.process.status is None else []
+
+    def known(self, serial: int) -> List[int]:
+        """Returns the children that surely don't belong to an attempt: the worker, and the command
+        of a later one."""
+        return self.worker_number() + [it.process for it in self.attempts.values()
+                                       if it.process and it.serial != serial]
+
+    def take_ended(self) -> None:
+        """Reaps the children that have ended, and takes the end of the command."""
+        ended, has_more = calls.reap()
+        found: Dict[int, Optional[int]] = {it.number: it.status for it in ended}
+        current = self.attempts.get(self.state.current or 0)
+        if not has_more:
+            self.add_unreported(found, current)
+        if self.process and self.process.status is None and self.process.process in found:
+            status = found[self.process.process]
+            self.process.status = -1 if status is None else status
+        if current and current.process in found:
+            status = found[current.process]
+            current.ended()
+            self.feed(CommandEnded(status))
+
+    def add_unreported(self, found: Dict[int, Optional[int]], current: Optional[Command]) -> None:
+        """Adds the children that are gone, and of whose end the system doesn't report."""
+        there = self.family.others(())
+        mine = [*self.worker_number(), *([current.process] if current and current.process else [])]
+        for number in mine:
+            if number not in there:
+                found.setdefault(number, None)
+
+    def take_left(self, has_rung: bool) -> None:
+        """Looks what is left of attempts, if a child has ended, or after a while."""
+        waits = self.waits_for()
+        if not waits or not has_rung and monotonic() < self.look_at:
+            return
+        for serial in waits:
+            self.look(serial)
+        is_soon = self.state.current is not None
+        self.look_at = monotonic() + (SOON if is_soon else LATER)
+
+    def take_worker(self, ready: Set[int]) -> None:
+        """Takes what the worker says, and its end. Once it is dead no line is carried out."""
+        process = self.process
+        if process is None:
+            return
+        if set(process.errors) & ready:
+            process.read_errors()
+        if set(process.output) & ready or process.status is not None:
+            process.read()
+            self.take_ended()
+        while process.lines and (self.state.asks is None or process.status is not None):
+            self.feed(said_by(process.lines.pop(0), process.status is None))
+        if process.has_ended():
+            self.take_left(True)
+            self.process = None
+            self.feed(WorkerEnded(process.status or 0, process.close()))
+
+    def take_times(self) -> None:
+        """Takes the times that are over."""
+        now = monotonic()
+        for name, due in sorted(self.timers.items(), key=lambda it: it[1]):
+            if due <= now and self.timers.get(name) == due:
+                del self.timers[name]
+                self.feed(Elapsed(*name))
+
+    def feed(self, event: Event) -> None:
+        """Has the rules take an event, and does what they ask for."""
+        self.act(runner_rules.take(self.state, event))
+
+    def act(self, actions: List[Action]) -> None:
+        """Carries actions out, in their order."""
+        for action in actions:
+            ACTIONS[type(action)](self, action)
+
+    def start_worker(self, _: StartWorker) -> None:
+        """Starts the worker."""
+        settings = self.settings
+        words = [self.program.path, "work", settings.run, str(self.worker), "--workers",
+                 str(settings.workers), "--beta", str(settings.beta), settings.jobs]
+        try:
+            self.process = WorkerProcess([*words, *self.program.more], self.surroundings,
+                                         self.was_taken)
+        except OSError as error:
+            is_short = error.errno in (errno.EAGAIN, errno.ENOMEM)
+            self.feed(WorkerEnded(Status.MEMORY if is_short else Status.READ, reason(error)))
+
+    def was_taken(self, text: str) -> None:
+        """Hands on that a line was not started. Of many texts the first ones are enough."""
+        self.taken += 1
+        text = text if self.taken <= MOST_TAKEN else ""
+        self.desk.report(Report(reports.TAKEN, code=1, text=text))
+
+    def answer(self, action: Answer) -> None:
+        """Answers the worker."""
+        if self.process and not self.process.answer(action.text):
+            self.feed(Plain.UNANSWERED)
+
+    def begin(self, action: Begin) -> None:
+        """Starts the command of a line."""
+        command = self.attempts[action.serial] = Command(self.commands, action.serial, action.line)
+        try:
+            command.start(action.text, self.worker_number())
+        except NotStarted as why:
+            del self.attempts[action.serial]
+            self.feed(StartFailed(str(why)))
+        else:
+            for it in self.attempts.values():
+                it.until = command.before if it.until is None and it is not command else it.until
+            self.feed(Plain.STARTED)
+
+    def look(self, serial: int) -> None:
+        """Looks what is left of an attempt. Of one that an earlier runner has begun its lock
+        tells: no runner begins while something is left that has lost its runner."""
+        command = self.attempts.get(serial)
+        if command:
+            rest = command.rest(self.known(serial))
+        else:
+            rest = Rest.NOTHING if is_free(self.commands.lock_path(serial)) else Rest.SEEN
+        if rest is Rest.NOTHING and command:
+            del self.attempts[serial]
+            for timer in (MOMENT, TIMEOUT, GRACE, LINGER):
+                self.timers.pop((timer, serial), None)
+            self.note_pace()
+        self.feed(Looked(serial, rest))
+
+    def note_pace(self) -> None:
+        """Notes how many commands have ended, for `status`."""
+        self.ends += 1
+        if monotonic() > self.paced + PACE:
+            self.paced = monotonic()
+            path = f"{self.settings.run}/pace.{self.worker}"
+            with suppress(OSError), open(path, "w", encoding="ascii") as file:
+                file.write(f"{self.begun} {self.ends}\n")
+
+    def wait(self, action: Wait) -> None:
+        """Has an event come after a time. A pause differs each time, since two that try in step
+        might go round for ever."""
+        shortest = action.seconds / 2 if action.timer == PAUSE else action.seconds
+        seconds = random.uniform(shortest, action.seconds)
+        self.timers[action.timer, action.serial] = monotonic() + seconds
+
+    def send(self, action: Send) -> None:
+        """Sends a signal to all that is left of an attempt, but not to what may be another's."""
+        if action.serial in self.attempts:
+            left, known = self.attempts[action.serial].left, self.known(action.serial)
+            is_shared = len(self.attempts) > 1 and not self.state.is_last_wait
+            with suppress(OSError):
+                self.signals.send(action.number, lambda: left(known, is_shared))
+
+    def tell(self, action: Tell) -> None:
+        """Reports. If the runner waits at last, the report names the processes."""
+        report = action.report
+        if report.kind == reports.WAITS:
+            report = report._replace(text=described(self.unseen()))
+        self.desk.report(report)
+
+    def unseen(self) -> List[calls.Process]:
+        """Returns the processes that only this runner sees, and all below them."""
+        found: List[calls.Process] = []
+        for serial, it in self.state.attempts.items():
+            if it.rest is Rest.UNSEEN and serial in self.attempts:
+                with suppress(OSError):
+                    found += self.attempts[serial].left(self.known(serial))
+        return list(dict.fromkeys(found))
+
+    def end(self, action: End) -> None:
+        """Ends."""
+        self.status = action.status
+
+
+ACTIONS: Dict[type, Callable[[Runner, Any], None]] = {
+    StartWorker: Runner.start_worker, Answer: Runner.answer, Begin: Runner.begin,
+    Look: lambda runner, action: runner.look(action.serial), Wait: Runner.wait, Send: Runner.send,
+    Tell: Runner.tell, End: Runner.end,
+}

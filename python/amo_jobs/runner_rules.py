@@ -1,0 +1,392 @@
+"""The rules of a runner: what it does about each event.
+
+`take` changes a `State` and returns actions. Nothing here calls the system, so the tests hold every
+order of events to the rules. `runner` makes the events, and carries the actions out in their order.
+Read `State` and `take` first; docs/PROCESSES.md has the lines between worker and runner.
+"""
+
+from __future__ import annotations
+
+import signal
+from typing import Any, Callable, Dict, List, Optional
+
+from amo_jobs import reports
+from amo_jobs.reports import Report
+from amo_jobs.runner_events import (
+    Action, Answer, Begin, CommandEnded, Elapsed, End, Event, GRACE, LINGER, Look, Looked, MOMENT,
+    PassOn, PAUSE, PERFORM, Plain, Rest, Said, Send, StartFailed, StartWorker, STAY, Tell, TIMEOUT,
+    Wait, WAS, WorkerEnded
+)
+from amo_jobs.runner_state import Attempt, LONGEST, SHORTEST, State
+from amo_jobs.statuses import Status
+
+KILL_AGAIN = 0.5  # seconds after which KILL is sent once more to what is still there
+A_MOMENT = 0.2  # seconds after which a command is reported as running
+
+
+Actions = List[Action]
+
+
+def begin(state: State) -> Actions:
+    """Returns what a runner does first."""
+    return start_worker(state)
+
+
+def take(state: State, event: Event) -> Actions:
+    """Takes an event, and returns what the runner does about it."""
+    kind = event if isinstance(event, Plain) else type(event)
+    return [] if state.is_over else HANDLERS[kind](state, event)
+
+
+def start_worker(state: State) -> Actions:
+    """Starts the worker."""
+    state.is_pausing, state.has_worker, state.last = False, True, None
+    return [StartWorker()]
+
+
+def said(state: State, it: Said) -> Actions:
+    """Takes a line of the worker. None is carried out once the worker is dead: the next one may be
+    told that the attempt is in doubt, and the operator may do by hand what the line asks for."""
+    note(state, it.kind != WAS)
+    if it.kind == PERFORM:
+        state.top = max(it.serial, state.top or 0)
+    if not it.is_alive:
+        if it.kind == PERFORM:
+            state.seen[it.serial] = f"unbegun {it.serial}"
+        return []
+    state.asks = it
+    if it.kind == PERFORM:
+        state.has_said = True
+        return go_on(state)
+    if it.kind == WAS:
+        return was_asked(state, it.serial)
+    return way(state, "leave") if state.is_stopping or state.found else [pause(state)]
+
+
+def note(state: State, is_past: bool) -> None:
+    """Forgets the ends that are recorded: the last one that was answered, once the worker goes on;
+    and all that it has asked for, once it performs lines."""
+    if state.last is not None:
+        state.seen.pop(state.last, None)
+    if is_past:
+        state.seen.clear()
+    state.last = None
+
+
+def is_waiting(state: State) -> bool:
+    """Returns whether the worker waits for the next round."""
+    return state.asks is not None and state.asks.kind == STAY
+
+
+def way(state: State, word: str) -> Actions:
+    """Has the worker go on with the next round, or leave."""
+    state.asks = None
+    return [Answer(word)]
+
+
+def was_asked(state: State, serial: int) -> Actions:
+    """Reports an end that was seen, or looks what is left of the attempt."""
+    if serial in state.found:
+        state.seen[serial] = state.found.pop(serial)
+    if serial in state.seen:
+        state.has_said = True
+        return answer(state, serial)
+    return [Look(serial)]
+
+
+def go_on(state: State) -> Actions:
+    """Performs the line that the worker has said, refuses it after a stop, or has it wait. It waits
+    while the supervisor doesn't know of a failure, or doesn't take reports."""
+    it = state.asks
+    if it is None or it.kind != PERFORM or state.current is not None:
+        return []
+    if state.is_stopping:
+        state.seen[it.serial] = f"unbegun {it.serial}"
+        return answer(state, it.serial)
+    if state.is_held or state.is_unacknowledged:
+        return []
+    state.current, state.attempts[it.serial] = it.serial, Attempt(it.line)
+    return [Begin(it.serial, it.line, it.text)]
+
+
+def answer(state: State, serial: int) -> Actions:
+    """Answers with an end that was seen, and reports it after that."""
+    return reply(state, serial, state.seen[serial]) + tell(state, state.untold.pop(serial, None))
+
+
+def reply(state: State, serial: int, text: str) -> Actions:
+    """Answers the worker's question about this attempt."""
+    is_was = state.asks is not None and state.asks.kind == WAS
+    way = "leave" if leaves(state, serial, is_was) else "go"
+    state.asks, state.last = None, serial
+    return [Answer(f"{text} {way}")]
+
+
+def leaves(state: State, serial: int, is_was: bool) -> bool:
+    """Returns whether the worker is to leave after this answer. One that asks goes on as long as it
+    may ask for another end. One that performs leaves if there is an end that the next one asks
+    for."""
+    if is_was:
+        return state.is_stopping and not state.found and not set(state.seen) - {serial}
+    return state.is_stopping or bool(state.found)
+
+
+def tell(state: State, report: Optional[Report]) -> Actions:
+    """Reports something, if there is anything."""
+    if report is None:
+        return []
+    state.is_unacknowledged |= report.is_failure()
+    return [Tell(report)]
+
+
+def started(state: State, _: Plain) -> Actions:
+    """Begins the times of a command."""
+    serial = state.current
+    if serial is None:
+        return []
+    more = [] if not state.options.timeout else [Wait(TIMEOUT, serial, state.options.timeout)]
+    return [Wait(MOMENT, serial, A_MOMENT), *more]
+
+
+def start_failed(state: State, it: StartFailed) -> Actions:
+    """Reports that a line can't be started, and starts no other one."""
+    serial = state.current
+    if serial is None:
+        return []
+    line, state.current = state.attempts.pop(serial).line, None
+    state.is_stopping, state.seen[serial] = True, f"unbegun {serial}"
+    state.untold[serial] = Report(reports.UNBEGUN, serial, line, text=it.why)
+    return answer(state, serial) if is_asked(state, serial, PERFORM) else what_next(state)
+
+
+def command_ended(state: State, it: CommandEnded) -> Actions:
+    """Looks what the command has left behind."""
+    serial = state.current
+    if serial is None:
+        return []
+    state.attempts[serial].has_ended, state.attempts[serial].status = True, it.status
+    return [Look(serial)]
+
+
+def looked(state: State, it: Looked) -> Actions:
+    """Takes what was found of an attempt."""
+    if it.rest is Rest.NOTHING:
+        return gone(state, it.serial)
+    attempt = state.attempts.get(it.serial)
+    if attempt:
+        attempt.rest = it.rest
+    if attempt and it.serial == state.current:
+        return linger(state, it.serial, attempt)
+    if is_asked(state, it.serial):
+        return reply(state, it.serial, f"running {it.serial}")
+    return what_next(state)
+
+
+def is_asked(state: State, serial: int, kind: str = WAS) -> bool:
+    """Returns whether the worker waits for an answer about this attempt: one of an earlier worker,
+    or its own."""
+    return state.asks is not None and state.asks.kind == kind and state.asks.serial == serial
+
+
+def gone(state: State, serial: int) -> Actions:
+    """Takes the end of an attempt, of which nothing is left."""
+    attempt = state.attempts.pop(serial, None)
+    if attempt is None:
+        return lost(state, serial)
+    word, code = attempt.outcome(state.options.untouched)
+    text = f"{word} {serial}" + ("" if word == "doubt" else f" {code}")
+    state.untold[serial] = Report(reports.ENDED, serial, attempt.line, word, code, attempt.is_late)
+    if serial == state.current:
+        state.current, state.seen[serial] = None, text
+        return answer(state, serial) if is_asked(state, serial, PERFORM) else what_next(state)
+    if is_asked(state, serial):
+        state.seen[serial] = text
+        return answer(state, serial)
+    state.found[serial] = text
+    return what_next(state)
+
+
+def lost(state: State, serial: int) -> Actions:
+    """Answers what became of an attempt of which this runner knows nothing, and nothing is left. If
+    its intent is younger than one that a worker of this runner has said, all lines of the worker
+    that made it were read, and none was to perform it. Else it is in doubt."""
+    if state.asks is None or not is_asked(state, serial):
+        return []
+    is_unsaid = state.top is not None and serial > state.top
+    state.has_said, state.seen[serial] = True, f"{'unbegun' if is_unsaid else 'doubt'} {serial}"
+    if not is_unsaid:
+        state.untold[serial] = Report(reports.LOST, serial, state.asks.line)
+    return answer(state, serial)
+
+
+def linger(state: State, serial: int, attempt: Attempt) -> Actions:
+    """Waits for a while for what a command has left behind."""
+    if attempt.has_lingered is None:
+        attempt.has_lingered = False
+        return [Wait(LINGER, serial, state.options.linger)]
+    return []
+
+
+def elapsed(state: State, it: Elapsed) -> Actions:
+    """Takes the end of a time."""
+    if it.timer == PAUSE:
+        return end_pause(state)
+    attempt = state.attempts.get(it.serial)
+    if attempt is None:
+        return []
+    return TIMERS[it.timer](state, it.serial, attempt)
+
+
+def end_pause(state: State, _: Any = None) -> Actions:
+    """Has the worker go on, or starts it."""
+    if is_waiting(state):
+        return way(state, "leave" if state.found else "go")
+    return start_worker(state) if state.is_pausing else []
+
+
+def moment_over(state: State, serial: int, attempt: Attempt) -> Actions:
+    """Reports that a command runs."""
+    is_running = serial == state.current
+    return [Tell(Report(reports.RUNS, serial, attempt.line))] if is_running else []
+
+
+def timeout_over(state: State, serial: int, attempt: Attempt) -> Actions:
+    """Ends an attempt whose time is over, with all that it has started."""
+    attempt.is_late = True
+    return [Send(serial, signal.SIGTERM), Wait(GRACE, serial, state.options.grace)]
+
+
+def grace_over(state: State, serial: int, attempt: Attempt) -> Actions:
+    """Kills what is left of it, and does so again until nothing is."""
+    is_first, attempt.is_killed = not attempt.is_killed, True
+    more = [Wait(LINGER, serial, state.options.linger)] if (
+        is_first and attempt.has_lingered and serial == state.current) else []
+    return [Send(serial, signal.SIGKILL), Wait(GRACE, serial, KILL_AGAIN), *more]
+
+
+def linger_over(state: State, serial: int, attempt: Attempt) -> Actions:
+    """Goes on without an attempt of which something is left. If its time is over, KILL comes
+    first."""
+    attempt.has_lingered = True
+    if serial != state.current or attempt.is_late and not attempt.is_killed:
+        return []
+    state.current = None
+    report = Tell(Report(reports.LEFT_BEHIND, serial, attempt.line))
+    if is_asked(state, serial, PERFORM):
+        return [*reply(state, serial, f"running {serial}"), report]
+    return [report, *what_next(state)]
+
+
+def unanswered(state: State, _: Plain) -> Actions:
+    """Keeps an end that the worker didn't get: the next one asks for it."""
+    state.last = None
+    return []
+
+
+def worker_ended(state: State, it: WorkerEnded) -> Actions:
+    """Takes the end of the worker. A line that waits is surely not begun."""
+    asks, state.asks, state.has_worker = state.asks, None, False
+    if it.status in (Status.DONE, Status.LEFT, Status.LATER):
+        note(state, it.status == Status.DONE)
+    if asks and asks.kind == PERFORM and asks.serial != state.current:
+        state.seen[asks.serial] = f"unbegun {asks.serial}"
+    state.last, state.status, state.message = None, it.status, it.message
+    return what_next(state)
+
+
+def what_next(state: State) -> Actions:
+    """Returns what a runner does that has no worker and no command: it starts the worker again
+    after a pause, waits for what only it sees, or ends."""
+    if state.has_worker or state.current is not None:
+        return []
+    if not may_end(state):
+        return restart(state)
+    if any(it.rest is Rest.UNSEEN for it in state.attempts.values()):
+        is_known, state.is_last_wait = state.is_last_wait, True
+        return [] if is_known else [Tell(Report(reports.WAITS))]
+    state.is_over = True
+    return [Tell(Report(reports.OVER, code=state.status, text=state.message)), End(state.status)]
+
+
+def may_end(state: State) -> bool:
+    """Returns whether nothing is to be recorded or performed any more. As long as an end isn't
+    recorded the worker is started once more, whatever its last status was: so no end that was
+    seen becomes a doubt."""
+    comes_back = state.status in (Status.LATER, Status.MEMORY) or state.status < 0
+    return not state.seen and not state.found and (state.is_stopping or not comes_back)
+
+
+def restart(state: State) -> Actions:
+    """Starts the worker again after a pause."""
+    state.is_last_wait = False
+    if state.is_pausing:
+        return []
+    state.is_pausing = True
+    count = len(state.seen) + len(state.found)
+    is_fault = state.status not in (Status.DONE, Status.LEFT, Status.LATER, state.warned)
+    if not count or not is_fault or state.status < 0:
+        return [pause(state)]
+    state.warned = state.status
+    return [Tell(Report(reports.TRIES, code=count, text=state.message)), pause(state)]
+
+
+def pause(state: State) -> Wait:
+    """Returns a pause. It is doubled as long as the worker says nothing new."""
+    state.pause = SHORTEST if state.has_said else min(2 * state.pause, LONGEST)
+    state.has_said = False
+    return Wait(PAUSE, 0, state.pause)
+
+
+def stop(state: State, _: Any = None) -> Actions:
+    """Starts no further command, and ends what waits for one."""
+    if state.is_stopping:
+        return []
+    state.is_stopping = True
+    if state.is_pausing:
+        state.is_pausing = False
+        return what_next(state) if may_end(state) else start_worker(state)
+    return way(state, "leave") if is_waiting(state) else go_on(state)
+
+
+def deserted(state: State, _: Plain) -> Actions:
+    """Ends in order. Nobody acknowledges or takes reports any more."""
+    state.is_held = state.is_unacknowledged = False
+    return stop(state)
+
+
+def pass_on(state: State, it: PassOn) -> Actions:
+    """Passes a signal on to the command, and TERM to what the runner waits for at last."""
+    found: Actions = [] if state.current is None else [Send(state.current, it.number)]
+    if state.is_last_wait:
+        found += [Send(serial, signal.SIGTERM) for serial, attempt in state.attempts.items()
+                  if attempt.rest is Rest.UNSEEN]
+    return stop(state) + found
+
+
+def acknowledged(state: State, _: Plain) -> Actions:
+    """Goes on after a failure."""
+    state.is_unacknowledged = False
+    return go_on(state)
+
+
+def held(state: State, _: Plain) -> Actions:
+    """Starts no further command while a report isn't sent."""
+    state.is_held = True
+    return []
+
+
+def sent(state: State, _: Plain) -> Actions:
+    """Goes on, since all reports are sent."""
+    state.is_held = False
+    return go_on(state)
+
+
+TIMERS: Dict[str, Callable[[State, int, Attempt], Actions]] = {
+    MOMENT: moment_over, TIMEOUT: timeout_over, GRACE: grace_over, LINGER: linger_over
+}
+HANDLERS: Dict[Any, Callable[[State, Any], Actions]] = {
+    Said: said, WorkerEnded: worker_ended, StartFailed: start_failed, CommandEnded: command_ended,
+    Looked: looked, Elapsed: elapsed, PassOn: pass_on, Plain.UNANSWERED: unanswered,
+    Plain.STARTED: started, Plain.STOP: stop, Plain.ACKNOWLEDGED: acknowledged, Plain.HELD: held,
+    Plain.SENT: sent, Plain.DESERTED: deserted, Plain.NEWS: end_pause,
+}

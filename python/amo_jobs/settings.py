@@ -1,0 +1,75 @@
+"""The settings of one call of amo_jobs, by the words of its command line."""
+
+from __future__ import annotations
+
+import os
+import shlex
+import sys
+from dataclasses import dataclass, field
+from typing import Collection, List, Optional
+
+from amo_jobs.worker import Program
+
+
+@dataclass
+class Settings:
+    """The settings of one call. A value here is the default of its option; the empty text stands
+    for an option that isn't given. `find` makes the paths absolute."""
+
+    what: str = ""  # the command: crew, work, status and so on
+    words: List[str] = field(default_factory=list)  # the words that remain after the list
+    command: List[str] = field(default_factory=list)  # the words after --
+    asked: str = ""  # the list, as it was given
+    jobs: str = ""  # the list, resolved
+    mark: str = ""  # the list's mark
+    run: str = ""  # the run's folder
+    has_folder: bool = False  # --run was given
+    names: List[str] = field(default_factory=list)  # how the next command names the run
+    worker_program: str = ""
+    file_system: str = ""
+    worker: int = 0
+    workers: int = 0
+    beta: int = 1
+    untouched: Collection[int] = ()  # statuses by which a command reports that it did nothing
+    timeout: Optional[float] = None  # seconds
+    grace: float = 10  # seconds
+    linger: float = 5  # seconds
+    halt: Optional[int] = None  # failures in a row
+    may_leave: Collection[str] = ()  # programs that a command may leave behind
+    caller: str = ""  # the version of the supervisor that starts this runner
+    results: str = ""  # the folder for what commands print
+    command_changed: bool = False
+    new_run: str = ""  # the id that is given up
+    id: str = ""  # the id that the folder must have
+    force: bool = False
+    json: bool = False
+    lines: str = ""  # a kind of lines
+    damaged: bool = False
+    source: str = ""  # a file of answers
+    quiet: int = 60  # seconds
+    now: bool = False
+
+    def find(self) -> None:
+        """Makes the paths absolute, and finds those that follow from the list."""
+        self.names, self.asked, self.has_folder = names_of_run(self), self.jobs, bool(self.run)
+        if self.jobs:
+            self.jobs = os.path.realpath(self.jobs)
+            self.mark = f"{self.jobs}.run-is"
+        self.run = os.path.abspath(self.run) if self.run else f"{self.jobs}.run"
+        self.results = os.path.abspath(self.results or self.run)
+
+
+def names_of_run(settings: Settings) -> List[str]:
+    """Returns the words by which another command means the same run, as they were given."""
+    run, worker = settings.run, settings.worker_program
+    words = ([settings.jobs] if not run else [f"--run={run}"] if run[:1] == "-" else ["--run", run])
+    if settings.file_system:
+        words = ["--file-system", settings.file_system, *words]
+    if worker and os.path.realpath(worker) != os.path.realpath(Program.own()):
+        words = ["--worker-program", worker, *words]
+    return words
+
+
+def next_command(settings: Settings, what: str, *words: str) -> str:
+    """Returns the command for the shell that does this with the same run."""
+    return shlex.join([sys.argv[0], what, *settings.names, *words])

@@ -1,0 +1,179 @@
+"""How the lines of a run stand, and what an operator answers: the commands status, doubts, answer
+and again.
+
+Begin with `status`.
+"""
+
+from __future__ import annotations
+
+import json
+import os
+import sys
+import tempfile
+import time
+from contextlib import suppress
+from typing import Any, Collection, Dict, Iterator, List
+
+from amo_jobs.files import content
+from amo_jobs.messages import visible
+from amo_jobs.processes import holders
+from amo_jobs.run_folder import OUTPUTS, name_run
+from amo_jobs.settings import Settings, next_command
+from amo_jobs.statuses import KINDS, Status
+from amo_jobs.worker import Program
+
+NO_PROCESS = "its worker is alive, or a process of another user"
+
+
+# ---- the commands
+
+def status(settings: Settings, program: Program) -> int:
+    """Prints how all lines stand, and returns the exit status."""
+    name_run(settings, program)
+    if settings.damaged:
+        return program.shown("status", settings.run, "--damaged")
+    if settings.lines:
+        sys.stdout.buffer.write(program.call("status", settings.run, "--lines", settings.lines))
+        return Status.DONE
+    found = program.status(settings.run)
+    pace = pace_of(settings.run, found["alive"])
+    if settings.json:
+        print(json.dumps({**found, "pace": round(pace, 3)}))
+    else:
+        print(counted(found))
+        alive = " ".join(map(str, found["alive"])) or "none"
+        print(f"workers alive: {alive}{outlook(pace, found['open'])}")
+        print("".join(f"{it}\n" for it in listed(settings.run, found, KINDS)), end="")
+    return status_of(found, Status.LATER) if found["lines"] else Status.LATER
+
+
+def doubts(settings: Settings, program: Program) -> int:
+    """Prints each doubt that is final, with all that is known of it; returns the exit status."""
+    name_run(settings, program)
+    used = content(f"{settings.run}/command", True) or {}
+    folders = {settings.run, used.get("results", settings.run)}
+    found = program.told("doubts", settings.run)
+    if settings.json:
+        print(json.dumps(found))
+        return Status.DONE
+    for it in found:
+        name = it["intent"]
+        print(f"{name}, line {it['line']}: {visible(it['text'])}")
+        print(f"  started {dated(it['time'])} by worker {name.split('.')[0]}, {how_old(it)}")
+        for path in (f"{folder}/{kind}.{name}" for kind in OUTPUTS for folder in folders):
+            print(end_of(path), end="")
+        command = next_command(settings, "answer", "--", name, str(it["line"]), it["text"])
+        print(f"  {command} done|not-done")
+    return Status.DONE
+
+
+def answer(settings: Settings, program: Program) -> int:
+    """Records what the operator found out; returns the exit status. The answer is handed on as a
+    row of a file, so that nothing in the text is taken for an option."""
+    with tempfile.NamedTemporaryFile() as file:
+        file.write(b"\t".join(map(os.fsencode, settings.words)) + b"\n")
+        file.flush()
+        name_run(settings, program)
+        quiet = ["--now"] if settings.now else ["--quiet", str(settings.quiet)]
+        program.call("answer", settings.run, *quiet, "--from", settings.source or file.name)
+    print("recorded")
+    return Status.DONE
+
+
+def again(settings: Settings, program: Program) -> int:
+    """Opens each untouched line once more, and prints how many there are; returns the exit
+    status."""
+    name_run(settings, program)
+    count = program.status(settings.run)["untouched"]
+    program.call("again", settings.run)
+    print(f"untouched lines that are open again: {count}")
+    return Status.DONE
+
+
+# ---- the counts of all lines
+
+def status_of(found: Dict[str, Any], if_open: int) -> int:
+    """Returns the exit status by the counts of all lines; `if_open` if lines are open, and none is
+    in doubt or running."""
+    if found["doubt"] or found["running"]:
+        return Status.DOUBTFUL
+    if found["open"]:
+        return if_open
+    return Status.FAILED if found["failed"] or found["untouched"] else Status.DONE
+
+
+def counted(found: Dict[str, Any]) -> str:
+    """Returns the counts of all lines, as a sentence."""
+    return f"{found['lines']} lines: " + ", ".join(
+        f"{found[it]} {'in doubt' if it == 'doubt' else it}" for it in KINDS)
+
+
+def outlook(pace: float, count: int) -> str:
+    """Returns the pace, in lines a second, and when so many lines will be over, as the end of a
+    sentence. The text is empty if the end can't be expected."""
+    if not pace or count <= 0:
+        return ""
+    return (f", {pace:.3g} a second, over at"
+            f" {time.strftime('%H:%M:%S', time.localtime(time.time() + count / pace))}")
+
+
+def pace_of(run: str, workers: List[int]) -> float:
+    """Returns how many commands end in a second, by the files `pace.P` of the runners."""
+    pace = 0.0
+    for number in workers:
+        with suppress(OSError, ValueError), open(f"{run}/pace.{number}") as file:
+            begun, ended = map(float, file.read().split())
+            pace += ended / max(time.time() - begun, 1)
+    return pace
+
+
+# ---- lines with an attempt, and their processes
+
+def listed(run: str, found: Dict[str, Any], states: Collection[str]) -> Iterator[str]:
+    """Yields a text for each line in one of these states, with the processes that hold it."""
+    rows = [it for it in found["intents"] if it["state"] in states]
+    held = holders(run, [it["intent"] for it in rows if it["state"] == "running"])
+    for it in rows:
+        more = (f" -- {', '.join(held[it['intent']]) or NO_PROCESS}"
+                if it["intent"] in held else "")
+        yield f"{it['state']} {it['intent']}, line {it['line']}: {visible(it['text'])}{more}"
+
+
+# ---- doubts
+
+def dated(seconds: int) -> str:
+    """Returns a time in seconds since 1970 as a date of this machine's time zone."""
+    return time.strftime("%Y-%m-%d %H:%M:%S", time.localtime(seconds))
+
+
+def lasting(seconds: int) -> str:
+    """Returns a number of seconds by its two largest units, rounded down."""
+    sizes = ((86400, "d"), (3600, "h"), (60, "min"), (1, "s"))
+    parts, left = [], seconds
+    for size, unit in sizes:
+        parts.append((left // size, unit))
+        left %= size
+    while len(parts) > 1 and not parts[0][0]:
+        parts.pop(0)
+    return " ".join(f"{count} {unit}" for count, unit in parts[:2] if count or len(parts) == 1)
+
+
+def how_old(doubt: Dict[str, Any]) -> str:
+    """Returns when an attempt ended, and how long ago."""
+    if doubt["ended"] is None:
+        return "ended at a time that is not known"
+    if doubt["age"] is None:
+        return f"ended {dated(doubt['ended'])}, which is ahead of the clock"
+    return f"ended {dated(doubt['ended'])}, {lasting(doubt['age'])} ago"
+
+
+def end_of(path: str) -> str:
+    """Returns the end of what a command wrote to this file, line by line; an empty text if there is
+    nothing."""
+    with suppress(OSError), open(path, "rb") as file:
+        size = file.seek(0, os.SEEK_END)
+        file.seek(max(size - 1000, 0))
+        lines = file.read().decode("utf-8", "replace").splitlines()[-5:]
+        shown = "".join(f"    | {visible(line)}\n" for line in lines)
+        return f"  {path}, {size} bytes:\n{shown}" if size else ""
+    return ""

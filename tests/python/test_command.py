@@ -1,0 +1,345 @@
+"""The command of one attempt: how it is started, when it was not, and what is left of it."""
+
+import errno
+import fcntl
+import os
+import signal
+import stat
+import sys
+import tempfile
+import time
+import unittest
+from contextlib import suppress
+from unittest import mock
+
+import package  # noqa: F401
+
+from amo_jobs import calls, command
+from amo_jobs.command import Command, Commands, is_free, NotStarted
+from amo_jobs.processes import Family
+from amo_jobs.runner_events import Rest
+from amo_jobs.settings import Settings
+from test_processes import until
+
+SHOWS = """
+import os, signal, sys
+print(sys.argv[1:], os.environ["AMO_JOB"], os.environ["AMO_LINE"], os.getsid(0) == os.getpid())
+print(sorted(os.readlink(f"/proc/self/fd/{it}").rpartition("/")[2] + f" {it}"
+             for it in os.listdir("/proc/self/fd") if os.path.exists(f"/proc/self/fd/{it}")))
+"""
+SLEEPS = "exec sleep 60"
+
+
+class Case(unittest.TestCase):
+    """Commands of worker 3, in a folder of their own."""
+
+    timeout = None
+
+    def setUp(self):
+        calls.become_subreaper()
+        signal.signal(signal.SIGCHLD, signal.SIG_DFL)
+        for file in map(int, os.listdir("/proc/self/fd")):
+            with suppress(OSError):  # as a runner does at its start
+                os.set_inheritable(file, file < 3)
+        self.room = tempfile.TemporaryDirectory()
+        self.addCleanup(self.room.cleanup)
+        self.run = os.path.realpath(self.room.name)
+        self.family = Family()
+        self.addCleanup(self.end_all)
+        self.serial, self.ended = 0, {}
+
+    def end_all(self):
+        while numbers := self.family.others(()):
+            for it in numbers:
+                os.kill(it, signal.SIGKILL)
+            calls.reap()
+        self.family.close()
+
+    def commands(self, *words, **more):
+        settings = Settings(command=list(words), run=self.run, results=self.run,
+                            timeout=self.timeout, **more)
+        return Commands(settings, 3, self.family)
+
+    def start(self, commands, text=b"pay"):
+        self.serial += 1
+        found = Command(commands, self.serial, 7)
+        found.start(text, ())
+        return found
+
+    def end(self, found):
+        """Waits for the end of the command's process; returns its status."""
+        def is_reaped():
+            self.ended.update(calls.reap()[0])
+            return found.process in self.ended
+        until(is_reaped)
+        number = found.process
+        found.ended()
+        return self.ended[number]
+
+    def text(self, name):
+        with open(f"{self.run}/{name}") as file:
+            return file.read()
+
+    def files(self):
+        return sorted(it for it in os.listdir(self.run) if it[-4:] != ".txt")
+
+
+class Spawned(Case):
+    """Without a timeout a command is started without a copy of this process."""
+
+    def test_it_ends_and_leaves_nothing(self):
+        found = self.start(self.commands("sh", "-c", "exit 3"))
+        self.assertEqual(self.end(found), 3)
+        self.assertIs(found.rest(()), Rest.NOTHING)
+        self.assertFalse(os.path.exists(f"{self.run}/command.3.1"))
+
+    def test_its_words_and_surroundings(self):
+        for words, shown in ((["{}", "x"], "['a  b', 'x']"), (["x"], "['x', 'a  b']")):
+            found = self.start(self.commands(sys.executable, "-c", SHOWS, *words), b"a  b")
+            self.end(found)
+            self.assertEqual(self.text(f"out.3.{self.serial}").splitlines()[0],
+                             f"{shown} a  b 7 True")
+
+    def test_its_files(self):
+        held = os.open(self.run, os.O_RDONLY)  # a file of the runner, which no command gets
+        self.end(self.start(self.commands(sys.executable, "-I", "-S", "-c", SHOWS)))
+        os.close(held)
+        files = self.text("out.3.1").splitlines()[1]
+        wanted = ["command.3.1 0", "command.3.1 50", "err.3.1 2", "out.3.1 1"]
+        self.assertEqual(files, str(wanted))
+
+    def test_signals_are_not_ignored(self):
+        self.end(self.start(self.commands("sh", "-c", "cat /proc/$$/status")))
+        ignored, = (it for it in self.text("out.3.1").splitlines() if it.startswith("SigIgn:"))
+        for number in calls.IGNORED_BY_PYTHON:  # and exec would hand that on
+            self.assertFalse(int(ignored.split()[1], 16) >> number - 1 & 1)
+
+    def test_outputs_are_there_from_the_first_byte(self):
+        found = self.start(self.commands("sh", "-c", "echo out; echo err >&2; sleep 60"))
+        until(lambda: (self.text("out.3.1"), self.text("err.3.1")) == ("out\n", "err\n"))
+        mode = stat.S_IMODE(os.stat(f"{self.run}/out.3.1").st_mode)
+        self.assertEqual(mode, 0o600)
+        os.kill(found.process, signal.SIGKILL)
+        self.assertEqual(self.end(found), -9)
+
+    def test_the_lock_is_held_by_the_command(self):
+        found = self.start(self.commands("sh", "-c", SLEEPS))
+        os.close(found.locks.pop())
+        self.assertFalse(is_free(found.path))
+        os.kill(found.process, signal.SIGKILL)
+        self.end(found)
+        self.assertTrue(is_free(found.path))
+        self.assertTrue(is_free(found.path))  # a missing file counts as free
+
+    def test_what_holds_the_lock_is_seen(self):
+        script = "sleep 60 & echo $! > left.txt"
+        found = self.start(self.commands("sh", "-c", f"cd {self.run}; {script}"))
+        self.end(found)
+        self.assertIs(found.rest(()), Rest.SEEN)
+        os.kill(int(self.text("left.txt")), signal.SIGKILL)
+        until(lambda: found.rest(calls.reap() and ()) is Rest.NOTHING)
+
+    def leave_unseen(self):
+        """Starts a command that leaves a process which has closed all of the command's files."""
+        script = ("import os, subprocess, sys\n"
+                  "it = subprocess.Popen(['sleep', '60'], stdin=subprocess.DEVNULL)\n"
+                  f"open({self.run!r} + '/left.txt', 'w').write(str(it.pid))\n")
+        found = self.start(self.commands(sys.executable, "-c", script))
+        self.end(found)
+        return found, int(self.text("left.txt"))
+
+    def test_what_is_unseen_has_the_lock_taken_again(self):
+        found, number = self.leave_unseen()
+        for _ in range(2):
+            self.assertIs(found.rest(()), Rest.UNSEEN)
+            self.assertFalse(is_free(found.path))
+        os.kill(number, signal.SIGKILL)
+        until(lambda: found.rest(calls.reap() and ()) is Rest.NOTHING)
+        self.assertEqual(self.files(), [])
+
+    def test_a_missing_lock_is_made_again(self):
+        found, _ = self.leave_unseen()
+        os.unlink(found.path)
+        self.assertIs(found.rest(()), Rest.UNSEEN)
+        self.assertFalse(is_free(found.path))
+
+    def test_one_that_holds_the_lock_hides_nobody(self):
+        script = ("import subprocess\n"
+                  "subprocess.Popen(['sleep', '60'], stdin=subprocess.DEVNULL)\n"
+                  "subprocess.Popen(['sleep', '60'], close_fds=False)\n")
+        found = self.start(self.commands(sys.executable, "-c", script))
+        self.end(found)
+        self.assertIs(found.rest(()), Rest.UNSEEN)
+        self.assertEqual(found.locks, [])
+
+    def test_a_named_program_may_be_left(self):
+        self.family.may_leave = frozenset({os.path.basename(os.path.realpath("/bin/sleep"))})
+        found, _ = self.leave_unseen()
+        self.assertIs(found.rest(()), Rest.NOTHING)
+
+    def test_what_an_earlier_command_left_belongs_to_that(self):
+        first, number = self.leave_unseen()
+        second = self.start(self.commands("true"))
+        self.end(second)
+        self.assertIs(second.rest(()), Rest.NOTHING)
+        self.assertIs(first.rest(()), Rest.UNSEEN)
+
+    def test_a_signal_for_an_earlier_command_spares_what_may_be_of_a_later_one(self):
+        first, number = self.leave_unseen()
+        second, later = self.leave_unseen()
+        first.until = second.before
+        found = [it.number for it in first.left(())]
+        self.assertEqual(found, [number, later])  # it counts for both, since nobody can tell
+        self.assertEqual([it.number for it in first.left((), True)], [number])
+        self.assertEqual([it.number for it in second.left((), True)], [later])
+
+    def test_the_workers_process_belongs_to_no_command(self):
+        worker = calls.spawn([b"sleep", b"60"], dict(os.environb), {})
+        found = Command(self.commands("true"), 1, 7)
+        found.start(b"pay", [worker])
+        self.end(found)
+        self.assertIs(found.rest([worker]), Rest.NOTHING)
+
+    def test_who_cannot_be_looked_at_is_left(self):
+        found = self.start(self.commands("true"))
+        self.end(found)
+        with mock.patch.object(self.family, "others", side_effect=OSError(5, "EIO")):
+            self.assertIs(found.rest(()), Rest.UNSEEN)
+        self.assertIs(found.rest(()), Rest.NOTHING)
+
+    def test_a_lock_that_cannot_be_tried_is_not_free(self):
+        found = self.start(self.commands("true"))
+        self.end(found)
+        with mock.patch.object(fcntl, "flock", side_effect=OSError(37, "ENOLCK")):
+            self.assertIs(found.rest(()), Rest.SEEN)
+        self.assertIs(found.rest(()), Rest.NOTHING)
+
+    def test_empty_outputs_serve_the_next_command(self):
+        commands = self.commands("sh", "-c", "[ $AMO_JOB = quiet ] || echo $AMO_JOB")
+        numbers = []
+        for text in (b"quiet", b"quiet", b"loud", b"quiet"):
+            found = self.start(commands, text)
+            numbers.append(os.stat(f"{self.run}/out.3.{self.serial}").st_ino)
+            self.end(found)
+            found.rest(())
+        self.assertEqual(numbers[0], numbers[1])
+        self.assertEqual(numbers[0], numbers[2])
+        self.assertNotEqual(numbers[2], numbers[3])
+        self.assertEqual(self.text("out.3.3"), "loud\n")
+        commands.close()
+        self.assertEqual(self.files(), ["out.3.3"])
+
+    def test_an_output_that_somebody_has_stays_with_its_attempt(self):
+        commands = self.commands("sh", "-c", "[ $AMO_LINE = 8 ] || sleep 60 & exit 0")
+        first = self.start(commands)
+        self.end(first)
+        self.assertIs(first.rest(()), Rest.SEEN)
+        second = Command(commands, 2, 8)
+        second.start(b"pay", ())
+        paths = [f"{self.run}/out.3.{it}" for it in (1, 2)]
+        self.assertFalse(os.path.samefile(*paths))
+
+    def test_an_output_that_was_moved_is_made_anew(self):
+        commands = self.commands("true")
+        found = self.start(commands)
+        self.end(found)
+        found.rest(())
+        os.rename(f"{self.run}/out.3.1", f"{self.run}/moved.txt")
+        self.end(self.start(commands))
+        self.assertIn("out.3.2", self.files())
+
+
+class NotBegun(Case):
+    """Each way in which a command isn't started leaves nothing behind."""
+
+    def refused(self, commands):
+        """Returns why a command isn't started. Nothing of it may be left."""
+        with self.assertRaises(NotStarted) as raised:
+            self.start(commands)
+        self.assertEqual(self.files(), [])
+        self.assertEqual(self.family.others(()), [])
+        return str(raised.exception)
+
+    def test_a_program_that_cannot_be_executed(self):
+        with open(f"{self.run}/text.txt", "w") as file:
+            file.write("no program\n")
+        for name, number in (("./there-is-none", errno.ENOENT), (self.run, errno.EACCES),
+                             ("there-is-none", errno.ENOENT),
+                             (f"{self.run}/text.txt", errno.EACCES)):
+            why = self.refused(self.commands(name))
+            problem = os.strerror(number)
+            self.assertEqual(why, f"{problem[0].lower()}{problem[1:]} (no line was lost); correct"
+                             " the command, and start again with --command-changed")
+        os.chmod(f"{self.run}/text.txt", 0o700)
+        self.assertIn("exec format error", self.refused(self.commands(f"{self.run}/text.txt")))
+
+    def test_a_lock_that_another_process_has(self):
+        path = f"{self.run}/command.3.1"
+        with open(path, "w") as file:
+            fcntl.flock(file, fcntl.LOCK_EX)
+            with self.assertRaises(NotStarted) as raised:
+                self.start(self.commands("true"))
+        self.assertIn("it is locked by another process", str(raised.exception))
+        self.assertTrue(os.path.exists(path))
+
+    def test_files_that_cannot_be_made(self):
+        for kind in command.OUTPUTS:
+            self.serial = 0
+            os.mkdir(f"{self.run}/{kind}.3.1")
+            with self.assertRaises(NotStarted) as raised:
+                self.start(self.commands("true"))
+            self.assertIn(f"`{self.run}/{kind}.3.1`: is a directory", str(raised.exception))
+            os.rmdir(f"{self.run}/{kind}.3.1")
+            self.assertEqual(self.files(), [])
+
+    def test_a_system_without_processes(self):
+        call = "fork" if self.timeout else "posix_spawnp"
+        error = BlockingIOError(errno.EAGAIN, os.strerror(errno.EAGAIN))
+        with mock.patch.object(os, call, side_effect=error):
+            self.assertIn("allow more processes", self.refused(self.commands("true")))
+
+    def test_children_that_cannot_be_seen(self):
+        with mock.patch.object(self.family, "others", side_effect=OSError(5, "Input/output error")):
+            with self.assertRaises(NotStarted):
+                self.start(self.commands("true"))
+        self.assertEqual(self.files(), [])
+
+
+class Timed:
+    """With a timeout a command is started by a copy of this process."""
+
+    timeout = 100.0
+
+
+class ForkedCommand(Timed, Spawned):
+    """The same commands, with a timeout."""
+
+
+class ForkedNotBegun(Timed, NotBegun):
+    """The same failures, with a timeout."""
+
+    def test_a_system_without_pipes(self):
+        error = OSError(errno.EMFILE, os.strerror(errno.EMFILE))
+        with mock.patch.object(os, "pipe", side_effect=error):
+            self.assertIn("allow more open files", self.refused(self.commands("true")))
+
+    def test_a_report_that_cannot_be_read_leaves_a_doubt(self):
+        with mock.patch.object(os, "read", side_effect=OSError(5, "EIO")):
+            found = self.start(self.commands("./there-is-none"))
+        self.assertEqual(self.end(found), -9)
+
+    def test_a_child_that_cannot_be_waited_for_counts_as_begun(self):
+        with mock.patch.object(os, "waitpid", side_effect=ChildProcessError(10, "ECHILD")):
+            found = self.start(self.commands("./there-is-none"))
+        self.assertEqual(self.end(found), -9)
+
+    def test_the_kernels_timer_ends_it(self):
+        self.timeout = 0.1
+        found = self.start(self.commands("sh", "-c", SLEEPS, grace=0.0))
+        begun = time.monotonic()
+        self.assertEqual(self.end(found), -signal.SIGALRM)
+        self.assertGreater(time.monotonic() - begun, 0.9)
+
+
+if __name__ == "__main__":
+    unittest.main()

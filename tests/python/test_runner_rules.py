@@ -1,0 +1,453 @@
+"""The rules of a runner: each action and each branch, every order of up to six events, and mistakes
+that the monitor has to notice."""
+
+import signal
+import unittest
+from unittest import mock
+
+from runner_world import Broken, KILLED, OPTIONS, World
+from amo_jobs import reports, runner_rules
+from amo_jobs.reports import Report
+from amo_jobs.runner_events import (
+    Answer, Begin, CommandEnded, Elapsed, End, GRACE, LINGER, Look, Looked, MOMENT, PassOn, PAUSE,
+    PERFORM, Plain, Rest, Said, Send, StartFailed, StartWorker, Tell, TIMEOUT, Wait, WAS,
+    WorkerEnded
+)
+from amo_jobs.runner_state import Attempt, Options, State
+
+DEPTH = 6
+ORIGINAL = dict(runner_rules.HANDLERS)
+
+
+def branches(world, event):
+    """Yields how a step may go on: what a command leaves behind, and whether one can be started."""
+    if isinstance(event, CommandEnded):
+        rests = Rest if event.status in (0, None) else (Rest.NOTHING, Rest.UNSEEN)
+        yield from (dict(rest=it) for it in rests)
+    else:
+        yield {}
+        if isinstance(event, Said) and event.kind == PERFORM and event.is_alive:
+            yield dict(starts=False)
+
+
+def search(first, depth):
+    """Takes every order of so many events, from each of these worlds. Returns how many steps that
+    were. Worlds that are equal are searched once."""
+    front, known, steps = list(first), set(), 0
+    for left in range(depth, 0, -1):
+        following = []
+        for world in front:
+            for event in world.events():
+                for how in branches(world, event):
+                    new = world.copy()
+                    new.step(event, **how)
+                    steps += 1
+                    key = new.key()
+                    if key not in known:
+                        known.add(key)
+                        following.append(new)
+        front = following
+    return steps
+
+
+def after(world, *events):
+    """Returns the world after these events, each of which may be a pair with how it goes on."""
+    for event in events:
+        event, how = event if isinstance(event, tuple) and type(event) is tuple else (event, {})
+        world.step(event, **how)
+    return world
+
+
+def said(kind, serial=0, is_alive=True):
+    return Said(kind, serial, serial, b"", is_alive)
+
+
+LEFT = (CommandEnded(0), dict(rest=Rest.UNSEEN))
+SEEN = (CommandEnded(0), dict(rest=Rest.SEEN))
+ONE, TWO = said(PERFORM, 1), said(PERFORM, 2)
+DEAD = WorkerEnded(KILLED, "")
+# The worlds from which the search begins: their first state, and what has happened in them.
+SCENES = {
+    "a first start": ({}, []),
+    "an attempt of an earlier runner": (dict(pending=[1]), []),
+    "one of which something runs": (dict(pending=[1], rests={1: Rest.SEEN}), []),
+    "a command runs": ({}, [ONE]),
+    "its worker is dead": ({}, [ONE, DEAD]),
+    "something is left behind": ({}, [ONE, LEFT, Elapsed(LINGER, 1)]),
+    "something is left that holds the lock": ({}, [ONE, SEEN, Elapsed(LINGER, 1)]),
+    "a line has failed": ({}, [ONE, CommandEnded(3)]),
+    "a line has failed, and the next one waits": ({}, [ONE, CommandEnded(3), TWO]),
+    "the worker waits for a round": ({}, [said("over")]),
+    "a stop while a command runs": ({}, [ONE, Plain.STOP]),
+    "an answer that a killed worker got": ({}, [ONE, CommandEnded(0), DEAD]),
+    "the time is over": ({}, [ONE, Elapsed(TIMEOUT, 1)]),
+    "it waits at last": (dict(lines=1), [ONE, LEFT, Elapsed(LINGER, 1), WorkerEnded(0, "all")]),
+}
+
+
+def search_from(name, depth):
+    """Searches from one of these worlds."""
+    given, events = SCENES[name]
+    return search([after(World(**given), *events)], depth)
+
+
+def broken_rules(depth):
+    """Yields which rules are broken, at most one for each of these worlds."""
+    for name in SCENES:
+        try:
+            search_from(name, depth)
+        except Broken as broken:
+            yield str(broken).partition(": [")[0]
+
+
+class EveryOrder(unittest.TestCase):
+    """Every order of up to six events, from each scene."""
+
+    def test_every_order_of_events_keeps_the_rules(self):
+        steps = {name: search_from(name, DEPTH if name == "a first start" else DEPTH - 2)
+                 for name in SCENES}
+        self.assertGreater(min(steps.values()), 300, steps)
+
+    def test_a_mistake_is_noticed(self):
+        for name, (change, rule) in MISTAKES.items():
+            with self.subTest(name), change():
+                found = []
+                is_noticed = any(found.append(it) or it == rule for it in broken_rules(4))
+                self.assertTrue(is_noticed, f"{name}: {found}")
+
+
+def with_handler(kind, function):
+    """Replaces what the rules do about an event."""
+    return lambda: mock.patch.dict(runner_rules.HANDLERS, {kind: function})
+
+
+def with_function(name, function):
+    """Replaces one of the rules' functions."""
+    return lambda: mock.patch.object(runner_rules, name, function)
+
+
+def changed(name, make):
+    """Replaces a function by one that is made of it."""
+    return with_function(name, make(getattr(runner_rules, name)))
+
+
+def goes_on_after_a_stop(original):
+    def go_on(state):
+        was, state.is_stopping = state.is_stopping, False
+        actions = original(state)
+        state.is_stopping |= was
+        return actions
+    return go_on
+
+
+def reports_first(original):
+    def answer(state, serial):
+        *answers, last = original(state, serial)
+        return [last, *answers]
+    return answer
+
+
+def forgets_all(original):
+    def worker_ended(state, it):
+        actions = original(state, it)
+        state.seen.clear()
+        return actions
+    return worker_ended
+
+
+def takes_seen_for_nothing(state, it):
+    rest = Rest.NOTHING if it.rest is Rest.SEEN else it.rest
+    return ORIGINAL[Looked](state, Looked(it.serial, rest))
+
+
+def starts_in_between(original):
+    def what_next(state):
+        current, state.current = state.current, None
+        actions = original(state)
+        state.current = current
+        return actions
+    return what_next
+
+
+def says_unbegun(original):
+    def lost(state, serial):
+        state.top = state.top or 0
+        return original(state, serial)
+    return lost
+
+
+def ends_while_unseen(original):
+    def what_next(state):
+        for it in state.attempts.values():
+            it.rest = Rest.SEEN
+        return original(state)
+    return what_next
+
+
+def keeps_time(state, serial, attempt):
+    return [Send(serial, signal.SIGTERM), Wait(GRACE, serial, 1.0)]
+
+
+def drops_the_line(state, it):
+    state.asks = None
+    return ORIGINAL[WorkerEnded](state, it)
+
+
+# The mistakes: how each is made, and the rule that it breaks.
+MISTAKES = {
+    "a command after a stop":
+        (changed("go_on", goes_on_after_a_stop), "a command is begun after a stop"),
+    "a dead worker's line is carried out":
+        (with_handler(Said, lambda state, it: ORIGINAL[Said](state, it._replace(is_alive=True))),
+         "a dead worker's line"),
+    "done while something is left":
+        (with_handler(Looked, takes_seen_for_nothing), "done of what still runs"),
+    "a report before the answer":
+        (changed("answer", reports_first), "a report before the answer"),
+    "no acknowledgement is waited for":
+        (with_function("tell", lambda state, report: [] if report is None else [Tell(report)]),
+         "a command before the supervisor knows of a failure"),
+    "a full pipe holds nothing":
+        (with_handler(Plain.HELD, lambda state, it: []), "a command while a report isn't sent"),
+    "it ends before an end is recorded":
+        (with_function("may_end", lambda state: state.status >= 0),
+         "it ends before these ends are recorded"),
+    "it ends while something is unseen":
+        (changed("what_next", ends_while_unseen),
+         "it ends while nobody else sees what is left"),
+    "an end is forgotten with its worker":
+        (with_handler(WorkerEnded, forgets_all(ORIGINAL[WorkerEnded])),
+         "it ends before these ends are recorded"),
+    "a worker is started while a command runs":
+        (changed("what_next", starts_in_between),
+         "a worker is started while a command of the former one runs"),
+    "no pause":
+        (with_function("restart", lambda state: runner_rules.start_worker(state)),
+         "a worker is started again without a pause"),
+    "unbegun without knowing":
+        (changed("lost", says_unbegun), "unbegun of what was begun, or of what nobody knows"),
+    "the timeout is no doubt":
+        (lambda: mock.patch.dict(runner_rules.TIMERS, {TIMEOUT: keeps_time}),
+         "another end than the command's"),
+    "a signal isn't passed on":
+        (with_handler(PassOn, lambda state, it: []), "a further signal isn't passed on"),
+    "a stop doesn't end a wait":
+        (with_handler(Plain.STOP, lambda state, it: setattr(state, "is_stopping", True) or []),
+         "a worker waits at over"),
+    "a line is never performed":
+        (with_handler(Plain.ACKNOWLEDGED, lambda state, it: []), "a line waits for nothing"),
+    "a worker waits for ever":
+        (with_function("way", lambda state, word: []), "a worker waits at over"),
+    "what a killed worker asked for is a doubt":
+        (with_handler(WorkerEnded, drops_the_line), "it ends before these ends are recorded"),
+}
+
+
+class Steps(unittest.TestCase):
+    """Each action, and each branch that the search doesn't tell apart."""
+
+    def setUp(self):
+        self.state = State(1, OPTIONS)
+        self.assertEqual(runner_rules.begin(self.state), [StartWorker()])
+
+    def take(self, event):
+        return runner_rules.take(self.state, event)
+
+    def begin(self, serial=1):
+        found = self.take(Said(PERFORM, serial, 7, b"pay"))
+        self.assertEqual(found, [Begin(serial, 7, b"pay")])
+        return self.take(Plain.STARTED)
+
+    def ended(self, status, serial=1):
+        self.assertEqual(self.take(CommandEnded(status)), [Look(serial)])
+        return self.take(Looked(serial, Rest.NOTHING))
+
+    def test_each_end_of_a_command(self):
+        for status, text, word in ((0, "done 1 0", "done"), (3, "done 1 3", "done"),
+                                   (75, "untouched 1 75", "untouched"), (-9, "doubt 1", "doubt"),
+                                   (None, "doubt 1", "doubt")):
+            with self.subTest(status):
+                self.setUp()
+                self.begin()
+                code = 0 if word == "doubt" else status
+                report = Report(reports.ENDED, 1, 7, word, code)
+                self.assertEqual(self.ended(status), [Answer(f"{text} go"), Tell(report)])
+
+    def test_times_of_a_command(self):
+        found = self.begin()
+        self.assertEqual([it.timer for it in found], [MOMENT, TIMEOUT])
+        runs = Tell(Report(reports.RUNS, 1, 7))
+        self.assertEqual(self.take(Elapsed(MOMENT, 1)), [runs])
+        term = [Send(1, signal.SIGTERM), Wait(GRACE, 1, OPTIONS.grace)]
+        self.assertEqual(self.take(Elapsed(TIMEOUT, 1)), term)
+        for _ in range(2):
+            kill, again = self.take(Elapsed(GRACE, 1))
+            self.assertEqual(kill, Send(1, signal.SIGKILL))
+            self.assertEqual(again.timer, GRACE)
+        answer, told = self.ended(0)
+        self.assertEqual(answer, Answer("doubt 1 go"))
+        self.assertTrue(told.report.is_late)
+
+    def test_without_a_timeout_there_is_no_time(self):
+        self.state.options = Options()
+        self.assertEqual([it.timer for it in self.begin()], [MOMENT])
+
+    def test_what_is_left_is_waited_for_and_then_runs(self):
+        self.begin()
+        self.take(CommandEnded(0))
+        self.assertEqual(self.take(Looked(1, Rest.SEEN)), [Wait(LINGER, 1, OPTIONS.linger)])
+        self.assertEqual(self.take(Looked(1, Rest.UNSEEN)), [])
+        left = Tell(Report(reports.LEFT_BEHIND, 1, 7))
+        self.assertEqual(self.take(Elapsed(LINGER, 1)), [Answer("running 1 go"), left])
+        self.begin(2)
+        self.assertEqual(self.take(Elapsed(MOMENT, 1)), [])  # it isn't the one that is waited for
+        self.assertEqual(self.take(Looked(1, Rest.NOTHING)), [])
+        self.assertEqual(self.ended(0, 2)[0], Answer("done 2 0 leave"))  # the next worker asks
+
+    def test_what_is_left_of_a_late_command_is_killed_first(self):
+        self.begin()
+        self.take(CommandEnded(0))
+        self.take(Looked(1, Rest.UNSEEN))
+        self.take(Elapsed(TIMEOUT, 1))
+        self.assertEqual(self.take(Elapsed(LINGER, 1)), [])
+        found = self.take(Elapsed(GRACE, 1))
+        self.assertEqual(found[-1], Wait(LINGER, 1, OPTIONS.linger))
+        self.assertEqual(self.take(Elapsed(LINGER, 1))[0], Answer("running 1 go"))
+
+    def test_the_timeout_holds_for_what_is_left(self):
+        self.begin()
+        self.take(CommandEnded(0))
+        self.take(Looked(1, Rest.UNSEEN))
+        self.take(Elapsed(LINGER, 1))
+        self.assertEqual(self.take(Elapsed(TIMEOUT, 1))[0], Send(1, signal.SIGTERM))
+
+    def test_a_line_that_cannot_be_started_stops(self):
+        self.take(Said(PERFORM, 1, 7, b"pay"))
+        told = Tell(Report(reports.UNBEGUN, 1, 7, text="why"))
+        self.assertEqual(self.take(StartFailed("why")), [Answer("unbegun 1 leave"), told])
+        self.assertTrue(self.state.is_stopping)
+
+    def test_questions(self):
+        self.assertEqual(self.take(Said(WAS, 1, 7)), [Look(1)])
+        self.assertEqual(self.take(Looked(1, Rest.SEEN)), [Answer("running 1 go")])
+        self.take(Said(WAS, 2, 8))
+        lost = Tell(Report(reports.LOST, 2, 8))
+        self.assertEqual(self.take(Looked(2, Rest.NOTHING)), [Answer("doubt 2 go"), lost])
+
+    def test_an_attempt_that_no_worker_has_said_was_not_begun(self):
+        self.begin(4)
+        self.ended(0, 4)
+        self.take(WorkerEnded(KILLED, ""))
+        self.take(Elapsed(PAUSE, 0))
+        self.take(Said(WAS, 4, 7))
+        self.take(Said(WAS, 5, 8))
+        self.assertEqual(self.take(Looked(5, Rest.NOTHING)), [Answer("unbegun 5 go")])
+        self.take(Said(WAS, 3, 8))
+        self.assertEqual(self.take(Looked(3, Rest.NOTHING))[0], Answer("doubt 3 go"))
+
+    def test_an_answer_that_was_not_recorded_is_given_again(self):
+        self.begin()
+        self.ended(0)
+        self.assertEqual(self.take(Plain.UNANSWERED), [])
+        self.take(WorkerEnded(75, ""))
+        self.take(Elapsed(PAUSE, 0))
+        self.assertEqual(self.take(Said(WAS, 1, 7)), [Answer("done 1 0 go")])
+
+    def test_an_answer_that_a_worker_recorded_is_forgotten(self):
+        self.begin()
+        self.ended(0)
+        self.take(WorkerEnded(75, ""))
+        self.assertEqual(self.state.seen, {})
+
+    def test_pauses_are_doubled_until_the_worker_says_something_new(self):
+        seconds = []
+        for _ in range(8):
+            wait, = self.take(WorkerEnded(KILLED, ""))
+            seconds.append(wait.seconds)
+            self.assertEqual(self.take(Elapsed(PAUSE, 0)), [StartWorker()])
+        self.assertEqual(seconds, [0.1, 0.2, 0.4, 0.8, 1.6, 3.2, 4.0, 4.0])
+        self.begin()
+        self.ended(0)
+        self.assertEqual(self.take(WorkerEnded(75, ""))[0].seconds, 0.1)
+
+    def test_a_worker_that_hears_running_says_nothing_new(self):
+        for wanted in (0.1, 0.2, 0.4):
+            self.take(Said(WAS, 1, 7))
+            self.take(Looked(1, Rest.SEEN))
+            self.assertEqual(self.take(WorkerEnded(75, ""))[0].seconds, wanted)
+            self.take(Elapsed(PAUSE, 0))
+
+    def test_news_end_a_pause(self):
+        self.take(Said("over"))
+        self.assertEqual(self.take(Plain.NEWS), [Answer("go")])
+        self.take(WorkerEnded(75, ""))
+        self.assertEqual(self.take(Plain.NEWS), [StartWorker()])
+        self.assertEqual(self.take(Plain.NEWS), [])
+
+    def test_a_worker_that_waits_leaves_if_an_end_was_found(self):
+        self.state.attempts[1] = Attempt(7, True, 0)
+        self.take(Said("over"))
+        self.take(Looked(1, Rest.NOTHING))
+        self.assertEqual(self.take(Elapsed(PAUSE, 0)), [Answer("leave")])
+        self.state.has_worker = True
+        self.assertEqual(self.take(Said("over")), [Answer("leave")])
+
+    def test_last_statuses(self):
+        for status in (0, 65, 69, 70, 73, 74, 76, 77):
+            with self.subTest(status):
+                self.setUp()
+                if status == 69:
+                    self.take(Plain.STOP)
+                told, end = self.take(WorkerEnded(status, "why"))
+                self.assertEqual(told, Tell(Report(reports.OVER, code=status, text="why")))
+                self.assertEqual(end, End(status))
+                self.assertEqual(self.take(Plain.STOP), [])
+        for status in (71, 75, -9):
+            self.setUp()
+            self.assertEqual(self.take(WorkerEnded(status, ""))[0].timer, PAUSE)
+            self.assertEqual(self.take(Plain.STOP)[-1], End(status))
+
+    def test_an_end_that_is_not_recorded_is_told_once(self):
+        self.begin()
+        self.ended(0)
+        tries = Tell(Report(reports.TRIES, code=1, text="full"))
+        self.assertEqual(self.take(WorkerEnded(73, "full"))[0], tries)
+        self.take(Elapsed(PAUSE, 0))
+        self.assertEqual(len(self.take(WorkerEnded(73, "full"))), 1)
+
+    def test_at_last_it_waits_for_what_only_it_sees(self):
+        self.begin()
+        self.take(CommandEnded(0))
+        self.take(Looked(1, Rest.UNSEEN))
+        self.take(Elapsed(LINGER, 1))
+        self.assertEqual(self.take(WorkerEnded(0, "")), [Tell(Report(reports.WAITS))])
+        self.assertEqual(self.take(Looked(1, Rest.UNSEEN)), [])
+        self.assertEqual(self.take(PassOn(signal.SIGINT)), [Send(1, signal.SIGTERM)])
+        self.assertEqual(self.take(Looked(1, Rest.SEEN))[-1], End(0))
+
+    def test_what_ends_at_last_is_recorded(self):
+        self.begin()
+        self.take(CommandEnded(0))
+        self.take(Looked(1, Rest.UNSEEN))
+        self.take(Elapsed(LINGER, 1))
+        self.take(WorkerEnded(0, ""))
+        self.assertEqual(self.take(Looked(1, Rest.NOTHING))[0].timer, PAUSE)
+        self.take(Elapsed(PAUSE, 0))
+        self.assertEqual(self.take(Said(WAS, 1, 7))[0], Answer("done 1 0 go"))
+        self.assertEqual(self.take(WorkerEnded(0, ""))[-1], End(0))
+
+    def test_deserted(self):
+        self.begin()
+        self.take(Plain.HELD)
+        self.assertEqual(self.take(Plain.DESERTED), [])
+        self.assertEqual(self.ended(3)[0], Answer("done 1 3 leave"))
+        self.assertEqual(self.take(Said(PERFORM, 2, 8)), [Answer("unbegun 2 leave")])
+
+    def test_events_without_a_command_do_nothing(self):
+        for event in (Plain.STARTED, StartFailed("why"), CommandEnded(0), Elapsed(TIMEOUT, 3),
+                      Looked(3, Rest.NOTHING), Looked(3, Rest.SEEN)):
+            self.assertEqual(self.take(event), [], event)
+
+
+if __name__ == "__main__":
+    unittest.main()
