@@ -34,6 +34,19 @@ class Partner:
         self.database.execute("INSERT INTO journal VALUES (?, ?, ?)", (self.worker, job, what))
         return "ok"
 
+    def standing(self, job):
+        """How many attempts at a job stand, by the journals of all numbers in one snapshot. An attempt doesn't stand if it is recorded as
+        not begun."""
+        standing = "SELECT sum(what = 'intent') - sum(what = 'unbegun') FROM journal WHERE job = ?"
+        return self.database.execute(standing, (job,)).fetchone()[0]
+
+    def clear(self, job):
+        """Whether a job may be handed over: if one attempt stands, that is the one whose intent was kept just now."""
+        if self.standing(job) == 1:
+            return "clear"
+        print(f"job {job}: another attempt at it stands; not started", file=sys.stderr)
+        return "taken"
+
     def perform(self, serial, job):
         """Performs a job. Its command has the lock of the number too, so nobody goes on in our place while it runs."""
         command = [*self.command, self.jobs[job - 1]]
@@ -54,6 +67,8 @@ class Partner:
         if word == "intend":
             self.job = int(rest[1])
             return self.note(self.job, "intent")
+        if word == "clear":
+            return self.clear(int(rest[1]))
         if word == "perform":
             return self.perform(int(rest[0]), int(rest[1]))
         return self.note(self.job, " ".join([rest[0], *rest[2:]]))
@@ -68,7 +83,7 @@ def main(program, path, p, workers, beta, list_of_jobs, *command):
         except BlockingIOError:
             return 75
         partner = Partner(opened(path), int(p), jobs, command, lock)
-        words = [program, "lines", p, workers, beta, str(len(jobs))]
+        words = [program, "lines", "--protocol", "2", p, workers, beta, str(len(jobs))]
         with subprocess.Popen(words, stdin=subprocess.PIPE, stdout=subprocess.PIPE, encoding="ascii", bufsize=1) as worker:
             with suppress(BrokenPipeError):  # the worker was killed
                 for said in worker.stdout:
