@@ -2,24 +2,43 @@
 # act.sh ROOM TEXT: the command of the tests. TEXT is a number and what to do; what happens is appended to ROOM/effects/LINE, a
 # line each: `begun P.S PROCESS`, `did P.S`. The intent is the name of the lock that stands as
 # standard input. The first attempt at a line that waits does its work once a test has made the file
-# ROOM/go. A line that stays goes on after that until the test has made ROOM/over. So no test has to
-# be faster than a command.
+# ROOM/go. A line that stays goes on after that until the test has made ROOM/over. Each attempt at a
+# line that is gated waits for ROOM/go.LINE. So no test has to be faster than a command.
 room=$1 what=${2#* } file=$1/effects/$AMO_LINE
 name=$(readlink "/proc/$$/fd/0") name=${name##*/command.}
 echo "begun $name $$" >> "$file"
 did() { sleep "$1"; echo "did $name" >> "$file"; }
 till() { while [ -d "$room" ] && ! [ -e "$room/$1" ]; do sleep 0.02; done; }
 await='while [ -d "$room" ] && ! [ -e "$room/go" ]; do sleep 0.02; done; echo "did $name" >> "$file"'
+helps='echo $$ > "$room/helper.new"; mv "$room/helper.new" "$room/helper"; '$await
 first() { mkdir "$room/tried.$AMO_LINE" 2> /dev/null; }
 case $what in
 quick) did 0; sleep 0.02 ;;
 late) did 2; sleep 0.5 ;;
 waits) ! first || till go; did 0 ;;
+gated) till "go.$AMO_LINE"; did 0 ;;
 waits_stays) ! first || till go; did 0; till over ;;
 stays) did 0; till over ;;
 waits_amp) ! first || { (till go; did 0) & exit 0; }; did 0 ;;
 waits_nohup) export file name room; nohup sh -c "$await" > "$room/nohup.$AMO_LINE" 2>&1 & ;;
 waits_setsid) export file name room; setsid sh -c "$await" & ;;
+fed) ! first || { export file name room; exec python3 -c "
+import subprocess, sys
+subprocess.run(['/bin/sh', '-c', sys.argv[1]], input=b'pay')" "$helps"; }; did 0 ;;
+java) ! first || { export file name room; exec java "$room/Pay.java" "$helps"; }; did 0 ;;
+agent) did 0; python3 -c "
+import subprocess, sys
+it = subprocess.Popen([sys.argv[1] + '/agent', '1000'], stdin=subprocess.DEVNULL, stdout=subprocess.DEVNULL)
+open(sys.argv[1] + '/helper', 'w').write(str(it.pid))" "$room" ;;
+forked) export file name room; python3 -c "
+import os, sys
+if os.fork() == 0:
+    os.setsid()
+    if os.fork() == 0:
+        os.closerange(0, 1000)
+        for _ in range(3):
+            os.open('/dev/null', os.O_RDWR)
+        os.execvp('sh', ['sh', '-c', sys.argv[1]])" "$helps" ;;
 slow) did 0.15; sleep 0.1 ;;
 fail) did 0.02; exit 3 ;;
 nothing) ! first || exit 75; did 0 ;;

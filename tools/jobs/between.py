@@ -3,9 +3,11 @@
 
 AMO_REAL is the program of the worker. AMO_ROOM has `effects`, and `moments`, which counts them over all workers of a run: before
 and after each line of the worker is handed on, once the command has begun and once it did its work, and before and after each
-answer is handed on. AMO_PLAN is NUMBER:WHO+WHO, of runner, worker and command, each with `~` before it where it is stopped for a
-while, and for as long as there is a file AMO_ROOM/held."""
+answer is handed on. AMO_ROOM/lives has the number of each worker that is started, AMO_ROOM/overs what workers were answered that wait
+for the next round. AMO_PLAN is NUMBER:WHO+WHO, of supervisor, runner, worker and command, each with `~` before it where it is
+stopped for a while, and for as long as there is a file AMO_ROOM/held."""
 
+import contextlib
 import fcntl
 import os
 import select
@@ -16,7 +18,8 @@ import time
 
 REAL, ROOM = os.environ["AMO_REAL"], os.environ["AMO_ROOM"]
 AT, _, WHO = os.environ.get("AMO_PLAN", "0:").partition(":")
-STOPPED = 0.7
+STOPPED, OVER = 0.7, b"over\n"
+ORDER = "command ~command supervisor ~supervisor runner ~runner worker ~worker".split()
 # How long a word of a command is waited for, while its runner lives and once that is gone.
 LONGEST, ALONE = 240, 0.6
 
@@ -29,6 +32,12 @@ def read(path):
         return ""
 
 
+def note(name, text):
+    """Notes a line in a file of the room."""
+    with open(f"{ROOM}/{name}", "a") as file:
+        file.write(f"{text}\n")
+
+
 def number():
     """The number of this moment."""
     with open(f"{ROOM}/moments", "a+") as file:
@@ -37,6 +46,11 @@ def number():
         count = len(file.read()) + 1
         file.write(".")
     return count
+
+
+def parent_of(process):
+    """The number of this process's parent."""
+    return int(read(f"/proc/{process}/stat").rpartition(")")[2].split()[1])
 
 
 def befall(process, is_killed):
@@ -58,11 +72,14 @@ def moment(worker, name, line, kind):
     with open(f"{ROOM}/befallen", "a") as file:
         file.write(f"{AT}:{WHO} {name} of line {line} {kind}\n")
     words = WHO.split("+")
-    for who in sorted(words, key="command ~command runner ~runner worker ~worker".split().index):
+    supervisor = parent_of(os.getppid())
+    for who in sorted(words, key=ORDER.index):
         if who.endswith("command"):
             begun = [it.split() for it in read(f"{ROOM}/effects/{line}").splitlines() if it.startswith(f"begun {name} ")]
             if begun:
                 befall(int(begun[-1][2]), who == "command")
+        elif who.endswith("supervisor"):
+            befall(supervisor, who == "supervisor")
         elif who.endswith("runner"):
             befall(os.getppid(), who == "runner")
         else:
@@ -98,7 +115,7 @@ def relay(worker, run, number_of_worker):
         said = worker.stdout.readline()
         if not said.endswith(b"\n"):
             return
-        kind, serial, line = said.split(b" ")[:3]
+        kind, serial, line = (said.split(b" ") if said != OVER else (said, b"over", b"0"))[:3]
         name, line = f"{number_of_worker}.{serial.decode()}", int(line)
         moment(worker, name, line, "unsaid")
         sys.stdout.buffer.write(said)
@@ -109,6 +126,8 @@ def relay(worker, run, number_of_worker):
                 if wait_for(word, name, line, f"{run}/command.{name}", runner):
                     moment(worker, name, line, word)
         answer = sys.stdin.buffer.readline()
+        if said == OVER:
+            note("overs", f"{name} {answer.decode().strip()}")
         moment(worker, name, line, "unanswered")
         if not answer.endswith(b"\n"):
             worker.stdin.close()
@@ -121,12 +140,14 @@ def relay(worker, run, number_of_worker):
 def main(words):
     if words[0] != "work":
         os.execv(REAL, [REAL, *words])
+    note("lives", words[2])
     worker = subprocess.Popen([REAL, *words], stdin=subprocess.PIPE, stdout=subprocess.PIPE)
     try:
         relay(worker, words[1], words[2])
     except BrokenPipeError:
         pass
-    worker.stdin.close() if not worker.stdin.closed else None
+    with contextlib.suppress(BrokenPipeError):  # it may have died with an answer in its pipe
+        worker.stdin.close()
     status = worker.wait()
     if status < 0:
         os.kill(os.getpid(), signal.SIGKILL)

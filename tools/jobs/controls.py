@@ -3,50 +3,76 @@
 import os
 import re
 
-from jobs import faults, forgetting, identity, rules, scene
+from jobs import forgetting, identity, rules, scene, spoiled, staying, unseen, ways
 
 HERE = os.path.dirname(os.path.realpath(__file__))
 TWICE, LISTED = "performed twice|performed after it was", "is a doubt|as a doubt|though no runner"
 # Of the stand-in: a mistake, the test that has to show it, and what it has to say.
 OF_THE_WORKER = [
     ("pending_is_open", rules.try_words_lost, TWICE),
+    ("not_done_at_once", ways.try_late_request, TWICE),
     ("answers_by_line", rules.try_two_persons, TWICE),
     ("lists_what_runs", rules.try_orphan, TWICE),
     ("answers_what_runs", rules.try_running_is_not_answered, TWICE),
 ]
-INPUT = ["enumerate((self.locks[0], out, err))",
-         "enumerate((os.open(os.devnull, os.O_RDONLY), out, err))"]
-FURTHER = ["os.set_inheritable(self.locks[1], True)", "pass"]
-AFTER = """        close_all([files.pop()])
-        why = self.report_in(files[-1])
-        close_all(files)
-"""
+# Of the stand-in: mistakes by which registers and damaged files have a line performed twice. A
+# mistake that two tests have to show has a name for each.
+SPOILED = [
+    ("no_clearance", spoiled.try_earlier_registers, "^performed twice: ", "no_clearance_earlier"),
+    ("no_clearance", spoiled.try_drawn_registers, "^performed twice: ", "no_clearance_drawn"),
+    ("damage_is_cut_off", spoiled.try_damage, "^performed twice: "),
+]
+HANDED = "{0: self.locks[0], 1: files[0], 2: files[1], further: self.locks[0]}"
+INPUT = ["return {0: self.locks[0],", "return {0: os.open(os.devnull, os.O_RDONLY),"]
+FURTHER = [", further: self.locks[0]}", "}"]
+NO_SUBREAPER = ["        calls.become_subreaper()\n        calls.sign(", "        calls.sign(",
+                "        calls.become_subreaper()\n        self.family", "        self.family"]
+POST = "            self.posts[action.worker] = Post(words, self.locks[action.worker])\n"
 # Of amo_jobs: the mistake, what stands there and what in its place, by pairs, and the same two.
 OF_THE_RUNNER = [
-    ("unbegun_after_a_failed_close", [AFTER, """        close_all([files.pop()])
-        why = self.report_in(files.pop())
-        try:
-            while files:
-                os.close(files.pop())
-        except OSError as error:
-            self.drop_lock()
-            raise NotStarted(error) from None
-"""], faults.try_failed_close, TWICE),
-    ("lock_is_not_handed_on", INPUT + FURTHER, rules.try_orphan, TWICE),
+    ("no_subreaper", NO_SUBREAPER, unseen.try_fed, TWICE),
+    ("ends_while_a_descendant_lives", [
+        "    if any(it.rest is Rest.UNSEEN for", "    if False and any(it.rest is Rest.UNSEEN for",
+        "    if state.unseen:\n", "    if False:\n"], unseen.try_fed, TWICE),
+    ("runner_lock_by_a_handle_of_its_own", [
+        POST, f"{POST}            close_all([self.locks.pop(action.worker)])\n"],
+     unseen.try_runner_killed, TWICE),
+    ("lock_is_probed_by_the_inherited_handle", [
+        *NO_SUBREAPER, "        self.process = 0\n        close_all(self.locks)\n",
+        "        self.process = 0\n"], rules.try_left_behind, TWICE + "|did nothing"),
+    ("lock_is_not_handed_on", [HANDED, "{0: os.open(os.devnull, os.O_RDONLY), 1: files[0], 2: files[1]}"],
+     rules.try_orphan, TWICE),
     ("lock_only_as_standard_input", FURTHER, rules.try_left_behind, TWICE + "|did nothing"),
     ("lock_only_as_a_further_descriptor", INPUT, rules.try_closed, TWICE),
-    ("runner_without_lock", ['locked(f"{self.given.run}/runner.{self.number}", True)', 'os.open("/dev/null", os.O_RDONLY)'],
+    ("runner_without_lock", [
+        "            lock = locked(path, True)\n            if lock is not None:",
+        '            lock = os.open("/dev/null", os.O_RDONLY)\n            if lock is not None:'],
      rules.try_two_crews, LISTED),
     ("late_line_is_carried_out", [
-        'self.saw(serial, "unbegun")\n            while', 'self.late = serial, int(number), text\n            while',
-        '        if self.crew.is_stopping:\n            return self.saw(serial, "unbegun")\n',
-        '        if getattr(self, "late", None) and self.ends > 2:\n            late, self.late = self.late, None\n'
-        '            yield from self.perform(*late)\n',
+        'KILL_AGAIN = 0.5', 'LATE: List[Said] = []\nKILL_AGAIN = 0.5',
+        '            state.seen[it.serial] = f"unbegun {it.serial}"\n        return []',
+        '            LATE.append(it)\n        return []',
+        'return reply(state, serial, state.seen[serial]) + tell(state, state.untold.pop(serial, None))',
+        'late = [Begin(*LATE.pop()[1:4])] if LATE and serial > LATE[0].serial + 2 else []\n'
+        '    return reply(state, serial, state.seen[serial]) + tell(\n'
+        '        state, state.untold.pop(serial, None)) + late',
     ], rules.try_late_line, TWICE),
-    ("end_is_forgotten", ['        if serial in self.seen:\n            return self.seen[serial]\n', ''], rules.try_kept, LISTED),
-    ("ends_before_it_is_noted", ["return not self.seen and (", "return ("], rules.try_noted_after_all, LISTED),
-    ("running_is_an_end", ['return f"running {serial}"\n            yield', 'return self.ended(command)\n            yield'],
+    ("end_is_forgotten", [
+        '    if serial in state.seen:\n        state.has_said = True\n        return answer(state, serial)\n',
+        ''], rules.try_kept, LISTED),
+    ("ends_before_it_is_noted", ["return not state.seen and not state.found and (", "return ("],
+     rules.try_noted_after_all, LISTED),
+    ("running_is_an_end", [
+        '    state.current = None\n    report = Tell(', '    return gone(state, serial)\n    report = Tell('],
      rules.try_left_behind, TWICE + "|did nothing"),
+    ("goes_on_after_a_stop", [
+        'return way(state, "leave") if is_waiting(state) else', 'return [] if is_waiting(state) else',
+        'return way(state, "leave") if state.is_stopping or state.found else', 'return'],
+     staying.try_stop, "after the stop: .*'go'|is told to leave"),
+    ("starts_anew_after_a_round", [
+        'os.write(self.input[0], f"{text}\\n".encode())',
+        '_ = close_all(self.input) if text == "go" else os.write(self.input[0], f"{text}\\n".encode())'],
+     staying.try_stays, "has had 2 processes"),
 ]
 # Mistakes about which folder a list is run in, of the stand-in and of amo_jobs.
 MISSING = [("missing_is_empty", identity.try_journals, TWICE)]
@@ -55,23 +81,26 @@ IDENTITY = [
         '        return Row.NO_ID if os.path.lexists(folder) else Row.MISSING\n',
         '        return Row.GOES_ON\n',
         '*(["--id", run] if run else [])', '*[]', '    program.more += ["--id", run]\n', '',
+        '    program.more += ["--id", settings.id]\n', '',
     ], identity.try_missing, TWICE),
     ("mark_is_replaced", ["os.link(new, path)", "os.replace(self.written(path), path)"],
      identity.try_two_folders, TWICE),
     ("list_is_put_away_last", [
-        '            rename(self.given.jobs, self.list)\n', '            pass\n',
-        '            rename(self.given.mark, self.old_mark)\n',
-        '            rename(self.given.mark, self.old_mark)\n'
-        '            rename(self.given.jobs, self.list)\n',
+        '            rename(self.settings.jobs, self.list)\n', '            pass\n',
+        '            rename(self.settings.mark, self.old_mark)\n',
+        '            rename(self.settings.mark, self.old_mark)\n'
+        '            rename(self.settings.jobs, self.list)\n',
     ], forgetting.try_forget_killed, TWICE),
 ]
 
 
-def of_the_worker(name, test, wanted):
+def of_the_worker(mistake, test, wanted, name=None):
     def try_control(bench):
-        return shown(scene.Bench(bench.program, f"{HERE}/mistaken.py", bench.room, False, bench.seed, name), name, test, wanted)
+        worker = f"{HERE}/mistaken.py"
+        wrong = scene.Bench(bench.program, worker, bench.room, False, bench.seed, mistake)
+        return shown(wrong, mistake, test, wanted)
 
-    return named(try_control, name, test)
+    return named(try_control, name or mistake, test)
 
 
 def of_the_runner(name, pairs, test, wanted):
@@ -105,5 +134,7 @@ def shown(bench, name, test, wanted):
 
 ALL = [[of_the_worker(*it) for it in OF_THE_WORKER], [of_the_runner(*it) for it in OF_THE_RUNNER]]
 OF_IDENTITY = [*[of_the_worker(*it) for it in MISSING], *[of_the_runner(*it) for it in IDENTITY]]
-SHORT = [ALL[0][0], *ALL[1][:2], *OF_IDENTITY]  # those of the short form
-PARTS = {"controls": [*SHORT, *ALL[0][1:], *ALL[1][2:]]}
+OF_SPOILED = [of_the_worker(*it) for it in SPOILED]
+# those of the short form
+SHORT = [*ALL[0][:2], *ALL[1][:3], *OF_IDENTITY, *OF_SPOILED]
+PARTS = {"controls": [*SHORT, *ALL[0][2:], *ALL[1][3:]]}

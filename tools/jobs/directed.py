@@ -1,19 +1,21 @@
-"""Runner, worker and command killed, or stopped for longer than a restart takes, at each line of the protocol in turn, each alone
-and together."""
+"""Supervisor, runner, worker and command killed, or stopped for longer than a restart takes, at each line of the protocol in turn,
+each alone and together."""
 
 import re
 
 from jobs.scene import FAILED, Wrong, want
 from worker import folder
 
-WHO = ("runner", "worker", "command", "runner+worker", "runner+command", "worker+command", "runner+worker+command")
+WHO = ("runner", "worker", "command", "runner+worker", "runner+command", "worker+command", "runner+worker+command", "supervisor",
+       "supervisor+runner", "supervisor+worker", "supervisor+runner+command", "supervisor+runner+worker+command")
 STOPPED = ("~runner", "~worker", "~command", "runner+~worker", "runner+~command", "runner+worker+~command", "~runner+worker",
-           "runner+~worker+~command", "~runner+~command")
+           "runner+~worker+~command", "~runner+~command", "~supervisor", "supervisor+~runner", "~supervisor+runner")
 KINDS = ["slow", "amp", "fail"]
 # Kills and stops that leave no doubt, since an end that a runner saw isn't lost with its worker. If
 # a worker died before its line came to its runner, the runner knows nothing, and a doubt may be
 # left.
-LEAVE_NO_DOUBT = ("worker", "~runner", "~worker", "~command", "~runner+worker", "~runner+~command")
+LEAVE_NO_DOUBT = ("worker", "~runner", "~worker", "~command", "~runner+worker", "~runner+~command", "supervisor", "~supervisor",
+                  "supervisor+worker", "supervisor+~runner")
 
 
 def befall(bench, number, who, kinds, workers):
@@ -28,7 +30,9 @@ def befall(bench, number, who, kinds, workers):
     unseen = {f"{worker}.{int(serial) + 1}" for worker, serial in re.findall(r"(\d+)\.(\d+) of line \d+ answered", told)}
     # (If a runner has nothing else to do, it doesn't see the end of what a command left behind.)
     unseen.update(re.findall(r"line \d+: attempt (\d+\.\d+) has ended, and something that it started still runs", scene.tale()))
-    may_leave = who not in LEAVE_NO_DOUBT or "unsaid" in told or unseen.issuperset(scene.listed)
+    # (So does a worker that is killed as it goes on after `over`.)
+    is_unseen = "unsaid" in told or ".over of line 0 answered" in told
+    may_leave = who not in LEAVE_NO_DOUBT or is_unseen or unseen.issuperset(scene.listed)
     want(may_leave or not scene.listed, f"a doubt though no runner or command was killed: {told.strip()}, {scene.listed}")
 
 

@@ -11,11 +11,13 @@
                    With SHORT in place of a number a write takes half of its bytes.
 
    KIND of a file is its name within the room, with N for a number and X for 16 hexadecimal digits
-   or more, as run/command.N.N. KIND of a process is `door`, `status` or `worker`, for the first
-   processes that amo_jobs begins by vfork; `command` for each that it begins by fork; `again` for
-   all others. A pipe has the kind of the process for which it was made, and its number among the
-   pipes of that process, as worker.2. The pipe of a command is `report`; the one that doesn't block
-   is `bell`. A pipe is later.N as long as it isn't known for which process it was made.
+   or more, as run/command.N.N. KIND of a process is `door` or `status` for the first ones that
+   amo_jobs begins by vfork; `worker` for the first one with the word `work` that it begins by
+   posix_spawn; `command` for the others of these, and for each that it begins by fork; `again` for
+   all others, and `children` for any child. A pipe has the kind of the process for which it was
+   made, and its number among the pipes of that process, as worker.2. The pipe of a command is
+   `report`; the one that doesn't block is `bell`. A pipe is later.N as long as it isn't known for
+   which process it was made.
    What a child does before it becomes another program counts if it is the first child of its kind.
    Its KIND begins with `child:` then, as child:command. */
 #define _GNU_SOURCE
@@ -23,14 +25,15 @@
 #include <errno.h>
 #include <fcntl.h>
 #include <limits.h>
+#include <poll.h>
 #include <signal.h>
+#include <spawn.h>
 #include <stdarg.h>
 #include <stdio.h>
 #include <stdlib.h>
 #include <string.h>
 #include <sys/file.h>
 #include <sys/resource.h>
-#include <sys/select.h>
 #include <sys/stat.h>
 #include <sys/syscall.h>
 #include <sys/time.h>
@@ -58,7 +61,9 @@ static int wanted_error, is_on, stage, pipes, children;
 static const char *in_child; /* what a child is to become, before it does; else NULL */
 static long wanted_count;
 static pid_t (*real_fork)(void);
-static int (*real_select)(int, fd_set *, fd_set *, fd_set *, struct timeval *);
+static int (*real_poll)(struct pollfd *, nfds_t, int);
+static int (*real_spawn)(pid_t *, const char *, const posix_spawn_file_actions_t *,
+                         const posix_spawnattr_t *, char *const[], char *const[]);
 static struct site sites[MOST_SITES];
 static char kinds[MOST_FILES][MOST_NAME]; /* of each descriptor that counts; empty: it doesn't */
 static struct {
@@ -71,7 +76,8 @@ __attribute__((constructor)) static void begin(void) {
              *fault = getenv("AMO_FAULT");
   is_on = given && path;
   *(void **)&real_fork = dlsym(RTLD_NEXT, "fork");
-  *(void **)&real_select = dlsym(RTLD_NEXT, "select");
+  *(void **)&real_poll = dlsym(RTLD_NEXT, "poll");
+  *(void **)&real_spawn = dlsym(RTLD_NEXT, "posix_spawnp");
   if (!is_on)
     return;
   snprintf(room, sizeof room, "%s/", given);
@@ -129,6 +135,8 @@ static int kind_of(int folder, const char *path, char *kind) {
 
 /* The kind of a process, by its number. */
 static const char *process_kind(pid_t process) {
+  if (process == -1)
+    return "children";
   for (int k = 0; k < children; k++)
     if (begun[k].process == process)
       return begun[k].kind;
@@ -394,9 +402,16 @@ static void name_pipes(const char *kind) {
     }
 }
 
-/* Python begins workers by vfork, and commands by fork; here both are fork, since no function gives
-   back twice from a vfork. If a vfork fails Python tries a fork: that fails then too, as it would
-   if there were no room for a process. */
+static void note_process(pid_t process, const char *kind) {
+  name_pipes(kind);
+  pipes = 0, stage += strcmp(kind, "command") != 0;
+  if (children < MOST_PROCESSES)
+    begun[children].process = process, begun[children++].kind = kind;
+}
+
+/* Python begins door and status by vfork, and timed commands by fork; here both are fork, since no
+   function gives back twice from a vfork. If a vfork fails Python tries a fork: that fails then too,
+   as it would if there were no room for a process. */
 static pid_t begun_by(const char *name, const char *kind) {
   static int has_failed;
   if (!is_on || in_child)
@@ -412,13 +427,27 @@ static pid_t begun_by(const char *name, const char *kind) {
     leave(&call, process > 0 ? 1 : process);
   if (process < 0)
     return process;
-  name_pipes(kind);
-  pipes = 0, stage += strcmp(kind, "command") != 0;
   if (process == 0)
     in_child = kind, is_on = call.count == 1;
-  else if (children < MOST_PROCESSES)
-    begun[children].process = process, begun[children++].kind = kind;
+  else
+    note_process(process, kind);
   return process;
+}
+
+int posix_spawnp(pid_t *process, const char *file, const posix_spawn_file_actions_t *actions,
+                 const posix_spawnattr_t *how, char *const words[], char *const surroundings[]) {
+  if (!is_on || in_child)
+    return real_spawn(process, file, actions, how, words, surroundings);
+  int is_worker = words[0] && words[1] && strcmp(words[1], "work") == 0;
+  const char *kind = !is_worker ? "command" : stage < 3 ? stages[stage] : "again";
+  struct call call = enter("spawn", kind);
+  int error = call.fails ? wanted_error
+                         : real_spawn(process, file, actions, how, words, surroundings);
+  errno = error;
+  leave(&call, error ? -1 : 1);
+  if (!error)
+    note_process(*process, kind);
+  return error;
 }
 
 pid_t fork(void) { return begun_by("fork", "command"); }
@@ -454,11 +483,14 @@ int kill(pid_t process, int number) {
 }
 int killpg(pid_t group, int number) { return kill(-group, number); }
 
-int select(int count, fd_set *restrict reading, fd_set *restrict writing, fd_set *restrict odd,
-           struct timeval *restrict time) {
+int poll(struct pollfd *files, nfds_t count, int time) {
   if (!is_on || in_child)
-    return real_select(count, reading, writing, odd, time);
-  TRY("select", "crew", real_select(count, reading, writing, odd, time));
+    return real_poll(files, count, time);
+  TRY("poll", "crew", real_poll(files, count, time));
+}
+int __poll_chk(struct pollfd *files, nfds_t count, int time, size_t room) {
+  (void)room;
+  return poll(files, count, time);
 }
 
 #define IN_CHILD(NAME, DO)   \

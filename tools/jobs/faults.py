@@ -33,9 +33,10 @@ LANES, BUILD = 4, 125
 # If two ends are right, a `/` stands between them; the first of one column goes with the first of
 # each other column. (A command may end before or after its runner waits for it.)
 
-# Before a worker is begun, a crew looks at the list, the mark and the folder, writes the mark and
-# the command, and asks the door and the status. A failure there ends the crew before any line is
-# performed, so the next crew performs all three; or it doesn't matter.
+# Here a crew is `amo_jobs work`, one process that is runner and supervisor. The crews after it have
+# several processes. Before a worker is begun, a crew looks at the list, the mark and the folder,
+# writes the mark and the command, and asks the door and the status. A failure there ends it before
+# any line is performed, so the next crew performs all three; or it doesn't matter.
 BEFORE = """
 lstat . 1 2                | EIO               | 0     | 3 done | 0 | 0
 lstat jobs 1               | EIO               | 0     | 3 done | 0 | 0
@@ -108,7 +109,7 @@ read NAME.1 1              | EIO               | 73    | % | 0 | 3
 waitpid NAME 1             | EINTR             | 0     | 3 done | 0 | 0
 """
 
-# The crew and its worker. If a worker was begun and loses its runner, it may have put an intent:
+# The runner and its worker. If a worker was begun and loses its runner, it may have put an intent:
 # then the line is in doubt, and was not performed.
 CREW = """
 pipe2 bell 1               | EMFILE            | 73    | % | 0 | 3
@@ -116,48 +117,35 @@ fstat bell 1               | EIO               | 73    | % | 0 | 3
 fcntl bell 1               | EIO               | 73    | % | 0 | 3
 write bell 1               | -                 | a full pipe wakes as well, and it has no other error
 read bell 1                | EIO               | 73    | % | 1 | 2
-select crew 1              | ENOMEM            | 73    | % | 0 | 3
-select crew 2              | ENOMEM            | 73    | % | 0/1 | 3/3
-select crew 3              | ENOMEM            | 73    | % | 1 | 2
-select crew 1 2 3          | EINTR             | 0     | 3 done | 0 | 0
+poll crew 1                | ENOMEM            | 73    | % | 0/1 | 3/3
+poll crew 2 3              | ENOMEM            | 73    | % | 1 | 2
+poll crew 1 2 3            | EINTR             | 0     | 3 done | 0 | 0
 open run/runner.N 1        | EIO EMFILE ENOSPC | 73    | % | 0 | 3
+open run/runner.N 2        | EIO EMFILE ENOSPC | 0     | 3 done | 0 | 0
 flock run/runner.N 1       | ENOLCK            | 73    | % | 0 | 3
 flock run/runner.N 1       | EAGAIN EINTR      | 0     | 3 done | 0 | 0
 stat run/runner.N 1        | EIO               | 73    | % | 0 | 3
 stat run/runner.N 1        | ENOENT            | 0     | 3 done | 0 | 0
 fstat run/runner.N 1       | EIO               | 73    | % | 0 | 3
-close run/runner.N 1       | EIO               | 0     | 3 done | 0 | 0
+*lseek run/runner.N 1      | EIO               | 0     | 3 done | 0 | 0
+write run/runner.N 1       | EIO ENOSPC        | 0     | 3 done | 0 | 0
+close run/runner.N 1 2     | EIO               | 0     | 3 done | 0 | 0
 pipe2 worker.1 1           | EMFILE            | 74    | worker 1: *% | 0 | 3
 pipe2 worker.2 1           | EMFILE            | 74    | worker 1: *% | 0 | 3
 pipe2 worker.3 1           | EMFILE            | 74    | worker 1: *% | 0 | 3
-pipe2 worker.4 1           | EMFILE            | 74    | worker 1: *% | 0 | 3
-*fstat worker.1 1          | EIO               | 0/74  |  | 0 | 0/3
-*fstat worker.2 1          | EIO               | 0/74  |  | 0 | 0/3
-*fstat worker.3 1          | EIO               | 0/74  |  | 0 | 0/3
-*fstat worker.3 2          | EIO               | 0/73  |  | 0 | 0
-*lseek worker.3 1          | EIO               | 0/73  |  | 0 | 0
-vfork worker 1             | EAGAIN            | 0     | 3 done | 0 | 0
-vfork worker 1             | ENOMEM            | 74    | worker 1: *% | 0 | 3
-close worker.1 1           | EIO               | 74    | worker 1: *% | 0/1 | 3/3
-close worker.2 1           | EIO               | 74    | worker 1: *% | 0/1 | 3/3
-close worker.3 1           | EIO               | 74    | worker 1: *% | 0/1 | 3/3
-close worker.4 1 2         | EIO               | 74    | worker 1: *% | 0/1 | 3/3
-close child:worker 1 4     | EIO               | 74    | worker 1: *% | 0 | 3
-dup2 child:worker 1 3      | EMFILE            | 74    | worker 1: *% | 0 | 3
-setsid child:worker 1      | EPERM             | 0/74  |  | 0 | 0/3
-execve child:worker 1      | EACCES ENOENT     | 74    | % | 0 | 3
-read worker.4 1            | EIO               | 74    | worker 1: *% | 0/1 | 3/3
-ioctl worker.2 1           | EIO               | 73    | % | 0/1 | 3/3
-ioctl worker.3 1           | EIO               | 73    | % | 0/1 | 3/3
+spawn worker 1             | EAGAIN ENOMEM     | 0     | 3 done | 0 | 0
+spawn worker 1             | EACCES ENOENT     | 74    | worker 1: *% | 0 | 3
+close worker.1 1 2         | EIO               | 0     | 3 done | 0 | 0
+close worker.2 1 2         | EIO               | 0     | 3 done | 0 | 0
+close worker.3 1 2         | EIO               | 0     | 3 done | 0 | 0
+ioctl worker.2 1           | EIO               | 74    | worker 1: *% | 0 | 3
+ioctl worker.3 1           | EIO               | 74    | worker 1: *% | 0 | 3
 read worker.2 1            | EIO               | 73    | % | 1 | 3
 read worker.2 1 2          | EINTR EAGAIN      | 0     | 3 done | 0 | 0
 read worker.2 2            | EIO               | 73    | % | 1 | 2
 read worker.3 1            | EIO               | 73    | % | 0 | 0
-close worker.1 2           | EIO               | 73    | % | 0 | 0
-close worker.2 2           | EIO               | 73    | % | 0 | 0
-close worker.3 2           | EIO               | 73    | % | 0 | 0
 write worker.1 1           | EPIPE             | 0     | 3 done | 0 | 0
-waitpid worker 1           | -                 | amo_jobs began it, and nobody else waits for it
+waitpid children 1 2 3     | EINTR ECHILD      | 0     | 3 done | 0 | 0
 write screen 1 2           | EIO EPIPE         | 0     |  | 0 | 0
 """
 
@@ -168,40 +156,41 @@ open run/command.N.N 1     | EIO EMFILE ENOSPC | 69    | NOT * (no line was lost
 flock run/command.N.N 1    | ENOLCK EAGAIN     | 69    | NOT * (no line was lost) | 0 | 3
 stat run/command.N.N 1     | EIO ENOENT        | 69    | NOT * (no line was lost) | 0 | 3
 fstat run/command.N.N 1    | EIO               | 69    | NOT * (no line was lost) | 0 | 3
-fcntl run/command.N.N 1    | EMFILE            | 69    | NOT * (no line was lost) | 0 | 3
 open run/out.N.N 1         | EIO EACCES EMFILE ENOSPC | 69    | NOT *: % | 0 | 3
 open run/err.N.N 1         | EIO EACCES EMFILE ENOSPC | 69    | NOT *: % | 0 | 3
 pipe2 later.1 1            | EMFILE            | 69    | NOT *: % | 0 | 3
 fork command 1             | EAGAIN ENOMEM     | 69    | NOT *: % | 0 | 3
 setsid child:command 1     | EPERM             | 69    | NOT % (no line was lost); correct the command | 0 | 3
-dup2 child:command 1 2 3   | EMFILE            | 69    | NOT % (no line was lost); correct the command | 0 | 3
-ioctl child:command 1      | EIO               | 69    | NOT % (no line was lost); correct the command | 0 | 3
+dup2 child:command 1 2 3 4 | EMFILE            | 69    | NOT % (no line was lost); correct the command | 0 | 3
 setitimer child:command 1  | EINVAL            | 69    | NOT % (no line was lost); correct the command | 0 | 3
 execve child:command 1     | ENOENT EACCES     | 69    | NOT % (no line was lost); correct the command | 0 | 3
 execve child:command 1     | ENOEXEC ETXTBSY   | 69    | NOT % (no line was lost); correct the command | 0 | 3
 execve child:command 1     | ENOMEM E2BIG      | 69    | NOT % (no line was lost); correct the command | 0 | 3
 """
 
-# After a command is begun. None of these failures opens its line again. Most don't matter; those
-# that end the crew leave a doubt.
+# Without a timeout a command is begun by posix_spawn, which reports the failures of its child.
+SPAWNED = """
+spawn command 1            | EAGAIN ENOMEM     | 69    | NOT *: % | 0 | 3
+spawn command 1            | ENOENT EACCES     | 69    | NOT % (no line was lost); correct the command | 0 | 3
+spawn command 1            | ENOEXEC ETXTBSY E2BIG EMFILE EPERM | 69 | NOT % (no line was lost); correct the command | 0 | 3
+"""
+
+# After a command is begun. None of these failures opens its line again, and none matters.
 BEGUN = """
 close report 1 2           | EIO EINTR         | 0     | 3 done | 0 | 0
 read report 1              | EIO EINTR         | 0     | 3 done | 0 | 0
 close run/out.N.N 1        | EIO EINTR ENOSPC EDQUOT | 0     | 3 done | 0 | 0
 close run/err.N.N 1        | EIO EINTR ENOSPC EDQUOT | 0     | 3 done | 0 | 0
-waitid command 1           | ECHILD            | 73    | % | 1 | 2
-waitid command 2           | ECHILD            | 73    | % | 1/1 | 2/1
-waitid command 1 2         | EINTR             | 0     | 3 done | 0 | 0
 close run/command.N.N 1 2 3 | EIO               | 0     | 3 done | 0 | 0
 open run/command.N.N 2     | EIO EMFILE        | 0     | 3 done | 0 | 0
 flock run/command.N.N 2    | ENOLCK EAGAIN     | 0     | 3 done | 0 | 0
 stat run/command.N.N 2     | EIO ENOENT        | 0     | 3 done | 0 | 0
 fstat run/command.N.N 2    | EIO               | 0     | 3 done | 0 | 0
 unlink run/command.N.N 1   | EIO EACCES        | 0     | 3 done | 0 | 0
-waitpid command 1          | ECHILD            | 2     | 1 in doubt | 1 | 0
-waitpid command 1          | EINTR             | 0     | 3 done | 0 | 0
-stat run/out.N.N 1         | EIO               | 0     | 3 done | 0 | 0
-stat run/err.N.N 1         | EIO               | 0     | 3 done | 0 | 0
+fstat run/out.N.N 1        | EIO               | 0     | 3 done | 0 | 0
+fstat run/err.N.N 1        | EIO               | 0     | 3 done | 0 | 0
+rename run/out.N.N 1       | EIO EACCES        | 0     | 3 done | 0 | 0
+rename run/err.N.N 1       | EIO EACCES        | 0     | 3 done | 0 | 0
 unlink run/out.N.N 1       | EIO               | 0     | 3 done | 0 | 0
 unlink run/err.N.N 1       | EIO               | 0     | 3 done | 0 | 0
 open run/pace.N 1          | EIO EMFILE ENOSPC | 0     | 3 done | 0 | 0
@@ -211,35 +200,22 @@ write run/pace.N 1         | EIO ENOSPC        | 0     | 3 done | 0 | 0
 close run/pace.N 1         | EIO ENOSPC        | 0     | 3 done | 0 | 0
 """
 
-# After the last line. A worker is begun once more if the first one left, and the status is asked.
-# All lines are done by then.
+# After the last line the status is asked. All lines are done by then.
 AT_LAST = """
-*pipe2 later.2 1           | EMFILE            | 73/74 | % | 0 | 0
-*pipe2 later.3 1           | EMFILE            | 73/74 | % | 0 | 0
-*pipe2 later.4 1           | EMFILE            | 73/74 | % | 0 | 0
-*fstat later.1 1           | EIO               | 0/73/74 |  | 0 | 0
-*fstat later.2 1           | EIO               | 0/73/74 |  | 0 | 0
-*fstat later.3 1           | EIO               | 0/73/74 |  | 0 | 0
+pipe2 later.2 1            | EMFILE            | 73    | % | 0 | 0
+*fstat later.1 1           | EIO               | 0/73  |  | 0 | 0
 *lseek later.1 1           | EIO               | 0/73  |  | 0 | 0
-vfork again 1              | EAGAIN            | 0/73  |  | 0 | 0
-close again.1 1 2          | EIO               | 73/74 | % | 0 | 0
-close again.2 1 2          | EIO               | 73/74 | % | 0 | 0
-*close again.3 1 2         | EIO               | 73/74 | % | 0 | 0
-*close again.4 1 2         | EIO               | 73/74 | % | 0 | 0
-close child:again 1        | EIO               | 73/74 | % | 0 | 0
-dup2 child:again 1         | EMFILE            | 73/74 | % | 0 | 0
-setsid child:again 1       | EPERM             | 0/73/74 |  | 0 | 0
-execve child:again 1       | EACCES            | 73/74 | % | 0 | 0
-*ioctl again.2 1           | EIO               | 73    | % | 0 | 0
-*ioctl again.3 1           | EIO               | 73    | % | 0 | 0
+vfork again 1              | EAGAIN            | 73    | % | 0 | 0
+close again.1 1 2          | EIO               | 73    | % | 0 | 0
+close again.2 1 2          | EIO               | 73    | % | 0 | 0
+close child:again 1        | EIO               | 73    | % | 0 | 0
+dup2 child:again 1         | EMFILE            | 73    | % | 0 | 0
+setsid child:again 1       | EPERM             | 0/73  |  | 0 | 0
+execve child:again 1       | EACCES            | 73    | % | 0 | 0
 read again.1 1             | EIO               | 73    | % | 0 | 0
 read again.2 1             | EIO               | 73    | % | 0 | 0
-*read again.3 1            | EIO               | 73    | % | 0 | 0
-*read again.4 1            | EIO               | 73/74 | % | 0 | 0
 *fstat again.1 1           | EIO               | 0/73  |  | 0 | 0
 *lseek again.1 1           | EIO               | 0/73  |  | 0 | 0
-*fstat again.3 1           | EIO               | 0/73  |  | 0 | 0
-*lseek again.3 1           | EIO               | 0/73  |  | 0 | 0
 waitpid again 1            | -                 | amo_jobs began it, and nobody else waits for it
 """
 
@@ -254,13 +230,8 @@ kill child:command 1       | EPERM             | 69    | NOT No such file or dir
 close report 1 2           | EIO               | 69    | --command-changed | 0 | 3
 close run/out.N.N 1        | EIO               | 69    | --command-changed | 0 | 3
 close run/err.N.N 1        | EIO               | 69    | --command-changed | 0 | 3
-close run/command.N.N 1 2  | EIO               | 69    | --command-changed | 0 | 3
+close run/command.N.N 1    | EIO               | 69    | --command-changed | 0 | 3
 unlink run/command.N.N 1   | EIO               | 69    | --command-changed | 0 | 3
-"""
-
-# The command takes too long. If TERM can't be sent, KILL follows.
-LATE = """
-kill command 1             | EPERM ESRCH       | 2     | line 1: attempt * is in doubt, since the timeout ended it | 3 | 3
 """
 
 # The crew finds a mark, and the folder that the mark names.
@@ -399,15 +370,14 @@ def move(scene) -> None:
     enter(scene, "old")
 
 
-SHORT_TIME = ("--linger", "20", "--timeout", "0.4", "--grace", "3")
 WAYS = {
-    "late": Way(LATE, DOUBTFUL, ("waits", "waits", "waits"), SHORT_TIME),
     "before": Way(BEFORE + "".join(ASKED.replace("NAME", it) for it in ("door", "status")),
                   is_early=True),
     "goes on": Way(GOES_ON, before=enter, is_early=True),
     "moved": Way(MOVED, before=move, is_early=True),
     "plain": Way(CREW + UNBEGUN + BEGUN + AT_LAST),
     "missing": Way(MISSING, LEFT, command="./there-is-none"),
+    "spawned": Way(SPAWNED, options=("--linger", "20")),
 }
 
 
@@ -427,8 +397,10 @@ class Failing(Scene):
                    "AMO_FAULT_ROOM": self.room, "AMO_FAULT_LOG": self.log, "AMO_FAULT": self.fault}
         return super().environment(plan, **(library if self.is_first else {}), **more)
 
-    def words(self, *given, plan=None):
-        python, isolated, *rest = super().words(*given, plan=plan)
+    def words(self, command, *more, plan=None):
+        if command == "crew" and self.is_first:  # one process, which is runner and supervisor
+            command, more = "work", ("--worker", "1", *more)
+        python, isolated, *rest = super().words(command, *more, plan=plan)
         return [python, isolated, "-S", *rest]  # which begins in two thirds of the time
 
     def first(self) -> int:
@@ -532,13 +504,6 @@ def calls_met(bench, way: Way) -> set[str]:
     return {f"{it[0]} {it[1]}" for it in scene.met()}
 
 
-def try_failed_close(bench):
-    """a command whose output file can't be closed counts as begun"""
-    for row in Table("close run/out.N.N 1 | EIO | 0 | 3 done | 0 | 0").rows:
-        wrong = try_row(bench, WAYS["plain"], row)
-        want(not wrong, wrong)
-
-
 def try_calls(bench):
     """no failed call has a line performed twice or counted without its effect; see the table"""
     tables = {name: Table(way.table) for name, way in WAYS.items()}
@@ -555,7 +520,7 @@ def try_calls(bench):
 
 def try_raised(bench):
     """whatever is raised after the fork, the line isn't open again"""
-    place = "        self.process, self.begun = process, time.monotonic()\n"
+    place = "        self.process = process\n"
     program = bench.program
     bench.program = changed(program, f"{bench.room}/raises", [place, "        raise MemoryError\n"])
     scene = Failing(bench, WAYS["plain"])

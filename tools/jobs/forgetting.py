@@ -68,9 +68,8 @@ def try_forget_doubts(bench):
     """a run with a line that is running or in doubt is put away only with --force"""
     scene, crew_alive = waiting(bench)
     want("is locked" in forget(scene, LATER), "a crew lives")
-    crew_alive.process.kill()
-    crew_alive.process.wait()
-    until(lambda: not list(scene.processes("work")), "the worker ends")
+    scene.kill_crew(crew_alive.process)
+    until(lambda: not scene.worker_processes(), "the worker ends")
     told = forget(scene, REFUSED)
     want("open: 2, running or in doubt: 1" in told, told)
     open(f"{scene.room}/go", "w").close()

@@ -483,7 +483,7 @@ def vanishes(bench, names) -> None:
     name, away = names(scene)
     before = performed(scene)
     os.rename(name, away)
-    for worker in scene.processes("work"):
+    for worker in scene.worker_processes():
         os.kill(worker, signal.SIGKILL)
     open(f"{scene.room}/go", "w").close()
     until(lambda: crew_alive.process.poll() is not None or "goes on trying" in crew_alive.told(),

@@ -16,13 +16,12 @@ def until(is_so, what, seconds=240):
 
 
 def orphan(bench, kind="waits"):
-    """A run whose crew was killed after its command had begun, which waits before it does anything;
-    and that command's process."""
+    """A run whose supervisor and runner were killed after a command had begun, which waits before it
+    does anything; and that command's process."""
     scene = bench.scene([kind, "quick", "quick"])
     crew = scene.start()
     until(lambda: scene.tales(1), "the command has begun")
-    crew.kill()
-    crew.wait()
+    scene.kill_crew(crew)
     return scene, int(scene.tales(1)[0][2])
 
 
@@ -64,7 +63,7 @@ def try_words_lost(bench):
 def try_running_is_not_answered(bench):
     """a person who is too quick is refused"""
     scene, command = orphan(bench)
-    scene.call("answer", "1.1", "1", "1 waits", "not-done", status=None)
+    scene.call("answer", "--now", "1.1", "1", "1 waits", "not-done", status=None)
     look_on(scene)
     go_on(scene, command)
     scene.see_out()
@@ -76,14 +75,13 @@ def try_two_persons(bench):
     scene, command = orphan(bench, "waits_stays")
     os.kill(command, signal.SIGKILL)
     until(lambda: "1.1, line 1" in scene.call("doubts"), "it is listed")
-    scene.call("answer", "1.1", "1", "1 waits_stays", "not-done")
+    scene.call("answer", "--now", "1.1", "1", "1 waits_stays", "not-done")
     crew = scene.start()
     until(lambda: [it for it in scene.tales(1) if it[0] == "did"], "it is performed once more")
-    crew.kill()
-    crew.wait()
+    scene.kill_crew(crew)
     scene.let("go", "over")
     until(lambda: "1.2, line 1" in scene.call("doubts"), "it is listed once more")
-    scene.call("answer", "1.1", "1", "1 waits_stays", "not-done", status=None)
+    scene.call("answer", "--now", "1.1", "1", "1 waits_stays", "not-done", status=None)
     scene.see_out()
     scene.audit()
 
@@ -97,15 +95,21 @@ def try_late_line(bench):
 
 
 def try_two_crews(bench):
-    """while a runner is stopped nobody else is the runner of its worker, so that no end that it saw is lost"""
+    """while a runner is stopped nobody else is the runner of its worker, so that no end that it saw is
+    lost; a second crew is refused, and one after the supervisor's death waits for the number"""
     scene = bench.scene(["quick", "quick"])
     scene.let("held")
     crew = scene.start(plan="5:~runner+worker")
     until(lambda: os.path.exists(f"{scene.room}/befallen"), "the runner stands still")
-    statuses = [scene.start().wait(240)]
+    scene.ends(scene.start(), LATER)
+    crew.kill()
+    crew.wait()
+    second = scene.start()
+    until(lambda: second.poll() is not None or "the runner of an earlier crew" in scene.tale(),
+          "the second crew waits for the number")
     os.unlink(f"{scene.room}/held")
-    statuses.append(crew.wait(240))
-    want(set(statuses) <= {DONE, DOUBTFUL, LATER}, f"{statuses}: {scene.tale()[-300:]}")
+    status = second.wait(240)
+    want(status in (DONE, DOUBTFUL), f"{status}: {scene.tale()[-300:]}")
     scene.see_out()
     scene.audit()
     want(not scene.listed and " is in doubt" not in scene.tale(), f"an end that was seen is a doubt: {scene.tale()[-300:]}")
@@ -116,8 +120,7 @@ def try_left_behind(bench):
     scene = bench.scene(["waits_amp", "quick"])
     crew = scene.start()
     until(lambda: crew.poll() is not None or scene.tales(2), "its worker has gone on")
-    crew.kill()
-    crew.wait()
+    scene.kill_crew(crew)
     for it in scene.look().intents.values():
         is_true = it.line != 1 or it.answer != "done"
         want(is_true, f"line 1 counts as done by {it.name()}, which did nothing yet")
@@ -134,8 +137,7 @@ def try_closed(bench):
     scene = bench.scene(["closes", "quick"])
     crew = scene.start()
     until(lambda: os.path.exists(f"{scene.room}/closed"), "the command has closed them")
-    crew.kill()
-    crew.wait()
+    scene.kill_crew(crew)
     scene.person()
     look_on(scene)
     scene.person()

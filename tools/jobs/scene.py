@@ -1,6 +1,7 @@
 """What the parts of tools/kill_jobs share: a run of amo_jobs in a folder of its own, whose commands write down what they do, a
 person who looks at each listed doubt and answers truthfully at once, and the audit of it all."""
 
+import glob
 import json
 import os
 import random
@@ -32,21 +33,21 @@ def want(so, what):
 
 
 def changed(program: str, room: str, pairs: list) -> str:
-    """Copies amo_jobs and its modules into a new folder, with the first text of each pair replaced
+    """Copies a program and the package into a new folder, with the first text of each pair replaced
     by the second; returns the path of the copy. Each first text must stand there once."""
     os.mkdir(room)
     shutil.copy(program, room)
-    shutil.copytree(f"{os.path.dirname(program)}/amo_crews", f"{room}/amo_crews")
-    copy = f"{room}/{os.path.basename(program)}"
-    files = [copy, *(f"{room}/amo_crews/{it}" for it in os.listdir(f"{room}/amo_crews"))]
+    shutil.copy(f"{os.path.dirname(program)}/VERSION", room)
+    shutil.copytree(f"{os.path.dirname(program)}/python", f"{room}/python")
+    files = glob.glob(f"{room}/python/amo_jobs/*.py")
     for old, new in zip(pairs[::2], pairs[1::2]):
         texts = {it: folder.read(it).decode() for it in files}
         found = sum(it.count(old) for it in texts.values())
-        want(found == 1, f"this stands {found} times in amo_jobs and its modules: {old}")
+        want(found == 1, f"this stands {found} times in python/amo_jobs: {old}")
         for it in (it for it in files if old in texts[it]):
             with open(it, "w") as file:
                 file.write(texts[it].replace(old, new))
-    return copy
+    return f"{room}/{os.path.basename(program)}"
 
 
 class Bench:
@@ -88,6 +89,7 @@ class Scene:
         self.run, self.jobs, self.boot, self.effects = (f"{self.room}/{it}" for it in ("run", "jobs", "boot", "effects"))
         self.command, self.crews, self.statuses, self.said, self.boots = command or COMMAND + [self.room], [], [], "", 0
         self.kinds, self.listed, self.file_system, self.numbers, self.known = [], [], None, workers, 0
+        self.ends_of_crews = {DONE, FAILED, DOUBTFUL, LEFT, LATER, KILLED, *UNHEARD}
         self.orphaned = ()  # the kinds of commands whose child may be killed by itself, after its parent has ended well
         os.mkdir(self.effects)
         self.grow(kinds)
@@ -185,11 +187,13 @@ class Scene:
         return len(found)
 
     def answer(self, name: str, line: str, text: str, verdict: str, seconds=240):
-        """Answers a doubt; again where a crew that begins holds it just now."""
+        """Answers a doubt; again where a crew that begins holds it just now. What is done here arrives
+        at once, so `not-done` needn't wait."""
         end = time.monotonic() + seconds
+        words = self.words("answer", *(["--now"] if verdict == "not-done" else []), "--", name, line,
+                           text, verdict)
         while True:
-            ran = subprocess.run(self.words("answer", "--", name, line, text, verdict), timeout=240,
-                                 stdin=subprocess.DEVNULL, capture_output=True,
+            ran = subprocess.run(words, timeout=240, stdin=subprocess.DEVNULL, capture_output=True,
                                  env=self.environment())
             if ran.returncode == DONE:
                 return
@@ -211,7 +215,7 @@ class Scene:
                     during(crew)
                 continue
             self.statuses.append(status)
-            want(status in (DONE, FAILED, DOUBTFUL, LEFT, LATER, KILLED, *UNHEARD), f"status {status}: {self.tale()[-800:]}")
+            want(status in self.ends_of_crews, f"status {status}: {self.tale()[-800:]}")
             self.person()
             if status == FAILED and again and "untouched" in self.look().kinds().values():
                 self.call("again")
@@ -264,11 +268,42 @@ class Scene:
             if it.poll() is None:
                 it.kill()
                 it.wait()
-        for process in self.processes():
+        self.kill(self.processes())
+
+    def kill_crew(self, crew):
+        """Kills a crew's supervisor and all of its runners. Workers and commands go on."""
+        if crew.poll() is None:
+            crew.kill()
+        status = crew.wait()
+        end = time.monotonic() + 240
+        while runners := list(self.runners()):
+            want(time.monotonic() < end, "the runners don't die")
+            self.kill(runners)
+            time.sleep(0.01)
+        return status
+
+    @staticmethod
+    def kill(processes, number=signal.SIGKILL):
+        """Sends a signal to these processes, as far as they are there."""
+        for process in processes:
             try:
-                os.kill(process, signal.SIGKILL)
+                os.kill(process, number)
             except ProcessLookupError:
                 pass
+
+    def runners(self):
+        """The runners of a crew: their words have the supervisor's version."""
+        with open(f"{os.path.dirname(self.bench.program)}/VERSION") as file:
+            return self.processes(f"--as={file.read().strip()}")
+
+    def worker_processes(self):
+        """The processes of workers."""
+        return sorted(set(self.processes("work")) - set(self.runners()))
+
+    def commands(self):
+        """The processes of commands, whose path the words of crews and runners have too."""
+        own = {*self.processes("crew"), *self.processes("work")}
+        return sorted(set(self.processes(self.command[0])) - own)
 
     def processes(self, word=""):
         """The processes that have this run's folder, and this word, in their command line."""

@@ -1,5 +1,6 @@
 """What commands may do and say, and what amo_jobs makes of it: ends, arguments, signals, timeouts, leftovers, refusals."""
 
+import json
 import os
 import re
 import shlex
@@ -12,7 +13,7 @@ from jobs.scene import (
     BUILD, DONE, DOUBTFUL, FAILED, KILLED, LATER, LEFT, READ, REFUSED, WORDS, WRITE, want
 )
 from jobs.rules import until
-from worker import folder
+from worker import folder, journals
 
 
 def kinds_of(scene):
@@ -112,10 +113,84 @@ def try_answers(bench):
         if verdicts:
             with open(path, "w") as file:
                 file.write("".join(f"{row}\t{verdict}\n" for row, verdict in zip(rows, verdicts)))
-        scene.call("answer", "--from", path, status=status)
+        scene.call("answer", "--now", "--from", path, status=status)
         wanted = ["doubt", "doubt", "done", "doubt"] if name == "wrong" else ["done", "done", "done", "open"]
         want(kinds_of(scene) == wanted, f"after {name}: {kinds_of(scene)}")
     scene.call("answer", "--", rows[0].split("\t")[0], "1", "another text", "done", status=REFUSED)
+
+
+SENDS = 'echo "$1" >> "$0/queue"; while [ -d "$0" ] && ! [ -e "$0/serves" ]; do sleep 0.02; done'
+
+
+def sent(bench):
+    """A run whose command has sent a request and was then killed, with its crew, before the bank has
+    taken the request from its queue; the attempt is listed as in doubt."""
+    scene = bench.scene([], 1, [])
+    with open(scene.jobs, "w") as file:
+        file.write("pay alice 100\n")
+    crew = scene.start(command=["sh", "-c", SENDS, scene.room])
+    until(lambda: requests(scene), "the request is sent")
+    scene.kill_crew(crew)
+    for process in list(scene.processes("pay alice 100")):
+        os.kill(process, signal.SIGKILL)
+    until(lambda: scene.call("doubts").startswith("1.1, line 1: pay alice 100\n"), "it is listed")
+    return scene
+
+
+def requests(scene):
+    """What the bank has in its queue, and pays once it serves."""
+    return folder.read(f"{scene.room}/queue").decode().splitlines()
+
+
+def end_of(scene):
+    """The status of a crew that begins while the bank serves."""
+    scene.let("serves")
+    return scene.start(command=["sh", "-c", SENDS, scene.room]).wait(240)
+
+
+def try_late_request(bench):
+    """a request arrives after its command was killed, listed and truly answered `not-done`: the answer is refused until the attempt is
+    quiet, and the line isn't performed again"""
+    scene = sent(bench)
+    words = ["answer", "--quiet", "1000000", "1.1", "1", "pay alice 100"]
+    ran = subprocess.run(scene.words(*words, "not-done"), stdin=subprocess.DEVNULL,
+                         capture_output=True, timeout=240, env=scene.environment())
+    status = end_of(scene)
+    want(len(requests(scene)) == 1, f"performed twice: the bank pays {requests(scene)}")
+    said = ran.stderr.decode()
+    want(ran.returncode == LATER, f"the answer ends with {ran.returncode}: {said}")
+    want(re.search(r"^amo_worker: answer 1: its attempt ended at .* GMT, and it is .* GMT now; answer again 1000000 s after that end,"
+                   r" or add --now$", said, re.M), said)
+    want(status == DOUBTFUL, f"the crew ends with {status}")
+    scene.call(*words, "done")
+    want(end_of(scene) == DONE, "the line isn't done")
+    want(len(requests(scene)) == 1, f"performed twice: the bank pays {requests(scene)}")
+
+
+def try_late_request_now(bench):
+    """the same with `--now`, which takes the answer at once: the bank gets a second request, as the page says"""
+    scene = sent(bench)
+    scene.call("answer", "--now", "1.1", "1", "pay alice 100", "not-done")
+    want(end_of(scene) == DONE, "the line isn't done")
+    want(len(requests(scene)) == 2, f"the bank has {requests(scene)}")
+
+
+def try_ages(bench):
+    """doubts says how long ago each attempt ended, for people and as JSON"""
+    scene = sent(bench)
+    told = scene.call("doubts")
+    want(re.search(r"^  started [-0-9: ]{19} by worker 1, ended [-0-9: ]{19}, \d+ (s|min|h)( \d+ s)? ago$", told, re.M), told)
+    found, = json.loads(scene.call("doubts", "--json"))
+    recorded, = [it.ended for it in scene.look().intents.values()]
+    want(found["ended"] == recorded and found["age"] >= 0, f"{found}, recorded at {recorded}")
+    path = f"{scene.run}/journal.1"
+    begun = folder.records_in(scene.run, "journal.1")[0]
+    for ended, said in ((0, "ended at a time that is not known"),
+                        (found["ended"] + 10**6, "which is ahead of the clock")):
+        records = [begun, b"doubt 1 %d" % ended]
+        folder.put(path, journals.journal(folder.id_of(scene.run), "journal.1", records))
+        told = scene.call("doubts")
+        want(f"{said}\n" in told, told)
 
 
 def try_status(bench):
@@ -292,8 +367,7 @@ def try_last_net(bench):
     script = "import sys, time; open(sys.argv[1] + '/begun', 'w').close(); time.sleep(1000)"
     crew = scene.start(command=[sys.executable, "-c", script, scene.room])
     until(lambda: os.path.exists(f"{scene.room}/begun"), "the command runs")
-    crew.kill()
-    crew.wait()
+    scene.kill_crew(crew)
     is_running = scene.counts(status=DOUBTFUL)["running"] == 1
     want(is_running or not list(scene.processes(script)), "it runs, and isn't running")
     until(lambda: not list(scene.processes(script)), "the timer ends it")
@@ -478,8 +552,7 @@ def try_killed_in_turn(bench):
     for _ in range(3):
         crew, before = scene.start(), sum(len(scene.tales(it)) for it in range(1, 7))
         until(lambda: sum(len(scene.tales(it)) for it in range(1, 7)) > before or crew.poll() is not None, "a command has begun")
-        crew.kill()
-        kills += crew.wait() == KILLED
+        kills += scene.kill_crew(crew) == KILLED
     scene.see_out()
     scene.audit()
     return f"{kills} kills, {len(scene.listed)} doubts"
@@ -527,7 +600,7 @@ def fill(scene, disk):
 
 
 PARTS = {"ways": [
-    try_ends, try_arguments, try_refusals, try_lists, try_answers, try_status, try_look,
+    try_ends, try_arguments, try_refusals, try_lists, try_answers, try_late_request, try_late_request_now, try_ages, try_status, try_look,
     try_messages, try_boot_id, try_timeout, try_last_net, try_leftovers,
     try_first_signal, try_second_signal, try_halt, try_one_runner, try_work, try_outputs, try_streams, try_many_messages, try_growing, try_killed_in_turn,
     try_disk_full,

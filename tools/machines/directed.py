@@ -93,7 +93,7 @@ def try_crew_lives_on(bench):
     first.process.kill()
     first.ends(KILLED)
     first.start()
-    until(lambda: "another runner" in first.tale(), "the next one finds the crew")
+    until(lambda: "another crew, process" in first.tale(), "the next one finds the crew")
     scene.take_back("waits")
     first.ends(DONE)
     scene.audit()
@@ -297,7 +297,7 @@ def try_doubt(bench):
     found = re.findall(r"^(\d+\.\d+), line (\d+): (.*)$", first.person("doubts"), re.M)
     want(found, "there is no doubt")
     for name, line, text in found:
-        first.person("answer", "--", name, line, text, "not-done")
+        first.person("answer", "--now", "--", name, line, text, "not-done")
     first.start().ends(DONE)
     scene.audit()
     want(len(scene.tales()) == 2, f"performed: {scene.tales()}")

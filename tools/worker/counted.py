@@ -21,7 +21,8 @@ from worker.power import settle_doubts
 from worker.scene import DOOR, OVER, REFUSED, Runner, Scene, each, finish, live, serve, want
 from worker.texts import read_as, refused_as
 
-REPLIES = ["done 0", "doubt", "untouched 75", "unbegun"]
+REPLIES = ["done 0", "doubt", "untouched 75", "unbegun", "done 0", "done 3", "done 0"]
+LINES = 44
 LIVES = (1, 2, 1, 2, 1)  # of which worker is each life, each of which is a round of its own
 APPENDED = ("journal.1", "journal.2", "answers")
 KEPT = ("record", "jobs", *APPENDED)
@@ -30,15 +31,15 @@ KEPT = ("record", "jobs", *APPENDED)
 def run_of_rounds(bench) -> tuple:
     """A run of five rounds, with 20 appends in the longer of two journals, and with answers; and
     the bytes of its files after each round."""
-    scene, copies = bench.scene(30, 2), []
+    scene, copies = bench.scene(LINES, 2), []
     for number, worker in enumerate(LIVES, 1):
-        runner = Says(scene, worker, REPLIES if number < 5 else REPLIES[:2])
+        runner = Says(scene, worker, REPLIES if number < 5 else REPLIES[:3])
         live(runner)
         runner.close()
         if number < 5:
             answer_last(scene, worker)
             with open(scene.jobs, "a") as file:
-                file.write(f"job {30 + number}\n")
+                file.write(f"job {LINES + number}\n")
         copies.append({name: read(f"{scene.run}/{name}") for name in KEPT})
     return scene, copies
 
@@ -280,7 +281,7 @@ def try_jobs_damaged(bench) -> str:
     count = each(rows, jobs_one)
     with replaced(scene, {"jobs": data + b"job 90\n"}):
         status, out, err = scene.call("status", scene.run)
-        want(status == OVER and out.startswith("lines 35 "), f"status {status}: {out or err}")
+        want(status == OVER and out.startswith(f"lines {LINES + 5} "), f"status {status}: {out or err}")
     finish(scene, (1, 2))
     return f"{count} files"
 
@@ -415,7 +416,8 @@ def cut_answer_one(bench, number: int, fault: str) -> None:
     """A person's answer ends so; a worker begins a round, and performs a line; then power is cut,
     and the answer is gone: the run isn't refused, and goes on."""
     scene, power = doubtful(bench)
-    scene.call("answer", scene.run, "1.2", "2", "job 2", "not-done", faults=f"{number}:{fault}")
+    words = ["1.2", "2", "job 2", "not-done", "--now"]
+    scene.call("answer", scene.run, *words, faults=f"{number}:{fault}")
     before, runner = len(records_in(scene.run, "answers")), Runner(scene, 1)
     serve([runner.start()], until=lambda: scene.effects())
     power.cut([runner], "none")

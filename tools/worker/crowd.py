@@ -137,9 +137,10 @@ class Counts:
         return f"{self.readers} readers" + (f": {said}; first {self.first}" if said else "")
 
 
-def readers_of(scene, draws, count=READERS):
-    """So many readers at once, each of them slow at a call drawn at random."""
-    return [Reader(scene, "doubts" if k % 2 else "status", faults=f"{draws.randint(1, 90)}:slow") for k in range(count)]
+def readers_of(scene, draws, count=READERS, asks="status"):
+    """So many readers at once, each of them slow at a call drawn at random. `status` records
+    nothing, so the intent stays pending."""
+    return [Reader(scene, asks, faults=f"{draws.randint(1, 90)}:slow") for _ in range(count)]
 
 
 def begin_beside(scene, counts, draws):
@@ -159,7 +160,7 @@ def begin_beside(scene, counts, draws):
 def answer_beside(scene, counts, draws):
     """A person answers beside readers, again if that has to come later: the answer is taken."""
     readers = readers_of(scene, draws, 4)
-    words = ["answer", "1.1", "1", "job 1", "not-done"]
+    words = ["answer", "1.1", "1", "job 1", "not-done", "--now"]
     for _ in range(TRIES):
         status, _, err = Reader(scene, *words, faults=f"{draws.randint(1, 90)}:slow").ended()
         if status != LATER:
@@ -179,6 +180,8 @@ def read_beside_each_other(bench, counts, seed):
         for it in readers_of(scene, draws):
             counts.see(it)
         begin_beside(scene, counts, draws)
+    for it in readers_of(scene, draws, asks="doubts"):
+        counts.see(it)
     answer_beside(scene, counts, draws)
     if not counts.wrong:
         finish(scene)

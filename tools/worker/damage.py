@@ -21,13 +21,14 @@ from worker.scene import OVER, Scene, each, finish, live, want
 from worker.texts import read_as, refused_as
 
 REPLIES = ["done 0", "doubt", "unbegun", "done 3", "untouched 75", "done 0", "doubt", "done 3",
-           "unbegun", "done 0"]
+           "unbegun", "done 0", "done 0", "doubt", "done 0", "unbegun", "done 0", "untouched 75",
+           "done 0", "done 9", "done 0"]
 ANSWERS = {2: "not-done", 4: "done", 5: "done", 7: "done", 8: "not-done"}
 
 
 def run_of_journal(bench) -> Scene:
-    """A run whose journal.1 has 20 appends: ten attempts, and what came of each."""
-    return prepared(bench, REPLIES, lines=12)
+    """A run whose journal.1 has 20 appends, of 19 attempts and what came of each."""
+    return prepared(bench, REPLIES, lines=21)
 
 
 def run_of_answers(bench) -> Scene:

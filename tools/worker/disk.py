@@ -182,7 +182,7 @@ class Disk:
             self.performs += 1
             what = f"{name} says perform {serial.decode()}"
             want(not journal.pending, f"{what}, and something of it isn't synced")
-            last = (self.records_kept(name) or [b""])[-1]
+            last = journals.parts((self.records_kept(name) or [b""])[-1])[-1]
             is_last = last.startswith(b"intent %s %s " % (serial, line))
             want(is_last, f"{what}, and the last record on the disk is {last}")
             want(jobs and bytes(jobs.kept).count(b"\n") >= int(line) and not jobs.pending, f"{what}, and jobs isn't synced")

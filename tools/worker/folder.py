@@ -128,6 +128,11 @@ def records_in(run: str, name: str, header: Optional[headers.Header] = None) -> 
         before = place, data[place:]
 
 
+def single_records(run: str, name: str) -> list:
+    """Each record of a journal or of `answers`, apart from the other of its append."""
+    return [part for it in records_in(run, name) for part in journals.parts(it)]
+
+
 def header_in(run: str) -> Optional[headers.Header]:
     """The header of a run; None in a folder of amo 0.1.0, whose header counts nothing."""
     run_id = id_of(run)
@@ -150,7 +155,7 @@ def said_by(pattern, record):
 class Intent:
     def __init__(self, worker, serial, line, time):
         self.worker, self.serial, self.line, self.time = worker, serial, line, time
-        self.answer, self.code, self.found = None, None, None
+        self.answer, self.code, self.found, self.ended = None, None, None, None
 
     def name(self):
         return f"{self.worker}.{self.serial}"
@@ -167,9 +172,10 @@ class Intent:
 
 
 def intents_of(worker, records, count, entry=ENTRY):
-    """The intents of a journal whose lines are 1..count."""
+    """The intents of a journal whose lines are 1..count; of each append its one or two records."""
     intents, name = [], f"journal.{worker}"
-    for place, record in enumerate(records, 1):
+    for place, record in ((place, it) for place, append in enumerate(records, 1)
+                          for it in journals.parts(append)):
         word, numbers = said_by(entry, record) or (None, [0])
         if word == "intent" and numbers[0] == len(intents) + 1 and 1 <= numbers[1] <= count:
             intents.append(Intent(worker, *numbers))
@@ -178,6 +184,7 @@ def intents_of(worker, records, count, entry=ENTRY):
         if not it or it.answer or word in ("done", "untouched") and numbers[1] > 255:
             raise Refused(name, place, "it can't stand there")
         it.answer, it.code = word, numbers[1] if word in ("done", "untouched") else None
+        it.ended = numbers[-1] if len(numbers) == {"done": 3, "doubt": 2, "untouched": 3}.get(word) else None
     return intents
 
 

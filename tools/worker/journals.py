@@ -1,9 +1,10 @@
 """The form that journals and `answers` have on disk, as the tests build and read it: code of their
 own, which shares nothing with the program or the stand-in.
 
-A file is appends and a closed commit byte `-`. An append is a line: the open commit byte `+`, a
-record, a blank, a checksum, and a line feed. The checksum is over that of the append before and
-the record; before the first append stands one over the run's id and the file's name.
+A file is appends and a closed commit byte `-`. An append is a line: the open commit byte `+`, one
+record or two with `; ` between them, a blank, a checksum, and a line feed. The checksum is over
+that of the append before and the records; before the first append stands one over the run's id and
+the file's name. In this module a record is all of an append's, unless `parts` takes them apart.
 """
 
 import hashlib
@@ -72,6 +73,12 @@ def records_of(run: str, name: str, data: bytes) -> list:
     return records
 
 
+def parts(records: bytes) -> list:
+    """The records of an append: one, or two."""
+    found = records.split(b"; ")
+    return found if len(found) <= 2 else [records]
+
+
 def wrong_behind(rest: bytes) -> Optional[str]:
     """What is wrong with the bytes behind the last append; None if a crash may leave them."""
     if len(rest) < 2:
@@ -87,7 +94,8 @@ def wrong_behind(rest: bytes) -> Optional[str]:
 def old_journal(records: list) -> bytes:
     """The bytes of a file with these records in a folder of amo 0.1.0, which has no checksums, and
     no times of doubts and of what was untouched."""
-    return b"".join(b"+%s\n" % old_record(it) for it in records) + b"-"
+    single = (part for it in records for part in parts(it))
+    return b"".join(b"+%s\n" % old_record(it) for it in single) + b"-"
 
 
 def old_record(record: bytes) -> bytes:

@@ -22,6 +22,11 @@ def is_change(call):
     return int(call[7]) >= 0 and (call[2] in CHANGES or call[2] == "open" and "c" in call[8])
 
 
+def is_over(call):
+    """Whether this call says that the worker's part of a round is over."""
+    return call[2] == "say" and int(call[6]) == len(b"over\n")
+
+
 def first_life(bench, lines=4, workers=2):
     """The calls of a first life that nothing befalls."""
     scene = bench.scene(lines, workers)
@@ -158,7 +163,8 @@ def refuse_one(bench, number, call, file, fault):
     goes_on = fault in ("short", str(errno.EINTR)) and status == LATER
     if not goes_on:
         named = status in status_of(call, file) and names_file(runner.said, file, scene)
-        named = named or file in ("IN", "OUT") and status == LEFT
+        has_over = any(is_over(it) for it in scene.logged() if int(it[1]) <= number)
+        named = named or file in ("IN", "OUT") and status == (LATER if has_over else LEFT)
         want(named and runner.said.count("\n") == 1, f"status {status}, {runner.said!r}")
         want(not later, "it says something after the failure")
     see_out([runner])
@@ -287,7 +293,7 @@ def try_no_memory(bench):
 def answer_killed(bench, number):
     """Who answers is killed at this call; the answer is there then, or is taken when it is given again."""
     scene, fault = answerable(bench), f"{number}:kill_after"
-    words = ["answer", scene.run, "1.1", "1", "job 1", "not-done"]
+    words = ["answer", scene.run, "1.1", "1", "job 1", "not-done", "--now"]
     want(scene.call(*words, faults=fault)[0] == KILLED, "it isn't killed")
     before = scene.look()
     scene.answer(1, 1, 1, "not-done")
@@ -297,7 +303,8 @@ def answer_killed(bench, number):
 
 
 def answerable(bench):
-    """A run whose first intent is in doubt: its worker was killed before it spoke."""
+    """A run whose first intent is in doubt, which nobody has recorded: its worker was killed before
+    it spoke."""
     scene = bench.scene(3, 1)
     scene.logs, runner = True, Runner(scene, 1)
     live(runner)
@@ -307,7 +314,7 @@ def answerable(bench):
     runner = Runner(scene, 1)
     live(runner, f"{number}:kill_before")
     runner.close()
-    want(scene.doubts() == [(1, 1, 1)], "there is no doubt")
+    want(scene.look().final() == {(1, 1)}, "there is no doubt")
     return scene
 
 
@@ -321,7 +328,8 @@ def try_killed_answers(bench):
 
 
 def lister_killed(bench, number):
-    """Who asks for doubts, and settles the journal of one for that, is killed at this call; the next one is told the same."""
+    """Who asks for doubts, and settles the journal of one and records it for that, is killed at this call; the next one is
+    told the same."""
     scene = answerable(bench)
     want(scene.call("doubts", scene.run, faults=f"{number}:kill_after")[0] == KILLED, "it isn't killed")
     want(scene.doubts() == [(1, 1, 1)], "it isn't told as a doubt any more")

@@ -7,6 +7,7 @@ while [ $status = 75 ] || [ $status -gt 128 ]; do
   # (the worker, which waits here for both pipes, gives up the lock first, or would keep it where this is killed meanwhile)
   (exec 9>&-; exec "$worker" work "$run" "$p" --workers "$m" "$jobs" <"$room/to" >"$room/from") & exec 7>"$room/to" 8<"$room/from"
   while IFS= read -r said <&8; do
+    if [ "$said" = over ]; then sleep "0.$(($$ % 5 + 1))"; echo go >&7; continue; fi
     rest=${said#* }; serial=${rest%% *}; rest=${rest#* }; text=${rest#* }; lock=$run/command.$p.$serial
     case $said in perform*) # with the lock as its standard input and as a further descriptor
       (trap - PIPE; exec 3<>"$lock" 7>&- 8<&- 9>&-; flock -n 3 || exit 255; exec "$@" "$text" <&3); code=$?

@@ -1,13 +1,17 @@
 """What persons are told and may answer; commands that outlive who began them; words and refusals at the door."""
 
+import errno
 import json
 import os
+import re
 import shlex
 import shutil
 import signal
 import subprocess
 import tempfile
+import time
 
+from worker import journals
 from worker.folder import KINDS, put, read, records_in
 from worker.scene import (ANSWER, DOOR, KILLED, LATER, LEFT, OVER, REFUSED, WORDS, WRITE, Runner,
                           each, finish, live, see_out, serve, want)
@@ -89,16 +93,18 @@ def try_counts(bench):
     want(runner.said.endswith(f"{counted}\n"), f"at the end it says {runner.said}, and the status {counted}")
 
 
-def answered(scene, name, line, text, verdict, status, taken):
-    """This answer has this status, and makes so many entries in `answers`."""
+def answered(scene, name, line, text, verdict, status, taken, *more):
+    """This answer has this status, and makes so many entries in `answers`; what it says."""
     before = len(records_in(scene.run, "answers"))
-    ended, _, err = scene.call("answer", scene.run, name, str(line), text, verdict)
+    ended, _, err = scene.call("answer", scene.run, name, str(line), text, verdict, *more)
     after = len(records_in(scene.run, "answers"))
-    said = f"{name} {line} {text} {verdict}: status {ended}, {after - before} taken, {err}"
+    options = "".join(f" {it}" for it in more)
+    said = f"{name} {line} {text} {verdict}{options}: status {ended}, {after - before} taken, {err}"
     want((ended, after - before) == (status, taken), said)
     named = status == LATER or "answer 1" in err
     want(status == OVER or err.count("\n") == 1 and named,
          f"{name} {verdict} is refused without a word: {err}")
+    return err
 
 
 def try_answers(bench):
@@ -173,6 +179,164 @@ def try_many_answers(bench):
         want(status == OVER and counts["doubt"] == len(rows), f"of {count} answers: status {status}, {counts}, {err}")
     scene.again()
     want(counts_of(scene)[0]["open"] == 12, "again opens another number of lines")
+
+
+OUTCOME = re.compile(rb"\b(done (\d+) \d+|doubt (\d+)|untouched (\d+) \d+) \d+")
+DATE = r"\w{3}, \d\d \w{3} \d{4} \d\d:\d\d:\d\d GMT"
+EARLY = rf"its attempt ended at {DATE}, and it is {DATE} now; answer again \d+ s after that end, or add --now"
+AHEAD = rf"its attempt ended at {DATE}, which is ahead of the clock \({DATE}\); set the clock right, or add --now"
+UNKNOWN = "no record says when its attempt ended; wait as long as the receiver may take, then add --now"
+
+
+def ended_at(scene, times):
+    """Rewrites journal.1, of which the round counts nothing: the attempts with these serial numbers ended at these times."""
+
+    def timed(found):
+        time_of = times.get(int(next(it for it in found.groups()[1:] if it)))
+        return found[0] if time_of is None else b"%s %d" % (found[1], time_of)
+
+    records = [OUTCOME.sub(timed, it) for it in records_in(scene.run, "journal.1")]
+    put(f"{scene.run}/journal.1", journals.journal(scene.id(), "journal.1", records))
+
+
+def try_not_done_waits(bench):
+    """`not-done` of what failed or is in doubt waits until so many seconds have passed since its end, and until somebody looks if
+    that is not known or ahead of the clock; `--now` doesn't wait"""
+    scene, now = prepared(bench, ["done 3", "doubt", "doubt", "doubt"], lines=4), int(time.time())
+    ended_at(scene, {1: now - 10**6, 2: now - 10**6, 3: now + 10**6, 4: 0})
+    long, short = ["--quiet", str(2 * 10**6)], ["--quiet", str(10**6)]
+    for serial, more, status, said in [
+            (1, long, LATER, EARLY), (2, long, LATER, EARLY), (3, [], REFUSED, AHEAD), (3, ["--quiet", "0"], REFUSED, AHEAD),
+            (4, [], REFUSED, UNKNOWN), (4, ["--quiet", "0"], REFUSED, UNKNOWN), (1, short, OVER, None), (2, [], OVER, None),
+            (3, ["--now"], OVER, None), (4, ["--now", *long], OVER, None)]:
+        err = answered(scene, f"1.{serial}", serial, f"job {serial}", "not-done", status, int(status == OVER), *more)
+        want(said is None or re.fullmatch(f"amo_worker: answer 1: {said}\n", err), f"1.{serial} {more}: {err}")
+    want(set(agree(scene).values()) == {"open"}, f"{agree(scene)}")
+
+
+def try_now_by_default(bench):
+    """a `not-done` waits by default, and with --quiet 0 it doesn't"""
+    scene, now = prepared(bench, ["done 3", "doubt"], lines=2), int(time.time())
+    ended_at(scene, {1: now, 2: now})  # (of a test that takes a minute here nothing is shown)
+    for serial in (1, 2):
+        name, text = f"1.{serial}", f"job {serial}"
+        status, _, err = scene.call("answer", scene.run, name, str(serial), text, "not-done")
+        is_late = time.time() > now + 60
+        want(status == LATER or is_late, f"{name} not-done: status {status}, {err}")
+        if not is_late:
+            answered(scene, name, serial, text, "not-done", OVER, 1, "--quiet", "0")
+
+
+def try_done_at_once(bench):
+    """`done` doesn't wait, whenever the attempt ended; nor does any answer to what was untouched, nor `again`"""
+    scene, now = prepared(bench, ["done 3", "doubt", "doubt", "untouched 75", "untouched 75", "dies"]), int(time.time())
+    ended_at(scene, {1: now, 2: now + 10**6, 3: 0, 4: now, 5: now + 10**6})
+    for serial, verdict in ((1, "done"), (2, "done"), (3, "done"), (4, "not-done"), (6, "done")):
+        answered(scene, f"1.{serial}", serial, f"job {serial}", verdict, OVER, 1, "--quiet", str(10**6))
+    scene.again()
+    kinds = list(agree(scene).values())
+    want(kinds == ["done"] * 3 + ["open"] * 2 + ["done"], f"{kinds}")
+
+
+def try_sheet_waits(bench):
+    """--from a file: one answer that comes too early refuses all, and each such answer is named"""
+    scene, now = prepared(bench, ["doubt", "done 3", "doubt", "doubt", "untouched 75", "doubt"]), int(time.time())
+    ended_at(scene, {1: now, 2: now - 10**6, 3: now, 4: now + 10**6, 5: now, 6: now})
+    path = f"{scene.room}/verdicts"
+
+    def given(answers, status, early, *more):
+        with open(path, "w") as file:
+            file.write("".join(f"1.{serial}\t{serial}\tjob {serial}\t{verdict}\n" for serial, verdict in answers))
+        before = len(records_in(scene.run, "answers"))
+        ended, _, err = scene.call("answer", scene.run, "--from", path, *more)
+        count = len(records_in(scene.run, "answers")) - before
+        want((ended, count) == (status, len(answers) if status == OVER else 0), f"{answers}: status {ended}, {count} taken, {err}")
+        wanted = "".join(f"amo_worker: answer {place}: {said}\n" for place, said in early)
+        want(re.fullmatch(wanted, err), f"{answers}: it says {err}, and not {wanted}")
+
+    quiet = ["--quiet", str(10**6)]
+    soon = [(1, "done"), (2, "not-done"), (3, "not-done"), (5, "not-done"), (6, "not-done")]
+    given(soon, LATER, [(3, EARLY), (5, EARLY)], *quiet)
+    given([*soon[:3], (4, "not-done"), *soon[3:]], REFUSED, [(3, EARLY), (4, AHEAD), (6, EARLY)], *quiet)
+    given([(4, "not-done"), (3, "done")], REFUSED, [(1, AHEAD)])
+    given([(3, "not-done"), (3, "done")], REFUSED, [(2, "the other answer was given before; an answer stays as it is")], *quiet)
+    given([(3, "not-done"), (1, "perhaps")], REFUSED, [(2, "it must be P.S, .*")], *quiet)
+    given([*soon, (4, "not-done")], OVER, [], *quiet, "--now")
+    want(sorted(agree(scene).values()) == ["done"] + ["open"] * 5, f"{agree(scene)}")
+
+
+def doubts_of(scene):
+    """What `doubts` says of each attempt: when it ended and how long ago, as JSON and as a word."""
+    told = {it["intent"]: (it["ended"], it["age"]) for it in json.loads(scene.call("doubts", scene.run, "--json")[1])}
+    words = {it.split(" ")[1]: it.split(" ")[-1] for it in scene.call("doubts", scene.run)[1].splitlines()}
+    want(list(told) == list(words), f"the doubts are {told}, {words}")
+    return told, words
+
+
+def try_ages(bench):
+    """doubts says of each attempt when it ended, and how many seconds ago; not of one whose end is not known, and no age of one
+    that is ahead of the clock"""
+    scene, now = prepared(bench, ["doubt", "doubt", "doubt", "done 3"]), int(time.time())
+    ended_at(scene, {1: now - 10**6, 2: now + 10**6, 3: 0})
+    told, words = doubts_of(scene)
+    later = int(time.time()) - now + 10**6
+    want(told["1.1"][0] == now - 10**6 and 10**6 <= told["1.1"][1] <= int(words["1.1"]) <= later, f"1.1: {told}, {words}")
+    want(told["1.2"] == (now + 10**6, None) and words["1.2"] == "ahead", f"1.2: {told}, {words}")
+    want(told["1.3"] == (None, None) and words["1.3"] == "unknown", f"1.3: {told}, {words}")
+
+
+def left_pending(bench):
+    """A run with one attempt that is final and that nobody has recorded."""
+    scene = prepared(bench, ["done 0", "dies"], lines=3)
+    want(scene.look().final() == {(1, 2)}, "no attempt is final")
+    open(f"{scene.run}/command.1.2", "wb").close()
+    return scene
+
+
+def try_recorded(bench):
+    """who lists a doubt that nobody has recorded, or answers it, records it with the time; the status and `again` don't"""
+    scene, words = left_pending(bench), ["1.2", "2", "job 2", "not-done"]
+    for call in ("status", "again"):
+        scene.call(call, scene.run)
+        want(scene.look().pending(), f"{call} records a doubt")
+    for asks in (["doubts"], ["doubts", "--json"], ["answer", *words], ["answer", *words[:3], "done"]):
+        scene, begun = left_pending(bench), int(time.time())
+        status, _, err = scene.call(asks[0], scene.run, *asks[1:])
+        wanted = LATER if asks[-1] == "not-done" and time.time() < begun + 60 else status
+        want(status == wanted, f"{asks}: status {status}, {err}")
+        it = scene.look().intents[1, 2]
+        want(it.answer == "doubt" and begun <= it.ended <= time.time(), f"{asks}: {it.answer} is recorded, at {it.ended}")
+        if it.found != "done":
+            told, _ = doubts_of(scene)
+            want(told["1.2"][0] == it.ended, f"{asks}: the doubts are {told}")
+            scene.answer(1, 2, 2, "done")
+        runner = Runner(scene, 1)
+        runner.was = lambda serial, line: want(False, "it is asked what became of what is recorded")
+        see_out([runner])
+        runner.close()
+
+
+def try_listed_though_full(bench):
+    """a doubt that the disk doesn't take is listed all the same, and it isn't known when it ended; the next one who asks records it"""
+    scene = left_pending(bench)
+    scene.logs = True
+    scene.call("doubts", scene.run)
+    calls = scene.logged()
+    locked = next(k for k, it in enumerate(calls) if it[2:4] == ["lock", "command.1.2"])
+    numbers = [int(it[1]) for it in calls[locked:] if it[2] in ("write", "sync") and it[3] == "journal.1"]
+    want(len(numbers) == 4, f"a doubt is recorded by {numbers}")
+    for number in numbers:
+        for error in (errno.EIO, errno.ENOSPC):
+            scene = left_pending(bench)
+            status, out, err = scene.call("doubts", scene.run, "--json", faults=f"{number}:{error}")
+            want(status == OVER, f"doubts at a failed call {number}: status {status}, {err}")
+            told = [(it["intent"], it["ended"], it["age"]) for it in json.loads(out)]
+            want(told == [("1.2", None, None)], f"doubts at a failed call {number}: {told}")
+            said = ["answer", scene.run, "1.2", "2", "job 2", "not-done", "--quiet", "0"]
+            calm = scene.call(*said)
+            want(calm[0] == OVER, f"once the disk takes it: status {calm[0]}, {calm[2]}")
+            want(scene.look().intents[1, 2].answer == "doubt", "it isn't recorded")
+    return f"{2 * len(numbers)} failed calls"
 
 
 class Lasting(Runner):
@@ -284,7 +448,7 @@ def try_ends(bench):
     want(runner.statuses == [LEFT], f"{runner.statuses}: {runner.said}")
     runner.close()
     want([it.name() for it in scene.look().pending()] == ["1.1"], "the intent isn't pending")
-    want(len(scene.doubts()) == 1, "it is no doubt")
+    want(counts_of(scene)[0]["doubt"] == 1, "it is no doubt")
     runner = Runner(scene, 1)
     runner.leaves = True
     want(live(runner) == LEFT and runner.lines == ["was 1 1 job 1"], f"{runner.lines}, {runner.statuses}")
@@ -348,6 +512,8 @@ def try_words(bench):
                   ["answer", run, "1.1", "1"], ["again"], ["work", run, "1", "--workers", "2", "--json", jobs],
                   ["work", run, "1", "--workers", "two", jobs], ["status", run, "--json", "--lines", "open"],
                   ["answer", run, "--from", jobs, "1.1", "1", "job 1", "done"], ["answer", run],
+                  *(["answer", run, "--quiet", it, "1.1", "1", "job 1", "done"] for it in ("-1", "01", "1.5", "", str(10**9 + 1))),
+                  ["doubts", run, "--now"], ["again", run, "--quiet", "0"],
                   ["doubts", run, "--from", jobs],
                   ["work", run, "1", "--workers", "2", "--into", jobs], ["status", run, "--into"],
                   *(["door", run, "--workers", "2", "--id", it, jobs]
@@ -436,7 +602,8 @@ exec {shlex.join(bench.command())} "$@" {shlex.join(scene.common())}
     want(not [it for it in os.listdir(scene.run) if it.startswith("command.")], "a command's lock is left")
 
 
-PARTS = {"persons": [try_counts, try_answers, try_answers_open, try_answers_from_file, try_many_answers],
+PARTS = {"persons": [try_counts, try_answers, try_answers_open, try_answers_from_file, try_many_answers, try_not_done_waits,
+                     try_now_by_default, try_done_at_once, try_sheet_waits, try_ages, try_recorded, try_listed_though_full],
          "commands": [try_commands_that_stay, try_pending, try_locks_of_a_doubt, try_senseless_answers, try_ends, try_no_partner],
          "door": [try_jobs, try_words, try_door, try_file_system, try_owner],
          "shell": [try_partner_of_shell]}

@@ -2,7 +2,7 @@
 
 import errno
 
-from worker import headers, journals
+from worker import folder, headers, journals
 from worker.disk import Power, records_left
 from worker.folder import read
 from worker.kills import Waiting, changes, is_change, state_of
@@ -194,7 +194,7 @@ def answer_one(bench, number):
         scene.answer(1, 2, 2, "not-done")
         calls = scene.logged()
         return [int(it[1]) for it in calls if it[2:4] == ["sync", "answers"] and it[0] == calls[-1][0]]
-    status, _, _ = scene.call("answer", scene.run, "1.2", "2", "job 2", "not-done", faults=f"{number}:{errno.EIO}")
+    status, _, _ = scene.call("answer", scene.run, "1.2", "2", "job 2", "not-done", "--now", faults=f"{number}:{errno.EIO}")
     want(status == WRITE, f"an answer that can't be put ends with status {status}")
     scene.answer(1, 3, 3, "not-done")
     power.cut((), "none")
@@ -263,7 +263,25 @@ def try_order(bench):
     return f"{performs} performs"
 
 
-PARTS = {"order": [try_order],
+def try_syncs_of_a_line(bench):
+    """from one line to the next there are two syncs, both of the journal: what came of a line is
+    appended with the next intent, and at the end alone"""
+    scene, count = bench.scene(6, 1), 6
+    scene.logs, runner = True, Runner(scene, 1)
+    live(runner)
+    runner.close()
+    scene.logs, calls = False, scene.logged()
+    says = [k for k, it in enumerate(calls) if it[2] == "say"][:count]  # (not `over`, or what follows)
+    for first, second in zip(says, says[1:]):
+        syncs = [it[3] for it in calls[first:second] if it[2] == "sync"]
+        want(syncs == ["journal.1"] * 2, f"between two lines are the syncs {syncs}")
+    appends = folder.records_in(scene.run, "journal.1")
+    sizes = [len(journals.parts(it)) for it in appends]
+    want(sizes == [1, *[2] * (count - 1), 1], f"the appends are {appends}")
+    finish(scene)
+
+
+PARTS = {"order": [try_order, try_syncs_of_a_line],
          "cuts": [try_cut_at_each_call, try_killed_and_cut, try_listed_and_cut,
                   try_failed_sync_and_cut, try_failed_recovery_and_cut, try_failed_answers_and_cut,
                   try_words_of_another_boot]}

@@ -48,7 +48,8 @@ class Remains:
         if damage or lost or records:
             self.rows.append(f"{name}: {damage or lost or f'{len(records)} appends'}")
         self.rows += [f"  {it.decode()}" for it in records]
-        for said in filter(None, map(INTENT.fullmatch, records)):
+        parts = (part for it in records for part in journals.parts(it))
+        for said in filter(None, map(INTENT.fullmatch, parts)):
             attempt = f"{name.partition('.')[2]}.{int(said[1])}"
             self.attempts.setdefault(int(said[2]), []).append(attempt)
 

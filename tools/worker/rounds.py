@@ -510,6 +510,7 @@ def try_failed_readers(bench):
     runner.close()
     for call in ("status", "doubts"):
         shutil.rmtree(scene.log, ignore_errors=True)
+        scene.call(call, scene.run)  # so that no doubt is left that it would record
         scene.logs = True
         scene.call(call, scene.run)
         scene.logs, calls = False, scene.logged()

@@ -21,6 +21,10 @@ from worker import folder
 
 OVER, WORDS, REFUSED, LEFT, SENSELESS, MEMORY, WRITE, READ, LATER, ANSWER, DOOR = 0, 64, 65, 69, 70, 71, 73, 74, 75, 76, 77
 KILLED = -signal.SIGKILL
+# A worker that waits between two rounds goes on after so many seconds: the first number at most,
+# and twice as many each time, up to the second number. Two that come back at once keep each other
+# from beginning a round.
+PAUSE, LONGEST_PAUSE = 0.005, 2.0
 # A worker says this of a line that the registers gave it, if another attempt at it isn't opened.
 TAKEN = re.compile(r"amo_worker: line ([1-9][0-9]*): attempt ([1-9][0-9]*\.[1-9][0-9]*)"
                    r" stands against it; not started\n")
@@ -200,9 +204,11 @@ class Scene:
         return found
 
     def answer(self, worker, serial, line, verdict):
-        """A person's answer, which has to be taken."""
+        """A person's answer, which has to be taken. What is performed here arrives at once, so
+        `not-done` needn't wait."""
         text = folder.read(f"{self.run}/jobs").decode().split("\n")[line - 1]
-        status, _, err = self.call("answer", self.run, f"{worker}.{serial}", str(line), text, verdict)
+        at_once = ["--now"] if verdict == "not-done" else []
+        status, _, err = self.call("answer", self.run, f"{worker}.{serial}", str(line), text, verdict, *at_once)
         want(status == OVER, f"answer {worker}.{serial} {verdict}: status {status}, {err}")
         self.note_answer(worker, serial, line, verdict)
 
@@ -286,12 +292,14 @@ class Scene:
 
 class Runner:
     """The runner of a worker. What it does at a line is `perform` and `was`, which a test may replace. A stray one has no lock:
-    it starts a worker though another runner may have that number."""
+    it starts a worker though another runner may have that number. Its worker stays for the next round if `stays` is set; else
+    it closes its pipe at `over`, and so the worker ends."""
 
     def __init__(self, scene, worker, waits=240, is_stray=False):
         self.scene, self.worker, self.process, self.lock = scene, worker, None, None
         self.seen, self.statuses, self.said = {}, [], ""
         self.rest, self.lines, self.waiting, self.drops, self.leaves = b"", [], None, False, False
+        self.stays, self.overs, self.goes_on_at, self.pause = False, 0, None, PAUSE
         scene.bench.runners.append(self)
         if not is_stray:
             self.lock = self.taken(f"runner.{worker}", waits)
@@ -318,7 +326,8 @@ class Runner:
         pipes = dict.fromkeys(("stdin", "stdout", "stderr"), subprocess.PIPE)
         self.process = subprocess.Popen([*words, *scene.common()], **pipes, bufsize=0,
                                         env=scene.environment(faults))
-        self.rest, self.waiting, self.lines = b"", None, []
+        self.rest, self.waiting, self.lines, self.goes_on_at = b"", None, [], None
+        self.said = ""
         return self
 
     def read(self):
@@ -326,6 +335,9 @@ class Runner:
         part = os.read(self.process.stdout.fileno(), 1 << 16)
         *lines, self.rest = (self.rest + part).split(b"\n")
         for line in lines:
+            if line == b"over":
+                self.over()
+                continue
             kind, serial, number, _ = line.split(b" ", 3)
             self.see_kept(kind, int(serial), int(number))
             if kind == b"perform":
@@ -337,6 +349,30 @@ class Runner:
             return True
         self.end()
         return False
+
+    def over(self):
+        """Its worker's part of a round is over, and the answer before that is noted."""
+        self.acknowledge()
+        self.hear()
+        self.overs += 1
+        if self.leaves:
+            self.tell(b"leave\n")
+        elif self.stays:
+            self.pause = min(2 * self.pause, LONGEST_PAUSE)
+            self.goes_on_at = time.monotonic() + random.uniform(self.pause / 2, self.pause)
+        else:
+            self.process.stdin.close()
+
+    def go_on(self):
+        """Has a worker go on that waits between two rounds, once its pause is over."""
+        if self.goes_on_at and time.monotonic() >= self.goes_on_at:
+            self.goes_on_at = None
+            self.tell(b"go\n")
+
+    def tell(self, data):
+        """Says this to the worker, if that can hear it."""
+        with contextlib.suppress(BrokenPipeError):
+            self.process.stdin.write(data)
 
     def see_kept(self, kind, serial, number):
         """No intent is said anew that was acknowledged, and none asked for whose answer was: else that is gone."""
@@ -354,14 +390,21 @@ class Runner:
 
     def end(self):
         status = self.process.wait()
-        self.said = self.process.stderr.read().decode("utf-8", "replace")
+        self.hear()
         for stream in (self.process.stdin, self.process.stdout, self.process.stderr):
             stream.close()
         if status in (OVER, LATER) or status == LEFT and self.leaves:
             self.acknowledge()
         self.statuses.append(status)
         self.process = None
-        self.scene.take_lines(self.worker, self.said)
+
+    def hear(self):
+        """Reads what its worker has written to standard error since the last time."""
+        file, said = self.process.stderr.fileno(), b""
+        while select.select([file], [], [], 0)[0] and (part := os.read(file, 1 << 16)):
+            said += part
+        self.said += said.decode("utf-8", "replace")
+        self.scene.take_lines(self.worker, said.decode("utf-8", "replace"))
 
     def acknowledge(self):
         """What it went on after is noted."""
@@ -377,6 +420,7 @@ class Runner:
         known = folder.read(self.scene.run + "/jobs").decode().split("\n")
         want(number < len(known) and known[number - 1] == text, f"it says another text: {line}")
         self.lines.append(line)
+        self.pause = PAUSE
         self.acknowledge()
         if kind == "perform":
             self.scene.acknowledged[self.worker, serial] = number, None
@@ -449,6 +493,8 @@ def serve(runners, seconds=240, until=None):
             return
         seconds, seen = seconds - min(time.monotonic() - seen, 1), time.monotonic()
         want(seconds > 0, f"it doesn't end: {[(it.worker, it.lines[-1:]) for it in living.values()]}")
+        for it in living.values():
+            it.go_on()
         for file in select.select(list(living), [], [], 0.004 if until else 0.05)[0]:
             living[file].read()
 
@@ -460,8 +506,10 @@ def live(runner, faults=None):
 
 
 def see_out(runners, seconds=600, draws=None):
-    """Starts the workers again until each says that all is done, or that it was told to leave."""
+    """Has the workers stay, and starts them again, until each says that all is done, or that it was told to leave."""
     seen, ended, due = time.monotonic(), set(), {}
+    for it in runners:
+        it.stays = True
     while len(ended) < len(runners):
         now = time.monotonic()
         seconds, seen = seconds - min(now - seen, 1), now

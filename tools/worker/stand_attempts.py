@@ -20,6 +20,12 @@ class Intent:
             return False
         return not (self.answer and self.answer[0] == b"unbegun" or self.found == b"not-done")
 
+    def ended(self):
+        """When it ended, in seconds since 1970; 0 if no record says so."""
+        kind, *rest = self.answer or [None]
+        count = {b"done": 2, b"doubt": 1, b"untouched": 2}.get(kind)
+        return int(rest[-1]) if count == len(rest) else 0
+
     def state(self):
         """Where it stands, of KINDS; only for one that closes its line."""
         if self.found == b"done":
@@ -36,11 +42,20 @@ WANTED = {b"intent": 3, b"done": 3, b"doubt": 2, b"unbegun": 1, b"untouched": 3}
 OLD_WANTED = {**WANTED, b"doubt": 1, b"untouched": 2}
 
 
-def journal_of(worker, it, records, count):
-    """The intents that records say; each record has to be one that may stand there."""
+def records_in(append):
+    """The records of an append, one or two; more are none."""
+    records = append.split(b"; ")
+    if MISTAKE == "reads_three_records":
+        return records
+    return records if len(records) <= 2 else [append]
+
+
+def journal_of(worker, it, appends, count):
+    """The intents that appends say; each of their records has to be one that may stand there."""
     intents, has_times = [], not it.is_old and MISTAKE != "outcomes_without_times"
     name = f"{it.run}/journal.{worker}"
-    for place, record in enumerate(records, 1):
+    for place, record in ((place, it) for place, append in enumerate(appends, 1)
+                          for it in records_in(append)):
         kind, *rest = record.split(b" ")
         wanted = (WANTED if has_times else OLD_WANTED).get(kind)
         said = numbers(rest, wanted) if wanted else None
@@ -53,5 +68,5 @@ def journal_of(worker, it, records, count):
         elif is_answer:
             intents[said[0] - 1].answer = [kind, *rest[1:]]
         else:
-            raise End(65, f"`{name}`: entry {place} is {DAMAGED} {COPIES}")
+            raise End(65, f"`{name}`: append {place} is {DAMAGED} {COPIES}")
     return intents

@@ -37,7 +37,7 @@ class Clearance:
             self.give_back(serial)
             raise
         if other:
-            self.own.append(b"unbegun %d" % serial)
+            self.own.owe(b"unbegun %d" % serial)
             print(f"amo_worker: line {line}: attempt {other.name()} stands against it; not started",
                   file=sys.stderr, flush=True)
         return other is not None
@@ -49,7 +49,7 @@ class Clearance:
     def give_back(self, serial: int) -> None:
         """Records that the attempt was not begun, if the journal still takes it."""
         try:
-            self.own.append(b"unbegun %d" % serial)
+            self.own.put(b"unbegun %d" % serial)
         except End:
             pass
 
@@ -81,7 +81,7 @@ class Clearance:
             kind, *rest = record.split(b" ")
             worker, serial, _ = numbers(rest, 3) or (0, 0, 0)
             if not (1 <= worker <= MOST_WORKERS and 1 <= serial <= len(journals[worker - 1])):
-                raise End(LATER, f"`{self.it.run}/answers`: entry {place} is {DAMAGED} {COPIES}")
+                raise End(LATER, f"`{self.it.run}/answers`: append {place} is {DAMAGED} {COPIES}")
             journals[worker - 1][serial - 1].found = kind
 
     def read(self, header, name: str) -> List[bytes]:

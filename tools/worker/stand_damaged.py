@@ -4,6 +4,7 @@ each file, and which lines were attempted. It writes nothing."""
 import re
 import sys
 
+from stand_attempts import records_in
 from stand_files import MISTAKE, NO_ID, OLD_RUN, End, content, numbers, refused_folder
 from stand_folder import check_id, is_there
 from stand_header import FILES, Header
@@ -92,7 +93,7 @@ def attempts_in(found):
     """Of each line that a readable intent names, the names of its attempts."""
     attempts = {}
     for worker, name in enumerate(FILES[1:], 1):
-        for record in found[name][0].records:
+        for record in (it for append in found[name][0].records for it in records_in(append)):
             if said := INTENT.fullmatch(record):
                 serial, line = numbers(said.groups(), 2) or (0, 0)
                 attempts.setdefault(line, []).append(f"{worker}.{serial}")

@@ -18,7 +18,13 @@ MISTAKES = ("intent_after_the_act pending_is_open guard_is_removed words_of_anot
             " jobs_are_not_compared missing_record_is_taken unknown_is_open"
             " outcomes_without_times no_clearance clears_before_the_intent"
             " own_attempts_are_not_looked_at skips_a_journal pending_is_opened"
-            " others_are_not_compared own_name_is_not_compared").split()
+            " others_are_not_compared own_name_is_not_compared keeps_one_of_two two_appends"
+            " owed_is_dropped nothing_is_owed reads_three_records not_done_at_once failed_is_quiet"
+            " done_waits ahead_is_old first_row_alone_waits again_waits now_is_ignored"
+            " doubts_are_not_recorded keeps_the_round_lock"
+            " stays_in_the_former_round stays_with_the_former_words stays_on_the_former_boot"
+            " stays_though_one_runs stays_though_told_to_leave any_answer_is_go"
+            " number_is_not_compared owes_while_it_waits").split()
 MISTAKE = os.environ.get("AMO_MISTAKE")
 MOST_JOBS, MOST_WORKERS, MOST_BYTES = 4096, 16, 100000
 VERSION, OLD_VERSION = b"amo-run 2", b"amo-run 1"

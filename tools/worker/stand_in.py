@@ -6,6 +6,7 @@
   stand_in.py status RUN [--json] [--lines KIND]          stand_in.py doubts RUN [--json]
   stand_in.py status RUN --damaged
   stand_in.py answer RUN P.S LINE TEXT done|not-done      stand_in.py answer RUN --from FILE      stand_in.py again RUN
+  (answer: [--quiet SECONDS] [--now])
 
 Each takes --id ID, --file-system TYPE and --boot-id FILE too.
 
@@ -13,6 +14,7 @@ It is plain and slow, and nobody should work with it. AMO_MISTAKE names one of M
 then makes: the tests must show each of them.
 """
 
+import contextlib
 import errno
 import fcntl
 import os
@@ -35,6 +37,8 @@ from stand_folder import (
 )
 from stand_header import check_version, header_of, read_appends, text_of
 from stand_journal import Journal
+from stand_waits import Sheet, age_of
+from stand_partner import Partner, told_to_leave
 
 KINDS = "done failed doubt running untouched open".split()
 IMPOSSIBLE = "stop all workers, and the next round starts with new words"
@@ -58,7 +62,7 @@ class Ledger:
             said = numbers(rest, 3)
             intent = said and kind in (b"done", b"not-done") and self.intent(*said[:2])
             if not intent or intent.found:
-                raise End(65, f"`{run}/answers`: entry {place} is {DAMAGED} {COPIES}")
+                raise End(65, f"`{run}/answers`: append {place} is {DAMAGED} {COPIES}")
             intent.found = kind
         for it in (it for journal in self.journals for it in journal):
             if it.closes():
@@ -80,11 +84,12 @@ class Ledger:
         return [line for line in range(1, len(self.lines) + 1) if line not in self.closing]
 
 
-def final_ledger(it):
+def final_ledger(it, records=False):
     """The ledger with the locks of all pending intents that can be got, and the files of those
-    locks; such an intent is final. In a folder of 0.1.0 nothing is written, and a file that is
-    missing is held by nobody."""
-    held, final = [], set()
+    locks; such an intent is final, and is recorded as in doubt if that is asked for and the disk
+    takes it. In a folder of 0.1.0 nothing is written, and a file that is missing is held by
+    nobody."""
+    held, final, unrecorded = [], set(), set()
     for journal in Ledger(it).journals:
         if any(intent.answer is None for intent in journal):
             worker = journal[0].worker
@@ -94,16 +99,34 @@ def final_ledger(it):
                     runner, os.O_RDONLY if it.is_old else os.O_RDWR | os.O_CREAT, held):
                 if MISTAKE == "old_run_is_settled" and it.is_old:
                     file.file = opened(file.path, os.O_RDWR, 73)
-                if (MISTAKE != "lists_without_settling" and not it.is_old
-                        or MISTAKE == "old_run_is_settled"):
+                is_sure = MISTAKE != "lists_without_settling" and not it.is_old
+                if is_sure or MISTAKE == "old_run_is_settled":
                     file.recover(header_of(it))
-                final |= {(worker, intent.serial) for intent in journal if intent.answer is None
-                          and is_got(f"{it.run}/command.{intent.name()}", os.O_RDONLY, held)}
+                ended = [intent.serial for intent in journal if intent.answer is None
+                         and is_got(f"{it.run}/command.{intent.name()}", os.O_RDONLY, held)]
+                final |= {(worker, serial) for serial in ended}
+                if records and is_sure and MISTAKE != "doubts_are_not_recorded":
+                    unrecorded |= {(worker, serial) for serial in record(file, ended)}
     ledger = Ledger(it)
     for journal in ledger.journals:
         for intent in journal:
             intent.is_final = (intent.worker, intent.serial) in final
+            if (intent.worker, intent.serial) in unrecorded:  # the disk may yet lose it
+                intent.answer = None
     return ledger, held
+
+
+def record(file, ended):
+    """Records these intents as in doubt, and removes the locks of their commands, as long as the disk
+    takes that; those that it has not taken."""
+    left = list(ended)
+    with contextlib.suppress(End):
+        while left:
+            file.append(b"doubt %d %d" % (left[0], time.time()))
+            with contextlib.suppress(OSError):
+                os.unlink(f"{file.it.run}/command.{file.name.rpartition('.')[2]}.{left[0]}")
+            left.pop(0)
+    return left
 
 
 def is_got(path, flags, held):
@@ -274,35 +297,6 @@ def work_in(words, beta, perform):
             return True
 
 
-class Partner:
-    """Who performs: lines to standard output, and from standard input."""
-
-    def __init__(self):
-        self.kept = b""
-
-    def ask(self, kind, serial, line, text):
-        """What became of it, as an answer of the journal or None, and whether to leave."""
-        data = b"%s %d %d %s\n" % (kind, serial, line, text)
-        while data:
-            data = data[called(69, "standard output", os.write, 1, data):]
-        while b"\n" not in self.kept:
-            part = called(69, "standard input", os.read, 0, 4096)
-            if not part:
-                raise End(69, "runner: it has ended, or closed its pipe; start both again to go on")
-            self.kept += part
-        said, _, self.kept = self.kept.partition(b"\n")
-        words = said.split(b" ")
-        wanted = {b"done": 4, b"doubt": 3, b"unbegun": 3, b"untouched": 4, b"running": 3}.get(words[0])
-        fits = wanted == len(words) and number(words[1]) == serial and words[-1] in (b"go", b"leave")
-        if not fits or wanted == 4 and number(words[2], 255) is None:
-            raise End(76, f"runner: its reply `{said.decode(errors='replace')}` is invalid;"
-                          " docs/PROCESSES.md lists the replies")
-        has_time = words[0] in (b"doubt", b"untouched") and MISTAKE != "outcomes_without_times"
-        if words[0] == b"done" or has_time:
-            words.insert(-1, b"%d" % time.time())
-        return None if words[0] == b"running" else b" ".join(words[:-1]), words[-1] == b"leave"
-
-
 def taken(it):
     """Returns the end of a worker whose number another process has."""
     return refused_folder(it, LATER, "another process has this number; wait for its end, or start"
@@ -336,7 +330,8 @@ def readers_lock(it):
 
 
 def share_round(it):
-    """Begins a round if nobody is at work; the record of the round, under the shared lock."""
+    """Begins a round if nobody is at work; the record of the round, and the handle that has the
+    shared lock on it."""
     path = f"{it.run}/lock.round"
     file = opened_part(it, "lock.round", os.O_RDWR)
     sync_folder(it.run)
@@ -353,16 +348,11 @@ def share_round(it):
     record = header_of(it)
     words = content(f"{it.run}/words") or b""
     if MISTAKE == "words_of_another_boot" and record.boot:
-        return record
+        return record, file
     if record.boot != it.boot or words[:512] != record.head() or len(words) != 512 + 8 * (record.shared * (record.jobs + 3) + 1):
         raise refused_folder(it, LATER, "the current round cannot be joined; start again when all"
                                         " of its workers have ended")
-    return record
-
-
-def told_to_leave():
-    """Returns the end of a worker that its runner told to leave."""
-    return End(69, "runner: it told this worker to leave; start the worker again to go on")
+    return record, file
 
 
 def work(it):
@@ -377,36 +367,80 @@ def work(it):
             journal.append(answer)
         if leaves:
             raise told_to_leave()
-    record = share_round(it)
-    lines = (content(f"{it.run}/jobs") or b"").split(b"\n")
-    seat = (it.worker - record.first) % record.workers + 1
-    if seat > record.shared or it.worker > record.workers:
-        raise refused_folder(it, LATER, "this worker has no seat in the current round; start again"
-                                        " when that round is over")
-    state = {"serial": len(own)}
-    clearance = Clearance(it, journal)
+    hands = Hands(it, journal, partner, len(own))
+    while True:
+        hands.take_part()
+        partner.stay(it)
+        hands.come_back()
 
-    def perform(job):
-        line, state["serial"] = record.lines[job - 1], state["serial"] + 1
-        serial = state["serial"]
+
+class Hands:
+    """A worker in one round after the other: its journal, its runner, and the round."""
+
+    def __init__(self, it, journal, partner, serial):
+        self.it, self.journal, self.partner, self.serial = it, journal, partner, serial
+        self.clearance = Clearance(it, journal)
+        self.record, self.words, self.lines = None, None, []
+
+    def take_part(self):
+        """Begins or joins a round, and works in it until its part of that is over."""
+        lock = self.join()
+        try:
+            has_left = work_in(self.words, self.record.beta, self.perform)
+        except End:
+            with contextlib.suppress(End):
+                self.journal.pay()
+            raise
+        if MISTAKE != "owes_while_it_waits":
+            self.journal.pay()
+        if has_left:
+            raise told_to_leave()
+        if MISTAKE != "keeps_the_round_lock":
+            os.close(lock)
+
+    def join(self):
+        """Begins or joins a round; the handle that has its shared lock."""
+        it = self.it
+        record, lock = share_round(it)
+        self.lines = (content(f"{it.run}/jobs") or b"").split(b"\n")[:-1]
+        if MISTAKE == "stays_in_the_former_round" and self.record:
+            return lock
+        seat = (it.worker - record.first) % record.workers + 1
+        if seat > record.shared or it.worker > record.workers:
+            raise refused_folder(it, LATER, "this worker has no seat in the current round; start"
+                                            " again when that round is over")
+        is_late = MISTAKE == "stays_with_the_former_words" and self.words
+        self.record, words = record, Words(it.run, record, seat)
+        if is_late:
+            words.file = self.words.file
+        self.words = words
+        return lock
+
+    def come_back(self):
+        """What a worker looks at that has waited between two rounds."""
+        if MISTAKE != "number_is_not_compared":
+            check_whole(self.it, content(f"{self.it.run}/id") or b"", False)
+            self.clearance.compare_own()
+        if MISTAKE != "stays_on_the_former_boot":
+            self.it.read_boot()
+
+    def perform(self, job):
+        """Has the job's line performed, if it is clear; whether the worker is to leave."""
+        line, self.serial, count = self.record.lines[job - 1], self.serial + 1, len(self.lines)
+        serial = self.serial
         intent = b"intent %d %d %d" % (serial, line, time.time())
         if MISTAKE == "clears_before_the_intent":
-            clearance.look(serial, line, len(lines) - 1)
+            self.clearance.look(serial, line, count)
         if MISTAKE != "intent_after_the_act":
-            journal.append(intent)
-            if clearance.takes(serial, line, len(lines) - 1):
+            self.journal.put(intent)
+            if self.clearance.takes(serial, line, count):
                 return False
-        answer, leaves = partner.ask(b"perform", serial, line, lines[line - 1])
+        answer, leaves = self.partner.ask(b"perform", serial, line, self.lines[line - 1])
         if MISTAKE == "intent_after_the_act":
-            journal.append(intent)
+            self.journal.put(intent)
         if answer:
-            journal.append(answer)
+            self.journal.owe(answer)
         return leaves
-
-    if work_in(Words(it.run, record, seat), record.beta, perform):
-        raise told_to_leave()
-    raise refused_folder(it, LATER, "this round is over for this worker; start again to join the"
-                                    " next one")
 
 
 def check_list(it):
@@ -534,15 +568,19 @@ def say(text, line=b""):
 def doubts(it):
     enter(it)
     _readers = readers_lock(it)
-    ledger, _ = final_ledger(it)
-    told = [(line, found) for line, kind, found in ledger.kinds() if kind == "doubt"]
+    ledger, _ = final_ledger(it, records=True)
+    told = [(line, found, age_of(found.ended())) for line, kind, found in ledger.kinds() if kind == "doubt"]
     if it.is_json:
         import json
-        print(json.dumps([{"intent": found.name(), "line": line, "text": ledger.lines[line - 1].decode(), "time": found.time}
-                          for line, found in told]))
+        print(json.dumps([{"intent": found.name(), "line": line, "text": ledger.lines[line - 1].decode(),
+                           "state": "doubt", "time": found.time, "ended": found.ended() or None,
+                           "age": age if isinstance(age, int) else None}
+                          for line, found, age in told]))
     else:
-        for line, found in told:
-            say(f"doubt {found.name()} {line} ", ledger.lines[line - 1] + b" %d" % found.time)
+        for line, found, age in told:
+            say(f"doubt {found.name()} {line} ", ledger.lines[line - 1] + f" {found.time} {age}".encode())
+
+
 RUNNING = "its attempt may still run; answer once `doubts` lists it"
 AGAIN = "the other answer was given before; an answer stays as it is"
 NO_ROW = ("it must be P.S, LINE, TEXT and done or not-done, of one line of the run; copy the first"
@@ -590,10 +628,11 @@ def answer_once(it, rows):
     """Takes the answers; if one is to what still runs, none is taken, and that is said."""
     file = readers_lock(it)
     file.recover(header_of(it))
-    ledger, held = final_ledger(it)
+    ledger, held = final_ledger(it, records=True)
     try:
-        verdicts, running = {}, None
+        verdicts, running, sheet = {}, None, Sheet(it.quiet)
         for place, row in enumerate(rows, 1):
+            is_new = row[0] not in verdicts
             why = (refusal(ledger, *row)
                    or (AGAIN if verdicts.setdefault(row[0], row[3]) != row[3] else None))
             said = f"answer {place}: {why}"
@@ -601,6 +640,10 @@ def answer_once(it, rows):
                 running = running or said
             elif why:
                 raise End(65, said)
+            elif is_new and not (found := ledger.intent(*numbers(row[0].split(b"."), 2))).found:
+                sheet.take(place, found, row[3])
+        if sheet.early:
+            raise End(LATER if sheet.are_timed else 65, "\namo_worker: ".join(sheet.early))
         for name, verdict in verdicts.items() if not running else ():
             said = numbers(name.split(b"."), 2)
             if not ledger.intent(*said).found:
@@ -618,6 +661,8 @@ def again(it):
     file.recover(header_of(it))
     for intent in (intent for journal in Ledger(it).journals for intent in journal):
         if intent.answer and intent.answer[0] == b"untouched" and not intent.found:
+            if MISTAKE == "again_waits" and intent.ended() + 60 > time.time():
+                raise End(LATER, f"attempt {intent.name()}: it is too young; wait")
             file.append(b"not-done %d %d %d" % (intent.worker, intent.serial, time.time()))
 
 
@@ -627,7 +672,8 @@ class Given:
     def __init__(self, words):
         self.words, options = [], {}
         wants = {"--workers": 1, "--beta": 1, "--json": 0, "--lines": 1, "--from": 1,
-                 "--file-system": 1, "--boot-id": 1, "--id": 1, "--into": 0, "--damaged": 0}
+                 "--file-system": 1, "--boot-id": 1, "--id": 1, "--into": 0, "--damaged": 0,
+                 "--quiet": 1, "--now": 0}
         while words:
             word = words.pop(0)
             if word.startswith("--") and self.words[:1] != ["answer"] or word in wants:
@@ -639,7 +685,8 @@ class Given:
         shapes = {"door": (3, 3), "work": (4, 4), "status": (2, 2), "doubts": (2, 2), "again": (2, 2),
                   "answer": (2, 2) if "--from" in options else (6, 6)}
         taken = {"door": "--workers --beta --into", "work": "--workers --beta",
-                 "status": "--json --lines --damaged", "doubts": "--json", "answer": "--from"}
+                 "status": "--json --lines --damaged", "doubts": "--json",
+                 "answer": "--from --quiet --now"}
         self.command = self.words[0] if self.words else None
         if self.command not in shapes or not shapes[self.command][0] <= len(self.words) <= shapes[self.command][1]:
             raise End(64, "`amo_worker`: it must be followed by door, work, status, doubts, answer"
@@ -667,8 +714,17 @@ class Given:
             self.worker = (self.number("P", self.words[2], self.workers)
                            if self.command == "work" else None)
         self.words = self.words[2:]
-        boot = options.get("--boot-id", "/proc/sys/kernel/random/boot_id")
-        self.boot = (content(boot) or b"").split(b"\n")[0]
+        self.quiet = number(options.get("--quiet", "60").encode(errors="surrogateescape"), 10**9)
+        if self.quiet is None:
+            raise End(64, f"`--quiet`: it must be a whole number from 0 to {10**9}{HELP}")
+        if "--now" in options and MISTAKE != "now_is_ignored":
+            self.quiet = None
+        self.boot_path = options.get("--boot-id", "/proc/sys/kernel/random/boot_id")
+        self.read_boot()
+
+    def read_boot(self):
+        """Reads the id that the machine has since it was started."""
+        self.boot = (content(self.boot_path) or b"").split(b"\n")[0]
 
     @staticmethod
     def number(name, word, most):

@@ -4,7 +4,7 @@ writes them, and compares them with the header of the round."""
 import fcntl
 import hashlib
 import os
-from typing import Optional
+from typing import List, Optional
 
 from stand_files import (
     MISTAKE, End, called, has_lock, missing, opened_part, part, put_at, sync, sync_folder, whole,
@@ -131,6 +131,7 @@ class Journal:
 
     def __init__(self, it, name: str):
         self.it, self.name, self.path = it, name, f"{it.run}/{name}"
+        self.owed: List[bytes] = []  # what came of the last attempt, if it isn't appended yet
         self.file = opened_part(it, name, os.O_RDONLY if it.is_old else os.O_RDWR)
         if not it.is_old:
             sync_folder(it.run)
@@ -178,8 +179,32 @@ class Journal:
         put_at(self.file, self.path, b"-", self.end)
         sync(self.file, self.path)
 
+    def put(self, record: bytes) -> None:
+        """Appends a record, in one append with the one that is owed: all or none. After an append
+        that failed nothing is appended."""
+        records, self.owed = [*self.owed, record], []
+        if MISTAKE == "keeps_one_of_two":
+            records = records[-1:]
+        if MISTAKE == "two_appends":
+            for it in records[:-1]:
+                self.append(it)
+            records = records[-1:]
+        self.append(b"; ".join(records))
+
+    def owe(self, record: bytes) -> None:
+        """Keeps a record for the next append."""
+        if MISTAKE == "nothing_is_owed":
+            self.append(record)
+        else:
+            self.owed.append(record)
+
+    def pay(self) -> None:
+        """Appends the record that is owed."""
+        if self.owed and MISTAKE != "owed_is_dropped":
+            self.append(self.owed.pop())
+
     def append(self, record: bytes) -> None:
-        """Puts a record behind the last one; it counts once its commit byte is open on the
+        """Puts an append behind the last one; it counts once its commit byte is open on the
         disk."""
         checksum = next_checksum(self.checksum, record)
         line = record + b" " + checksum + b"\n"

@@ -188,13 +188,13 @@ FAULTS = [
      f"`THE RUN/record`: {REFUSED_FILE}"),
     (having("jobs", b"a\n\n"), "status", REFUSED, f"`THE RUN/jobs`: {REFUSED_FILE}"),
     (recording("journal.16", b"doubt 1 9"), "status", REFUSED,
-     f"`THE RUN/journal.16`: entry 1 {DAMAGED_ENTRY}"),
+     f"`THE RUN/journal.16`: append 1 {DAMAGED_ENTRY}"),
     (recording("answers", b"done 1 2 9", b"done 9 9 9"), "doubts", REFUSED,
-     f"`THE RUN/answers`: entry 2 {DAMAGED_ENTRY}"),
+     f"`THE RUN/answers`: append 2 {DAMAGED_ENTRY}"),
     (spoiling("answers", b"done 1 2 9"), "again", REFUSED,
      "`THE RUN/answers`: append 1: its checksum doesn't fit; ..."),
     (counting(*[b"more"] * 7), "work 1", REFUSED,
-     "`THE RUN/journal.1`: it has 6 appends, and 9 were on the disk when round 4 began; " + KEEP),
+     "`THE RUN/journal.1`: it has 4 appends, and 9 were on the disk when round 4 began; " + KEEP),
     (counting(b"another", b"more"), "status", REFUSED,
      "`THE RUN/journal.1`: append 4 is another one than when round 4 began; " + KEEP),
     (lambda scene: os.unlink(scene.boot), "work 1", READ,
@@ -207,6 +207,19 @@ FAULTS = [
     (same, "answer 1.1 1 job_1 done", REFUSED, f"answer 1: {NOT_ASKED}"),
     (recording("answers", b"done 1 2 9"), "answer 1.2 2 job_2 not-done", REFUSED,
      "answer 1: the other answer was given before; an answer stays as it is"),
+    (same, "answer 1.2 2 job_2 not-done --quiet 1000000000", LATER,
+     "answer 1: its attempt ended at ..., and it is ... now; answer again 1000000000 s after that"
+     " end, or add --now"),
+    (recording("journal.16", b"intent 1 4 1", b"doubt 1 4000000000"),
+     "answer 16.1 4 job_4 not-done", REFUSED,
+     "answer 1: its attempt ended at Tue, 02 Oct 2096 07:06:40 GMT, which is ahead of the clock"
+     " (...); set the clock right, or add --now"),
+    (recording("journal.16", b"intent 1 4 1", b"done 1 3 0"),
+     "answer 16.1 4 job_4 not-done --quiet 0", REFUSED,
+     "answer 1: no record says when its attempt ended; wait as long as the receiver may take, then"
+     " add --now"),
+    (same, "answer 1.2 2 job_2 not-done --quiet 1.5", WORDS,
+     f"`--quiet`: it must be a whole number from 0 to 1000000000{HELP}"),
     (same, "answer --from /nowhere", READ,
      "answers `/nowhere`: cannot be read: ...; check the path"),
     (same, "answer 1.2 2", WORDS,
@@ -309,6 +322,12 @@ def failing_output(scene, words):
          f"{words}: status {ran.returncode}, {said}")
 
 
+def ageless(ended):
+    """The end of a call of `doubts`, without the ages of the doubts, which grow."""
+    status, out, err = ended
+    return status, re.sub(r'"age":\d+|\b\d+$', "age", out, flags=re.MULTILINE), err
+
+
 def try_outputs(bench):
     """what a person asks for is written whole, by calls that are cut short or interrupted too, or the fault is told"""
     if bench.is_slow():
@@ -324,7 +343,7 @@ def try_outputs(bench):
         number = next(int(it[1]) for it in calls if it[2] == "say")
         for fault in ("short", errno.EINTR):
             again = scene.call(words[0], scene.run, *words[1:], faults=f"{number}:{fault}")
-            want(again == whole, f"{words}, {fault}: {again}, and not {whole}")
+            want(ageless(again) == ageless(whole), f"{words}, {fault}: {again}, and not {whole}")
     for words in (["--help"], ["answer", "--help"]):
         failing_output(scene, words)
         ran = subprocess.run([*bench.command(), *words], stdin=subprocess.DEVNULL,
@@ -336,20 +355,21 @@ def try_times(bench):
     """the times in journals, in answers, and of doubts are those at which it was noted"""
     begun = int(time.time())
     scene = prepared(bench, ["done 0", "doubt", "untouched 75", "done 3", "unbegun", "dies"])
-    untimed = [it for it in folder.records_in(scene.run, "journal.1")
+    untimed = [it for it in folder.single_records(scene.run, "journal.1")
                if it.startswith((b"doubt ", b"untouched ")) and int(it.split(b" ")[-1]) < begun]
     want(not untimed, f"without its time was noted {untimed}")
     scene.answer(1, 4, 4, "done")
     scene.again()
     ended = int(time.time())
-    records = folder.records_in(scene.run, "journal.1") + folder.records_in(scene.run, "answers")
+    records = (folder.single_records(scene.run, "journal.1")
+               + folder.single_records(scene.run, "answers"))
     timed = [it for it in records if not it.startswith(b"unbegun ")]
-    want(len(timed) == 6 + 4 + 2, f"there is {records}")
+    want(len(timed) == 6 + 5 + 2, f"there is {records}")
     times = [int(it.split(b" ")[-1]) for it in timed]
     want(begun <= min(times) and max(times) <= ended, f"between {begun} and {ended} was noted {timed}")
     noted = {it.name(): it.time for it in scene.look().intents.values()}
     shown = {it["intent"]: it["time"] for it in json.loads(scene.call("doubts", scene.run, "--json")[1])}
-    listed = {it.split(" ")[1]: int(it.split(" ")[-1]) for it in scene.call("doubts", scene.run)[1].splitlines()}
+    listed = {it.split(" ")[1]: int(it.split(" ")[-2]) for it in scene.call("doubts", scene.run)[1].splitlines()}
     want(shown == listed == {name: noted[name] for name in ("1.2", "1.6")}, f"the doubts say {shown}, {listed}")
 
 
@@ -386,11 +406,12 @@ def try_what_is_held(bench):
         want(stopped(bench, words, locked, "stop_after") == whole, f"{words} doesn't hold all of a doubt")
         if not bench.is_slow():
             want(stopped(bench, words, said, "stop_before") == [], f"{words} holds locks while it prints")
-    words = ["answer", "1.1", "1", "job 1", "not-done"]
+    words = ["answer", "1.1", "1", "job 1", "not-done", "--now"]
     calls = stopped(bench, words, None, None)
     locked = next(k for k, it in enumerate(calls) if it[2:4] == ["lock", "command.1.1"])
     puts = [int(it[1]) for it in calls[locked:] if it[2] in ("write", "sync") and it[3] == "answers"]
     want(len(puts) == 4, f"an answer is put by {puts}")
+    whole.remove("command.1.1")  # which goes once the doubt is recorded
     for number in (puts[0], puts[-1]):
         want(stopped(bench, words, number, "stop_before") == whole, "an answer is put without the locks of its doubt")
 

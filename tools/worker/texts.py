@@ -24,7 +24,7 @@ def refused_as(scene, name: str, place: int, wrong: str) -> None:
     status, out, err = scene.call("status", scene.run)
     what = f"{name}, append {place} ({wrong})" if place else f"{name} ({wrong})"
     want(status == REFUSED and not out, f"{what}: status ends with {status}: {out or err}")
-    said = rf"(append|entry) {place}\b"
+    said = rf"append {place}\b"
     if wrong in journals.WRONG:
         said = f"append {place}: {wrong};"
     if place is None:
@@ -143,6 +143,24 @@ def try_cut_off_append(bench):
     each(((scene, "journal.1", it, len(it), True) for it in files), cut_one)
 
 
+def try_records_of_an_append(bench):
+    """an append of two records is read; one of three, or of two that something else parts, is
+    refused by its number, and so is one of two answers"""
+    scene = run_of_all_kinds(bench)
+    intent, unbegun, more = b"intent 8 8 1", b"unbegun 8", b"intent 9 8 1"
+    answers = b"done 1 5 9", b"done 1 3 9"
+    wrong = [b"; ".join(it) for it in ([intent, unbegun, more], [intent, b""], [b"", intent])]
+    wrong += [intent + it + unbegun for it in (b";", b" ; ", b";  ", b"; ; ", b", ")]
+    rows = [("journal.1", it, False) for it in (*wrong, b"; ".join([intent, b"unbegun 9"]))]
+    rows += [("journal.1", b"; ".join([intent, unbegun]), True), ("answers", answers[0], True),
+             ("answers", b"; ".join(answers), False)]
+    for name, last, is_read in rows:
+        kept, records = folder.read(f"{scene.run}/{name}"), folder.records_in(scene.run, name)
+        data = journals.journal(scene.id(), name, [*records, last])
+        want(read_as(scene, name, data) == is_read, f"{last}: it is {'refused' if is_read else 'taken'}")
+        put(f"{scene.run}/{name}", kept)
+
+
 def change_one(bench, name, at, byte):
     """One byte of record, words or jobs is changed or cut away: a round is begun, or the fault is named; none is done twice."""
     scene = bench.scene(6, 2)
@@ -210,4 +228,4 @@ def try_of_another(bench):
     return f"{each(((bench, *it) for it in changes), share_one)} changes"
 
 
-PARTS = {"texts": [try_cut, try_changed, try_cut_off_append, try_record_words_jobs, try_of_another]}
+PARTS = {"texts": [try_cut, try_changed, try_cut_off_append, try_records_of_an_append, try_record_words_jobs, try_of_another]}

@@ -1,0 +1,60 @@
+"""From when on the stand-in for the worker takes an answer `not-done`: a request that the attempt
+had sent may arrive late."""
+
+import time
+from email.utils import formatdate
+from typing import Optional
+
+from stand_files import MISTAKE
+
+UNKNOWN = ("no record says when its attempt ended; wait as long as the receiver may take, then add"
+           " --now")
+
+
+def dated(seconds: int) -> str:
+    """A time in seconds since 1970, as a date."""
+    return formatdate(seconds, usegmt=True)
+
+
+def age_of(ended: int):
+    """How many seconds ago something ended; `unknown`, or `ahead` of the clock."""
+    now = int(time.time())
+    return "unknown" if not ended else "ahead" if now < ended else now - ended
+
+
+def wait_of(intent, verdict: bytes, seconds: int) -> Optional[tuple]:
+    """Why this answer comes too early, and whether it is known from when on it is taken; None if it
+    doesn't."""
+    waits = [b"doubt", b"done", None]
+    if MISTAKE == "failed_is_quiet":
+        waits.remove(b"done")
+    kind = intent.answer and intent.answer[0]
+    must_wait = verdict == b"not-done" and kind in waits or MISTAKE == "done_waits"
+    if not must_wait or MISTAKE == "not_done_at_once":
+        return None
+    ended, now = intent.ended(), int(time.time())
+    if not ended:
+        return UNKNOWN, False
+    if now < ended and MISTAKE != "ahead_is_old":
+        return (f"its attempt ended at {dated(ended)}, which is ahead of the clock ({dated(now)});"
+                " set the clock right, or add --now"), False
+    if abs(now - ended) < seconds:
+        return (f"its attempt ended at {dated(ended)}, and it is {dated(now)} now; answer again"
+                f" {seconds} s after that end, or add --now"), True
+    return None
+
+
+class Sheet:
+    """The answers of one call that come too early. With no number of seconds, none does."""
+
+    def __init__(self, seconds: Optional[int]):
+        self.seconds, self.early, self.are_timed = seconds, [], True
+
+    def take(self, place: int, intent, verdict: bytes) -> None:
+        """Notes the answer of this number, if it comes too early."""
+        if self.seconds is None or MISTAKE == "first_row_alone_waits" and place > 1:
+            return
+        wait = wait_of(intent, verdict, self.seconds)
+        if wait:
+            self.early.append(f"answer {place}: {wait[0]}")
+            self.are_timed = self.are_timed and wait[1]
