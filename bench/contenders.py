@@ -78,6 +78,17 @@ class Xargs(Contender):
         return {int(line.split()[1]): kind_of(line.split()[0]) for line in content(self.log).splitlines()}
 
 
+class Plain(Contender):
+    """Keeps no record, so it is never started again."""
+    name, title, program = "plain", "`xargs -P`", "xargs"
+
+    def words(self):
+        return ["xargs", "-a", self.jobs, "-d", "\\n", "-n", "1", "-P", self.workers, *self.act]
+
+    def stand(self):
+        return {int(line): "done" for line in content(f"{self.room}/effects/file").split()}
+
+
 class Flock(Contender):
     """Started again its workers take lines without an intent, so one that was begun and has no end stays in doubt. Workers that
     outlive their runner go on beside the new ones."""
@@ -135,8 +146,11 @@ class Amo(Contender):
     def words(self):
         return [*AMO_JOBS, "crew", "--worker-program", self.given.worker, "--workers", self.workers, self.jobs, "--", *self.act]
 
+    def status(self):
+        return [*AMO_JOBS, "status", "--worker-program", self.given.worker, self.jobs]
+
     def stand(self):
-        words = [*AMO_JOBS, "status", "--worker-program", self.given.worker, self.jobs]
+        words = self.status()
         told, still_open = (subprocess.run([*words, *more], stdout=subprocess.PIPE, stderr=subprocess.DEVNULL).stdout
                             for more in (["--json"], ["--lines", "open"]))
         found = json.loads(told or '{"lines": 0, "intents": []}')
@@ -174,4 +188,4 @@ class Base:
         shutil.rmtree(self.folder)
 
 
-EVERY = [Parallel, Xargs, Flock, Sqlite, Held, Claimed, Amo]
+EVERY = [Parallel, Xargs, Plain, Flock, Sqlite, Held, Claimed, Amo]
