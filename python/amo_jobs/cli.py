@@ -258,15 +258,17 @@ def version() -> str:
         return file.read().strip()
 
 
-def parser_of(is_version: bool) -> argparse.ArgumentParser:
-    """Returns the parser of the command line. An option that isn't given sets nothing."""
+def parser_of(words: List[str]) -> argparse.ArgumentParser:
+    """Returns the parser of the command line; if it begins with a command, of that one alone. An
+    option that isn't given sets nothing."""
     layout = argparse.RawDescriptionHelpFormatter
     top = argparse.ArgumentParser("amo_jobs", None, __doc__, formatter_class=layout,
                                   allow_abbrev=False)
-    shown = f"amo_jobs {version()}" if is_version else ""
+    shown = f"amo_jobs {version()}" if words[:1] == ["--version"] else ""
     top.add_argument("--version", action="version", version=shown)
     inner = top.add_subparsers(dest="what", required=True)
-    for name, (about, *examples) in ABOUT.items():
+    for name in words[:1] if words[:1] and words[0] in ABOUT else ABOUT:
+        about, *examples = ABOUT[name]
         shown = "\n".join(["two examples:", *(f"  ./amo_jobs {it}" for it in examples)])
         it = inner.add_parser(name, description=about, epilog=shown, formatter_class=layout,
                               allow_abbrev=False, argument_default=argparse.SUPPRESS)
@@ -334,7 +336,7 @@ def settings_of(words: List[str]) -> Settings:
     is_run = words[:1] in (["crew"], ["work"])
     cut = words.index("--") if is_run and "--" in words else len(words)
     settings = Settings(command=words[cut + 1:])
-    parser_of(words[:1] == ["--version"]).parse_args(words[:cut], settings)
+    parser_of(words[:cut]).parse_args(words[:cut], settings)
     most = 4 if settings.what == "answer" and not settings.source else 0
     settings.jobs = settings.words.pop(0) if len(settings.words) > most else ""
     refuse_words(settings, settings.words[most:])

@@ -9,7 +9,6 @@ from __future__ import annotations
 import json
 import os
 import sys
-import tempfile
 import time
 from contextlib import suppress
 from typing import Any, Collection, Dict, Iterator, List
@@ -70,6 +69,7 @@ def doubts(settings: Settings, program: Program) -> int:
 def answer(settings: Settings, program: Program) -> int:
     """Records what the operator found out; returns the exit status. The answer is handed on as a
     row of a file, so that nothing in the text is taken for an option."""
+    import tempfile  # which no other command needs, and which takes as long as half of the others
     with tempfile.NamedTemporaryFile() as file:
         file.write(b"\t".join(map(os.fsencode, settings.words)) + b"\n")
         file.flush()
