@@ -36,8 +36,9 @@ class Family:
         return [it for it in calls.read_children(self.file) if it not in known]
 
     def snapshot(self, known: Collection[int]) -> FrozenSet[Process]:
-        """Returns the children, without these numbers, so that later ones can be told from them."""
-        return frozenset(named(self.others(known)))
+        """Returns the children, without these numbers, so that later ones can be told from them.
+        Raises OSError."""
+        return frozenset(named_children(self.others(known)))
 
     def rest(self, before: Collection[Process], known: Collection[int], own: int = 0,
              among: Optional[Collection[Process]] = None) -> List[Process]:
@@ -45,7 +46,7 @@ class Family:
         a command may leave behind and all below those. `own` is the command itself. If `among` is
         given, it has the children that count. Raises OSError."""
         numbers = self.others(known)
-        roots = [it for it in named(numbers) if it not in before] if numbers else []
+        roots = [it for it in named_children(numbers) if it not in before]
         roots = [it for it in roots if among is None or it in among]
         return below(roots, lambda it: it.number != own and self.is_named(it))
 
@@ -58,6 +59,13 @@ def named(numbers: Iterable[int]) -> List[Process]:
     """Returns the processes with these numbers, as far as they are there."""
     found = [(it, calls.start_of(it)) for it in numbers]
     return [Process(number, start) for number, start in found if start is not None]
+
+
+def named_children(numbers: Iterable[int]) -> List[Process]:
+    """Returns this process's own children with these numbers. Nobody else reaps them, so each is
+    there: one whose start can't be read, for want of a descriptor or of a right, has the start 0.
+    """
+    return [Process(it, calls.start_of(it) or 0) for it in numbers]
 
 
 def below(roots: Iterable[Process], is_left_out: Callable[[Process], bool]) -> List[Process]:
