@@ -28,7 +28,8 @@ from amo_jobs.settings import next_command, Settings
 from amo_jobs.statuses import Status
 from amo_jobs.worker import HERE, Program
 
-SOON, LATER = 0.05, 0.5  # seconds until a lock is tried again, and after some seconds
+# Seconds until a lock is tried or an order is sent again, and until a lock is after some seconds.
+SOON, LATER = 0.05, 0.5
 LOCK, REPORTS, ORDERS = 3, 4, 5  # a runner's files
 
 
@@ -81,7 +82,7 @@ class Post:
 
     def __init__(self, words: List[str], lock: int):
         """Starts it. Raises OSError."""
-        self.rest, self.is_open = b"", True
+        self.rest, self.is_open, self.unsent = b"", True, b""
         self.files: List[int] = []
         handed: List[int] = []
         try:
@@ -114,8 +115,17 @@ class Post:
 
     def order(self, text: str) -> None:
         """Gives an order. A runner that is gone needs none."""
+        self.unsent += f"{text}\n".encode()
+        self.send()
+
+    def send(self) -> None:
+        """Sends as much as the pipe takes. A runner that waits needs each order, so the rest is
+        sent later."""
         try:
-            os.write(self.files[1], f"{text}\n".encode())
+            while self.unsent:
+                self.unsent = self.unsent[os.write(self.files[1], self.unsent):]
+        except BrokenPipeError:
+            self.unsent = b""
         except OSError:
             pass
 
@@ -174,6 +184,7 @@ class Crew:
             for number in self.bell.taken():
                 self.feed(Signalled(number))
         for worker, post in list(self.posts.items()):
+            post.send()
             if post.files[0] in ready:
                 self.take_reports(worker, post)
         self.take_ended(self.bell.wake in ready)
@@ -192,6 +203,7 @@ class Crew:
         dues = [self.progress.due, *self.pauses.values()]
         dues += [self.try_at] if self.untaken() else []
         dues += [self.look_at] if self.state.has_orphans else []
+        dues += [monotonic() + SOON for it in self.posts.values() if it.unsent]
         return {file for file, _ in poll.poll(max(min(dues) - monotonic(), 0) * 1000 + 1)}
 
     def untaken(self) -> List[int]:
