@@ -1,8 +1,10 @@
-/* Stands before the C library's calls in amo_jobs, and has one of them fail. Preloaded into
-   amo_jobs alone: it takes itself out of the environment, so no worker and no command has it.
+/* Stands before the C library's calls in one process of amo_jobs, and has one of them fail. It
+   takes itself out of the environment of that process, so no worker and no command has it.
 
    AMO_FAULT_ROOM  the folder of the test, an absolute path. A call counts if it is on a file in
                    there, on a pipe, on a standard stream that is read or written, or on a process.
+   AMO_FAULT_AS    if it is set, the process is the one that has a word which begins so. All others
+                   hand the library on, and nothing of them counts. Else it is the first process.
    AMO_FAULT_LOG   a file to which each call that counts is appended, a line each: CALL KIND COUNT
                    RESULT. RESULT below 0 is an error number, with ` !` after it if it was put
                    there.
@@ -11,13 +13,15 @@
                    With SHORT in place of a number a write takes half of its bytes.
 
    KIND of a file is its name within the room, with N for a number and X for 16 hexadecimal digits
-   or more, as run/command.N.N. KIND of a process is `door` or `status` for the first ones that
-   amo_jobs begins by vfork; `worker` for the first one with the word `work` that it begins by
-   posix_spawn; `command` for the others of these, and for each that it begins by fork; `again` for
-   all others, and `children` for any child. A pipe has the kind of the process for which it was
-   made, and its number among the pipes of that process, as worker.2. The pipe of a command is
-   `report`; the one that doesn't block is `bell`. A pipe is later.N as long as it isn't known for
-   which process it was made.
+   or more, as run/command.N.N; that of the list of a process's children and of its state is its
+   path, as /proc/N/stat. KIND of a process is `door` or `status` for the first ones that amo_jobs
+   begins by vfork; `runner` for one with a word that begins with --as=; `worker` for the first one
+   with the word `work` that a runner begins by posix_spawn; `command` for the others of these, and
+   for each that it begins by fork; `again` for all others, and `children` for any child. A pipe has
+   the kind of the process for which it was made, and its number among the pipes of that process, as
+   worker.2. The pipe of a command is `report`; the one that doesn't block is `bell`; those of a
+   runner to and from its supervisor are `reports` and `orders` in the runner. A pipe is later.N as
+   long as it isn't known for which process it was made.
    What a child does before it becomes another program counts if it is the first child of its kind.
    Its KIND begins with `child:` then, as child:command. */
 #define _GNU_SOURCE
@@ -55,7 +59,7 @@ struct call {
   int fails;
 };
 
-static const char *const stages[] = {"door", "status", "worker"};
+static const char *stages[] = {"door", "status", "worker"};
 static char room[PATH_MAX], log_path[PATH_MAX], wanted_name[MOST_NAME], wanted_kind[MOST_NAME];
 static int wanted_error, is_on, stage, pipes, children;
 static const char *in_child; /* what a child is to become, before it does; else NULL */
@@ -71,10 +75,22 @@ static struct {
   const char *kind;
 } begun[MOST_PROCESSES];
 
+/* Whether a word of this process begins so. */
+static int has_word(const char *start) {
+  char words[16384];
+  int file = syscall(SYS_openat, AT_FDCWD, "/proc/self/cmdline", O_RDONLY | O_CLOEXEC);
+  long size = syscall(SYS_read, file, words, sizeof words - 1), found = 0;
+  syscall(SYS_close, file);
+  words[size < 0 ? 0 : size] = 0;
+  for (long place = 0; place < size && !found; place += strlen(words + place) + 1)
+    found = strncmp(words + place, start, strlen(start)) == 0;
+  return found;
+}
+
 __attribute__((constructor)) static void begin(void) {
   const char *given = getenv("AMO_FAULT_ROOM"), *path = getenv("AMO_FAULT_LOG"),
-             *fault = getenv("AMO_FAULT");
-  is_on = given && path;
+             *fault = getenv("AMO_FAULT"), *as = getenv("AMO_FAULT_AS");
+  is_on = given && path && (!as || has_word(as));
   *(void **)&real_fork = dlsym(RTLD_NEXT, "fork");
   *(void **)&real_poll = dlsym(RTLD_NEXT, "poll");
   *(void **)&real_spawn = dlsym(RTLD_NEXT, "posix_spawnp");
@@ -89,12 +105,28 @@ __attribute__((constructor)) static void begin(void) {
   if (fault)
     wanted_error = strcmp(error, "SHORT") == 0 ? SHORT : atoi(error);
   unsetenv("LD_PRELOAD"), unsetenv("AMO_FAULT_ROOM"), unsetenv("AMO_FAULT_LOG"),
-      unsetenv("AMO_FAULT");
+      unsetenv("AMO_FAULT"), unsetenv("AMO_FAULT_AS");
   strcpy(kinds[0], "input"), strcpy(kinds[1], "output"), strcpy(kinds[2], "screen");
+  if (has_word("--as=")) /* a runner, which has its number's lock and two pipes of its supervisor */
+    stage = 2, strcpy(kinds[3], "run/runner.N"), strcpy(kinds[4], "reports"),
+    strcpy(kinds[5], "orders");
+  else if (has_word("crew"))
+    stages[2] = "runner";
 }
 
 static int is_of(const char *part, long length, const char *digits, long least) {
   return length >= least && (long)strspn(part, digits) >= length;
+}
+
+/* The kind of a file that shows a process; 0 if it doesn't count. */
+static int kind_of_process_file(const char *path, char *kind) {
+  const char *last = strrchr(path, '/');
+  int is_own = strncmp(path, "/proc/self/", 11) == 0;
+  if (strcmp(last, "/stat") == 0 && !is_own)
+    return strcpy(kind, "/proc/N/stat"), 1;
+  if (strcmp(last, "/children") == 0)
+    return strcpy(kind, is_own ? "/proc/self/children" : "/proc/N/children"), 1;
+  return 0;
 }
 
 /* The kind of a path; 0 if it doesn't count. */
@@ -111,6 +143,8 @@ static int kind_of(int folder, const char *path, char *kind) {
     whole[length++] = '/';
   }
   snprintf(whole + length, sizeof whole - length, "%s", path);
+  if (strncmp(whole, "/proc/", 6) == 0)
+    return kind_of_process_file(whole, kind);
   if (strncmp(whole, room, strlen(room) - 1) != 0)
     return 0;
   if (strcmp(whole + strlen(room) - 1, "") == 0 || strcmp(whole, room) == 0)
@@ -246,6 +280,16 @@ ssize_t read(int file, void *bytes, size_t count) {
   if (!kind)
     return syscall(SYS_read, file, bytes, count);
   TRY("read", kind, syscall(SYS_read, file, bytes, count));
+}
+
+ssize_t pread64(int file, void *bytes, size_t count, off64_t place) {
+  const char *kind = counted(file);
+  if (!kind)
+    return syscall(SYS_pread64, file, bytes, count, place);
+  TRY("pread", kind, syscall(SYS_pread64, file, bytes, count, place));
+}
+ssize_t pread(int file, void *bytes, size_t count, off_t place) {
+  return pread64(file, bytes, count, place);
 }
 
 ssize_t write(int file, const void *bytes, size_t count) {
@@ -438,8 +482,13 @@ int posix_spawnp(pid_t *process, const char *file, const posix_spawn_file_action
                  const posix_spawnattr_t *how, char *const words[], char *const surroundings[]) {
   if (!is_on || in_child)
     return real_spawn(process, file, actions, how, words, surroundings);
-  int is_worker = words[0] && words[1] && strcmp(words[1], "work") == 0;
-  const char *kind = !is_worker ? "command" : stage < 3 ? stages[stage] : "again";
+  int is_worker = words[0] && words[1] && strcmp(words[1], "work") == 0, is_runner = 0;
+  for (int k = 0; words[k]; k++)
+    is_runner |= strncmp(words[k], "--as=", 5) == 0;
+  const char *kind = is_runner    ? "runner"
+                     : !is_worker ? "command"
+                     : stage < 3  ? stages[stage]
+                                  : "again";
   struct call call = enter("spawn", kind);
   int error = call.fails ? wanted_error
                          : real_spawn(process, file, actions, how, words, surroundings);

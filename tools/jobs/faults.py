@@ -1,5 +1,6 @@
 """Each call of amo_jobs fails in turn, once with each error that it can give, over a list of three
-lines. No line may be performed twice, and none may count as done without its effect.
+lines: the calls of `amo_jobs work`, of a supervisor, and of a runner that has a supervisor. No line
+may be performed twice, and none may count as done without its effect.
 
 A table states for each call what follows. A call has a name and a kind, which tools/jobs/faults.c
 gives it. The test fails if a run meets a call that isn't in the table, so the table stays complete.
@@ -15,28 +16,32 @@ from concurrent.futures import ThreadPoolExecutor
 from time import monotonic
 from typing import Callable, NamedTuple
 
-from jobs.scene import DONE, DOUBTFUL, LATER, LEFT, Scene, Wrong, changed, want
+from jobs.rules import until
+from jobs.scene import DONE, DOUBTFUL, FAILED, LATER, LEFT, Scene, Wrong, changed, want
 from worker import folder
 
 HERE = os.path.dirname(os.path.realpath(__file__))
-LANES, BUILD = 4, 125
+LANES, BUILD = 2, 125
+SHORT_PART = 6  # the short form takes one of so many rows
 
 # The columns of the table:
 #   CALL KIND COUNT..   each count is tried. A `*` stands before a call that not every Python makes.
 #   ERRORS              each is tried. SHORT is no error: the write takes half of the bytes. `-` is
 #                       for a call that can give no error here; the rest of the row is the reason.
 #   STATUS              that of the crew in which the call fails.
-#   SAYS                a part of this crew's output, in either case. % is the error's text, * is any
-#                       text, and NOT begins the message that line 1 can't be started.
+#   SAYS                a part of this crew's output, in either case. % is the error's text, * is
+#                       any text, and NOT begins the message that line 1 can't be started.
 #   DOUBTS              how many lines the operator is asked about, who answers truthfully.
-#   NEXT                how many lines the crews after it perform, in which no call fails.
+#   NEXT                how many lines the crews after it perform, in which no call fails; `*` is
+#                       any number, since a runner whose supervisor fails may be at any line.
 # If two ends are right, a `/` stands between them; the first of one column goes with the first of
 # each other column. (A command may end before or after its runner waits for it.)
 
-# Here a crew is `amo_jobs work`, one process that is runner and supervisor. The crews after it have
-# several processes. Before a worker is begun, a crew looks at the list, the mark and the folder,
-# writes the mark and the command, and asks the door and the status. A failure there ends it before
-# any line is performed, so the next crew performs all three; or it doesn't matter.
+# In the first tables a crew is `amo_jobs work`, one process that is runner and supervisor. The
+# crews after it have several processes. Before a worker is begun, a crew looks at the list, the
+# mark and the folder, writes the mark and the command, and asks the door and the status. A failure
+# there ends it before any line is performed, so the next crew performs all three; or it doesn't
+# matter.
 BEFORE = """
 lstat . 1 2                | EIO               | 0     | 3 done | 0 | 0
 lstat jobs 1               | EIO               | 0     | 3 done | 0 | 0
@@ -115,11 +120,14 @@ CREW = """
 pipe2 bell 1               | EMFILE            | 73    | % | 0 | 3
 fstat bell 1               | EIO               | 73    | % | 0 | 3
 fcntl bell 1               | EIO               | 73    | % | 0 | 3
-write bell 1               | -                 | a full pipe wakes as well, and it has no other error
+write bell 1               | -                 | a full pipe wakes as well, and there's no other
 read bell 1                | EIO               | 73    | % | 1 | 2
 poll crew 1                | ENOMEM            | 73    | % | 0/1 | 3/3
 poll crew 2 3              | ENOMEM            | 73    | % | 1 | 2
 poll crew 1 2 3            | EINTR             | 0     | 3 done | 0 | 0
+open /proc/self/children 1 | EMFILE ENOMEM     | 73    | % | 0 | 3
+pread /proc/self/children 1 2 | ENOMEM         | 69    | NOT *: % | 0 | 3
+pread /proc/self/children 3 4 | ENOMEM         | 0     | 3 done | 0 | 0
 open run/runner.N 1        | EIO EMFILE ENOSPC | 73    | % | 0 | 3
 open run/runner.N 2        | EIO EMFILE ENOSPC | 0     | 3 done | 0 | 0
 flock run/runner.N 1       | ENOLCK            | 73    | % | 0 | 3
@@ -217,6 +225,112 @@ read again.2 1             | EIO               | 73    | % | 0 | 0
 *fstat again.1 1           | EIO               | 0/73  |  | 0 | 0
 *lseek again.1 1           | EIO               | 0/73  |  | 0 | 0
 waitpid again 1            | -                 | amo_jobs began it, and nobody else waits for it
+"""
+
+# The supervisor of a crew, which does BEFORE and ASKED as well. If it fails while its runner works,
+# that runner ends in order: no line is in doubt. The kernel can't give ECHILD to a process that has
+# a child, and a pipe of which both ends are open gives no error but ENOMEM.
+SUPERVISOR = """
+open run/crew 1            | EIO EMFILE ENOSPC | 73    | % | 0 | 3
+open run/crew 2            | EIO EMFILE ENOSPC | 0     | 3 done | 0 | 0
+flock run/crew 1           | ENOLCK            | 73    | % | 0 | 3
+flock run/crew 1           | EAGAIN            | 75    | another crew | 0 | 3
+flock run/crew 1           | EINTR             | 0     | 3 done | 0 | 0
+stat run/crew 1            | EIO               | 73    | % | 0 | 3
+stat run/crew 1            | ENOENT            | 75    | another crew | 0 | 3
+fstat run/crew 1           | EIO               | 73    | % | 0 | 3
+*lseek run/crew 1          | EIO               | 0     | 3 done | 0 | 0
+write run/crew 1           | EIO ENOSPC        | 0     | 3 done | 0 | 0
+close run/crew 1           | EIO               | 0     | 3 done | 0 | 0
+open /proc/self/children 1 | EMFILE ENOMEM     | 73    | % | 0 | 3
+pread /proc/self/children 1 2 | ENOMEM         | 0     | 3 done | 0 | 0
+pipe2 bell 1               | EMFILE            | 73    | % | 0 | 3
+fstat bell 1               | EIO               | 73    | % | 0 | 3
+fcntl bell 1               | EIO               | 73    | % | 0 | 3
+write bell 1               | -                 | a full pipe wakes as well, and there's no other
+read bell 1                | EIO               | 73    | % | 0 | *
+poll crew 1 2 3            | ENOMEM            | 73    | % | 0 | *
+poll crew 1 2 3            | EINTR             | 0     | 3 done | 0 | 0
+open run/runner.N 1        | EIO EMFILE ENOSPC | 73    | % | 0 | 3
+flock run/runner.N 1       | ENOLCK            | 73    | % | 0 | 3
+flock run/runner.N 1       | EAGAIN EINTR      | 0     | 3 done | 0 | 0
+stat run/runner.N 1        | EIO               | 73    | % | 0 | 3
+stat run/runner.N 1        | ENOENT            | 0     | 3 done | 0 | 0
+fstat run/runner.N 1       | EIO               | 73    | % | 0 | 3
+close run/runner.N 1 2     | EIO               | 0     | 3 done | 0 | 0
+pipe2 runner.1 1           | EMFILE            | 74    | worker 1: *% | 0 | 3
+pipe2 runner.2 1           | EMFILE            | 74    | worker 1: *% | 0 | 3
+fcntl run/runner.N 1       | EMFILE            | 74    | worker 1: *% | 0 | 3
+fcntl runner.1 1           | EMFILE            | 74    | worker 1: *% | 0 | 3
+fcntl runner.2 1           | EMFILE            | 74    | worker 1: *% | 0 | 3
+spawn runner 1             | EAGAIN ENOMEM EACCES ENOENT | 74 | worker 1: *% | 0 | 3
+close runner.1 1 2 3       | EIO               | 0     | 3 done | 0 | 0
+close runner.2 1 2 3       | EIO               | 0     | 3 done | 0 | 0
+ioctl runner.1 1           | EIO               | 74    | worker 1: *% | 0 | *
+ioctl runner.2 1           | EIO               | 74    | worker 1: *% | 0 | *
+read runner.1 1 2 3        | EIO EINTR EAGAIN  | 0     | 3 done | 0 | 0
+waitpid children 1 2       | EINTR             | 0     | 3 done | 0 | 0
+write screen 1 2           | EIO EPIPE         | 0     |  | 0 | 0
+"""
+
+# A supervisor that acknowledges a failure. It keeps what the pipe doesn't take.
+ACKNOWLEDGES = """
+write runner.2 1           | ENOMEM EAGAIN     | 1     | 2 done, 1 failed | 0 | 0
+"""
+
+# A runner that has a supervisor. It does UNBEGUN and BEGUN too. If it fails, its crew starts no
+# other one, and the line that it was at is in doubt.
+SUPERVISED = """
+lstat . 1 2                | EIO               | 0     | 3 done | 0 | 0
+lstat jobs 1               | EIO               | 0     | 3 done | 0 | 0
+lstat run 1                | EIO               | 0     | 3 done | 0 | 0
+ioctl run/runner.N 1       | EIO               | 0     | 3 done | 0 | 0
+ioctl run/runner.N 2       | EIO               | 73    | its runner has failed (status 73) | 0 | 3
+ioctl reports 1 4          | EIO               | 0     | 3 done | 0 | 0
+ioctl reports 2 3          | EIO               | 73    | its runner has failed (status 73) | 0 | 3
+ioctl orders 1             | EIO               | 0     | 3 done | 0 | 0
+ioctl orders 2 3           | EIO               | 73    | its runner has failed (status 73) | 0 | 3
+open run/runner.N 1        | EIO EMFILE ENOSPC | 0     | 3 done | 0 | 0
+*fstat run/runner.N 1      | EIO               | 0     | 3 done | 0 | 0
+*lseek run/runner.N 1      | EIO               | 0     | 3 done | 0 | 0
+write run/runner.N 1       | EIO ENOSPC        | 0     | 3 done | 0 | 0
+close run/runner.N 1       | EIO               | 0     | 3 done | 0 | 0
+open /proc/self/children 1 | EMFILE ENOMEM     | 73    | % | 0 | 3
+pread /proc/self/children 1 2 | ENOMEM         | 69    | NOT *: % | 0 | 3
+pread /proc/self/children 3 4 | ENOMEM         | 0     | 3 done | 0 | 0
+pipe2 bell 1               | EMFILE            | 73    | % | 0 | 3
+fstat bell 1               | EIO               | 73    | % | 0 | 3
+fcntl bell 1               | EIO               | 73    | % | 0 | 3
+write bell 1               | -                 | a full pipe wakes as well, and there's no other
+read bell 1                | EIO               | 73    | % | 1 | 2
+poll crew 1                | ENOMEM            | 73    | % | 0/1 | 3/3
+poll crew 2 3              | ENOMEM            | 73    | % | 1 | 2
+poll crew 1 2 3            | EINTR             | 0     | 3 done | 0 | 0
+pipe2 worker.1 1           | EMFILE            | 74    | worker 1: *% | 0 | 3
+pipe2 worker.2 1           | EMFILE            | 74    | worker 1: *% | 0 | 3
+pipe2 worker.3 1           | EMFILE            | 74    | worker 1: *% | 0 | 3
+spawn worker 1             | EAGAIN ENOMEM     | 0     | 3 done | 0 | 0
+spawn worker 1             | EACCES ENOENT     | 74    | worker 1: *% | 0 | 3
+close worker.1 1 2         | EIO               | 0     | 3 done | 0 | 0
+close worker.2 1 2         | EIO               | 0     | 3 done | 0 | 0
+close worker.3 1 2         | EIO               | 0     | 3 done | 0 | 0
+ioctl worker.2 1           | EIO               | 74    | worker 1: *% | 0 | 3
+ioctl worker.3 1           | EIO               | 74    | worker 1: *% | 0 | 3
+read worker.2 1            | EIO               | 73    | % | 1 | 3
+read worker.2 1 2          | EINTR EAGAIN      | 0     | 3 done | 0 | 0
+read worker.2 2            | EIO               | 73    | % | 1 | 2
+read worker.3 1            | EIO               | 73    | % | 0 | 0
+write worker.1 1           | EPIPE             | 0     | 3 done | 0 | 0
+waitpid children 1 2 3     | EINTR ECHILD      | 0     | 3 done | 0 | 0
+write reports 1            | EINTR EAGAIN      | 0     | 3 done | 0 | 0
+write reports 1            | SHORT             | 0     | 3 done | 0 | 0
+write reports 1            | ENOMEM EPIPE      | 69    | its runner has failed (status 69) | 0 | 2
+"""
+
+# A runner that waits for an acknowledgement.
+ACKNOWLEDGED = """
+read orders 1              | EIO               | 73    | % | 1 | 2
+read orders 1              | EINTR EAGAIN      | 1     | 2 done, 1 failed | 0 | 0
 """
 
 # The command doesn't exist. Its child reports that and kills itself. If the report can't be
@@ -332,7 +446,8 @@ class Table:
 
 def rows_of(call: str, count: int, errors: list, status: str, says: str, *numbers: str) -> list:
     """Returns a row for each of these errors."""
-    columns = [[int(it) for it in column.split("/")] for column in (status, *numbers)]
+    columns = [[ANY if it.strip() == "*" else int(it) for it in column.split("/")]
+               for column in (status, *numbers)]
     most = max(map(len, columns))
     ends = list(zip(*(column * (most if len(column) == 1 else 1) for column in columns)))
     texts = {it: says.replace("%", os.strerror(getattr(errno, it, 0))) for it in errors}
@@ -348,6 +463,7 @@ class Way(NamedTuple):
     command: str | None = None  # if it isn't that of all tests
     before: Callable | None = None  # what is done before the crew
     is_early: bool = False  # whether no command is begun; then a crew follows in any case
+    process: str = "work"  # whose calls fail: those of `work`, of a `crew`, or of its `runner`
 
 
 def enter(scene, name: str = "run") -> None:
@@ -378,7 +494,14 @@ WAYS = {
     "plain": Way(CREW + UNBEGUN + BEGUN + AT_LAST),
     "missing": Way(MISSING, LEFT, command="./there-is-none"),
     "spawned": Way(SPAWNED, options=("--linger", "20")),
+    "supervisor": Way(SUPERVISOR + AT_LAST, process="crew"),
+    "acknowledges": Way(ACKNOWLEDGES, FAILED, ("fail", "quick", "quick"), process="crew"),
+    "supervised": Way(SUPERVISED + UNBEGUN + BEGUN, process="runner"),
+    "acknowledged": Way(ACKNOWLEDGED, FAILED, ("fail", "quick", "quick"), process="runner"),
+    "missing, supervised": Way(MISSING, LEFT, command="./there-is-none", process="runner"),
+    "spawned, supervised": Way(SPAWNED, options=("--linger", "20"), process="runner"),
 }
+ANY = -1  # in a row's ends
 
 
 class Failing(Scene):
@@ -394,14 +517,14 @@ class Failing(Scene):
 
     def environment(self, plan=None, **more):
         library = {"LD_PRELOAD": f"{os.path.dirname(self.bench.room)}/faults.so",
-                   "AMO_FAULT_ROOM": self.room, "AMO_FAULT_LOG": self.log, "AMO_FAULT": self.fault}
+                   "AMO_FAULT_ROOM": self.room, "AMO_FAULT_LOG": self.log, "AMO_FAULT": self.fault,
+                   "AMO_FAULT_AS": "--as=" if self.way.process == "runner" else None}
         return super().environment(plan, **(library if self.is_first else {}), **more)
 
     def words(self, command, *more, plan=None):
-        if command == "crew" and self.is_first:  # one process, which is runner and supervisor
-            command, more = "work", ("--worker", "1", *more)
-        python, isolated, *rest = super().words(command, *more, plan=plan)
-        return [python, isolated, "-S", *rest]  # which begins in two thirds of the time
+        if command == "crew" and self.is_first and self.way.process == "work":
+            command, more = "work", ("--worker", "1", *more)  # which is runner and supervisor
+        return super().words(command, *more, plan=plan)
 
     def first(self) -> int:
         """Runs the crew in which the call fails, and returns its status."""
@@ -412,6 +535,7 @@ class Failing(Scene):
         except subprocess.TimeoutExpired:
             raise Wrong(f"it doesn't end: {self.tale()[-500:]}") from None
         self.is_first = False
+        until(lambda: not list(self.runners()), "the runners of a supervisor that failed end")
         return status
 
     def met(self) -> list[list[str]]:
@@ -427,7 +551,7 @@ class Failing(Scene):
             is_due = False
             self.person()
             status = self.start("--command-changed").wait(240)
-            is_right = status in (DONE, DOUBTFUL, LEFT, LATER)
+            is_right = status in (DONE, FAILED, DOUBTFUL, LEFT, LATER)
             want(is_right, f"status {status} then: {self.tale()[-500:]}")
             want(monotonic() < end, f"it isn't over: {self.tale()[-500:]}")
 
@@ -438,12 +562,11 @@ class Failing(Scene):
 
     def is_done(self) -> bool:
         found = self.look()
-        return len(found.lines) == 3 and set(found.kinds().values()) == {"done"}
+        return len(found.lines) == 3 and set(found.kinds().values()) <= {"done", "failed"}
 
     def person(self, by_hand=0):
         """Asks for doubts only if there may be one."""
-        attempts = self.look().intents.values()
-        if any(it.answer in (None, "doubt") and not it.found for it in attempts):
+        if self.may_doubt():
             super().person(by_hand)
 
     def performed(self) -> set[str]:
@@ -490,7 +613,8 @@ def judge(scene: Failing, row: Row, status: int) -> None:
                 os.unlink(f"{scene.run}/{name}")
     scene.audit()
     found = status, len(scene.listed), len(scene.performed() - before)
-    want(found in row.ends, f"status, doubts and next are {found}, not {row.ends}: {tale[-500:]}")
+    is_right = any(found == it or it == (*found[:2], ANY) for it in row.ends)
+    want(is_right, f"status, doubts and next are {found}, not {row.ends}: {tale[-500:]}")
     says = row.says.replace("NOT", NOT.replace("COMMAND", scene.way.command or scene.command[0]))
     pattern = ".*".join(map(re.escape, says.split("*")))
     want(re.search(pattern, tale, re.IGNORECASE), f"it doesn't print `{says}`: {tale[-500:]}")
@@ -504,18 +628,41 @@ def calls_met(bench, way: Way) -> set[str]:
     return {f"{it[0]} {it[1]}" for it in scene.met()}
 
 
-def try_calls(bench):
-    """no failed call has a line performed twice or counted without its effect; see the table"""
-    tables = {name: Table(way.table) for name, way in WAYS.items()}
-    known = set().union(*(it.calls for it in tables.values()))
-    met = set().union(*(calls_met(bench, way) for way in WAYS.values()))
-    want(met <= known, f"the table doesn't have: {', '.join(sorted(met - known))}")
+def try_ways(bench, names: list[str], others: str = "") -> str:
+    """Has the calls of these ways fail, each in turn; in the short form some of them, drawn by the
+    seed. `others` are tables of other ways that a crew does as well."""
+    tables = {name: Table(WAYS[name].table) for name in names}
+    known = Table(others).calls.union(*(it.calls for it in tables.values()))
     rows = [(bench, WAYS[name], row) for name, table in tables.items() for row in table.rows]
-    rows = [it for it in rows if bench.is_long or it[2].is_first or not it[1].is_early]
+    tried = rows if bench.is_long else bench.draws.sample(rows, len(rows) // SHORT_PART)
     with ThreadPoolExecutor(LANES) as lanes:
-        wrongs = list(filter(None, lanes.map(lambda it: try_row(*it), rows)))
-    want(not wrongs, f"{len(wrongs)} of {len(rows)}: " + "; ".join(wrongs[:30]))
-    return f"{len(rows)} failures, {len(met)} kinds of calls"
+        met = set().union(*lanes.map(lambda it: calls_met(bench, WAYS[it]), names))
+        want(met <= known, f"the table doesn't have: {', '.join(sorted(met - known))}")
+        wrongs = list(filter(None, lanes.map(lambda it: try_row(*it), tried)))
+    want(not wrongs, f"{len(wrongs)} of {len(tried)}: " + "; ".join(wrongs[:30]))
+    return f"{len(tried)} of {len(rows)} failures, {len(met)} kinds of calls"
+
+
+def try_before(bench) -> str:
+    """no call that fails before a command is begun loses a line, or has it performed twice; see the
+    tables"""
+    return try_ways(bench, ["before", "goes on", "moved"], CREW + UNBEGUN + BEGUN + AT_LAST)
+
+
+def try_calls(bench) -> str:
+    """the same for a runner that has no supervisor: no line counts without its effect"""
+    return try_ways(bench, ["plain", "missing", "spawned"], WAYS["before"].table)
+
+
+def try_supervisor_calls(bench) -> str:
+    """the same for a supervisor: its runner ends in order if it fails, and leaves no doubt"""
+    return try_ways(bench, ["supervisor", "acknowledges"], WAYS["before"].table)
+
+
+def try_runner_calls(bench) -> str:
+    """the same for a runner that has a supervisor: if it fails, its crew stops"""
+    return try_ways(bench, ["supervised", "acknowledged", "missing, supervised",
+                            "spawned, supervised"])
 
 
 def try_raised(bench):
@@ -529,4 +676,6 @@ def try_raised(bench):
     judge(scene, Row("", 0, "", [(BUILD, 1, 2)], "MemoryError"), status)
 
 
-PARTS = {"faults": [try_calls, try_raised]}
+PARTS = {"faults": [
+    try_before, try_calls, try_supervisor_calls, try_runner_calls, try_raised,
+]}
