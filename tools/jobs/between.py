@@ -1,4 +1,4 @@
-#!/usr/bin/env python3
+#!/usr/bin/env -S python3 -S
 """Stands between a runner and its worker, hands on each line, and kills or stops somebody at one moment.
 
 AMO_REAL is the program of the worker. AMO_ROOM has `effects`, and `moments`, which counts them over all workers of a run: before

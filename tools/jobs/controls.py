@@ -3,7 +3,9 @@
 import os
 import re
 
-from jobs import forgetting, identity, rules, scene, spoiled, staying, unseen, ways
+from jobs import (
+    crews, forgetting, held, identity, limits, rules, scene, spoiled, staying, unseen, ways
+)
 
 HERE = os.path.dirname(os.path.realpath(__file__))
 TWICE, LISTED = "performed twice|performed after it was", "is a doubt|as a doubt|though no runner"
@@ -74,6 +76,36 @@ OF_THE_RUNNER = [
         '_ = close_all(self.input) if text == "go" else os.write(self.input[0], f"{text}\\n".encode())'],
      staying.try_stays, "has had 2 processes"),
 ]
+# Of amo_jobs: mistakes under limits, and about a supervisor that stands still, is gone, or was.
+UNSENT = ("        except BlockingIOError:\n            {}\n"
+          "        except OSError:\n            self.desert()")
+OF_FAULTS = [
+    ("child_that_is_not_shown_is_gone", [
+        "    return [Process(it, calls.start_of(it) or 0) for it in numbers]",
+        "    return named(numbers)"], limits.try_few_files_and_a_helper, TWICE),
+    ("not_started_is_done", [
+        "            self.feed(StartFailed(str(why)))\n",
+        "            self.attempts[action.serial] = command\n            self.feed(CommandEnded(0))\n"],
+     limits.try_processes, "counts as done, and did nothing"),
+    ("report_is_dropped", [UNSENT.format("pass"), UNSENT.format('self.unsent = b""')],
+     held.try_full_pipe, "ends are told"),
+    ("full_pipe_holds_nobody", [
+        "    if state.is_held or state.is_unacknowledged:\n", "    if state.is_unacknowledged:\n"],
+     held.try_full_pipe, "the runners go on"),
+    ("failure_needs_no_acknowledgement", [
+        "    state.is_unacknowledged |= report.is_failure()\n", ""],
+     held.try_stopped_supervisor, "lines were used up"),
+    ("goes_on_without_its_supervisor", ["        self.events.append(Plain.DESERTED)\n", ""],
+     held.try_killed_supervisor, "lines were performed, and two had begun"),
+    ("supervisor_sees_no_orphan", [
+        "        return Orphans(bool(left), described(unseen))", '        return Orphans(False, "")'],
+     unseen.try_runner_killed, TWICE),
+    ("runner_that_says_nothing_is_killed", [
+        "        self.progress.show()\n        ready = self.poll()\n",
+        "        self.progress.show()\n        before = monotonic()\n        ready = self.poll()\n"
+        "        for post in self.posts.values() if monotonic() > before + 1.5 else ():\n"
+        "            os.kill(post.process, 9)\n"], crews.try_suspended, LISTED),
+]
 # Mistakes about which folder a list is run in, of the stand-in and of amo_jobs.
 MISSING = [("missing_is_empty", identity.try_journals, TWICE)]
 IDENTITY = [
@@ -135,6 +167,7 @@ def shown(bench, name, test, wanted):
 ALL = [[of_the_worker(*it) for it in OF_THE_WORKER], [of_the_runner(*it) for it in OF_THE_RUNNER]]
 OF_IDENTITY = [*[of_the_worker(*it) for it in MISSING], *[of_the_runner(*it) for it in IDENTITY]]
 OF_SPOILED = [of_the_worker(*it) for it in SPOILED]
+LIMITED = [of_the_runner(*it) for it in OF_FAULTS]
 # those of the short form
 SHORT = [*ALL[0][:2], *ALL[1][:3], *OF_IDENTITY, *OF_SPOILED]
-PARTS = {"controls": [*SHORT, *ALL[0][2:], *ALL[1][3:]]}
+PARTS = {"controls": [*SHORT, *ALL[0][2:], *ALL[1][3:], *LIMITED]}

@@ -4,13 +4,12 @@ import os
 import pty
 import re
 import resource
-import shutil
 import signal
 import time
 from contextlib import suppress
 
 from jobs.rules import until
-from jobs.scene import DONE, DOUBTFUL, FAILED, LATER, LEFT, want
+from jobs.scene import DONE, DOUBTFUL, FAILED, LATER, LEFT, copy_program, want
 from worker import folder
 
 COUNTS = 'echo "$1" >> "$0/performed"; '
@@ -57,24 +56,6 @@ def try_halt_of_many(bench):
     scene, crew = listed(bench, 40, "exit 1", 4, "--halt", "3")
     scene.ends(crew, LEFT)
     want(3 <= performed(scene) <= 6, f"{performed(scene)} lines have failed")
-
-
-def try_stopped_supervisor(bench):
-    """while the supervisor stands still, commands that fail use up one line a runner, and good ones go
-    on"""
-    for script, is_held in (("exit 1", True), ("exit 0", False)):
-        wait = 'while ! [ -e "$0/go" ]; do sleep 0.02; done; '
-        scene, crew = listed(bench, 60, wait + script, 2)
-        until(lambda: performed(scene) == 2, "two commands have begun")
-        crew.send_signal(signal.SIGSTOP)
-        scene.let("go")
-        if is_held:
-            time.sleep(2)
-            want(performed(scene) == 2, f"{performed(scene)} lines were used up")
-        else:
-            until(lambda: performed(scene) == 60, "all lines are performed")
-        crew.send_signal(signal.SIGCONT)
-        scene.ends(crew, LEFT if is_held else DONE)
 
 
 def try_runner_comes_back(bench):
@@ -157,11 +138,7 @@ def try_ignored_children(bench):
 def try_upgraded(bench):
     """a runner of another version isn't a runner of this crew: the crew ends with 75"""
     room = f"{bench.room}/upgraded"
-    os.mkdir(room)
-    top = os.path.dirname(bench.program)
-    shutil.copytree(f"{top}/python", f"{room}/python")
-    for name in (os.path.basename(bench.program), "VERSION"):
-        shutil.copy(f"{top}/{name}", room)
+    copy_program(bench.program, room)
     program, bench.program = bench.program, f"{room}/{os.path.basename(bench.program)}"
     scene, crew = listed(bench, 9, 'while ! [ -e "$0/$1" ]; do sleep 0.02; done', 1)
     until(lambda: performed(scene) == 1, "a command has begun")
@@ -214,7 +191,7 @@ def try_many_runners(bench):
 
 
 PARTS = {"crews": [
-    try_each_worker_has_a_runner, try_halt_of_many, try_stopped_supervisor, try_runner_comes_back,
+    try_each_worker_has_a_runner, try_halt_of_many, try_runner_comes_back,
     try_crew_beside_an_earlier_runner, try_terminal, try_ignored_children, try_upgraded, try_limits,
     try_suspended, try_many_runners,
 ]}

@@ -2,6 +2,7 @@
 each alone and together."""
 
 import re
+from concurrent.futures import ThreadPoolExecutor
 
 from jobs.scene import FAILED, Wrong, want
 from worker import folder
@@ -18,9 +19,21 @@ LEAVE_NO_DOUBT = ("worker", "~runner", "~worker", "~command", "~runner+worker", 
                   "supervisor+worker", "supervisor+~runner")
 
 
+LANES = 3
+
+
 def befall(bench, number, who, kinds, workers):
     """Runs once, with these kills and stops at this moment."""
     scene = bench.scene(kinds, workers)
+    try:
+        see_befall(bench, scene, number, who)
+    finally:
+        bench.scenes.remove(scene)
+        scene.close()
+
+
+def see_befall(bench, scene, number, who):
+    """Sees a run out in which this befalls somebody at this moment."""
     scene.see_out(scene.start(plan=f"{number}:{who}"))
     scene.audit()
     told = folder.read(f"{scene.room}/befallen").decode()
@@ -47,18 +60,21 @@ def moments(bench, kinds, workers):
 def each_moment(bench, whos, kinds, workers, count):
     whole = moments(bench, kinds, workers)
     cases = [(number, who) for number in range(1, whole + 1) for who in whos]
-    wrongs, tried = [], 0
-    for number, who in bench.sample(cases, count):
-        if not bench.has_time() or len(wrongs) == 5:
-            break
-        tried += 1
+    wrongs, tried = [], []
+
+    def try_case(case):
+        if not bench.has_time() or len(wrongs) >= 5:
+            return
+        tried.append(case)
         try:
-            befall(bench, number, who, kinds, workers)
+            befall(bench, *case, kinds, workers)
         except Wrong as wrong:
-            wrongs.append(f"{who} at moment {number} of {whole}: {wrong}")
-        bench.close()
-    want(not wrongs, f"{len(wrongs)} of {tried} tried: " + "; ".join(wrongs[:3]))
-    return f"{tried} of {len(cases)} cases, {bench.counts}"
+            wrongs.append(f"{case[1]} at moment {case[0]} of {whole}: {wrong}")
+
+    with ThreadPoolExecutor(LANES) as lanes:
+        list(lanes.map(try_case, bench.sample(cases, count)))
+    want(not wrongs, f"{len(wrongs)} of {len(tried)} tried: " + "; ".join(wrongs[:3]))
+    return f"{len(tried)} of {len(cases)} cases, {bench.counts}"
 
 
 def try_killed(bench):

@@ -1,4 +1,4 @@
-#!/usr/bin/env python3
+#!/usr/bin/env -S python3 -S
 """tools/worker/stand_in.py with a mistake, which AMO_MISTAKE names: one of its own, or one of those here."""
 
 import os

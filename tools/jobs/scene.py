@@ -1,6 +1,7 @@
 """What the parts of tools/kill_jobs share: a run of amo_jobs in a folder of its own, whose commands write down what they do, a
 person who looks at each listed doubt and answers truthfully at once, and the audit of it all."""
 
+import compileall
 import glob
 import json
 import os
@@ -32,13 +33,32 @@ def want(so, what):
         raise Wrong(what)
 
 
+def compiled(program: str, room: str) -> str:
+    """Copies amo_jobs with its package, or the folder of a worker in Python, into a new folder, and
+    compiles it there; returns the path of the copy. (They compile their modules at each start, and
+    write nothing into their own folders. A run of these tests starts thousands.)"""
+    top = os.path.dirname(os.path.realpath(program))
+    if program.endswith(".py"):
+        shutil.copytree(top, room)
+    else:
+        copy_program(program, room)
+    compileall.compile_dir(room, quiet=2)
+    return f"{room}/{os.path.basename(program)}"
+
+
+def copy_program(program: str, room: str) -> None:
+    """Copies amo_jobs and its package into a new folder."""
+    os.mkdir(room)
+    top = os.path.dirname(os.path.realpath(program))
+    for name in (os.path.basename(program), "VERSION"):
+        shutil.copy(f"{top}/{name}", room)
+    shutil.copytree(f"{top}/python", f"{room}/python")
+
+
 def changed(program: str, room: str, pairs: list) -> str:
     """Copies a program and the package into a new folder, with the first text of each pair replaced
     by the second; returns the path of the copy. Each first text must stand there once."""
-    os.mkdir(room)
-    shutil.copy(program, room)
-    shutil.copy(f"{os.path.dirname(program)}/VERSION", room)
-    shutil.copytree(f"{os.path.dirname(program)}/python", f"{room}/python")
+    copy_program(program, room)
     files = glob.glob(f"{room}/python/amo_jobs/*.py")
     for old, new in zip(pairs[::2], pairs[1::2]):
         texts = {it: folder.read(it).decode() for it in files}
@@ -57,6 +77,7 @@ class Bench:
         self.program, self.worker, self.room = os.path.abspath(program), os.path.abspath(worker), os.path.realpath(room)
         self.is_long, self.seed, self.draws, self.mistake = is_long, seed, random.Random(seed), mistake
         self.scenes, self.skipped, self.end, self.counts = [], [], None, {}
+        self.kills = 0  # how many kills a test has to make that counts them
 
     def scene(self, *given, **more):
         self.scenes.append(Scene(self, *given, **more))
@@ -109,14 +130,17 @@ class Scene:
             file.write(f"{self.boots:08x}-1111-4222-8333-{os.getpid():012x}\n")
 
     def environment(self, plan=None, **more):
-        named = {"PATH": os.environ["PATH"], "AMO_REAL": self.bench.worker, "AMO_ROOM": self.room, "AMO_PLAN": plan,
+        # (A shim of python3, as pyenv has it, takes longer to begin than Python.)
+        path = f"{os.path.dirname(sys.executable)}:{os.environ['PATH']}"
+        named = {"PATH": path, "AMO_REAL": self.bench.worker, "AMO_ROOM": self.room, "AMO_PLAN": plan,
                  "AMO_MISTAKE": self.bench.mistake, "AMO_TEST_BOOT_ID": self.boot, **more}
         return {name: value for name, value in named.items() if value}
 
     def words(self, command, *words, plan=None):
         worker = f"{HERE}/between.py" if plan else self.bench.worker
-        return [sys.executable, "-I", self.bench.program, command, "--run", self.run, "--worker-program", worker,
-                *(["--file-system", self.file_system] if self.file_system else []), *words]
+        # (Python begins in a fifth of the time without its site packages, and amo_jobs uses none.)
+        return [sys.executable, "-I", "-S", self.bench.program, command, "--run", self.run,
+                "--worker-program", worker, *(["--file-system", self.file_system] if self.file_system else []), *words]
 
     def start(self, *more, plan=None, workers=None, command=None, **how):
         """Starts a crew. What it says goes to a file."""
@@ -167,6 +191,20 @@ class Scene:
         """What the commands of a line and the person have written down, each a list of words."""
         return [it.split(" ") for it in folder.read(f"{self.effects}/{line}").decode().splitlines()]
 
+    def may_doubt(self) -> bool:
+        """Returns whether an attempt is pending or in doubt by the journals, or they can't be read.
+        (To ask the programs takes as long as a crew.)"""
+        try:
+            attempts = self.look().intents.values()
+        except folder.Refused:
+            return True
+        return any(it.answer in (None, "doubt") and not it.found for it in attempts)
+
+    def look_on(self):
+        """Looks at the doubts, as `person` does, if there may be any."""
+        if self.may_doubt():
+            self.person()
+
     def person(self, by_hand=0.3):
         """Looks at the effect of each listed doubt, and answers. Some that were not done are done by hand after that."""
         if not os.path.exists(f"{self.run}/jobs"):
@@ -210,13 +248,13 @@ class Scene:
             try:
                 status = crew.wait(pause)
             except subprocess.TimeoutExpired:
-                self.person()
+                self.look_on()
                 if during:
                     during(crew)
                 continue
             self.statuses.append(status)
             want(status in self.ends_of_crews, f"status {status}: {self.tale()[-800:]}")
-            self.person()
+            self.look_on()
             if status == FAILED and again and "untouched" in self.look().kinds().values():
                 self.call("again")
             # (Lines that came after its start may be the next one's. Python ends with 1 if a signal

@@ -1,4 +1,4 @@
-#!/usr/bin/env python3
+#!/usr/bin/env -S python3 -S
 """A worker in Python with the words, files, lines and statuses of amo_worker, to try the tests of that program on.
 
   stand_in.py door RUN --workers M [--beta B] [--into] JOBS
