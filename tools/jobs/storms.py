@@ -27,6 +27,7 @@ KINDS = (["quick"] * 8 + ["slow"] * 3
          + "fail fail nothing deaf amp nohup setsid dies other".split())
 EVENTS = ("worker worker command command runner runner supervisor all stop stop reboot grow"
           " term").split()
+DEADLY = "worker worker command command runner runner supervisor all".split()
 SPOILS = ("earlier", "earlier", "zeroed", "exchanged", "drawn")
 VERSION = b"amo-run 2\n"
 
@@ -139,6 +140,39 @@ class Storm:
             self.befall_worker(crew)
 
 
+class Kills(Storm):
+    """One run in which somebody is killed several times a second. Each process that is killed
+    counts."""
+
+    def __init__(self, bench, draws):
+        super().__init__(bench, draws)
+        self.events, self.calm = DEADLY, draws.uniform(5, 20)
+
+    def run(self):
+        self.scene.see_out(during=self.befall, workers_of=self.count, pause=0.02)
+        self.scene.audit()
+
+    def befall(self, crew):
+        """Somebody is killed, as long as it isn't calm."""
+        now = time.monotonic()
+        if self.due <= now <= self.begun + self.calm:
+            self.due = now + self.draws.expovariate(8)
+            getattr(self, f"befall_{self.draws.choice(self.events)}")(crew)
+
+    def kill_one(self, processes):
+        super().kill_one(processes)
+        self.bench.add("kills", min(len(processes), 1))
+
+    def befall_supervisor(self, crew):
+        super().befall_supervisor(crew)
+        self.bench.add("kills")
+
+    def befall_all(self, crew):
+        self.bench.add("kills", len(list(self.scene.processes())))
+        crew.kill()
+        self.scene.kill(self.scene.processes())
+
+
 class Changed(Exception):
     """A file of the run was changed, and nobody is at work any more."""
 
@@ -246,6 +280,32 @@ def try_damage_storm(bench) -> str:
     """random runs of which a bit of a file is flipped, or a file is moved away, while a crew works
     or between two"""
     return try_kind(bench, Damage, 3)
+
+
+def twice(scene) -> int:
+    """Returns how many lines were performed more than once."""
+    lines = range(1, len(scene.kinds) + 1)
+    return sum(len([it for it in scene.tales(line) if it[0] == "did"]) > 1 for line in lines)
+
+
+def try_kills(bench) -> str:
+    """random runs in which somebody is killed several times a second, until there were as many
+    kills as --kills asks for"""
+    wrongs, tried = [], 0
+    while bench.counts.get("kills", 0) < bench.kills and len(wrongs) < 3:
+        tried += 1
+        seed = f"{bench.seed}.{tried}"
+        storm = Kills(bench, random.Random(seed))
+        try:
+            storm.run()
+        except Wrong as wrong:
+            wrongs.append(f"storm {seed}: {wrong}")
+        bench.add("twice", twice(storm.scene))
+        bench.close()
+        if not wrongs:
+            shutil.rmtree(storm.scene.room)
+    want(not wrongs, f"{len(wrongs)} of {tried} tried: " + "; ".join(wrongs))
+    return f"{tried} runs, {bench.counts}"
 
 
 PARTS = {"storms": [try_storm, try_damage_storm]}
