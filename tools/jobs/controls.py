@@ -88,7 +88,7 @@ OF_FAULTS = [
         "            self.attempts[action.serial] = command\n            self.feed(CommandEnded(0))\n"],
      limits.try_processes, "counts as done, and did nothing"),
     ("report_is_dropped", [UNSENT.format("pass"), UNSENT.format('self.unsent = b""')],
-     held.try_full_pipe, "ends are told"),
+     held.try_full_pipe, r"of \d+ ends \d+ are told"),
     ("full_pipe_holds_nobody", [
         "    if state.is_held or state.is_unacknowledged:\n", "    if state.is_unacknowledged:\n"],
      held.try_full_pipe, "the runners go on"),
