@@ -25,6 +25,8 @@ waits_setsid) export file name room; setsid sh -c "$await" & ;;
 fed) ! first || { export file name room; exec python3 -c "
 import subprocess, sys
 subprocess.run(['/bin/sh', '-c', sys.argv[1]], input=b'pay')" "$helps"; }; did 0 ;;
+sudo) ! first || exec sudo -n sh -c 'while [ -d "$1" ] && ! [ -e "$1/go" ]; do sleep 0.02; done
+echo "did $3" >> "$2"' sh "$room" "$file" "$name"; did 0 ;;
 java) ! first || { export file name room; exec java "$room/Pay.java" "$helps"; }; did 0 ;;
 agent) did 0; python3 -c "
 import subprocess, sys

@@ -5,6 +5,7 @@ import os
 import re
 import shutil
 import signal
+import subprocess
 from typing import Tuple
 
 from jobs.rules import until
@@ -168,6 +169,25 @@ def try_daemon(bench):
         want(not scene.listed, f"it is listed as a doubt: {scene.listed}")
 
 
+def try_sudo(bench):
+    """what sudo starts, which closes all descriptors but the standard ones, is running while its
+    crew is killed, and isn't listed"""
+    tried = ["sh", "-c", "command -v sudo && sudo -n true"]
+    if subprocess.run(tried, stdout=subprocess.DEVNULL, stderr=subprocess.DEVNULL).returncode:
+        bench.skipped.append("sudo, since it isn't installed, or asks for a password")
+        return
+    scene = bench.scene(["sudo", "quick"])
+    crew = scene.start()
+    until(lambda: scene.tales(1), "the command has begun")
+    scene.kill_crew(crew)
+    scene.person()
+    is_listed = bool(scene.listed)
+    scene.let("go")
+    scene.see_out()
+    scene.audit()
+    want(not is_listed, "it is listed while sudo runs")
+
+
 def try_forked_twice(bench):
     """a process that forked twice into a session of its own and closed its descriptors is seen"""
     scene = bench.scene(["forked", "quick"])
@@ -185,5 +205,5 @@ def try_forked_twice(bench):
 
 PARTS = {"unseen": [
     try_fed, try_fed_gets_term, try_runner_killed, try_crew_stopped_then, try_both_killed,
-    try_daemon, try_forked_twice,
+    try_daemon, try_sudo, try_forked_twice,
 ]}
