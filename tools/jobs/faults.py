@@ -628,13 +628,13 @@ def calls_met(bench, way: Way) -> set[str]:
     return {f"{it[0]} {it[1]}" for it in scene.met()}
 
 
-def try_ways(bench, names: list[str], others: str = "") -> str:
-    """Has the calls of these ways fail, each in turn; in the short form some of them, drawn by the
-    seed. `others` are tables of other ways that a crew does as well."""
+def try_ways(bench, names: list[str], others: str = "", part: int = 1) -> str:
+    """Has the calls of these ways fail, each in turn; in the short form one of so many, drawn by
+    the seed. `others` are tables of other ways that a crew does as well."""
     tables = {name: Table(WAYS[name].table) for name in names}
     known = Table(others).calls.union(*(it.calls for it in tables.values()))
     rows = [(bench, WAYS[name], row) for name, table in tables.items() for row in table.rows]
-    tried = rows if bench.is_long else bench.draws.sample(rows, len(rows) // SHORT_PART)
+    tried = rows if bench.is_long else bench.draws.sample(rows, len(rows) // part)
     with ThreadPoolExecutor(LANES) as lanes:
         met = set().union(*lanes.map(lambda it: calls_met(bench, WAYS[it]), names))
         want(met <= known, f"the table doesn't have: {', '.join(sorted(met - known))}")
@@ -656,13 +656,13 @@ def try_calls(bench) -> str:
 
 def try_supervisor_calls(bench) -> str:
     """the same for a supervisor: its runner ends in order if it fails, and leaves no doubt"""
-    return try_ways(bench, ["supervisor", "acknowledges"], WAYS["before"].table)
+    return try_ways(bench, ["supervisor", "acknowledges"], WAYS["before"].table, SHORT_PART)
 
 
 def try_runner_calls(bench) -> str:
     """the same for a runner that has a supervisor: if it fails, its crew stops"""
-    return try_ways(bench, ["supervised", "acknowledged", "missing, supervised",
-                            "spawned, supervised"])
+    ways = ["supervised", "acknowledged", "missing, supervised", "spawned, supervised"]
+    return try_ways(bench, ways, part=SHORT_PART)
 
 
 def try_raised(bench):
