@@ -270,6 +270,7 @@ ioctl runner.1 1           | EIO               | 74    | worker 1: *% | 0 | *
 ioctl runner.2 1           | EIO               | 74    | worker 1: *% | 0 | *
 read runner.1 1 2 3        | EIO EINTR EAGAIN  | 0     | 3 done | 0 | 0
 waitpid children 1 2       | EINTR             | 0     | 3 done | 0 | 0
+pipe2 later.1 1            | EMFILE            | 73    | % | 0 | 0
 write screen 1 2           | EIO EPIPE         | 0     |  | 0 | 0
 """
 

@@ -59,7 +59,8 @@ class Begun:
 
     def __init__(self, words: list[str], scene: Scene, **more: str):
         if "AMO_STEP" in more or "AMO_STEPS" in more:
-            more["AMO_PROGRAM"], words[2] = words[2], f"{HERE}/stepped.py"
+            at = words.index(scene.bench.program)
+            more["AMO_PROGRAM"], words[at] = words[at], f"{HERE}/stepped.py"
         self.path = f"{scene.room}/told.{len(scene.crews)}"
         with open(self.path, "wb") as file:
             self.process = subprocess.Popen(
