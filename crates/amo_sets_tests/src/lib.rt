@@ -1,4 +1,6 @@
-//! Tests of `amo_sets`, in a crate of their own: a crate with tests is proved twice.
+//! Tests of the memory that `amo_sets` requests, or promises not to request.
+//!
+//! The other tests of that crate stand in `tests/amo_algorithm_tests`.
 #![tactic(auto)]
 
 #[cfg(test)]
