@@ -1,30 +1,13 @@
-//! The largest world, out of memory, and the calls that take no memory.
-use super::*;
+//! Worlds and the judge, out of memory, and the calls that take no memory.
+use super::worlds::{expect_world, halt, leave, opening, turn};
+use Event::Claimed;
 use Move::{Halt, Leave, Turn};
-
-#[test]
-fn the_largest_world_opens(rt: HostRuntime) -> Result<(), Fail> {
-    let world = opening(rt.alloc(), (4096, 16, 16))?;
-    assert!(rt; world.history().is_empty());
-    assert_eq!(rt; world.unclaimed_len(), 4096);
-    Ok(())
-}
-
-#[test]
-fn a_world_of_each_size_opens(rt: HostRuntime) -> Result<(), Fail> {
-    for jobs in 0..4097 {
-        let workers = jobs % 16 + 1;
-        let world = opening(rt.alloc(), (jobs, workers, workers + jobs % 100))?;
-        assert_eq!(rt; world.unclaimed_len() as u64, jobs);
-    }
-    for jobs in 0..71 {
-        for workers in 1..17 {
-            let world = opening(rt.alloc(), (jobs, workers, 100))?;
-            assert_eq!(rt; world.unclaimed_len() as u64, jobs);
-        }
-    }
-    Ok(())
-}
+use Verdict::FirstBad;
+use amo_givens::{Givens, Move};
+use amo_world::{Event, Verdict, World, judge};
+use std::alloc::{AllocError, Global};
+use std::process::Abort;
+use std::test::Fail;
 
 #[test]
 fn refused_world(rt: HostRuntime) {
@@ -32,6 +15,16 @@ fn refused_world(rt: HostRuntime) {
         match World::new(rt.alloc(), givens) {
             Ok(world) => expect_world(&rt, &world, &[], &[1, 2, 3, 4, 5]),
             Err(std::alloc::AllocError) => {}
+        }
+    }
+}
+
+#[test]
+fn refused_judge(rt: HostRuntime) {
+    if let Ok(givens) = Givens::try_new(2, 2, 2) {
+        match judge(rt.alloc(), givens, &[Claimed(1, 1), Claimed(2, 1)]) {
+            Ok(verdict) => assert!(rt; verdict == FirstBad(2)),
+            Err(AllocError) => {}
         }
     }
 }
