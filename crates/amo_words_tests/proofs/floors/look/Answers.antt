@@ -3,7 +3,7 @@ use Rattle.std.proofs.lemmas.Grind.{common_steps}
 use Rattle.amo_givens.specs.Givens.{IsWorker}
 use Rattle.amo_words.specs.Faces.{spots}
 use Rattle.amo_words.proofs.Meetings.{back_from}
-use Rattle.amo_words_tests.proofs.tests.rows.look.Goals as goal
+use Rattle.amo_words_tests.proofs.floors.look.Goals as goal
 
 pub place_of-requires : goal.place_of-requires
 place_of-requires c =

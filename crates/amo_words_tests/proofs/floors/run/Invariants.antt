@@ -1,5 +1,5 @@
 use Rattle.std.proofs.Common.{◌≡◌}
-use Rattle.amo_words_tests.proofs.tests.perform.Given as goal
+use Rattle.amo_words_tests.proofs.floors.run.Given as goal
 
 abbrev pub invariant-loop : goal.invariant-loop
 invariant-loop g l = l.worker.table_id ≡ l.initial.worker.table_id

@@ -1,7 +1,12 @@
-//! Floors of all sizes, where there is memory: each is opened, hires its workers and is settled.
+//! Floors of all sizes: each is opened, hires its workers and is settled.
 ghost use Rattle.std.specs.Prelude.{◌≡◌};
 
-use super::*;
+use super::floors::{hire, numbers, open, run, settle};
+use amo_givens::Givens;
+use amo_words::{Book, Floor, Settlement, WorkerEnd};
+use std::alloc::Global;
+use std::process::Abort;
+use std::test::Fail;
 
 /// Numbers of jobs that are tried with each number of workers, as all up to 70 are.
 const JOBS: [u32; 4] = [1000, 1001, 4095, 4096];
@@ -31,7 +36,7 @@ fn expect_untouched(rt: &impl Abort, end: &Settlement<u32>, givens: Givens) {
     }
 }
 
-/// A floor is settled where nobody was hired, and so is one that was closed.
+/// A floor is settled after nobody was hired, and so is one that was closed.
 fn settle_at_once(rt: &impl Abort, alloc: Global, givens: Givens) -> Result<(), Fail> {
     let (floor, book) = open(rt, alloc, givens, numbers(alloc, givens.jobs())?);
     expect_untouched(rt, &settle(rt, alloc, floor, book), givens);

@@ -1,11 +1,16 @@
 //! Out of memory, and the calls that take no memory.
 ghost use Rattle.std.specs.Prelude.{◌≡◌, IfSome};
 
-use super::rows::{look, words_of};
-use super::*;
+use super::floors::{Expected, hire, letters, look, open, perform, run, words_of};
+use amo_givens::Givens;
+use amo_kk::Leaving;
+use amo_words::{Book, ClosedFloor, Floor, HireFault, OpenFault, Worker, WorkerEnd};
+use std::alloc::Global;
+use std::process::Abort;
+use std::test::Fail;
 
-/// Returns true if a request for memory is granted. Where one was refused and this is, what was
-/// refused has to succeed now.
+/// Returns true if a request for memory is granted. If one was refused and this one isn't, the call
+/// that was refused has to succeed now.
 fn has_memory(alloc: Global) -> bool {
     Vec::<u32>::with_capacity(alloc, 1).is_ok()
 }
@@ -125,9 +130,9 @@ fn refused_closed_floor(rt: HostRuntime) -> Result<(), Fail> {
     Ok(())
 }
 
-/// Opens a floor and hires its two workers. Where they are used, both make each call that takes no
+/// Opens a floor and hires its two workers. If they are used, both make each call that takes no
 /// memory: one does a job, holds another and is collected, the other leaves and is collected. Then
-/// all that the book shows is looked at, the floor is closed, and its words are.
+/// the test looks at all that the book shows, closes the floor, and looks at its words.
 fn use_floor(rt: &impl Abort, alloc: Global, used: bool) -> Result<(), Fail> {
     let givens = Givens::try_new(5, 2, 2)?;
     let (floor, mut book) = open(rt, alloc, givens, letters(alloc, 5)?);

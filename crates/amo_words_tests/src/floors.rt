@@ -1,26 +1,15 @@
-//! Worked rows on one thread, floors at the limits, calls without memory, and two threads that
-//! share a floor.
-ghost use Rattle.std.specs.Prelude.{◌≡◌, IfOk};
+//! Floors, workers on them, looks at their books and words, and expected settlements.
+//!
+//! `tests/amo_algorithm_tests` has a link to this file, so that both crates use it.
+ghost use Rattle.std.specs.Prelude.{◌≡◌};
 
 use amo_givens::Givens;
-use amo_kk::Leaving;
-use amo_words::{
-    Book, ClosedFloor, Filed, Floor, HireFault, OpenFault, Place, Settlement, Step, Worker,
-    WorkerEnd,
-};
+use amo_words::{Book, ClosedFloor, Filed, Floor, Place, Settlement, Step, Worker, WorkerEnd};
 use std::alloc::{AllocError, Global};
 use std::process::Abort;
-use std::test::Fail;
-
-mod limits;
-mod memory;
-mod rows;
-mod sizes;
-mod threads;
-mod waiting;
 
 /// The letters from `a`, one for each job.
-fn letters(alloc: Global, count: u32) -> Result<Vec<char>, AllocError> {
+pub(super) fn letters(alloc: Global, count: u32) -> Result<Vec<char>, AllocError> {
     let mut payloads = Vec::new(alloc);
     for letter in "abcdefgh".chars() {
         if payloads.len() < count as usize {
@@ -33,7 +22,7 @@ fn letters(alloc: Global, count: u32) -> Result<Vec<char>, AllocError> {
 }
 
 /// The numbers from 1, one for each job.
-fn numbers(alloc: Global, count: u32) -> Result<Vec<u32>, AllocError> {
+pub(super) fn numbers(alloc: Global, count: u32) -> Result<Vec<u32>, AllocError> {
     let mut payloads = Vec::new(alloc);
     for before in 0..count {
         payloads.push(before.wrapping_add(1))?;
@@ -42,7 +31,7 @@ fn numbers(alloc: Global, count: u32) -> Result<Vec<u32>, AllocError> {
 }
 
 /// A floor for these givens and payloads, and its book.
-fn open<P: Drop>(
+pub(super) fn open<P: Drop>(
     rt: &impl Abort,
     alloc: Global,
     givens: Givens,
@@ -57,21 +46,8 @@ fn open<P: Drop>(
     (floor, book)
 }
 
-/// A floor for these numbers of jobs and workers and that threshold, with letters as payloads, and
-/// its book.
-fn open_letters(
-    rt: &impl Abort,
-    alloc: Global,
-    numbers: (u32, u32, u32),
-) -> Result<(Floor<char>, Book<char>), Fail>
-    ensures { IfOk result (λ t. t.1.table_id ≡ t.0.table_id) }
-{
-    let givens = Givens::try_new(numbers.0 as u64, numbers.1 as u64, numbers.2 as u64)?;
-    Ok(open(rt, alloc, givens, letters(alloc, numbers.0)?))
-}
-
 /// Hires worker p, which is at home.
-fn hire<P: Drop>(
+pub(super) fn hire<P: Drop>(
     rt: &impl Abort,
     alloc: Global,
     floor: &Floor<P>,
@@ -90,7 +66,7 @@ fn hire<P: Drop>(
 }
 
 /// One access of the worker, which files at once what it claims. Whether it goes on.
-fn access<P: Drop>(floor: &Floor<P>, worker: &mut Worker<P>) -> bool
+pub(super) fn access<P: Drop>(floor: &Floor<P>, worker: &mut Worker<P>) -> bool
     requires { worker.old.table_id ≡ floor.now.table_id }
     ensures { worker.new.table_id ≡ worker.old.table_id }
 {
@@ -100,8 +76,8 @@ fn access<P: Drop>(floor: &Floor<P>, worker: &mut Worker<P>) -> bool
     }
 }
 
-/// So many accesses of the worker.
-fn run<P: Drop>(floor: &Floor<P>, worker: &mut Worker<P>, accesses: u32)
+/// Makes this number of accesses of the worker.
+pub(super) fn run<P: Drop>(floor: &Floor<P>, worker: &mut Worker<P>, accesses: u32)
     requires { worker.old.table_id ≡ floor.now.table_id }
     ensures { worker.new.table_id ≡ worker.old.table_id }
 {
@@ -111,7 +87,12 @@ fn run<P: Drop>(floor: &Floor<P>, worker: &mut Worker<P>, accesses: u32)
 }
 
 /// Accesses of the worker until it has claimed and done so many jobs.
-fn perform<P: Drop>(floor: &Floor<P>, worker: &mut Worker<P>, claims: usize, dones: usize)
+pub(super) fn perform<P: Drop>(
+    floor: &Floor<P>,
+    worker: &mut Worker<P>,
+    claims: usize,
+    dones: usize,
+)
     requires { worker.old.table_id ≡ floor.now.table_id }
     ensures { worker.new.table_id ≡ worker.old.table_id }
 {
@@ -124,7 +105,12 @@ fn perform<P: Drop>(floor: &Floor<P>, worker: &mut Worker<P>, claims: usize, don
 }
 
 /// Closes the floor.
-fn settle<P: Drop>(rt: &impl Abort, alloc: Global, floor: Floor<P>, book: Book<P>) -> Settlement<P>
+pub(super) fn settle<P: Drop>(
+    rt: &impl Abort,
+    alloc: Global,
+    floor: Floor<P>,
+    book: Book<P>,
+) -> Settlement<P>
     requires { book.table_id ≡ floor.table_id }
 {
     let Ok(end) = floor.settle(alloc, book) else {
@@ -133,25 +119,25 @@ fn settle<P: Drop>(rt: &impl Abort, alloc: Global, floor: Floor<P>, book: Book<P
     end
 }
 
-/// What a settlement has to say: claims, dones, ends and free jobs.
+/// An expected settlement: claims, dones, ends and free jobs.
 #[derive(Drop)]
-struct Expected<'a> {
-    claims: &'a [&'a [u32]],
-    dones: &'a [&'a [u32]],
-    ends: &'a [WorkerEnd],
-    free: &'a [(u32, char)],
+pub(super) struct Expected<'a> {
+    pub(super) claims: &'a [&'a [u32]],
+    pub(super) dones: &'a [&'a [u32]],
+    pub(super) ends: &'a [WorkerEnd],
+    pub(super) free: &'a [(u32, char)],
 }
 
 impl Expected<'_> {
     /// The floor settles so.
-    fn holds(&self, rt: &impl Abort, alloc: Global, floor: Floor<char>, book: Book<char>)
+    pub(super) fn holds(&self, rt: &impl Abort, alloc: Global, floor: Floor<char>, book: Book<char>)
         requires { book.table_id ≡ floor.table_id }
     {
         self.is(rt, settle(rt, alloc, floor, book));
     }
 
     /// The settlement is this.
-    fn is(&self, rt: &impl Abort, end: Settlement<char>) {
+    pub(super) fn is(&self, rt: &impl Abort, end: Settlement<char>) {
         expect_lists(rt, &end.claims, self.claims);
         expect_lists(rt, &end.dones, self.dones);
         assert!(rt; end.ends.as_slice() == self.ends);
@@ -159,10 +145,41 @@ impl Expected<'_> {
     }
 }
 
-/// These are the lists.
+/// Checks that the lists are the wanted ones.
 fn expect_lists(rt: &impl Abort, found: &[Vec<u32>], wanted: &[&[u32]]) {
     assert_eq!(rt; found.len(), wanted.len());
     for (list, want) in found.iter().zip(wanted.iter()) {
         assert!(rt; list.as_slice() == *want);
     }
+}
+
+/// Returns what the book has of worker p if it is back: its steps, whether it has ended, and how
+/// many jobs it has claimed and done.
+pub(super) fn look(givens: Givens, book: &Book<char>, p: u32) -> Option<(u64, bool, usize, usize)>
+    requires { book.now.view.givens ≡ givens }
+{
+    if p == 0 || p > givens.workers() {
+        return None;
+    }
+    match book.place_of(p) {
+        Place::Back => Some((
+            book.steps_of(p),
+            book.ended_of(p),
+            book.claims_of(p).len(),
+            book.dones_of(p).len(),
+        )),
+        Place::Home | Place::Out => None,
+    }
+}
+
+/// The announcement, the count of claims and the first entry of the row of worker p, as they stood.
+pub(super) fn words_of(closed: &ClosedFloor<char>, p: u32) -> Option<(u64, u64, u64)> {
+    if p == 0 || p > closed.givens().workers() {
+        return None;
+    }
+    Some((
+        closed.announcement(p),
+        closed.claim_count(p),
+        closed.entry(p, 1),
+    ))
 }
