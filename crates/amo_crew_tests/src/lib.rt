@@ -1,5 +1,11 @@
-//! Tests of `amo_crew`, in a crate of their own: a crate with tests is proved twice.
+//! Tests of the memory that `amo_crew` requests, or promises not to request.
+//!
+//! The other tests of that crate stand in `tests/amo_algorithm_tests`.
 #![tactic(auto)]
 
 #[cfg(test)]
-mod tests;
+mod memory;
+#[cfg(test)]
+mod outcomes;
+#[cfg(test)]
+mod queues;

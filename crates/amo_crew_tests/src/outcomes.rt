@@ -1,27 +1,14 @@
-//! The queue on one thread; workers in threads; what is refused.
+//! A work, its payloads, and how an outcome accounts for each job.
+//!
+//! `tests/amo_algorithm_tests` has a link to this file, so that both crates use it.
 ghost use Rattle.std.specs.Prelude.{◌≡◌};
 
-use amo_crew::{
-    End, ExecFault, Inlet, Outcome, Outlet, Output, Queue, StopFault, StopPlan, Unsettled, Work,
-    execute, outlets,
-};
-use amo_givens::Givens;
+use amo_crew::{Outcome, Work};
 use std::alloc::{AllocError, Global};
 use std::process::Abort;
-use std::sync::Wait;
-use std::test::Fail;
-use std::thread::Threads;
-
-mod counting;
-mod memory;
-mod places;
-mod plans;
-mod runs;
-mod sizes;
-mod taking;
 
 /// Gives the payload back.
-struct Echo;
+pub(super) struct Echo;
 
 impl Work<u32> for Echo {
     type Out = u32;
@@ -34,7 +21,7 @@ impl Work<u32> for Echo {
 }
 
 /// A payload for each of so many jobs, and for job j it is 10,000 + j.
-fn payloads_for(alloc: Global, jobs: u32) -> Result<Vec<u32>, AllocError> {
+pub(super) fn payloads_for(alloc: Global, jobs: u32) -> Result<Vec<u32>, AllocError> {
     let mut payloads = Vec::new(alloc);
     for before in 0..jobs {
         payloads.push(before.wrapping_add(10_001))?;
@@ -42,8 +29,8 @@ fn payloads_for(alloc: Global, jobs: u32) -> Result<Vec<u32>, AllocError> {
     Ok(payloads)
 }
 
-/// In how many ways the outcome tells of a job: it was done, or is in hand, or is free, each with
-/// its own payload.
+/// Returns in how many ways the outcome accounts for a job: it was done, or is in hand, or is free,
+/// each with its own payload.
 fn ways_of(outcome: &Outcome<u32, u32>, job: u32) -> usize {
     let payload = job.wrapping_add(10_000);
     let done = outcome
@@ -66,7 +53,7 @@ fn ways_of(outcome: &Outcome<u32, u32>, job: u32) -> usize {
 }
 
 /// Each job is done, in hand or free, and just one of these.
-fn expect_each_once(rt: &impl Abort, outcome: &Outcome<u32, u32>, jobs: u32) {
+pub(super) fn expect_each_once(rt: &impl Abort, outcome: &Outcome<u32, u32>, jobs: u32) {
     for before in 0..jobs {
         let job = before.wrapping_add(1);
         assert_eq!(rt; ways_of(outcome, job), 1, "job {job}");

@@ -1,7 +1,12 @@
 //! Out of memory, and the calls that take no memory.
-
-use super::places::{put_jobs, take_jobs};
-use super::*;
+use super::outcomes::{Echo, expect_each_once, payloads_for};
+use super::queues::{put_jobs, take_jobs};
+use amo_crew::{End, ExecFault, StopFault, StopPlan, Unsettled, execute, outlets};
+use amo_givens::Givens;
+use std::alloc::Global;
+use std::process::Abort;
+use std::sync::Wait;
+use std::test::Fail;
 
 #[test]
 fn refused_plan(rt: HostRuntime) -> Result<(), Fail> {
@@ -28,8 +33,8 @@ fn refused_outlets(rt: HostRuntime) -> Result<(), Fail> {
     Ok(())
 }
 
-/// What a run left that wanted memory at its settling. Where no thread was started nothing is told
-/// of any job.
+/// Checks what a run left that wanted memory at its settling. If no thread was started, it has no
+/// output and no job in hand.
 fn expect_unsettled(rt: &impl Abort, rest: &Unsettled<u32, u32>) {
     assert_eq!(rt; rest.ends().len(), 2);
     if rest.ends().iter().all(|end| *end == End::NotStarted) {
@@ -37,14 +42,14 @@ fn expect_unsettled(rt: &impl Abort, rest: &Unsettled<u32, u32>) {
     }
 }
 
-/// Returns true if a request for memory is granted. Where one was refused and this is, what was
-/// refused has to succeed now.
+/// Returns true if a request for memory is granted. If one was refused and this one isn't, the call
+/// that was refused has to succeed now.
 fn has_memory(alloc: Global) -> bool {
     Vec::<u32>::with_capacity(alloc, 1).is_ok()
 }
 
 /// Settles what a run of four jobs left: not while there is no memory, and then it is as it was.
-/// Where no thread was started, a hire was refused and then the settling too, so there is no memory
+/// If no thread was started, a hire was refused and then the settling too. So there is no memory
 /// now.
 fn settle_again(rt: &impl Abort, alloc: Global, rest: Unsettled<u32, u32>) {
     expect_unsettled(rt, &rest);
@@ -95,7 +100,7 @@ fn expect_payloads(rt: &impl Abort, back: &[u32], jobs: usize) {
     }
 }
 
-/// Settles what a run of 20 jobs left: where there is memory now nothing is lacking, whatever was
+/// Settles what a run of 20 jobs left. If there is memory now, nothing is lacking, whatever was
 /// refused before.
 fn settle_once_there_is_memory(rt: &impl Abort, alloc: Global, rest: Unsettled<u32, u32>) {
     let hands = rest.in_hand().len();
@@ -132,8 +137,8 @@ fn refused_twice_in_a_run(rt: HostRuntime) -> Result<(), Fail> {
     Ok(())
 }
 
-/// Makes a queue. Where it is used, more is put than goes into it, one output goes through it, and
-/// the others are left to be gathered.
+/// Makes a queue. If it is used, more is put than goes into it, one output goes through it, and the
+/// others are left to be gathered.
 fn use_queue<R: Abort + Wait>(rt: &R, alloc: Global, used: bool) -> Result<(), Fail> {
     let (queue, mut inlet, mut ends) = outlets::<u32>(alloc, Givens::try_new(71, 1, 1)?)?;
     if used {
