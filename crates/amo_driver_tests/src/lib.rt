@@ -1,5 +1,7 @@
-//! Tests of `amo_driver`, by itself and over journals on disks that tear, in a crate of their own:
-//! a crate with tests is proved twice.
+//! Tests of the memory that `amo_driver` requests; lives of workers whose power is cut anywhere.
+//!
+//! The other tests of that crate stand in `tests/amo_worker_tests`. The cuts of the power are too
+//! many for `tools/tests`, which checks each access to memory as the tests run.
 #![tactic(auto)]
 
 #[cfg(test)]

@@ -1,4 +1,6 @@
-//! Tests of `amo_process`, in a crate of their own: a crate with tests is proved twice.
+//! Tests of the memory that `amo_process` requests, or promises not to request.
+//!
+//! The other tests of that crate stand in `tests/amo_worker_tests`.
 #![tactic(auto)]
 
 #[cfg(test)]
