@@ -54,6 +54,14 @@ impl AttemptsByLine {
         first_standing(findings, &self.journals, ids, own, line)
     }
 
+    /// Returns the attempts of each journal, in order. The journals are those of the workers 1, 2
+    /// and so on.
+    pub fn journals(&self) -> &[Vec<Attempt>]
+        ensures { result.now ≡ self.now.journals.items }
+    {
+        &self.journals
+    }
+
     /// Notes one entry more of this worker, and returns whether it may follow those that were
     /// noted. An entry that may not changes no journal, and neither does a want of memory.
     pub fn note(&mut self, worker: u64, entry: Entry) -> Result<bool, AllocError>
