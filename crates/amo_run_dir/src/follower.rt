@@ -5,11 +5,11 @@ use crate::error::{Fault, Later, had, written};
 use crate::files::{bytes_from, opened_to_read, path_of};
 use crate::identity::first_checksum;
 use crate::layout::Item;
-use crate::logs::{LOOKS, counted_in, fault_of, log_in, loss_in};
+use crate::logs::{LOOKS, counted_in, extent_of, fault_of, log_in, loss_in};
 use crate::settings::Setting;
 use amo_fs::is_at;
 use amo_journal::{Checksum, Log, Place, ReadOnError, read_on};
-use amo_run_files::RoundFile;
+use amo_run_files::{Extent, RoundFile};
 use std::alloc::Global;
 use std::fs::File;
 use std::rt::HostRuntime;
@@ -116,6 +116,11 @@ impl Follower {
             Some(why) => Err(fault_of(self.item, why, counted, Some(last))),
             None => Ok(()),
         }
+    }
+
+    /// Returns how much of this journal is on the disk, by what was read: all appends but the last.
+    pub(crate) fn extent(&self, rt: HostRuntime, setting: &Setting<'_>) -> Result<Extent, Fault> {
+        extent_of(rt, setting, self.item, &self.checksums)
     }
 
     /// Returns the bytes of the file from the last append on that was read.

@@ -10,8 +10,9 @@ use crate::layout::Item;
 use crate::settings::Setting;
 use amo_givens::MAX_WORKERS;
 use amo_journal::Log;
-use amo_run_files::RoundFile;
-use amo_run_log::{Append, AttemptId, AttemptsByLine, Finding};
+use amo_run_files::{Extent, RoundFile};
+use amo_run_log::{Append, AttemptId, AttemptsByLine, Finding, first_misplaced};
+use amo_status::RunLog;
 use std::alloc::AllocError;
 use std::fs::File;
 use std::rt::HostRuntime;
@@ -112,6 +113,38 @@ impl Followed {
     {
         self.read_on(rt)?;
         Ok(self.attempts.standing(&self.findings, own, line))
+    }
+
+    /// Returns what was read: the attempts of the journals, and what persons found out of them.
+    ///
+    /// # Errors
+    /// `Entry` if an answer is of no attempt, or of one that an earlier answer is of.
+    pub(crate) fn log(&self) -> Result<RunLog<'_>, Fault>
+        ensures findings { IfOk result (λ log. log.findings.now ≡ self.now.findings.items) }
+        ensures journals { IfOk result (λ log. log.journals.now ≡ self.now.attempts.journals.items) }
+    {
+        if let Some(number) = first_misplaced(self.attempts.journals(), &self.findings) {
+            return Err(Fault::Entry(Item::Answers, number));
+        }
+        Ok(RunLog {
+            findings: &self.findings,
+            journals: self.attempts.journals(),
+            finals: &[],
+        })
+    }
+
+    /// Returns how much of the answers and of each journal is on the disk, by what was read.
+    pub(crate) fn extents(
+        &self,
+        rt: HostRuntime,
+        setting: &Setting<'_>,
+    ) -> Result<Vec<Extent>, Fault> {
+        let mut extents = Vec::new(rt.alloc());
+        extents.push(self.answers.extent(rt, setting)?)?;
+        for journal in &self.journals {
+            extents.push(journal.extent(rt, setting)?)?;
+        }
+        Ok(extents)
     }
 
     /// Compares what was read with what the file of a later round counts.

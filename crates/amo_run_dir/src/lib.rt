@@ -40,7 +40,7 @@ pub use locks::{
 pub use logs::{Logs, log_of, read_logs};
 pub use loss::Loss;
 pub use names::is_id;
-pub use new_round::begin;
+pub use new_round::{begin, begin_next};
 pub use registers::Words;
 pub use round::{JoinedRound, join, record_of};
 pub use settings::{ListSettings, Setting};

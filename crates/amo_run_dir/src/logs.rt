@@ -200,6 +200,20 @@ pub(crate) fn counted_in(
     }
 }
 
+/// Returns how much of a journal with these checksums is on the disk, whatever a crash takes from
+/// now on: all appends but the last.
+pub(crate) fn extent_of(
+    rt: HostRuntime,
+    setting: &Setting<'_>,
+    item: Item,
+    checksums: &[Checksum],
+) -> Result<Extent, Fault> {
+    let first = first_checksum(rt, setting, item)?;
+    let name = format!(in rt.alloc(); "{item}")?;
+    let count = Count::of(first, checksums);
+    Ok(Extent::of_count(rt.alloc(), name.as_bytes(), &count)?)
+}
+
 /// Returns the extent of the file of this name, if there is one.
 pub(crate) fn extent_in<'a>(extents: &'a [Extent], name: &[u8]) -> Option<&'a Extent> {
     extents.iter().find(|extent| extent.name.as_slice() == name)

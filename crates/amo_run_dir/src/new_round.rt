@@ -1,45 +1,49 @@
 //! To begin a round, under its exclusive lock: nobody is at work.
-ghost use Rattle.std.specs.Prelude.{◌≡◌, map, take, IfOk};
+ghost use Rattle.std.specs.Prelude.{◌≡◌, ◌<◌, map, take, IfOk, OnOk};
 ghost use Rattle.amo_givens.specs.declared.limits.TheConstants.{MAX_JOBS};
 ghost use Rattle.amo_run_log.specs.Open.{open_lines};
+ghost use Rattle.amo_run_dir.specs.Following.{AreReadOn};
 ghost use Rattle.amo_run_dir.specs.Rounds.{IsNextRound, round_after};
 
 use crate::error::{Fault, had};
 use crate::files::replaced;
+use crate::following::Followed;
 use crate::identity::first_checksum;
 use crate::layout::Item;
-use crate::logs::{Logs, read_logs};
+use crate::logs::{Logs, extent_of, read_logs};
 use crate::round::record_of;
 use crate::settings::{ListSettings as Asked, Setting};
 use crate::state::{RawLogs, RunState, known};
 use amo_givens::{MAX_JOBS, MAX_WORKERS};
-use amo_journal::Log;
 use amo_run_files::{
-    Count, Extent, Jobs, JobsFault, RoundFile, RoundHeader, Why, first_difference, givens_of,
-    head_of, words_len,
+    Extent, Jobs, JobsFault, RoundFile, RoundHeader, Why, first_difference, givens_of, head_of,
+    words_len,
 };
 use amo_run_log::open_lines;
-use amo_status::{Counts, counts, standings};
+use amo_status::{Counts, RunLog, counts, standings};
 use std::alloc::{AllocError, Global};
 use std::fs;
 use std::io::Read;
 use std::rt::HostRuntime;
 
-/// What there is as a round is begun.
+/// The jobs by which a round is begun.
 #[derive(Drop)]
-struct Found {
+struct Lines {
     /// The bytes of the jobs' file.
     list: Vec<u8>,
-    /// What the run's files say, with the lines of the jobs' file.
-    books: RunState,
-    /// How much of these files is on the disk.
-    extents: Vec<Extent>,
-    /// Whether the run doesn't know all of these lines.
+    /// The jobs that the file has.
+    jobs: Jobs,
+    /// Whether the run doesn't know all of these jobs yet.
     more: bool,
 }
 
-/// Begins the next round, or answers where all lines stand, if none is open. Whatever there is of
-/// an earlier round is as nothing: the journals alone say which lines are open.
+/// Begins the next round. Returns how all lines stand, if none is open. It reads answers and
+/// journals from their beginning: they alone say which lines are open, whatever there is of an
+/// earlier round.
+///
+/// # Errors
+/// As [`read_logs`] and [`known`]. `Changed` if the list doesn't begin with the lines that the run
+/// knows. `List` if a line of it is refused.
 pub fn begin(
     rt: HostRuntime,
     setting: &Setting<'_>,
@@ -48,80 +52,87 @@ pub fn begin(
     boot: &[u8],
 ) -> Result<Option<Counts>, Fault> {
     let last = record_of(rt, setting)?;
-    let found = what_there_is(rt, setting, asked, last.as_ref())?;
-    let open = open_of(rt.alloc(), &found.books)?;
+    let Lines { list, jobs, more } = Lines::read(rt, setting, asked, last.as_ref())?;
+    let logs = read_logs(rt, setting, last.as_ref())?;
+    let extents = extents_of(rt, setting, &logs)?;
+    let books = RunState::read(rt.alloc(), &RawLogs::of(rt.alloc(), logs)?, jobs)?;
+    let log = books.log(&[]);
+    let open = open_of(rt.alloc(), &log, books.jobs.count())?;
     if open.is_empty() {
-        return Ok(Some(over(rt.alloc(), &found)?));
-    }
-    if found.more {
-        replaced(rt, setting, Item::Known, found.books.jobs.bytes(), true)?;
+        return Ok(Some(over(rt.alloc(), &list, &books.jobs, &log)?));
     }
     let last = last.map(|file| file.header);
     let header = record_for(rt.alloc(), asked, worker, boot, last, open)?;
-    let extents = found.extents;
-    make(rt, setting, &RoundFile { header, extents })?;
+    make(rt, setting, &books.jobs, more, header, extents)?;
     Ok(None)
 }
 
-/// Reads what there is, the jobs' file before answers and journals. `last` is the file of the last
-/// round.
-fn what_there_is(
+/// Begins the next round as [`begin`] does, but reads answers and journals on from where this
+/// process has read them.
+///
+/// # Errors
+/// As [`begin`] and [`Followed::stay`]. `Missing` if the file of the last round is gone.
+pub fn begin_next(
     rt: HostRuntime,
     setting: &Setting<'_>,
     asked: &Asked<'_>,
-    last: Option<&RoundFile>,
-) -> Result<Found, Fault> {
-    let known = known(rt, setting, last)?;
-    let list = list_of(rt, asked)?;
-    let jobs = grown(rt.alloc(), &known, &list, last.is_some())?;
-    let more = jobs.bytes().len() > known.bytes().len();
-    let logs = read_logs(rt, setting, last)?;
-    let extents = extents_of(rt, setting, &jobs, &logs)?;
-    let books = RunState::read(rt.alloc(), &RawLogs::of(rt.alloc(), logs)?, jobs)?;
-    Ok(Found {
-        list,
-        books,
-        extents,
-        more,
-    })
+    worker: u64,
+    boot: &[u8],
+    followed: &mut Followed,
+) -> Result<Option<Counts>, Fault>
+    // The answers and each of the 16 journals were read on.
+    ensures answers { OnOk result (followed.old.answers.reads < followed.new.answers.reads) }
+    ensures journals { OnOk result (AreReadOn followed.old.journals.items followed.new.journals.items) }
+{
+    let Some(last) = record_of(rt, setting)? else {
+        return Err(Fault::Missing(Item::Record));
+    };
+    let Lines { list, jobs, more } = Lines::read(rt, setting, asked, Some(&last))?;
+    followed.stay(rt, setting, &last, jobs.count())?;
+    let extents = followed.extents(rt, setting)?;
+    let log = followed.log()?;
+    let open = open_of(rt.alloc(), &log, jobs.count())?;
+    if open.is_empty() {
+        return Ok(Some(over(rt.alloc(), &list, &jobs, &log)?));
+    }
+    let header = record_for(rt.alloc(), asked, worker, boot, Some(last.header), open)?;
+    make(rt, setting, &jobs, more, header, extents)?;
+    Ok(None)
 }
 
-/// Returns how much of the jobs, the answers and the journals is on the disk, whatever a crash
-/// takes from now on: all appends but the last of each.
-fn extents_of(
-    rt: HostRuntime,
-    setting: &Setting<'_>,
-    jobs: &Jobs,
-    logs: &Logs,
-) -> Result<Vec<Extent>, Fault> {
+impl Lines {
+    /// Reads the jobs' file, and compares it with what the run knows. `last` is the file of the
+    /// last round.
+    fn read(
+        rt: HostRuntime,
+        setting: &Setting<'_>,
+        asked: &Asked<'_>,
+        last: Option<&RoundFile>,
+    ) -> Result<Lines, Fault> {
+        let known = known(rt, setting, last)?;
+        let list = list_of(rt, asked)?;
+        let jobs = grown(rt.alloc(), &known, &list, last.is_some())?;
+        let more = jobs.bytes().len() > known.bytes().len();
+        Ok(Lines { list, jobs, more })
+    }
+}
+
+/// Returns how much of the answers and the journals is on the disk, whatever a crash takes from
+/// now on: all appends but the last of each.
+fn extents_of(rt: HostRuntime, setting: &Setting<'_>, logs: &Logs) -> Result<Vec<Extent>, Fault> {
     let mut extents = Vec::new(rt.alloc());
-    extents.push(Extent::of_jobs(rt.alloc(), jobs.bytes())?)?;
-    extents.push(extent_of(rt, setting, Item::Answers, &logs.answers)?)?;
+    extents.push(extent_of(rt, setting, Item::Answers, &logs.answers.checksums)?)?;
     for (i, log) in logs.journals.iter().enumerate() {
         let item = Item::Journal(i as u64 + 1);
-        extents.push(extent_of(rt, setting, item, log)?)?;
+        extents.push(extent_of(rt, setting, item, &log.checksums)?)?;
     }
     Ok(extents)
 }
 
-/// Returns how much of a journal is on the disk.
-fn extent_of(
-    rt: HostRuntime,
-    setting: &Setting<'_>,
-    item: Item,
-    log: &Log,
-) -> Result<Extent, Fault> {
-    let first = first_checksum(rt, setting, item)?;
-    let name = format!(in rt.alloc(); "{item}")?;
-    let count = Count::of(first, &log.checksums);
-    Ok(Extent::of_count(rt.alloc(), name.as_bytes(), &count)?)
-}
-
-/// Where all lines stand, none of which is open.
-fn over(alloc: Global, found: &Found) -> Result<Counts, Fault> {
-    let jobs = &found.books.jobs;
-    whole(&found.list, jobs.bytes(), jobs.count())?;
-    counted(alloc, &found.books)
+/// Returns how all lines stand, none of which is open.
+fn over(alloc: Global, list: &[u8], jobs: &Jobs, log: &RunLog<'_>) -> Result<Counts, Fault> {
+    whole(list, jobs.bytes(), jobs.count())?;
+    counted(alloc, log, jobs.count())
 }
 
 /// The bytes of the jobs' file, all of them on the disk: else a power cut might take from it what
@@ -156,19 +167,17 @@ fn whole(list: &[u8], taken: &[u8], count: u64) -> Result<(), Fault> {
     Ok(())
 }
 
-/// The open lines.
-fn open_of(alloc: Global, books: &RunState) -> Result<Vec<u64>, Fault>
-    ensures { IfOk result (λ lines. (count : _) × (lines.items ≡ open_lines books.now.findings.items (map (λ journal. journal.items) books.now.journals.items) count)) }
+/// Returns the open lines of so many.
+fn open_of(alloc: Global, log: &RunLog<'_>, count: u64) -> Result<Vec<u64>, Fault>
+    ensures { IfOk result (λ lines. lines.items ≡ open_lines log.now.findings.now (map (λ journal. journal.items) log.now.journals.now) count) }
 {
-    let count = books.jobs.count() as usize;
-    Ok(open_lines(alloc, &books.findings, &books.journals, count)?)
+    Ok(open_lines(alloc, log.findings, log.journals, count as usize)?)
 }
 
-/// How many lines stand where. Nobody holds an intent that is pending here, but its command may
-/// run.
-fn counted(alloc: Global, books: &RunState) -> Result<Counts, Fault> {
-    let count = books.jobs.count() as usize;
-    let all = standings(alloc, &books.log(&[]), count)?;
+/// Returns how many of so many lines stand where. Nobody holds an intent that is pending here, but
+/// its command may run.
+fn counted(alloc: Global, log: &RunLog<'_>, count: u64) -> Result<Counts, Fault> {
+    let all = standings(alloc, log, count as usize)?;
     Ok(counts(&all))
 }
 
@@ -219,19 +228,41 @@ fn first_lines(alloc: Global, lines: &[u64]) -> Result<Vec<u64>, AllocError>
     }
 }
 
-/// Makes record and words. The words are all 0, and never synced: after a power cut they are of
+/// Makes the files of a round. `more` has the jobs made too, and `logs` is how much of answers and
+/// journals is on the disk. The words are all 0, and never synced: after a power cut they are of
 /// another boot.
-fn make(rt: HostRuntime, setting: &Setting<'_>, file: &RoundFile) -> Result<(), Fault> {
-    let record = &file.header;
-    let Some(mut words) = head_of(rt.alloc(), record)? else {
+fn make(
+    rt: HostRuntime,
+    setting: &Setting<'_>,
+    jobs: &Jobs,
+    more: bool,
+    header: RoundHeader,
+    logs: Vec<Extent>,
+) -> Result<(), Fault> {
+    let Some(mut words) = head_of(rt.alloc(), &header)? else {
         return Err(Fault::Refused(Item::Boot));
     };
-    if record.givens.jobs > MAX_JOBS as u64 || record.givens.workers > MAX_WORKERS as u64 {
+    let givens = header.givens;
+    if givens.jobs > MAX_JOBS as u64 || givens.workers > MAX_WORKERS as u64 {
         return Err(Fault::NoWay);
     }
+    if more {
+        replaced(rt, setting, Item::Known, jobs.bytes(), true)?;
+    }
+    let extents = all_extents(rt.alloc(), jobs, logs)?;
     let first = first_checksum(rt, setting, Item::Record)?;
-    let text = file.print(rt.alloc(), &first)?;
+    let text = RoundFile { header, extents }.print(rt.alloc(), &first)?;
     replaced(rt, setting, Item::Record, &text, true)?;
-    words.resize(words_len(&record.givens) as usize, 0)?;
+    words.resize(words_len(&givens) as usize, 0)?;
     replaced(rt, setting, Item::Words, &words, false)
+}
+
+/// Returns how much of the jobs is on the disk, and behind that these extents.
+fn all_extents(alloc: Global, jobs: &Jobs, logs: Vec<Extent>) -> Result<Vec<Extent>, Fault> {
+    let mut extents = Vec::new(alloc);
+    extents.push(Extent::of_jobs(alloc, jobs.bytes())?)?;
+    for extent in logs {
+        extents.push(extent)?;
+    }
+    Ok(extents)
 }

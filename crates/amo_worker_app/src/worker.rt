@@ -8,7 +8,8 @@ use amo_driver::{Asked, Intent, LifeEnd, Stop, ask_pending};
 use amo_givens::Givens;
 use amo_run_dir::{
     Fault, Followed, Item, JoinedRound, Later, ListSettings, LockedJournal, Setting, attempts_of,
-    begin, check_number, enter, had, has_lines_of, join, known, lock_of, record_of, take_number,
+    begin, begin_next, check_number, enter, had, has_lines_of, join, known, lock_of, record_of,
+    take_number,
 };
 use amo_run_log::pending;
 use amo_status::Counts;
@@ -71,7 +72,7 @@ fn live(
     let mut session = session;
     let mut followed = None;
     for _round in 0..u64::MAX {
-        if let Some(counts) = begun(rt, setting, jobs, worker, &boot)? {
+        if let Some(counts) = begun(rt, setting, jobs, worker, &boot, &mut followed)? {
             return Ok(counts);
         }
         let joined = join(rt, setting, worker, &boot)?;
@@ -85,19 +86,23 @@ fn live(
     Err(Fault::NoWay)
 }
 
-/// Begins a round, where nobody is at work in another. Answers where all lines stand, if none is
-/// open.
+/// Begins a round, if nobody is at work in another. Returns how all lines stand, if none is open.
+/// `followed` is what this process has read of answers and journals in earlier rounds.
 fn begun(
     rt: HostRuntime,
     setting: &Setting<'_>,
     jobs: &ListSettings<'_>,
     worker: u64,
     boot: &[u8],
+    followed: &mut Option<Followed>,
 ) -> Result<Option<Counts>, Fault> {
     let Some(lock) = lock_of(rt, setting, Item::Round)? else {
         return Ok(None);
     };
-    let begun = begin(rt, setting, jobs, worker, boot);
+    let begun = match followed {
+        Some(read) => begin_next(rt, setting, jobs, worker, boot, read),
+        None => begin(rt, setting, jobs, worker, boot),
+    };
     drop(lock);
     begun
 }
