@@ -1,13 +1,14 @@
-//! The command line: its commands, options and help.
+//! To parse the command line: what is asked for.
 ghost use Rattle.std.specs.Prelude.{◌≤◌, IfOk};
 
+use crate::command_line::{BOOT, program};
 use crate::remote::ByLines;
 use amo_decimal::number;
 use amo_givens::{MAX_BETA, MAX_JOBS, MAX_WORKERS};
 use amo_run_dir::{ListSettings, Setting, is_id};
 use amo_status::State;
 use clap::error::ErrorKind;
-use clap::{Arg, ArgAction, ArgMatches, Command, Error};
+use clap::{ArgMatches, Error};
 use std::alloc::{AllocError, Global};
 
 /// How lines are printed.
@@ -73,218 +74,11 @@ impl From<Error> for Misuse {
     }
 }
 
-const BOOT: &str = "/proc/sys/kernel/random/boot_id";
-
 /// The largest number of seconds that `--quiet` takes: some 31 years.
 const MAX_QUIET: u64 = 1_000_000_000;
 
 /// The protocol of `lines`: since 2 the runner answers `clear`.
 const PROTOCOL: &str = "2";
-
-const EXAMPLES: &str = "Examples:
-  amo_worker door tonight.run --workers 2 tonight.txt
-  amo_worker status tonight.run";
-
-/// Returns an argument that must be given.
-fn required<'a>(alloc: Global, id: &'a str, help: &'a str) -> Arg<'a> {
-    Arg::new(alloc, id).required(true).help(help)
-}
-
-/// Returns an option that takes a value.
-fn valued<'a>(alloc: Global, name: &'a str, value: &'a str, help: &'a str) -> Arg<'a> {
-    Arg::new(alloc, name)
-        .long(name)
-        .value_name(value)
-        .help(help)
-}
-
-/// Returns a subcommand over a run's folder.
-fn over_run<'a>(alloc: Global, name: &'a str, about: &'a str) -> Result<Command<'a>, AllocError> {
-    let kind = valued(
-        alloc,
-        "file-system",
-        "TYPE",
-        "also accept this file system type; a power cut empties tmpfs (default: ext2-4, xfs, btrfs, f2fs, zfs)",
-    );
-    let id = valued(
-        alloc,
-        "id",
-        "ID",
-        "refuse a folder whose id isn't this one, 32 hexadecimal digits (default: any id)",
-    );
-    let boot = valued(
-        alloc,
-        "boot-id",
-        "FILE",
-        "for tests: read the boot id from this file",
-    );
-    Command::new(alloc, name)
-        .about(about)
-        .arg(required(alloc, "RUN", "the folder of the run"))?
-        .arg(kind)?
-        .arg(id)?
-        .arg(boot.default_value(BOOT))
-}
-
-/// Adds the arguments of a subcommand over the run's jobs.
-fn over_jobs<'a>(alloc: Global, command: Command<'a>) -> Result<Command<'a>, AllocError> {
-    let workers = valued(
-        alloc,
-        "workers",
-        "M",
-        "the number of workers, 1 to 16 (must be given)",
-    );
-    let beta = valued(
-        alloc,
-        "beta",
-        "B",
-        "advanced, leave it: the threshold, 1 to 65535; at least the workers of a round",
-    );
-    command
-        .arg(workers.required(true))?
-        .arg(beta.default_value("1"))?
-        .arg(required(
-            alloc,
-            "JOBS",
-            "the list: a text file in which each line is a job",
-        ))
-}
-
-/// Returns an option that takes no value.
-fn flag<'a>(alloc: Global, name: &'a str, help: &'a str) -> Arg<'a> {
-    Arg::new(alloc, name)
-        .long(name)
-        .action(ArgAction::SetTrue)
-        .help(help)
-}
-
-fn door<'a>(alloc: Global) -> Result<Command<'a>, AllocError> {
-    let about = "Checks that workers may begin in RUN, and makes the run there if there is none";
-    let into = flag(
-        alloc,
-        "into",
-        "make RUN under its own name; refused if it has an id (default: make RUN.new-X, then rename that)",
-    );
-    over_jobs(alloc, over_run(alloc, "door", about)?.arg(into)?)
-}
-
-fn working<'a>(alloc: Global) -> Result<Command<'a>, AllocError> {
-    let about = "Runs worker P; its runner is on standard input and output";
-    let command = over_run(alloc, "work", about)?;
-    let worker = required(alloc, "P", "the number of the worker, 1 to M");
-    over_jobs(alloc, command.arg(worker)?)
-}
-
-fn speaking<'a>(alloc: Global) -> Result<Command<'a>, AllocError> {
-    let about =
-        "Runs worker P of a round of N jobs; its runner keeps the words and the journal too";
-    let command = Command::new(alloc, "lines").about(about);
-    let command = command.arg(required(alloc, "P", "the number of the worker, 1 to WORKERS"))?;
-    let command = command.arg(required(alloc, "WORKERS", "the number of workers, 1 to 16"))?;
-    let command = command.arg(required(alloc, "BETA", "the threshold, WORKERS to 65535"))?;
-    let protocol = valued(
-        alloc,
-        "protocol",
-        "VERSION",
-        "the protocol of the runner: 2, in which it answers `clear` (must be given)",
-    );
-    command
-        .arg(required(alloc, "N", "the number of jobs, 0 to 4096"))?
-        .arg(protocol)
-}
-
-fn doubting<'a>(alloc: Global) -> Result<Command<'a>, AllocError> {
-    let command = over_run(alloc, "doubts", "Prints the doubts that are final")?;
-    command.arg(flag(alloc, "json", "print JSON (default: text)"))
-}
-
-fn trying_again<'a>(alloc: Global) -> Result<Command<'a>, AllocError> {
-    let about = "Opens each line again whose command reported that it did nothing";
-    over_run(alloc, "again", about)
-}
-
-fn showing<'a>(alloc: Global) -> Result<Command<'a>, AllocError> {
-    let lines = valued(
-        alloc,
-        "lines",
-        "KIND",
-        "print only failed, doubt, untouched, running or open lines, for `answer --from` (default: all)",
-    );
-    let damaged = flag(
-        alloc,
-        "damaged",
-        "print what can be read of a run that is refused; no line counts as open (default: refuse it)",
-    );
-    over_run(alloc, "status", "Prints how all lines stand")?
-        .arg(flag(alloc, "json", "print JSON (default: text)"))?
-        .arg(lines.conflicts_with("json")?)?
-        .arg(damaged.conflicts_with("json")?.conflicts_with("lines")?)
-}
-
-fn answering<'a>(alloc: Global) -> Result<Command<'a>, AllocError> {
-    let about = "Records what you found out about an attempt";
-    let command = with_quiet(alloc, over_run(alloc, "answer", about)?)?;
-    let command = with_answer(alloc, command)?;
-    let sheet = valued(
-        alloc,
-        "from",
-        "FILE",
-        "take the answers of this file: P.S, LINE, TEXT and VERDICT a line, with tabs (default: the arguments)",
-    );
-    command.arg(sheet.conflicts_with("INTENT")?)
-}
-
-/// Adds the options that say how long `not-done` has to wait.
-fn with_quiet<'a>(alloc: Global, command: Command<'a>) -> Result<Command<'a>, AllocError> {
-    let quiet = valued(
-        alloc,
-        "quiet",
-        "SECONDS",
-        "refuse `not-done` until so many seconds have passed since the attempt ended, 0 to 1000000000; a request may arrive late",
-    );
-    let now = flag(
-        alloc,
-        "now",
-        "take `not-done` at once, whenever the attempt ended (default: wait as --quiet says)",
-    );
-    command.arg(quiet.default_value("60"))?.arg(now)
-}
-
-/// Adds the arguments of one answer.
-fn with_answer<'a>(alloc: Global, command: Command<'a>) -> Result<Command<'a>, AllocError> {
-    let intent = Arg::new(alloc, "INTENT").help("the attempt, P.S, as `doubts` prints it");
-    let line = Arg::new(alloc, "LINE").help("the number of its line");
-    let text = Arg::new(alloc, "TEXT").help("the text of that line");
-    let verdict = Arg::new(alloc, "VERDICT").help("done or not-done");
-    command.arg(intent)?.arg(line)?.arg(text)?.arg(verdict)
-}
-
-/// Returns the program's command.
-fn program<'a>(alloc: Global) -> Result<Command<'a>, AllocError> {
-    let command = Command::new(alloc, "amo_worker")
-        .about("A worker of a run: it hands each line of a list to a runner, at most once")
-        .after_help(EXAMPLES)
-        .subcommand_required(true);
-    let command = with_workers(alloc, command)?;
-    let command = with_looks(alloc, command)?;
-    with_answers(alloc, command)
-}
-
-fn with_workers<'a>(alloc: Global, command: Command<'a>) -> Result<Command<'a>, AllocError> {
-    let command = command.subcommand(door(alloc)?)?;
-    let command = command.subcommand(working(alloc)?)?;
-    command.subcommand(speaking(alloc)?)
-}
-
-fn with_looks<'a>(alloc: Global, command: Command<'a>) -> Result<Command<'a>, AllocError> {
-    let command = command.subcommand(showing(alloc)?)?;
-    command.subcommand(doubting(alloc)?)
-}
-
-fn with_answers<'a>(alloc: Global, command: Command<'a>) -> Result<Command<'a>, AllocError> {
-    let command = command.subcommand(answering(alloc)?)?;
-    command.subcommand(trying_again(alloc)?)
-}
 
 /// Returns the number of the argument with this id.
 ///

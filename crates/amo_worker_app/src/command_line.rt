@@ -232,7 +232,7 @@ static ARGUMENTS: [Argument; 24] = [
 ];
 
 /// Returns the program's command line.
-pub(crate) fn program(alloc: Global) -> Result<Command<'static>, AllocError> {
+pub(crate) fn program<'a>(alloc: Global) -> Result<Command<'a>, AllocError> {
     let mut command = Command::new(alloc, "amo_worker")
         .about("A worker of a run: it hands each line of a list to a runner, at most once")
         .after_help(EXAMPLES)
@@ -245,11 +245,11 @@ pub(crate) fn program(alloc: Global) -> Result<Command<'static>, AllocError> {
 }
 
 /// Adds its arguments to the command of this name.
-fn with_arguments(
+fn with_arguments<'a>(
     alloc: Global,
-    command: Command<'static>,
+    command: Command<'a>,
     name: &str,
-) -> Result<Command<'static>, AllocError> {
+) -> Result<Command<'a>, AllocError> {
     let mut command = command;
     for it in &ARGUMENTS {
         if it.commands.contains(&name) {
@@ -261,7 +261,7 @@ fn with_arguments(
 
 impl Argument {
     /// Returns the argument in the form that clap takes.
-    fn made(&self, alloc: Global) -> Result<Arg<'static>, AllocError> {
+    fn made<'a>(&self, alloc: Global) -> Result<Arg<'a>, AllocError> {
         let mut arg = self.kind.given(Arg::new(alloc, self.name), self.name);
         for other in self.excludes {
             arg = arg.conflicts_with(other)?;
@@ -272,7 +272,7 @@ impl Argument {
 
 impl Kind {
     /// Returns the argument of this name, given in this way.
-    fn given(self, arg: Arg<'static>, name: &'static str) -> Arg<'static> {
+    fn given<'a>(self, arg: Arg<'a>, name: &'static str) -> Arg<'a> {
         match self {
             Kind::Required => arg.required(true),
             Kind::Optional => arg,

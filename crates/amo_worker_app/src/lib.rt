@@ -4,6 +4,7 @@
 #![tactic(auto)]
 
 mod args;
+mod command_line;
 mod commands;
 mod damage;
 mod print;

@@ -83,14 +83,13 @@ impl Session {
 
     /// Appends what is owed, if something is and the journal still takes it.
     pub(crate) fn pay(&mut self) -> Result<(), Failed> {
-        match self.journal.take() {
-            Some(journal) => {
-                let alloc = self.rt.alloc();
-                let given = journal.pay(alloc);
-                self.keep(given)
-            }
-            None => Ok(()),
+        if self.journal.is_none() {
+            return Ok(());
         }
+        let journal = self.take_journal()?;
+        let alloc = self.rt.alloc();
+        let given = journal.pay(alloc);
+        self.keep(given)
     }
 
     /// Takes the journal, for one call.
