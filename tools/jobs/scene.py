@@ -19,6 +19,7 @@ from worker import folder
 HERE = os.path.dirname(os.path.realpath(__file__))
 DONE, FAILED, DOUBTFUL, WORDS, REFUSED, LEFT, WRITE, READ, LATER, BUILD = (
     0, 1, 2, 64, 65, 69, 73, 74, 75, 125)
+NO_MEMORY = 71  # or a program that the crew asked was killed
 KILLED = -signal.SIGKILL
 UNHEARD = (-signal.SIGHUP, -signal.SIGTERM, -signal.SIGINT, 130)  # of a signal that came before a crew took any
 COMMAND = [f"{HERE}/act.sh"]

@@ -16,7 +16,7 @@ import signal
 import subprocess
 import time
 
-from jobs.scene import READ, REFUSED, WRITE, Wrong, want
+from jobs.scene import NO_MEMORY, READ, REFUSED, WRITE, Wrong, want
 from jobs.spoiled import end_all, flip, let_end, refused_file, see_refused
 from worker import folder
 from worker.headers import FILES
@@ -147,6 +147,7 @@ class Kills(Storm):
     def __init__(self, bench, draws):
         super().__init__(bench, draws)
         self.events, self.calm = DEADLY, draws.uniform(5, 20)
+        self.scene.ends_of_crews.add(NO_MEMORY)
 
     def run(self):
         self.scene.see_out(during=self.befall, workers_of=self.count, pause=0.02)
