@@ -33,7 +33,7 @@ struct Lines {
     list: Vec<u8>,
     /// The jobs that the file has.
     jobs: Jobs,
-    /// Whether the run doesn't know all of these jobs yet.
+    /// This is true if the run doesn't know all of these jobs yet.
     more: bool,
 }
 
@@ -67,8 +67,8 @@ pub fn begin(
     Ok(None)
 }
 
-/// Begins the next round as [`begin`] does, but reads answers and journals on from where this
-/// process has read them.
+/// Begins the next round as [`begin`] does, but reads answers and journals on from the last appends
+/// that this process has read.
 ///
 /// # Errors
 /// As [`begin`] and [`Followed::stay`]. `Missing` if the file of the last round is gone.
