@@ -1,6 +1,6 @@
 -- Which deeds the process of a worker does, one after the other: the accesses of its process, in their order, and between a
 -- claim and the filing of it the intent, the clearance, the performance if it is clear, and the note of the claimed job.
-use Rattle.std.specs.Prelude.{◌≡◌, ⊤, ℕ, zero, suc, ◌+◌, Bool, true, false, List, [], ◌∷◌, ◌++◌, Option, Some, None, ◌==◌, if◌then◌else◌}
+use Rattle.std.specs.Prelude.{◌≡◌, ⊤, ℕ, zero, suc, ◌+◌, Bool, true, false, List, [], ◌∷◌, Option, Some, None, ◌==◌, if◌then◌else◌}
 use Rattle.amo_kk.specs.Words.{next_word}
 use Rattle.amo_givens.specs.declared.givens.Givens.{Givens}
 use Rattle.amo_process.specs.Heard.{told_by, doubted_by}
@@ -18,11 +18,6 @@ use Rattle.amo_driver.specs.declared.model.Try.{Try}
 use Rattle.amo_driver.specs.declared.model.Try.TheVariants.{Load, Store, Find, Intend, Clear, Perform, Note, Ask}
 use Rattle.amo_driver.specs.declared.past.Intent.{Intent}
 use Rattle.amo_driver.specs.Stage.{Stage, Going, Finding, Intending, Clearing, Performing, Noting, Leaving, Asking, Settling, Dismissed, Gone, Unanswered, Refused, Broken}
-
--- the deeds with one more, where they are known
-abbrev pub with_deed : Option (List Deed) → Deed → Option (List Deed)
-with_deed None d = None
-with_deed (Some ds) d = Some (ds ++ d ∷ [])
 
 -- what was tried in a deed
 abbrev pub try_of : Deed → Try
@@ -131,13 +126,3 @@ AreDue s (d ∷ ds) = (due s ≡ Some (try_of d)) × AreDue (stage_after s d) ds
 -- where the process of worker p stands that has done nothing, s being the serial number of its first intent
 abbrev pub first_stage : Givens → ℕ → ℕ → Stage
 first_stage g p s = Going s (new_process g p) Go
-
--- The process that has stood first at `first` has since done just what was due, and stands here, if what it has done is known.
-abbrev pub Stands : (first : Stage) → Option (List Deed) → Stage → Type 0
-Stands first None s = ⊤
-Stands first (Some ds) s = AreDue first ds × (stage_after_all first ds ≡ s)
-
--- It has done just what was due, and this is due now, if what it has done is known.
-abbrev pub MayTry : (first : Stage) → Option (List Deed) → Try → Type 0
-MayTry first None t = ⊤
-MayTry first (Some ds) t = AreDue first ds × (due (stage_after_all first ds) ≡ Some t)

@@ -1,4 +1,5 @@
 pub mod Stage
 pub mod Course
+pub mod Standing
 pub mod Stops
 pub mod Life

@@ -1,5 +1,5 @@
 -- Within this crate: a process between two turns, the asking between two questions, and what is heard of an intent.
-use Rattle.std.specs.Prelude.{◌≡◌, ℕ, ◌+◌, false, List, Option, Some, None, Result, Ok, Err, ◌==◌, if◌then◌else◌}
+use Rattle.std.specs.Prelude.{◌≡◌, ℕ, false, List, Option, Some, None, Result, Ok, Err, ◌==◌, if◌then◌else◌}
 use Rattle.amo_process.specs.Stepped.{is_refused}
 use Rattle.amo_driver.specs.declared.answer.Heard.{Heard}
 use Rattle.amo_driver.specs.declared.answer.Heard.TheVariants.{Ended, Runs, Silence}
@@ -7,7 +7,6 @@ use Rattle.amo_driver.specs.declared.answer.Reply.{Reply}
 use Rattle.amo_driver.specs.declared.answer.Reply.TheVariants.{Answered, Running, Garbled, Closed}
 use Rattle.amo_driver.specs.declared.answer.Way.{Way}
 use Rattle.amo_driver.specs.declared.answer.Way.TheVariants.{Go, Leave}
-use Rattle.amo_driver.specs.declared.model.Deed.{Deed}
 use Rattle.amo_driver.specs.declared.stop.LifeEnd.{LifeEnd}
 use Rattle.amo_driver.specs.declared.stop.Stop.{Stop}
 use Rattle.amo_driver.specs.declared.stop.Stop.TheVariants.{NoAnswer, OtherAnswer}
@@ -16,33 +15,21 @@ use Rattle.amo_driver.specs.declared.past.Asked.{Asked}
 use Rattle.amo_driver.specs.declared.past.Asked.TheVariants.{Dismissed}
 use Rattle.amo_driver.specs.declared.past.Intent.{Intent}
 use Rattle.amo_driver.specs.Stage.{Stage, Going, Asking}
-use Rattle.amo_driver.specs.Course.{stage_heard, first_stage, Stands}
-use Rattle.amo_driver.specs.Stops.{EndsAt, HasDone, AsksTo}
-
--- where it stood when it had done nothing
-abbrev pub beginning : Life → Stage
-beginning l = first_stage l.process.givens l.process.number l.first
+use Rattle.amo_driver.specs.Course.{stage_heard}
+use Rattle.amo_driver.specs.Stops.{EndsAt, AsksTo}
 
 -- it goes on: the next access of its process is due
-abbrev pub IsGoing : (first : Stage) → Option (List Deed) → Life → Type 0
-IsGoing first ds l = Stands first ds (Going l.next l.process l.way) × (is_refused l.process.standing ≡ false)
+abbrev pub IsGoing : (Stage → Type 0) → Life → Type 0
+IsGoing stands l = stands (Going l.next l.process l.way) × (is_refused l.process.standing ≡ false)
 
 -- its process has just heard a number, and hasn't refused it
-abbrev pub HasHeard : (first : Stage) → Option (List Deed) → Life → Type 0
-HasHeard first ds l = Stands first ds (stage_heard l.next l.way l.process) × (is_refused l.process.standing ≡ false)
+abbrev pub HasHeard : (Stage → Type 0) → Life → Type 0
+HasHeard stands l = stands (stage_heard l.next l.way l.process) × (is_refused l.process.standing ≡ false)
 
 -- after a turn it goes on, or it has ended so
-abbrev pub TurnsTo : (first : Stage) → Option (List Deed) → Life → Option LifeEnd → Type 0
-TurnsTo first ds l None = IsGoing first ds l
-TurnsTo first ds l (Some end) = EndsAt first ds end
-
--- as many deeds are done as were, from one time to a later one
-abbrev pub KeepsDeeds : (before after : Option (List Deed)) → Type 0
-KeepsDeeds x y = (n : ℕ) → HasDone n x → HasDone n y
-
--- and one more at least
-abbrev pub AddsDeed : (before after : Option (List Deed)) → Type 0
-AddsDeed x y = (n : ℕ) → HasDone n x → HasDone (n + 1) y
+abbrev pub TurnsTo : (Stage → Type 0) → Life → Option LifeEnd → Type 0
+TurnsTo stands l None = IsGoing stands l
+TurnsTo stands l (Some end) = EndsAt stands end
 
 -- whether the asking ends with an answer that says this
 abbrev pub asked_after : Way → Option Asked
@@ -50,9 +37,9 @@ asked_after Go = None
 asked_after Leave = Some Dismissed
 
 -- after one was asked for, these are left, or the asking has ended so
-abbrev pub AsksOn : (first : Stage) → Option (List Deed) → List Intent → Option Asked → Type 0
-AsksOn first ds rest None = Stands first ds (Asking rest)
-AsksOn first ds rest (Some asked) = AsksTo first ds asked
+abbrev pub AsksOn : (Stage → Type 0) → List Intent → Option Asked → Type 0
+AsksOn stands rest None = stands (Asking rest)
+AsksOn stands rest (Some asked) = AsksTo stands asked
 
 -- what is heard of intent s where this came in answer to it: what became of another intent is no answer
 abbrev pub heard_of : ℕ → Reply → Result Heard Stop

@@ -4,11 +4,11 @@ ghost use Rattle.amo_givens.specs.Givens.{IsWorker};
 ghost use Rattle.amo_process.specs.Stepped.{access_of, is_refused};
 ghost use Rattle.amo_process.specs.declared.access.Access.TheVariants.{Load, Store};
 ghost use Rattle.amo_driver.specs.declared.answer.Way.TheVariants.{Go, Leave};
-ghost use Rattle.amo_driver.specs.declared.model.Try.{Try};
 ghost use Rattle.amo_driver.specs.Stage.{Going, Intending, Performing, Noting};
-ghost use Rattle.amo_driver.specs.Course.{stage_replied, first_stage, Stands, MayTry};
-ghost use Rattle.amo_driver.specs.Stops.{EndsAt, StopsAt};
-ghost use Rattle.amo_driver.specs.Life.{beginning, IsGoing, HasHeard, TurnsTo, KeepsDeeds, AddsDeed};
+ghost use Rattle.amo_driver.specs.Course.{stage_replied, first_stage};
+ghost use Rattle.amo_driver.specs.Standing.{Counts, DoesMore};
+ghost use Rattle.amo_driver.specs.Stops.{HaltsAt};
+ghost use Rattle.amo_driver.specs.Life.{IsGoing, HasHeard, TurnsTo};
 
 use crate::answer::{Heard, JobResult, Reply, Way};
 use crate::outside::Outside;
@@ -17,11 +17,10 @@ use amo_givens::Givens;
 use amo_process::{Access, NoSuchNumber, Process};
 use std::alloc::{AllocError, Global};
 
-/// A process, the serial numbers of its first intent and of its next, and whether it is to go on.
+/// A process, the serial number of its next intent, and whether it is to go on.
 #[derive(Drop)]
 pub(crate) struct Life {
     process: Process,
-    first: u64,
     next: u64,
     way: Way,
 }
@@ -36,42 +35,23 @@ impl Life {
         serial: u64,
     ) -> Result<Life, AllocError>
         requires worker { IsWorker givens p }
-        ensures first { IfOk result (λ l. beginning l ≡ first_stage givens p serial) }
         ensures stage { IfOk result (λ l. Going l.next l.process l.way ≡ first_stage givens p serial) }
         ensures goes { IfOk result (λ l. is_refused l.process.standing ≡ false) }
     {
         let process = Process::new(alloc, givens, p)?;
         Ok(Life {
             process,
-            first: serial,
             next: serial,
             way: Way::Go,
         })
     }
 
-    /// Goes on to the end.
-    pub(crate) fn go_on<O: Outside>(&mut self, outside: &mut O) -> Result<LifeEnd, Stop>
-        requires goes { IsGoing (beginning self.old) (O.deeds outside.old) self.old }
-        requires served { (o : _) (t : Try) → MayTry (beginning self.old) (O.deeds o) t → O.may o t }
-        ensures ends { IfOk result (λ end. EndsAt (beginning self.old) (O.deeds outside.new) end) }
-        ensures stops { IfErr result (λ e. StopsAt (beginning self.old) (O.deeds outside.new) e) }
-    {
-        for _turn in 0..u64::MAX {
-            if let Some(end) = self.turn(outside)? {
-                return Ok(end);
-            }
-        }
-        Err(Stop::TooLong)
-    }
-
     /// The next access of the process, and what is due between it and the one after.
-    fn turn<O: Outside>(&mut self, outside: &mut O) -> Result<Option<LifeEnd>, Stop>
-        requires goes { IsGoing (beginning self.old) (O.deeds outside.old) self.old }
-        requires served { (o : _) (t : Try) → MayTry (beginning self.old) (O.deeds o) t → O.may o t }
-        ensures same { beginning self.new ≡ beginning self.old }
-        ensures turns { IfOk result (λ end. TurnsTo (beginning self.old) (O.deeds outside.new) self.new end) }
-        ensures grows { result ≡ Ok None → AddsDeed (O.deeds outside.old) (O.deeds outside.new) }
-        ensures stops { IfErr result (λ e. StopsAt (beginning self.old) (O.deeds outside.new) e) }
+    pub(crate) fn turn<O: Outside>(&mut self, outside: &mut O) -> Result<Option<LifeEnd>, Stop>
+        requires goes { IsGoing (O.stands outside.old) self.old }
+        ensures turns { IfOk result (λ end. TurnsTo (O.stands outside.new) self.new end) }
+        ensures grows { result ≡ Ok None → DoesMore 1 (O.has_done outside.old) (O.has_done outside.new) }
+        ensures stops { IfErr result (λ e. HaltsAt (O.stands outside.new) e) }
     {
         match self.process.want() {
             Access::Load(word) => self.load(word, outside)?,
@@ -83,12 +63,10 @@ impl Life {
 
     /// What is due between an access that was made and the next.
     fn settle<O: Outside>(&mut self, outside: &mut O) -> Result<Option<LifeEnd>, Stop>
-        requires heard { HasHeard (beginning self.old) (O.deeds outside.old) self.old }
-        requires served { (o : _) (t : Try) → MayTry (beginning self.old) (O.deeds o) t → O.may o t }
-        ensures same { beginning self.new ≡ beginning self.old }
-        ensures turns { IfOk result (λ end. TurnsTo (beginning self.old) (O.deeds outside.new) self.new end) }
-        ensures grows { result ≡ Ok None → KeepsDeeds (O.deeds outside.old) (O.deeds outside.new) }
-        ensures stops { IfErr result (λ e. StopsAt (beginning self.old) (O.deeds outside.new) e) }
+        requires heard { HasHeard (O.stands outside.old) self.old }
+        ensures turns { IfOk result (λ end. TurnsTo (O.stands outside.new) self.new end) }
+        ensures grows { result ≡ Ok None → DoesMore 0 (O.has_done outside.old) (O.has_done outside.new) }
+        ensures stops { IfErr result (λ e. HaltsAt (O.stands outside.new) e) }
     {
         match self.way {
             Way::Go => self.attend(outside),
@@ -98,13 +76,11 @@ impl Life {
 
     /// Loads this word, and lets the process hear its value.
     fn load<O: Outside>(&mut self, word: u64, outside: &mut O) -> Result<(), Stop>
-        requires goes { IsGoing (beginning self.old) (O.deeds outside.old) self.old }
-        requires served { (o : _) (t : Try) → MayTry (beginning self.old) (O.deeds o) t → O.may o t }
+        requires goes { IsGoing (O.stands outside.old) self.old }
         requires wanted { access_of self.old.process.givens self.old.process.number self.old.process.standing ≡ Load word }
-        ensures same { beginning self.new ≡ beginning self.old }
-        ensures done { OnOk result (HasHeard (beginning self.old) (O.deeds outside.new) self.new) }
-        ensures grows { OnOk result (AddsDeed (O.deeds outside.old) (O.deeds outside.new)) }
-        ensures stops { IfErr result (λ e. StopsAt (beginning self.old) (O.deeds outside.new) e) }
+        ensures done { OnOk result (HasHeard (O.stands outside.new) self.new) }
+        ensures grows { OnOk result (Counts (O.has_done outside.old) (O.has_done outside.new)) }
+        ensures stops { IfErr result (λ e. HaltsAt (O.stands outside.new) e) }
     {
         let Ok(value) = outside.load(word) else {
             return Err(Stop::Failed);
@@ -117,13 +93,11 @@ impl Life {
 
     /// Stores this value to this word, and lets the process know.
     fn store<O: Outside>(&mut self, word: u64, value: u64, outside: &mut O) -> Result<(), Stop>
-        requires goes { IsGoing (beginning self.old) (O.deeds outside.old) self.old }
-        requires served { (o : _) (t : Try) → MayTry (beginning self.old) (O.deeds o) t → O.may o t }
+        requires goes { IsGoing (O.stands outside.old) self.old }
         requires wanted { access_of self.old.process.givens self.old.process.number self.old.process.standing ≡ Store word value }
-        ensures same { beginning self.new ≡ beginning self.old }
-        ensures done { OnOk result (HasHeard (beginning self.old) (O.deeds outside.new) self.new) }
-        ensures grows { OnOk result (AddsDeed (O.deeds outside.old) (O.deeds outside.new)) }
-        ensures stops { IfErr result (λ e. StopsAt (beginning self.old) (O.deeds outside.new) e) }
+        ensures done { OnOk result (HasHeard (O.stands outside.new) self.new) }
+        ensures grows { OnOk result (Counts (O.has_done outside.old) (O.has_done outside.new)) }
+        ensures stops { IfErr result (λ e. HaltsAt (O.stands outside.new) e) }
     {
         let Ok(()) = outside.store(word, value) else {
             return Err(Stop::Failed);
@@ -134,12 +108,11 @@ impl Life {
 
     /// Leaves, if the worker may.
     fn leave<O: Outside>(&self, outside: &mut O) -> Result<Option<LifeEnd>, Stop>
-        requires heard { HasHeard (beginning self.now) (O.deeds outside.old) self.now }
-        requires served { (o : _) (t : Try) → MayTry (beginning self.now) (O.deeds o) t → O.may o t }
+        requires heard { HasHeard (O.stands outside.old) self.now }
         requires way { self.now.way ≡ Leave }
-        ensures turns { IfOk result (λ end. TurnsTo (beginning self.now) (O.deeds outside.new) self.now end) }
-        ensures grows { result ≡ Ok None → KeepsDeeds (O.deeds outside.old) (O.deeds outside.new) }
-        ensures stops { IfErr result (λ e. StopsAt (beginning self.now) (O.deeds outside.new) e) }
+        ensures turns { IfOk result (λ end. TurnsTo (O.stands outside.new) self.now end) }
+        ensures grows { result ≡ Ok None → DoesMore 0 (O.has_done outside.old) (O.has_done outside.new) }
+        ensures stops { IfErr result (λ e. HaltsAt (O.stands outside.new) e) }
     {
         if !self.process.may_leave() {
             return Ok(None);
@@ -153,13 +126,11 @@ impl Life {
 
     /// Has the job performed that the process is told to, and says which it found in its hand.
     fn attend<O: Outside>(&mut self, outside: &mut O) -> Result<Option<LifeEnd>, Stop>
-        requires heard { HasHeard (beginning self.old) (O.deeds outside.old) self.old }
-        requires served { (o : _) (t : Try) → MayTry (beginning self.old) (O.deeds o) t → O.may o t }
+        requires heard { HasHeard (O.stands outside.old) self.old }
         requires way { self.old.way ≡ Go }
-        ensures same { beginning self.new ≡ beginning self.old }
-        ensures turns { IfOk result (λ end. TurnsTo (beginning self.old) (O.deeds outside.new) self.new end) }
-        ensures grows { result ≡ Ok None → KeepsDeeds (O.deeds outside.old) (O.deeds outside.new) }
-        ensures stops { IfErr result (λ e. StopsAt (beginning self.old) (O.deeds outside.new) e) }
+        ensures turns { IfOk result (λ end. TurnsTo (O.stands outside.new) self.new end) }
+        ensures grows { result ≡ Ok None → DoesMore 0 (O.has_done outside.old) (O.has_done outside.new) }
+        ensures stops { IfErr result (λ e. HaltsAt (O.stands outside.new) e) }
     {
         if let Some(job) = self.process.to_perform() {
             return self.hand_over(job, outside);
@@ -174,13 +145,11 @@ impl Life {
 
     /// Puts the intent, and then hands the job over to the partner, if it may be handed over.
     fn hand_over<O: Outside>(&mut self, job: u32, outside: &mut O) -> Result<Option<LifeEnd>, Stop>
-        requires claimed { Stands (beginning self.old) (O.deeds outside.old) (Intending self.old.next self.old.process job) }
+        requires claimed { O.stands outside.old (Intending self.old.next self.old.process job) }
         requires fine { is_refused self.old.process.standing ≡ false }
-        requires served { (o : _) (t : Try) → MayTry (beginning self.old) (O.deeds o) t → O.may o t }
-        ensures same { beginning self.new ≡ beginning self.old }
-        ensures turns { IfOk result (λ end. TurnsTo (beginning self.old) (O.deeds outside.new) self.new end) }
-        ensures grows { result ≡ Ok None → KeepsDeeds (O.deeds outside.old) (O.deeds outside.new) }
-        ensures stops { IfErr result (λ e. StopsAt (beginning self.old) (O.deeds outside.new) e) }
+        ensures turns { IfOk result (λ end. TurnsTo (O.stands outside.new) self.new end) }
+        ensures grows { result ≡ Ok None → DoesMore 0 (O.has_done outside.old) (O.has_done outside.new) }
+        ensures stops { IfErr result (λ e. HaltsAt (O.stands outside.new) e) }
     {
         if self.next == u64::MAX {
             return Err(Stop::NoSerial);
@@ -200,14 +169,12 @@ impl Life {
 
     /// Has the partner perform the job, which may be handed over.
     fn perform<O: Outside>(&mut self, job: u32, outside: &mut O) -> Result<Option<LifeEnd>, Stop>
-        requires cleared { Stands (beginning self.old) (O.deeds outside.old) (Performing self.old.next self.old.process job) }
+        requires cleared { O.stands outside.old (Performing self.old.next self.old.process job) }
         requires fine { is_refused self.old.process.standing ≡ false }
-        requires served { (o : _) (t : Try) → MayTry (beginning self.old) (O.deeds o) t → O.may o t }
         requires room { self.old.next < 2 ^ 64 - 1 }
-        ensures same { beginning self.new ≡ beginning self.old }
-        ensures turns { IfOk result (λ end. TurnsTo (beginning self.old) (O.deeds outside.new) self.new end) }
-        ensures grows { result ≡ Ok None → KeepsDeeds (O.deeds outside.old) (O.deeds outside.new) }
-        ensures stops { IfErr result (λ e. StopsAt (beginning self.old) (O.deeds outside.new) e) }
+        ensures turns { IfOk result (λ end. TurnsTo (O.stands outside.new) self.new end) }
+        ensures grows { result ≡ Ok None → DoesMore 0 (O.has_done outside.old) (O.has_done outside.new) }
+        ensures stops { IfErr result (λ e. HaltsAt (O.stands outside.new) e) }
     {
         let Ok(reply) = outside.perform(self.next, job) else {
             return Err(Stop::Failed);
@@ -217,14 +184,12 @@ impl Life {
 
     /// Hears what came in answer to the intent.
     fn hear<O: Outside>(&mut self, reply: Reply, outside: &mut O) -> Result<Option<LifeEnd>, Stop>
-        requires performed { Stands (beginning self.old) (O.deeds outside.old) (stage_replied self.old.next self.old.process reply) }
+        requires performed { O.stands outside.old (stage_replied self.old.next self.old.process reply) }
         requires fine { is_refused self.old.process.standing ≡ false }
-        requires served { (o : _) (t : Try) → MayTry (beginning self.old) (O.deeds o) t → O.may o t }
         requires room { self.old.next < 2 ^ 64 - 1 }
-        ensures same { beginning self.new ≡ beginning self.old }
-        ensures turns { IfOk result (λ end. TurnsTo (beginning self.old) (O.deeds outside.new) self.new end) }
-        ensures grows { result ≡ Ok None → KeepsDeeds (O.deeds outside.old) (O.deeds outside.new) }
-        ensures stops { IfErr result (λ e. StopsAt (beginning self.old) (O.deeds outside.new) e) }
+        ensures turns { IfOk result (λ end. TurnsTo (O.stands outside.new) self.new end) }
+        ensures grows { result ≡ Ok None → DoesMore 0 (O.has_done outside.old) (O.has_done outside.new) }
+        ensures stops { IfErr result (λ e. HaltsAt (O.stands outside.new) e) }
     {
         let heard = reply.heard_of(self.next)?;
         match heard {
@@ -245,14 +210,12 @@ impl Life {
         way: Way,
         outside: &mut O,
     ) -> Result<Option<LifeEnd>, Stop>
-        requires answered { Stands (beginning self.old) (O.deeds outside.old) (Noting self.old.next self.old.process answer way) }
+        requires answered { O.stands outside.old (Noting self.old.next self.old.process answer way) }
         requires fine { is_refused self.old.process.standing ≡ false }
-        requires served { (o : _) (t : Try) → MayTry (beginning self.old) (O.deeds o) t → O.may o t }
         requires room { self.old.next < 2 ^ 64 - 1 }
-        ensures same { beginning self.new ≡ beginning self.old }
-        ensures turns { IfOk result (λ end. TurnsTo (beginning self.old) (O.deeds outside.new) self.new end) }
-        ensures grows { result ≡ Ok None → KeepsDeeds (O.deeds outside.old) (O.deeds outside.new) }
-        ensures stops { IfErr result (λ e. StopsAt (beginning self.old) (O.deeds outside.new) e) }
+        ensures turns { IfOk result (λ end. TurnsTo (O.stands outside.new) self.new end) }
+        ensures grows { result ≡ Ok None → DoesMore 0 (O.has_done outside.old) (O.has_done outside.new) }
+        ensures stops { IfErr result (λ e. HaltsAt (O.stands outside.new) e) }
     {
         let Ok(()) = outside.note(self.next, answer) else {
             return Err(Stop::Failed);

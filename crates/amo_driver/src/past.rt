@@ -1,12 +1,11 @@
 //! What former processes of a worker have left: intents in its journal that have no answer.
-ghost use Rattle.std.specs.Prelude.{◌≡◌, ◌+◌, ◌<◌, ◌∷◌, List, Option, IfOk, IfErr, OnOk, OnErr, length, drop};
-ghost use Rattle.amo_driver.specs.declared.model.Deed.{Deed};
+ghost use Rattle.std.specs.Prelude.{◌≡◌, ◌+◌, ◌<◌, ◌∷◌, IfOk, IfErr, OnOk, OnErr, length, drop};
 ghost use Rattle.amo_driver.specs.declared.model.Deed.TheVariants.{Noted, Asked as AskedDeed, Fell};
-ghost use Rattle.amo_driver.specs.declared.model.Try.{Try};
 ghost use Rattle.amo_driver.specs.declared.model.Try.TheVariants.{Note, Ask};
-ghost use Rattle.amo_driver.specs.Stage.{Asking};
-ghost use Rattle.amo_driver.specs.Course.{with_deed, stage_asked, Stands, MayTry};
-ghost use Rattle.amo_driver.specs.Stops.{AsksTo, StopsAt};
+ghost use Rattle.amo_driver.specs.Stage.{Stage, Asking};
+ghost use Rattle.amo_driver.specs.Course.{stage_asked};
+ghost use Rattle.amo_driver.specs.Standing.{MayCall, Moves};
+ghost use Rattle.amo_driver.specs.Stops.{AsksTo, HaltsAt};
 ghost use Rattle.amo_driver.specs.Life.{AsksOn, asked_after};
 
 use crate::answer::{Heard, JobResult, Reply, Way};
@@ -36,23 +35,22 @@ pub enum Asked {
 /// A journal, and a partner who may know what became of its intents. After a call has failed no
 /// other is made.
 pub trait Past {
-    /// What was done, in its order, where that is known.
-    ghost deeds: { Self → Option (List Deed) };
-    /// What may be tried.
-    ghost may: { Self → Try → Type 0 };
+    /// The process may be at this stage, by all that it has done. If nothing records that, it may
+    /// be at any stage.
+    ghost stands: { Self → Stage → Type 0 };
 
     /// Asks the partner what became of an intent, and waits for what comes in answer.
     fn was(&mut self, serial: u64, line: u64) -> Result<Reply, Failed>
-        requires { may self.old (Ask serial line) }
-        ensures done { IfOk result (λ reply. deeds self.new ≡ with_deed (deeds self.old) (AskedDeed serial line reply)) }
-        ensures fails { OnErr result (deeds self.new ≡ with_deed (deeds self.old) (Fell (Ask serial line))) };
+        requires { MayCall (stands self.old) (Ask serial line) }
+        ensures done { IfOk result (λ reply. Moves (stands self.old) (stands self.new) (AskedDeed serial line reply)) }
+        ensures fails { OnErr result (Moves (stands self.old) (stands self.new) (Fell (Ask serial line))) };
 
     /// Puts into the journal what became of an intent, so that every crash from now on leaves it
     /// there.
     fn note(&mut self, serial: u64, answer: JobResult) -> Result<(), Failed>
-        requires { may self.old (Note serial answer) }
-        ensures done { OnOk result (deeds self.new ≡ with_deed (deeds self.old) (Noted serial answer)) }
-        ensures fails { OnErr result (deeds self.new ≡ with_deed (deeds self.old) (Fell (Note serial answer))) };
+        requires { MayCall (stands self.old) (Note serial answer) }
+        ensures done { OnOk result (Moves (stands self.old) (stands self.new) (Noted serial answer)) }
+        ensures fails { OnErr result (Moves (stands self.old) (stands self.new) (Fell (Note serial answer))) };
 }
 
 /// Asks for each of these intents, in their order, and notes what became of it before the next is
@@ -60,10 +58,9 @@ pub trait Past {
 /// leave it is noted, and no other is asked for. After anything has failed, and after something
 /// else than the answer that was awaited, nothing is asked for or noted.
 pub fn ask_pending<P: Past>(pending: &[Intent], past: &mut P) -> Result<Asked, Stop>
-    requires begins { Stands (Asking pending.now) (P.deeds past.old) (Asking pending.now) }
-    requires served { (o : _) (t : Try) → MayTry (Asking pending.now) (P.deeds o) t → P.may o t }
-    ensures ends { IfOk result (λ asked. AsksTo (Asking pending.now) (P.deeds past.new) asked) }
-    ensures stops { IfErr result (λ e. StopsAt (Asking pending.now) (P.deeds past.new) e) }
+    requires begins { P.stands past.old (Asking pending.now) }
+    ensures ends { IfOk result (λ asked. AsksTo (P.stands past.new) asked) }
+    ensures stops { IfErr result (λ e. HaltsAt (P.stands past.new) e) }
 {
     for k in 0..pending.len() {
         if let Some(asked) = ask(pending, k, past)? {
@@ -76,10 +73,9 @@ pub fn ask_pending<P: Past>(pending: &[Intent], past: &mut P) -> Result<Asked, S
 /// Asks for the intent at place k.
 fn ask<P: Past>(pending: &[Intent], k: usize, past: &mut P) -> Result<Option<Asked>, Stop>
     requires within { k < length pending.now }
-    requires stands { Stands (Asking pending.now) (P.deeds past.old) (Asking (drop k pending.now)) }
-    requires served { (o : _) (t : Try) → MayTry (Asking pending.now) (P.deeds o) t → P.may o t }
-    ensures turns { IfOk result (λ asked. AsksOn (Asking pending.now) (P.deeds past.new) (drop (k + 1) pending.now) asked) }
-    ensures stops { IfErr result (λ e. StopsAt (Asking pending.now) (P.deeds past.new) e) }
+    requires stands { P.stands past.old (Asking (drop k pending.now)) }
+    ensures turns { IfOk result (λ asked. AsksOn (P.stands past.new) (drop (k + 1) pending.now) asked) }
+    ensures stops { IfErr result (λ e. HaltsAt (P.stands past.new) e) }
 {
     let intent = pending[k];
     let Ok(reply) = past.was(intent.serial, intent.line) else {
@@ -96,10 +92,9 @@ fn hear<P: Past>(
     reply: Reply,
     past: &mut P,
 ) -> Result<Option<Asked>, Stop>
-    requires asked { Stands (Asking pending.now) (P.deeds past.old) (stage_asked (intent ∷ drop (k + 1) pending.now) reply) }
-    requires served { (o : _) (t : Try) → MayTry (Asking pending.now) (P.deeds o) t → P.may o t }
-    ensures turns { IfOk result (λ asked. AsksOn (Asking pending.now) (P.deeds past.new) (drop (k + 1) pending.now) asked) }
-    ensures stops { IfErr result (λ e. StopsAt (Asking pending.now) (P.deeds past.new) e) }
+    requires asked { P.stands past.old (stage_asked (intent ∷ drop (k + 1) pending.now) reply) }
+    ensures turns { IfOk result (λ asked. AsksOn (P.stands past.new) (drop (k + 1) pending.now) asked) }
+    ensures stops { IfErr result (λ e. HaltsAt (P.stands past.new) e) }
 {
     let heard = reply.heard_of(intent.serial)?;
     match heard {

@@ -1,8 +1,7 @@
 //! The work of a process, from its beginning on.
 ghost use Rattle.std.specs.Prelude.{IfOk, IfErr};
 ghost use Rattle.amo_givens.specs.Givens.{IsWorker};
-ghost use Rattle.amo_driver.specs.declared.model.Try.{Try};
-ghost use Rattle.amo_driver.specs.Course.{first_stage, Stands, MayTry};
+ghost use Rattle.amo_driver.specs.Course.{first_stage};
 ghost use Rattle.amo_driver.specs.Stops.{EndsAt, StopsAt};
 
 use crate::life::Life;
@@ -27,13 +26,17 @@ pub fn work<O: Outside>(
     outside: &mut O,
 ) -> Result<LifeEnd, Stop>
     requires worker { IsWorker givens p }
-    requires begins { Stands (first_stage givens p serial) (O.deeds outside.old) (first_stage givens p serial) }
-    requires served { (o : _) (t : Try) → MayTry (first_stage givens p serial) (O.deeds o) t → O.may o t }
-    ensures ends { IfOk result (λ end. EndsAt (first_stage givens p serial) (O.deeds outside.new) end) }
-    ensures stops { IfErr result (λ e. StopsAt (first_stage givens p serial) (O.deeds outside.new) e) }
+    requires begins { O.stands outside.old (first_stage givens p serial) }
+    ensures ends { IfOk result (λ end. EndsAt (O.stands outside.new) end) }
+    ensures stops { IfErr result (λ e. StopsAt (first_stage givens p serial) (O.stands outside.new) (O.has_done outside.old) (O.has_done outside.new) e) }
 {
     let Ok(mut life) = Life::new(alloc, givens, p, serial) else {
         return Err(Stop::NoMemory);
     };
-    life.go_on(outside)
+    for _turn in 0..u64::MAX {
+        if let Some(end) = life.turn(outside)? {
+            return Ok(end);
+        }
+    }
+    Err(Stop::TooLong)
 }

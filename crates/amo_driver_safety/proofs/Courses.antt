@@ -22,7 +22,7 @@ use Rattle.amo_driver.specs.declared.model.Try.{Try}
 use Rattle.amo_driver.specs.declared.model.Try.TheVariants.{Load, Store, Find, Intend, Clear, Perform, Note, Ask}
 use Rattle.amo_driver.specs.Stage.{Stage, Going, Intending, Clearing, Performing, Noting, Leaving, Asking, Settling, Unanswered, Refused, Broken}
 use Rattle.amo_driver.specs.Course.{try_of, access_tried, due, stage_by_jobs, stage_heard, stage_told, stage_cleared, stage_replied, stage_after, stage_after_all, AreDue, first_stage}
-use Rattle.amo_driver.proofs.Deeds.{stage_after_more}
+use Rattle.amo_driver_safety.proofs.Logs.{stage_after_more}
 use Rattle.amo_driver_safety.specs.Course.{HasJustClaimed, HasJustIntended, HasJustCleared, HasJustAnswered, HasJustFoundTaken}
 use Rattle.amo_driver_safety.proofs.Stages.{word_in, value_in, job_in, serial_in, no_other, performing_at, clearing_at, process_of, hears_more, standing_is, access_is, Shown, all_shown}
 use Rattle.amo_driver_safety.proofs.Claims.{IsClaiming, claim_wanted, was_claiming}

@@ -1,5 +1,5 @@
 -- Where a process stands in a history is where its log leads.
-use Rattle.std.proofs.Common.{◌≡◌, ⊎_elim, ℕ, sym, ap, ◌∙◌, subst, arith, List, [], ◌∷◌, ◌++◌, length, Option, Some, None}
+use Rattle.std.proofs.Common.{◌≡◌, ⊎_elim, ℕ, refl, sym, ap, ◌∙◌, subst, arith, List, [], ◌∷◌, ◌++◌, length, Option, Some, None}
 use Rattle.std.specs.Prelude.{if◌then◌else◌, ◌==◌}
 use Rattle.std.proofs.lemmas.Bool.{eq-eqb, ne_eqb, cases_eq}
 use Rattle.std.proofs.lemmas.Option.{none-some}
@@ -12,21 +12,33 @@ use Rattle.amo_driver.specs.declared.model.Deed.{Deed}
 use Rattle.amo_driver.specs.declared.model.Deed.TheVariants.{Fell}
 use Rattle.amo_driver.specs.declared.model.Try.{Try}
 use Rattle.amo_driver.specs.Stage.{Stage, Gone, Broken}
-use Rattle.amo_driver.specs.Course.{try_of, due, stage_after, stage_after_all, AreDue, first_stage, MayTry}
-use Rattle.amo_driver.proofs.Deeds.{stage_after_more, due_more}
+use Rattle.amo_driver.specs.Course.{try_of, due, stage_after, stage_after_all, AreDue, first_stage}
+use Rattle.amo_driver.specs.Standing.{MayCall, Moves}
 use Rattle.amo_driver_safety.specs.Scene.{Scene, first_scene, stage_at, scene_after, scene_after_all, scene_of, IsTrue, MayBe, IsHistoryFrom, IsHistory}
-use Rattle.amo_driver_safety.specs.Log.{Log, with_more, log_after, log_after_all, log_of, StandsBy}
+use Rattle.amo_driver_safety.specs.Log.{Stands, Log, with_more, log_after, log_after_all, log_of, StandsBy}
 use Rattle.amo_driver_safety.specs.declared.model.Moment.{Moment}
 use Rattle.amo_driver_safety.specs.declared.model.Moment.TheVariants.{Does, Loses, Begins}
+
+-- the stage after all these deeds and one more
+pub stage_after_more : (s : Stage) (ds : List Deed) (d : Deed) → stage_after_all s (ds ++ d ∷ []) ≡ stage_after (stage_after_all s ds) d
+stage_after_more s [] d = refl
+stage_after_more s (x ∷ ds) d = stage_after_more (stage_after s x) ds d
+
+-- one that is due after all that were due
+pub due_more : (s : Stage) (ds : List Deed) (d : Deed) → AreDue s ds → due (stage_after_all s ds) ≡ Some (try_of d) → AreDue s (ds ++ d ∷ [])
+due_more s [] d all is = (is, tt)
+due_more s (x ∷ ds) d all is = (all.0, due_more (stage_after s x) ds d all.1 is)
+
+-- the stage after one deed more that was due
+pub stands_more : (first : Stage) (ds : List Deed) (d : Deed) → Moves (Stands first ds) (Stands first (ds ++ d ∷ [])) d
+stands_more first ds d s stands one =
+    (due_more first ds d stands.0 (ap due stands.1 ∙ one), stage_after_more first ds d ∙ ap (λ (z : Stage). stage_after z d) stands.1)
 
 module _ (g : Givens) (p : ℕ) (o : IsWorker g p) where
   -- one more deed that was due
   more_stands : (l : Option Log) (s : Stage) (d : Deed) → StandsBy g p l s → due s ≡ Some (try_of d) → StandsBy g p (with_more l d) (stage_after s d)
   more_stands None s d f e = absurd (none-some (try_of d) (sym (ap due f) ∙ e))
-  more_stands (Some l) s d f e = (
-    due_more (first_stage g p l.serial) l.deeds d f.0 (ap due f.1 ∙ e),
-    stage_after_more (first_stage g p l.serial) l.deeds d ∙ ap (λ (z : Stage). stage_after z d) f.1,
-  )
+  more_stands (Some l) s d f e = stands_more (first_stage g p l.serial) l.deeds d s f e
 
   -- where the stage of q changes
   put_stands : (sc : Scene) (l m : Option Log) (q : ℕ) (s : Stage) → length sc.stages ≡ g.workers → StandsBy g p l (stage_at sc p) → (q ≡ p → StandsBy g p m s)
@@ -64,11 +76,11 @@ module _ (g : Givens) (p : ℕ) (o : IsWorker g p) where
   stands_by_log ms h = from_here (first_scene g) None ms (length-table (λ _. Gone) g.workers) (numbered-table Gone (λ _. Gone) g.workers p o.low o.high) h
 
   -- what may be tried by the log may come about
-  pub call_may_be : (ms : List Moment) (l : Log) (t : Try) → IsHistory g ms → log_of p ms ≡ Some l → MayTry (first_stage g p l.serial) (Some l.deeds) t
+  pub call_may_be : (ms : List Moment) (l : Log) (t : Try) → IsHistory g ms → log_of p ms ≡ Some l → MayCall (Stands (first_stage g p l.serial) l.deeds) t
       → MayBe g (scene_of g ms) (Loses p t)
   call_may_be ms l t h is may =
       let stands = subst (λ x. StandsBy g p x (stage_at (scene_of g ms) p)) is (stands_by_log ms h) in
-      (o, sym (ap due stands.1) ∙ may.1)
+      (o, sym (ap due stands.1) ∙ ap due may.1.1 ∙ may.2)
 
   last_due : (s : Stage) (ds : List Deed) (d : Deed) → AreDue s (ds ++ d ∷ []) → due (stage_after_all s ds) ≡ Some (try_of d)
   last_due s [] d h = h.0

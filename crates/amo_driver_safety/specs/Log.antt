@@ -4,9 +4,13 @@ use Rattle.amo_givens.specs.declared.givens.Givens.{Givens}
 use Rattle.amo_driver.specs.declared.model.Deed.{Deed}
 use Rattle.amo_driver.specs.declared.model.Deed.TheVariants.{Fell}
 use Rattle.amo_driver.specs.Stage.{Stage, Gone}
-use Rattle.amo_driver.specs.Course.{first_stage, Stands}
+use Rattle.amo_driver.specs.Course.{stage_after_all, AreDue, first_stage}
 use Rattle.amo_driver_safety.specs.declared.model.Moment.{Moment}
 use Rattle.amo_driver_safety.specs.declared.model.Moment.TheVariants.{Does, Loses, Begins}
+
+-- The process that was at the stage `first` has since done these, each of which was due, and is at this stage.
+abbrev pub Stands : (first : Stage) → List Deed → Stage → Type 0
+Stands first ds s = AreDue first ds × (stage_after_all first ds ≡ s)
 
 -- The serial number of the first intent of a process, and what it has done since it began.
 pub record Log : Type 0 where
@@ -36,4 +40,4 @@ log_of p ms = log_after_all p None ms
 -- the process that has done this, and just what was due, stands here
 abbrev pub StandsBy : Givens → ℕ → Option Log → Stage → Type 0
 StandsBy g p None s = s ≡ Gone
-StandsBy g p (Some l) s = Stands (first_stage g p l.serial) (Some l.deeds) s
+StandsBy g p (Some l) s = Stands (first_stage g p l.serial) l.deeds s

@@ -5,14 +5,15 @@ ghost use Rattle.amo_givens.specs.Givens.{IsWorker};
 ghost use Rattle.amo_givens.specs.declared.givens.Givens.{Givens};
 ghost use Rattle.amo_driver.specs.declared.answer.JobResult.{JobResult};
 ghost use Rattle.amo_driver.specs.declared.answer.Reply.{Reply};
-ghost use Rattle.amo_driver.specs.Course.{try_of, due, stage_after_all, AreDue, first_stage, MayTry};
+ghost use Rattle.amo_driver.specs.Course.{try_of, due, stage_after_all, AreDue, first_stage};
 ghost use Rattle.amo_driver.specs.Stage.{Stage};
+ghost use Rattle.amo_driver.specs.Standing.{MayCall, Moves};
 ghost use Rattle.amo_driver.specs.declared.model.Deed.{Deed};
 ghost use Rattle.amo_driver.specs.declared.model.Deed.TheVariants.{Intended, Cleared, Performed, Fell};
 ghost use Rattle.amo_driver.specs.declared.model.Try.{Try};
 ghost use Rattle.amo_driver.specs.declared.model.Try.TheVariants.{Find, Intend, Clear, Perform, Note};
 ghost use Rattle.amo_driver_safety.specs.Course.{handed_by_deeds, HasJustCleared, HasJustAnswered, HasJustFoundTaken, tells_to_leave, TakesLeave, PassesOver};
-ghost use Rattle.amo_driver_safety.specs.Log.{Log, log_of, StandsBy};
+ghost use Rattle.amo_driver_safety.specs.Log.{Stands, Log, log_of, StandsBy};
 ghost use Rattle.amo_driver_safety.specs.Scene.{stage_at, scene_of, IsTrue, MayBe, IsHistory, handed_jobs};
 ghost use Rattle.amo_driver_safety.specs.Tries.{worker_of, tried_in, NoneBegins};
 ghost use Rattle.amo_driver_safety.specs.declared.model.Moment.{Moment};
@@ -44,12 +45,18 @@ pub fn stages_are_courses()
     ensures { (g : Givens) (ms : List Moment) (p : ℕ) → IsHistory g ms → IsWorker g p → StandsBy g p (log_of p ms) (stage_at (scene_of g ms) p) }
 {}
 
-/// What the contract of `work` says of a log is what a history asks of its worker: a call that it
-/// may make may come about, also where the process dies in it, and a deed that was due, and is true
-/// of the words, may be done.
+/// A process that records its deeds is at the stage after them: each deed more that was due moves
+/// it on, as `Outside` and `Past` ensure of each call.
+pub fn records_tell_where_it_stands()
+    ensures { (first : Stage) (ds : List Deed) (d : Deed) → Moves (Stands first ds) (Stands first (ds ++ d ∷ [])) d }
+{}
+
+/// The contract of `work` says of a log as much as a history asks of its worker. A call that it may
+/// make, by its log, may come about, also if the process dies in it. A deed that was due, and is
+/// true of the words, may be done.
 pub fn workers_do_right()
     ensures calls { (g : Givens) (ms : List Moment) (p : ℕ) (l : Log) (t : Try) → IsHistory g ms → IsWorker g p → log_of p ms ≡ Some l
-        → MayTry (first_stage g p l.serial) (Some l.deeds) t → MayBe g (scene_of g ms) (Loses p t) }
+        → MayCall (Stands (first_stage g p l.serial) l.deeds) t → MayBe g (scene_of g ms) (Loses p t) }
     ensures deeds { (g : Givens) (ms : List Moment) (p : ℕ) (l : Log) (d : Deed) → IsHistory g ms → IsWorker g p → log_of p ms ≡ Some l
         → AreDue (first_stage g p l.serial) (l.deeds ++ d ∷ []) → IsTrue (scene_of g ms).words d → MayBe g (scene_of g ms) (Does p d) }
 {}

@@ -1,7 +1,7 @@
 //! Lives of three workers over eight lines, in three rounds. Each is killed at some call, and the
 //! power is cut at one call of a disk: what was written or cut since the last sync is torn then.
 //! What was performed is counted, and the files are read by eye.
-ghost use Rattle.std.specs.Prelude.{None, ⊤};
+ghost use Rattle.std.specs.Prelude.{⊤};
 
 use amo_driver::{
     Failed, Intent, JobResult as Became, Outside, Past, Reply, Way, ask_pending, work,
@@ -194,9 +194,9 @@ impl Run {
 }
 
 impl Outside for Run {
-    ghost deeds = { λ _. None };
+    ghost stands = { λ _ _. ⊤ };
 
-    ghost may = { λ _ _. ⊤ };
+    ghost has_done = { λ _ _. ⊤ };
 
     fn load(&mut self, word: u64) -> Result<u64, Failed> {
         let fate = self.fate();
@@ -277,9 +277,7 @@ impl Outside for Run {
 }
 
 impl Past for Run {
-    ghost deeds = { λ _. None };
-
-    ghost may = { λ _ _. ⊤ };
+    ghost stands = { λ _ _. ⊤ };
 
     fn was(&mut self, serial: u64, _line: u64) -> Result<Reply, Failed> {
         let fate = self.fate();

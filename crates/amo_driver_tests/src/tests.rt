@@ -1,5 +1,5 @@
 //! One worker's work, out of memory.
-ghost use Rattle.std.specs.Prelude.{None, ⊤};
+ghost use Rattle.std.specs.Prelude.{⊤};
 
 use amo_driver::{Failed, JobResult, LifeEnd, Outside, Reply, Stop, Way, work};
 use amo_givens::Givens;
@@ -17,9 +17,9 @@ struct Silent {
 }
 
 impl Outside for Silent {
-    ghost deeds = { λ _. None };
+    ghost stands = { λ _ _. ⊤ };
 
-    ghost may = { λ _ _. ⊤ };
+    ghost has_done = { λ _ _. ⊤ };
 
     fn load(&mut self, word: u64) -> Result<u64, Failed> {
         self.calls = self.calls.saturating_add(1);

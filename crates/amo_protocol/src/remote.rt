@@ -41,9 +41,9 @@ impl<W: Wire> Lines<W> {
 }
 
 impl<W: Wire> Outside for Lines<W> {
-    ghost deeds = { λ lines. W.done lines.wire };
+    ghost stands = { λ lines. W.stands lines.wire };
 
-    ghost may = { λ _ _. Unit {0} };
+    ghost has_done = { λ lines. W.has_said lines.wire };
 
     fn load(&mut self, word: u64) -> Result<u64, Failed> {
         let heard = self.wire.ask(Try::Load(word))?;

@@ -1,24 +1,28 @@
 //! Where the lines go, and where their answers come from.
-ghost use Rattle.std.specs.Prelude.{◌≡◌, ◌++◌, ◌∷◌, [], ℕ, List, Option, option_map, IfOk, OnErr, IfSome, IsSome};
-ghost use Rattle.amo_driver.specs.Course.{with_deed};
-ghost use Rattle.amo_driver.specs.declared.model.Deed.{Deed};
+ghost use Rattle.std.specs.Prelude.{◌≡◌, ◌++◌, ◌∷◌, [], ℕ, List, option_map, IfOk, OnErr, IfSome, IsSome};
 ghost use Rattle.amo_driver.specs.declared.model.Deed.TheVariants.{Fell};
+ghost use Rattle.amo_driver.specs.Stage.{Stage};
+ghost use Rattle.amo_driver.specs.Standing.{MayCall, Moves, Counts};
 ghost use Rattle.amo_protocol.specs.Lines.{deed_of};
 
 use amo_driver::{Failed, Try};
 
 /// A partner who is told by lines. After a call has failed no other is made.
 pub trait Wire {
-    /// What was done, in its order, by what was said and what came in answer, where that is known.
-    /// Of a process's own streams nobody knows it: there it is `None`.
-    ghost done: { Self → Option (List Deed) };
+    /// The process may be at this stage, by the lines and their answers. If nothing records them,
+    /// as those of a process's own streams, it may be at any stage.
+    ghost stands: { Self → Stage → Type 0 };
+    /// It may have said so many lines, those to which no answer came included.
+    ghost has_said: { Self → ℕ → Type 0 };
 
     /// Says the line of what is tried, as `text_of` has it, and waits for the line that answers it.
     /// Answers that line without its end, or `None` where nothing more comes, or a line that is
     /// cut.
     fn ask(&mut self, asked: Try) -> Result<Option<Vec<u8>>, Failed>
-        ensures heard { IfOk result (λ heard. done self.new ≡ with_deed (done self.old) (deed_of asked (option_map (λ line. line.items) heard))) }
-        ensures fails { OnErr result (done self.new ≡ with_deed (done self.old) (Fell asked)) };
+        requires { MayCall (stands self.old) asked }
+        ensures heard { IfOk result (λ heard. Moves (stands self.old) (stands self.new) (deed_of asked (option_map (λ line. line.items) heard))) }
+        ensures fails { OnErr result (Moves (stands self.old) (stands self.new) (Fell asked)) }
+        ensures counts { Counts (has_said self.old) (has_said self.new) };
 }
 
 /// The line that these bytes are, without its end. Bytes that don't end with the end of a line are

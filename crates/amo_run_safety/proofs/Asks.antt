@@ -5,8 +5,9 @@ use Rattle.amo_driver.specs.declared.model.Deed.{Deed}
 use Rattle.amo_driver.specs.declared.model.Deed.TheVariants.{Fell}
 use Rattle.amo_driver.specs.declared.model.Try.{Try}
 use Rattle.amo_driver.specs.Stage.{Stage, Asking, Broken}
-use Rattle.amo_driver.specs.Course.{try_of, due, stage_after, Stands}
-use Rattle.amo_driver.proofs.Deeds.{stage_after_more, due_more}
+use Rattle.amo_driver.specs.Course.{try_of, due, stage_after}
+use Rattle.amo_driver_safety.specs.Log.{Stands}
+use Rattle.amo_driver_safety.proofs.Logs.{stage_after_more, due_more}
 use Rattle.amo_run_safety.specs.Site.{Whereabouts, Away, Before, Inside, Round, Site, first_site, Event, Dies, Starts, RoundBegins, Joins, Acts, Misses, Pays, PaysUnheard, PaysUnread, Says, SaysUnheard, SaysUnread, Stops, with_at}
 use Rattle.amo_run_safety.specs.Run.{left_in, whereabouts_after, whereabouts_missing, site_after, MayAct, MayMiss, MayHappen, IsRunFrom, IsRun, site_after_all, site_of}
 use Rattle.amo_run_safety.specs.Asked.{Asker, with_more, asker_after, asker_after_all, asker_of}
@@ -16,7 +17,7 @@ use Rattle.amo_run_safety.proofs.Sane.{at_number, at_both}
 abbrev AskedBy : Option Asker → Whereabouts → Type 0
 AskedBy a Away = ⊤
 AskedBy None (Before s) = ⊥
-AskedBy (Some a) (Before s) = Stands (Asking (left_in a.attempts)) (Some a.deeds) s
+AskedBy (Some a) (Before s) = Stands (Asking (left_in a.attempts)) a.deeds s
 AskedBy a (Inside k q) = ⊤
 
 more_asked : (a : Option Asker) (s t : Stage) (d : Deed) → AskedBy a (Before s) → due s ≡ Some (try_of d) → stage_after s d ≡ t → AskedBy (with_more a d) (Before t)
@@ -59,8 +60,8 @@ module _ (p : ℕ) where
   all_asked w a [] h run = h
   all_asked w a (e ∷ es) h run = all_asked (site_after w e) (asker_after p a e) es (event_asked w a e h run.0) run.1
 
-  stands : (a : Option Asker) (whereabouts : Whereabouts) (s : Stage) (x : Asker) → AskedBy a whereabouts → whereabouts ≡ Before s → a ≡ Some x → Stands (Asking (left_in x.attempts)) (Some x.deeds) s
+  stands : (a : Option Asker) (whereabouts : Whereabouts) (s : Stage) (x : Asker) → AskedBy a whereabouts → whereabouts ≡ Before s → a ≡ Some x → Stands (Asking (left_in x.attempts)) x.deeds s
   stands a whereabouts s x h at is = subst (λ o. AskedBy o (Before s)) is (subst (AskedBy a) at h)
 
-  pub stands_by_asker : (es : List Event) (s : Stage) (a : Asker) → IsRun es → (site_of es).whereabouts p ≡ Before s → asker_of p es ≡ Some a → Stands (Asking (left_in a.attempts)) (Some a.deeds) s
+  pub stands_by_asker : (es : List Event) (s : Stage) (a : Asker) → IsRun es → (site_of es).whereabouts p ≡ Before s → asker_of p es ≡ Some a → Stands (Asking (left_in a.attempts)) a.deeds s
   stands_by_asker es s a run at is = stands (asker_of p es) ((site_of es).whereabouts p) s a (all_asked first_site None es tt run) at is

@@ -1,10 +1,11 @@
 -- What a process in a round may do by its log may be in the run.
 use Rattle.std.proofs.Common.{◌≡◌, ℕ, ◌≤◌, List, [], ◌∷◌, ◌++◌, Some, sym, subst}
 use Rattle.amo_givens.specs.Givens.{IsWorker}
-use Rattle.amo_driver.specs.Course.{AreDue, first_stage, MayTry}
+use Rattle.amo_driver.specs.Course.{AreDue, first_stage}
+use Rattle.amo_driver.specs.Standing.{MayCall}
 use Rattle.amo_driver.specs.declared.model.Deed.{Deed}
 use Rattle.amo_driver.specs.declared.model.Try.{Try}
-use Rattle.amo_driver_safety.specs.Log.{Log, log_of}
+use Rattle.amo_driver_safety.specs.Log.{Stands, Log, log_of}
 use Rattle.amo_driver_safety.specs.Scene.{scene_of, IsTrue}
 use Rattle.amo_driver_safety.specs.declared.model.Moment.TheVariants.{Does, Loses}
 use Rattle.amo_driver_safety.proofs.Logs.{call_may_be, deed_may_be}
@@ -25,7 +26,7 @@ module _ (es : List Event) (run : IsRun es) (p k q : ℕ) (at : (site_of es).whe
       let range = in_range p r.written.first r.written.workers r.written.givens.workers q (sound_parts r.written good.sound).first fits.0 in
       record { low = range.0; high = subst (λ n. q ≤ n) (sym good.workers) range.1 }
 
-  pub call_may_come : (t : Try) → MayTry (first_stage r.givens q l.serial) (Some l.deeds) t → MayMiss (site_of es).rounds (Inside k q) t
+  pub call_may_come : (t : Try) → MayCall (Stands (first_stage r.givens q l.serial) l.deeds) t → MayMiss (site_of es).rounds (Inside k q) t
   call_may_come t may = subst (λ o. MayBeIn o (Loses q t)) (sym is) (call_may_be r.givens q worker r.moments l t good.history log may)
 
   pub deed_may_come : (d : Deed) → AreDue (first_stage r.givens q l.serial) (l.deeds ++ d ∷ []) → IsTrue (scene_of r.givens r.moments).words d → MayAct (site_of es).rounds (Inside k q) d

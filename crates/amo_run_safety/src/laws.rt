@@ -1,12 +1,13 @@
 //! The theorems over the definitions. Nothing here runs: each function's contract is a law.
 ghost use Rattle.std.specs.Prelude.{◌≡◌, ◌⊎◌, ◌≤◌, ◌+◌, ℕ, Bool, true, false, List, [], ◌∷◌, ◌++◌, Some, length};
 ghost use Rattle.amo_sets.specs.Sets.{AreDistinct};
-ghost use Rattle.amo_driver.specs.Course.{AreDue, first_stage, Stands, MayTry};
+ghost use Rattle.amo_driver.specs.Course.{AreDue, first_stage};
 ghost use Rattle.amo_driver.specs.declared.model.Deed.{Deed};
 ghost use Rattle.amo_driver.specs.declared.model.Deed.TheVariants.{Intended, Cleared};
 ghost use Rattle.amo_driver.specs.declared.model.Try.{Try};
 ghost use Rattle.amo_driver.specs.Stage.{Stage, Asking};
-ghost use Rattle.amo_driver_safety.specs.Log.{Log, log_of};
+ghost use Rattle.amo_driver.specs.Standing.{MayCall};
+ghost use Rattle.amo_driver_safety.specs.Log.{Stands, Log, log_of};
 ghost use Rattle.amo_driver_safety.specs.Scene.{scene_of, IsTrue, IsHistory};
 ghost use Rattle.amo_journal.specs.Device.{LeavesOnly};
 ghost use Rattle.amo_journal.specs.Appends.{records_in, IsLog};
@@ -192,7 +193,7 @@ pub fn a_request_on_its_way_performs_a_line_twice()
 /// due, and is true of the words, may be done.
 pub fn processes_do_right()
     ensures calls { (es : List Event) (p k q : ℕ) (r : Round) (l : Log) (t : Try) → IsRun es → (site_of es).whereabouts p ≡ Inside k q → (site_of es).rounds k ≡ Some r
-        → log_of q r.moments ≡ Some l → MayTry (first_stage r.givens q l.serial) (Some l.deeds) t → MayMiss (site_of es).rounds (Inside k q) t }
+        → log_of q r.moments ≡ Some l → MayCall (Stands (first_stage r.givens q l.serial) l.deeds) t → MayMiss (site_of es).rounds (Inside k q) t }
     ensures deeds { (es : List Event) (p k q : ℕ) (r : Round) (l : Log) (d : Deed) → IsRun es → (site_of es).whereabouts p ≡ Inside k q → (site_of es).rounds k ≡ Some r
         → log_of q r.moments ≡ Some l → AreDue (first_stage r.givens q l.serial) (l.deeds ++ d ∷ []) → IsTrue (scene_of r.givens r.moments).words d
         → MayAct (site_of es).rounds (Inside k q) d }
@@ -203,7 +204,7 @@ pub fn processes_do_right()
 /// has begun with all intents that are pending in its journal.
 pub fn who_asks_does_right()
     ensures { (es : List Event) (p : ℕ) (s : Stage) (a : Asker) → IsRun es → (site_of es).whereabouts p ≡ Before s → asker_of p es ≡ Some a
-        → Stands (Asking (left_in a.attempts)) (Some a.deeds) s }
+        → Stands (Asking (left_in a.attempts)) a.deeds s }
 {}
 
 /// A journal that is settled has all its entries kept: what is read says them, and so does what
