@@ -18,3 +18,5 @@ pub mod Puts
 pub mod Readings
 pub mod TextLists
 pub mod Words
+pub mod LogReadings
+pub mod ClearTests

@@ -10,3 +10,4 @@ pub mod OldAnswers
 pub mod Open
 pub mod Puts
 pub mod Texts
+pub mod ReadLogs

@@ -1,10 +1,13 @@
 //! The attempts of all journals, with an index by line. It is kept as entries are noted, so that a
 //! question about one line looks at the attempts at that line alone.
-ghost use Rattle.std.specs.Prelude.{◌≡◌, ◌+◌, ◌-◌, ◌≤◌, max, ℕ, List, [], length, map, replicate, IfNone, IfOk, IfSome, OnErr, OnOk};
+ghost use Rattle.std.specs.Prelude.{◌≡◌, ◌+◌, ◌-◌, ◌≤◌, true, false, max, ℕ, List, [], length, map, replicate, IfNone, IfOk, IfSome, OnErr, OnOk};
 ghost use Rattle.amo_run_log.specs.ByLine.{listed, IsIndex, IsListed, ListsIntent, NotesIn};
 ghost use Rattle.amo_run_log.specs.Clearance.{IsAttempt, IsBefore, IsClear, IsOpened, IsOther, IsStanding};
 ghost use Rattle.amo_run_log.specs.declared.journal.Attempt.{Attempt as AttemptView};
+ghost use Rattle.amo_run_log.specs.Entries.{entries_of_append};
+ghost use Rattle.amo_run_log.specs.ReadLogs.{NotesEntries};
 
+use crate::append::Append;
 use crate::clearance::{AttemptId, first_standing};
 use crate::entry::Entry;
 use crate::finding::Finding;
@@ -75,6 +78,32 @@ impl AttemptsByLine {
         list(&mut self.lines, worker, entry)?;
         let count = self.lines.len() as u64;
         note(count, &mut self.journals[(worker - 1) as usize], entry)
+    }
+
+    /// Notes the entries of an append of this worker, and returns whether they may follow those
+    /// that were noted. If they may not, the first of two may have been noted.
+    pub(crate) fn note_append(&mut self, worker: u64, append: Append) -> Result<bool, AllocError>
+        ensures noted { IfOk result (λ noted. NotesEntries (length self.old.lines.items) noted (map (λ journal. journal.items) self.old.journals.items) worker (entries_of_append append) (map (λ journal. journal.items) self.new.journals.items)) }
+        ensures lines { length self.new.lines.items ≡ length self.old.lines.items }
+    {
+        match append {
+            Append::One(entry) => self.note(worker, entry),
+            Append::Two(first, second) => {
+                if self.note(worker, first)? {
+                    self.note(worker, second)
+                } else {
+                    Ok(false)
+                }
+            }
+        }
+    }
+
+    /// Returns true if there is a journal of this worker.
+    pub(crate) fn has_journal(&self, worker: u64) -> bool
+        ensures yes { result ≡ true → (1 ≤ worker) × (worker ≤ length self.now.journals.items) }
+        ensures no { result ≡ false → (1 ≤ worker) × (worker ≤ length self.now.journals.items) → ⊥ }
+    {
+        1 <= worker && worker <= self.journals.len() as u64
     }
 
     /// Has the run know so many lines, if it knew fewer.

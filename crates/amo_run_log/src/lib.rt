@@ -14,6 +14,7 @@ mod numbers;
 mod old_answer;
 mod open;
 mod put;
+mod read_logs;
 mod reading;
 
 pub use append::Append;
@@ -29,3 +30,4 @@ pub use numbers::{three_of_bytes, two_of_bytes};
 pub use old_answer::with_time;
 pub use open::{open_lines, opens, reopens};
 pub use put::{append_entries, append_finding};
+pub use read_logs::ReadLogs;
