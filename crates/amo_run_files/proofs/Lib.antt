@@ -1,3 +1,4 @@
+pub mod Again
 pub mod Counts
 pub mod Cuts
 pub mod Differences

@@ -36,7 +36,7 @@ skipped t x o f none = ap (λ (s : Bool). cond s (Some x) o) f ∙ none
 
 -- a line by itself
 
-lacks_byte : (c : ℕ) (line : List ℕ) → has_byte c line ≡ false → Lacks c line
+pub lacks_byte : (c : ℕ) (line : List ℕ) → has_byte c line ≡ false → Lacks c line
 lacks_byte c [] h = tt
 lacks_byte c (b ∷ line) h = let parts = or_parts (b == c) (has_byte c line) h in (eqb-false b c parts.0, lacks_byte c line parts.1)
 

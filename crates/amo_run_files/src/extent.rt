@@ -1,5 +1,6 @@
 //! How much of a file was on the disk when a round began.
-ghost use Rattle.std.specs.Prelude.{◌≡◌, ◌++◌, ◌∷◌, [], ◌<◌, ◌==◌, length, position, IfOk, IfSome, OnOk, option_map};
+ghost use Rattle.std.specs.Prelude.{◌≡◌, ◌++◌, ◌∷◌, [], ◌<◌, ◌==◌, length, position, IfOk, IfSome, OnOk, option_map, codes, ℕ, List};
+ghost use Rattle.sha2.specs.Hashers.{Holds256};
 ghost use Rattle.amo_run_files.specs.Extents.{extent_said, text_of_extent, words_in, extent_in, digest_of, extent_of_jobs, is_front};
 ghost use Rattle.amo_run_files.specs.Counted.{counted, extent_of_count, count_in};
 
@@ -30,14 +31,20 @@ impl Extent {
     pub fn of_jobs(alloc: Global, bytes: &[u8]) -> Result<Extent, AllocError>
         ensures { IfOk result (λ extent. extent_said extent ≡ extent_of_jobs bytes.now) }
     {
+        Extent::with_digest(alloc, bytes.len() as u64, &jobs_digest(bytes))
+    }
+
+    /// Returns the extent of jobs with so many bytes and this digest.
+    pub(crate) fn with_digest(
+        alloc: Global,
+        len: u64,
+        digest: &[u8; 64],
+    ) -> Result<Extent, AllocError>
+        ensures { IfOk result (λ extent. extent_said extent ≡ record { name = codes "jobs"; len = len; digest = digest.now }) }
+    {
         let name = b"jobs".to_vec(alloc)?;
-        let digits = jobs_digest(bytes);
-        let digest = digits.to_vec(alloc)?;
-        Ok(Extent {
-            name,
-            len: bytes.len() as u64,
-            digest,
-        })
+        let digest = digest.to_vec(alloc)?;
+        Ok(Extent { name, len, digest })
     }
 
     /// Returns the extent of this file that says a count.
@@ -114,6 +121,13 @@ pub fn jobs_digest(bytes: &[u8]) -> [u8; 64]
 {
     let mut hasher = Sha256::new();
     hasher.update(bytes);
+    digits_of(hasher)
+}
+
+/// Returns the hex digits of the SHA-256 of what the hasher holds, in lower case.
+pub(crate) fn digits_of(hasher: Sha256) -> [u8; 64]
+    ensures { (m : List ℕ) → Holds256 hasher m → result ≡ digest_of m }
+{
     let digest = hasher.finalize();
     let mut digits = [0; 64];
     match hex::encode_to_slice(&digest[..], &mut digits) {

@@ -1,9 +1,10 @@
 //! The jobs that a run knows: the lines of a jobs' file.
-ghost use Rattle.std.specs.Prelude.{◌≡◌, ◌++◌, ◌<◌, ℕ, List, false, length, option_map, IfOk, IfErr, OnOk, All, AllPairs, ◌≢◌};
+ghost use Rattle.std.specs.Prelude.{◌≡◌, ◌++◌, ◌<◌, ℕ, List, false, length, option_map, IfOk, IfErr, OnOk, All, AllPairs, ◌≢◌, IsTrue};
 ghost use Rattle.amo_run_log.specs.Texts.{ended};
 ghost use Rattle.amo_run_files.specs.Jobs.{line_of, AreJobs};
 ghost use Rattle.amo_run_files.specs.Lines.{lines_in, remainder_in};
 ghost use Rattle.amo_run_files.specs.Refusals.{IsTaken, IsRefused};
+ghost use Rattle.amo_run_files.specs.Again.{is_all_of, has_no_line};
 
 use crate::fault::JobsFault;
 use crate::known::check;
@@ -57,6 +58,17 @@ impl Jobs {
         Ok(Jobs { bytes, ends })
     }
 
+    /// Returns true if a file with these bytes has just these lines. If `cut` is true, more may
+    /// follow its last line feed. No line is checked: the bytes are compared.
+    pub(crate) fn are_all_of(&self, bytes: &[u8], cut: bool) -> bool
+        ensures exact { result ≡ is_all_of (ended self.now) bytes.now cut }
+        ensures taken { IsTrue result → IsTaken bytes.now cut }
+        ensures lines { IsTrue result → lines_in bytes.now ≡ self.now }
+        ensures whole { IsTrue result → cut ≡ false → ended self.now ≡ bytes.now }
+    {
+        is_all_of(&self.bytes, bytes, cut)
+    }
+
     /// How many there are.
     pub fn count(&self) -> u64
         ensures count { result ≡ length self.now }
@@ -82,4 +94,22 @@ impl Jobs {
     {
         &self.bytes
     }
+}
+
+/// Returns true if a file is these lines with their ends, and nothing follows but what is cut off.
+fn is_all_of(lines: &[u8], file: &[u8], cut: bool) -> bool
+    ensures { result ≡ is_all_of lines.now file.now cut }
+{
+    if lines.len() > file.len() {
+        return false;
+    }
+    let (front, rest) = file.split_at(lines.len());
+    front == lines && has_no_line(rest, cut)
+}
+
+/// Returns true if nothing stands there. If it is cut off, nothing with an end may stand there.
+fn has_no_line(rest: &[u8], cut: bool) -> bool
+    ensures { result ≡ has_no_line rest.now cut }
+{
+    rest.is_empty() || (cut && !rest.contains(&b'\n'))
 }
