@@ -1,1 +1,2 @@
+mod Extents
 mod ReadUpTo

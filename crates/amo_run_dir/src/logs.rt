@@ -1,9 +1,10 @@
 //! To read the journals of a run: each by its checksums, and by what the last round's header
 //! counts.
-ghost use Rattle.std.specs.Prelude.{◌≡◌, ◌<◌, ◌≤◌, IfNone, IfSome, IfOk, IfErr};
+ghost use Rattle.std.specs.Prelude.{◌≡◌, ◌<◌, ◌≤◌, IfNone, IfSome, IfOk, IfErr, option_map};
 ghost use Rattle.amo_journal.specs.Appends.{IsLog};
 ghost use Rattle.amo_journal.specs.Following.{IsPlace};
 ghost use Rattle.amo_journal.specs.Logs.{checksums_from, checksums_of, records_of};
+ghost use Rattle.amo_run_dir.specs.Known.{extent_named};
 ghost use Rattle.amo_run_dir.specs.Logs.{IsKept, IsWhyLost, IsWhyUnread, Keeps};
 ghost use Rattle.amo_run_dir.specs.declared.logs.Unread.TheVariants.{Fewer, Other};
 
@@ -215,8 +216,15 @@ pub(crate) fn extent_of(
 }
 
 /// Returns the extent of the file of this name, if there is one.
-pub(crate) fn extent_in<'a>(extents: &'a [Extent], name: &[u8]) -> Option<&'a Extent> {
-    extents.iter().find(|extent| extent.name.as_slice() == name)
+pub(crate) fn extent_in<'a>(extents: &'a [Extent], name: &[u8]) -> Option<&'a Extent>
+    ensures { option_map (λ extent. extent.now) result ≡ extent_named name.now extents.now }
+{
+    for extent in extents {
+        if extent.name.as_slice() == name {
+            return Some(extent);
+        }
+    }
+    None
 }
 
 /// Reads a journal from its bytes, and compares it with what was counted. Returns the place of its

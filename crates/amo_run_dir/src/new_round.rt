@@ -1,7 +1,11 @@
 //! To begin a round, under its exclusive lock: nobody is at work.
-ghost use Rattle.std.specs.Prelude.{◌≡◌, ◌<◌, map, take, IfOk, OnOk};
+ghost use Rattle.std.specs.Prelude.{◌≡◌, ◌<◌, ◌∷◌, true, length, map, nat_lt, take, IfErr, IfOk, OnOk};
 ghost use Rattle.amo_givens.specs.declared.limits.TheConstants.{MAX_JOBS};
 ghost use Rattle.amo_run_log.specs.Open.{open_lines};
+ghost use Rattle.amo_run_log.specs.Texts.{ended};
+ghost use Rattle.amo_run_files.specs.Lines.{lines_in, BeginsWith};
+ghost use Rattle.amo_run_files.specs.Refusals.{IsTaken};
+ghost use Rattle.amo_run_dir.specs.Known.{IsWhyNotGrown};
 ghost use Rattle.amo_run_dir.specs.Following.{AreReadOn};
 ghost use Rattle.amo_run_dir.specs.Rounds.{IsNextRound, round_after};
 
@@ -13,11 +17,11 @@ use crate::layout::Item;
 use crate::logs::{Logs, extent_of, read_logs};
 use crate::round::record_of;
 use crate::settings::{ListSettings as Asked, Setting};
-use crate::state::{RawLogs, RunState, known};
+use crate::state::{RawLogs, RunState, known, known_again};
 use amo_givens::{MAX_JOBS, MAX_WORKERS};
 use amo_run_files::{
-    Extent, Jobs, JobsFault, RoundFile, RoundHeader, Why, first_difference, givens_of, head_of,
-    words_len,
+    Extent, HashedJobs, Jobs, JobsFault, RoundFile, RoundHeader, Why, first_difference, givens_of,
+    head_of, words_len,
 };
 use amo_run_log::open_lines;
 use amo_status::{Counts, RunLog, counts, standings};
@@ -59,16 +63,18 @@ pub fn begin(
     let log = books.log(&[]);
     let open = open_of(rt.alloc(), &log, books.jobs.count())?;
     if open.is_empty() {
-        return Ok(Some(over(rt.alloc(), &list, &books.jobs, &log)?));
+        return Ok(Some(over(rt.alloc(), list.len(), &books.jobs, &log)?));
     }
     let last = last.map(|file| file.header);
     let header = record_for(rt.alloc(), asked, worker, boot, last, open)?;
+    let of_jobs = Extent::of_jobs(rt.alloc(), books.jobs.bytes())?;
+    let extents = all_extents(rt.alloc(), of_jobs, extents)?;
     make(rt, setting, &books.jobs, more, header, extents)?;
     Ok(None)
 }
 
 /// Begins the next round as [`begin`] does, but reads answers and journals on from the last appends
-/// that this process has read.
+/// that this process has read. It neither checks nor hashes a line of `jobs` again.
 ///
 /// # Errors
 /// As [`begin`] and [`Followed::stay`]. `Missing` if the file of the last round is gone.
@@ -78,25 +84,31 @@ pub fn begin_next(
     asked: &Asked<'_>,
     worker: u64,
     boot: &[u8],
+    jobs: &mut HashedJobs,
     followed: &mut Followed,
 ) -> Result<Option<Counts>, Fault>
     // The answers and each of the 16 journals were read on.
-    ensures answers { OnOk result (followed.old.answers.reads < followed.new.answers.reads) }
-    ensures journals { OnOk result (AreReadOn followed.old.journals.items followed.new.journals.items) }
+    ensures answers { OnOk result (followed.old.files.answers.reads < followed.new.files.answers.reads) }
+    ensures journals { OnOk result (AreReadOn followed.old.files.journals.items followed.new.files.journals.items) }
 {
     let Some(last) = record_of(rt, setting)? else {
         return Err(Fault::Missing(Item::Record));
     };
-    let Lines { list, jobs, more } = Lines::read(rt, setting, asked, Some(&last))?;
-    followed.stay(rt, setting, &last, jobs.count())?;
+    known_again(rt, setting, &last, jobs)?;
+    let list = list_of(rt, asked)?;
+    let len = list.len();
+    let more = take_list(rt.alloc(), jobs, list)?;
+    let count = jobs.jobs().count();
+    followed.stay(rt, setting, &last, count)?;
     let extents = followed.extents(rt, setting)?;
     let log = followed.log()?;
-    let open = open_of(rt.alloc(), &log, jobs.count())?;
+    let open = open_of(rt.alloc(), &log, count)?;
     if open.is_empty() {
-        return Ok(Some(over(rt.alloc(), &list, &jobs, &log)?));
+        return Ok(Some(over(rt.alloc(), len, jobs.jobs(), &log)?));
     }
     let header = record_for(rt.alloc(), asked, worker, boot, Some(last.header), open)?;
-    make(rt, setting, &jobs, more, header, extents)?;
+    let extents = all_extents(rt.alloc(), jobs.extent(rt.alloc())?, extents)?;
+    make(rt, setting, jobs.jobs(), more, header, extents)?;
     Ok(None)
 }
 
@@ -129,9 +141,9 @@ fn extents_of(rt: HostRuntime, setting: &Setting<'_>, logs: &Logs) -> Result<Vec
     Ok(extents)
 }
 
-/// Returns how all lines stand, none of which is open.
-fn over(alloc: Global, list: &[u8], jobs: &Jobs, log: &RunLog<'_>) -> Result<Counts, Fault> {
-    whole(list, jobs.bytes(), jobs.count())?;
+/// Returns how all lines stand, none of which is open. The list has so many bytes.
+fn over(alloc: Global, len: usize, jobs: &Jobs, log: &RunLog<'_>) -> Result<Counts, Fault> {
+    whole(len, jobs)?;
     counted(alloc, log, jobs.count())
 }
 
@@ -159,10 +171,33 @@ pub fn grown(alloc: Global, known: &Jobs, list: &[u8], cut: bool) -> Result<Jobs
     }
 }
 
+/// Takes the list in place of the jobs that the run knows, once a round was begun. Returns true if
+/// it has more jobs than those. A last line without its end is left out: its writer may be at it.
+fn take_list(alloc: Global, jobs: &mut HashedJobs, list: Vec<u8>) -> Result<bool, Fault>
+    // The list begins with what the run knows, byte for byte, and no line of it is refused.
+    ensures front { IfOk result (λ _. BeginsWith (ended jobs.old) list.items) }
+    ensures taken { IfOk result (λ _. IsTaken list.items true) }
+    ensures lines { IfOk result (λ _. jobs.new ≡ lines_in list.items) }
+    ensures more { IfOk result (λ more. more ≡ nat_lt (length (ended jobs.old)) (length (ended jobs.new))) }
+    ensures refused { IfErr result (λ fault. IsWhyNotGrown fault (ended jobs.old) list.items) }
+{
+    let known = jobs.jobs().bytes();
+    if let Some(line) = first_difference(known, &list) {
+        return Err(Fault::Changed(line));
+    }
+    let len = known.len();
+    match jobs.read_again(alloc, list, true) {
+        Ok(()) => Ok(jobs.jobs().bytes().len() > len),
+        Err(JobsFault::Memory) => Err(Fault::Memory),
+        Err(JobsFault::Refused(line, why)) => Err(Fault::List(line, why)),
+    }
+}
+
 /// Where no line is open, a last line without its end is refused: nobody waits for it.
-fn whole(list: &[u8], taken: &[u8], count: u64) -> Result<(), Fault> {
-    if list.len() > taken.len() {
-        return Err(Fault::List((count as usize).saturating_add(1), Why::NoEnd));
+fn whole(len: usize, jobs: &Jobs) -> Result<(), Fault> {
+    if len > jobs.bytes().len() {
+        let line = (jobs.count() as usize).saturating_add(1);
+        return Err(Fault::List(line, Why::NoEnd));
     }
     Ok(())
 }
@@ -228,8 +263,8 @@ fn first_lines(alloc: Global, lines: &[u64]) -> Result<Vec<u64>, AllocError>
     }
 }
 
-/// Makes the files of a round. `more` has the jobs made too, and `logs` is how much of answers and
-/// journals is on the disk. The words are all 0, and never synced: after a power cut they are of
+/// Makes the files of a round. `more` has the jobs made too, and `extents` is how much of each file
+/// is on the disk then. The words are all 0, and never synced: after a power cut they are of
 /// another boot.
 fn make(
     rt: HostRuntime,
@@ -237,7 +272,7 @@ fn make(
     jobs: &Jobs,
     more: bool,
     header: RoundHeader,
-    logs: Vec<Extent>,
+    extents: Vec<Extent>,
 ) -> Result<(), Fault> {
     let Some(mut words) = head_of(rt.alloc(), &header)? else {
         return Err(Fault::Refused(Item::Boot));
@@ -249,7 +284,6 @@ fn make(
     if more {
         replaced(rt, setting, Item::Known, jobs.bytes(), true)?;
     }
-    let extents = all_extents(rt.alloc(), jobs, logs)?;
     let first = first_checksum(rt, setting, Item::Record)?;
     let text = RoundFile { header, extents }.print(rt.alloc(), &first)?;
     replaced(rt, setting, Item::Record, &text, true)?;
@@ -258,9 +292,11 @@ fn make(
 }
 
 /// Returns how much of the jobs is on the disk, and behind that these extents.
-fn all_extents(alloc: Global, jobs: &Jobs, logs: Vec<Extent>) -> Result<Vec<Extent>, Fault> {
+fn all_extents(alloc: Global, of_jobs: Extent, logs: Vec<Extent>) -> Result<Vec<Extent>, Fault>
+    ensures { IfOk result (λ extents. extents.items ≡ of_jobs ∷ logs.items) }
+{
     let mut extents = Vec::new(alloc);
-    extents.push(Extent::of_jobs(alloc, jobs.bytes())?)?;
+    extents.push(of_jobs)?;
     for extent in logs {
         extents.push(extent)?;
     }

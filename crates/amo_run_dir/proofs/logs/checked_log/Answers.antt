@@ -1,7 +1,7 @@
-use Rattle.std.proofs.Common.{◌≡◌, ℕ, List, length, sym, ◌∙◌, ap, subst, arith, Option}
+use Rattle.std.proofs.Common.{◌≡◌, ℕ, List, length, sym, ◌∙◌, ap, arith, Option}
 use Rattle.amo_journal.specs.Appends.{IsLog}
-use Rattle.amo_journal.specs.Logs.{checksums_from, checksums_of, records_of}
-use Rattle.amo_run_dir.specs.Logs.{IsKept, IsWhyLost, IsWhyUnread}
+use Rattle.amo_journal.specs.Logs.{checksums_from, checksums_of}
+use Rattle.amo_run_dir.specs.Logs.{IsWhyLost, IsWhyUnread}
 use Rattle.amo_run_dir.specs.declared.logs.Unread.{Unread}
 use Rattle.amo_run_dir.specs.declared.logs.Unread.TheVariants.{Memory, Damaged, Fewer, Other}
 use Rattle.amo_run_files.proofs.KeptCounts.{length-checksums_from}

@@ -1,4 +1,4 @@
-use Rattle.std.proofs.Common.{◌≡◌, take, sym, subst, arith, rules}
+use Rattle.std.proofs.Common.{◌≡◌, sym, subst, arith, rules}
 use Rattle.std.specs.Prelude.{IfOk}
 use Rattle.std.proofs.lemmas.List.{length-take-le, take_all}
 use Rattle.amo_givens.specs.declared.limits.TheConstants.{MAX_JOBS}
