@@ -4,17 +4,17 @@
 #![tactic(auto)]
 
 mod args;
+mod clock;
 mod command_line;
 mod commands;
 mod damage;
+mod host;
 mod print;
 mod remote;
 mod resolve;
 mod runner;
-mod session;
 mod snapshot;
 mod worker;
-mod worker_io;
 
 pub use amo_run_dir::{Disk, Door, Fault, Item, Later};
 pub use commands::serve;

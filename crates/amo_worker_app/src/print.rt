@@ -2,7 +2,7 @@
 ghost use Rattle.std.specs.Prelude.{◌≡◌, ◌≤◌, length, IfOk};
 
 use crate::args::Form;
-use crate::session::now;
+use crate::clock::now;
 use crate::snapshot::{Finals, Snapshot, look};
 use amo_run_dir::{Age, Fault, Item, Setting, written};
 use amo_run_files::Jobs;

@@ -1,6 +1,6 @@
 //! The life of a worker by lines: its partner, on standard input and output, has the words and the
 //! journal too.
-ghost use Rattle.std.specs.Prelude.{◌≡◌, None};
+ghost use Rattle.std.specs.Prelude.{◌≡◌};
 
 use crate::runner::{Runner, shown};
 use amo_driver::{Failed, LifeEnd, Stop, Try, work};
@@ -31,7 +31,9 @@ struct Streams {
 }
 
 impl Wire for Streams {
-    ghost done = { λ _. None };
+    ghost stands = { λ _ _. Unit {0} };
+
+    ghost has_said = { λ _ _. Unit {0} };
 
     fn ask(&mut self, asked: Try) -> Result<Option<Vec<u8>>, Failed> {
         let Ok(line) = text_of(self.rt.alloc(), asked) else {

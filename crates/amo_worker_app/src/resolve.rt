@@ -1,5 +1,5 @@
 //! To take what a person found out.
-use crate::session::now;
+use crate::clock::now;
 use crate::snapshot::{Finals, Snapshot, look_behind};
 use amo_fs::FileDevice;
 use amo_journal::{AppendError, DeviceError};

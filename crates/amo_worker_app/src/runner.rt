@@ -5,8 +5,8 @@ ghost use Rattle.amo_worker_app.specs.Notes.{over_way};
 ghost use Rattle.amo_run_dir.specs.declared.error.Fault.TheVariants.{Later as LaterFault, Left};
 ghost use Rattle.amo_run_dir.specs.declared.error.Later.TheVariants.{Over};
 
-use amo_driver::{Reply, Way};
-use amo_protocol::{over_reply_in, reply_in, whole_line};
+use amo_driver::Way;
+use amo_protocol::{over_reply_in, whole_line};
 use amo_run_dir::{Fault, Later};
 use std::alloc::AllocError;
 use std::io;
@@ -49,19 +49,17 @@ impl Runner {
         }
     }
 
-    /// Writes a line to the runner, waits for its reply, and parses it.
+    /// Writes a line to the runner, waits for its reply, and returns that without its line feed, as
+    /// [`Runner::exchange`] does. The reply is kept, to be shown if it is invalid.
     ///
     /// # Errors
     /// As [`Runner::exchange`].
-    pub(crate) fn ask(&mut self, line: &[u8]) -> Result<Reply, Fault> {
-        match self.exchange(line)? {
-            Some(said) => {
-                let reply = reply_in(&said);
-                self.said = said;
-                Ok(reply)
-            }
-            None => Ok(Reply::Closed),
+    pub(crate) fn ask(&mut self, line: &[u8]) -> Result<Option<Vec<u8>>, Fault> {
+        let heard = self.exchange(line)?;
+        if let Some(said) = &heard {
+            self.said = said.to_vec(self.rt.alloc())?;
         }
+        Ok(heard)
     }
 
     /// Returns the runner's last line as a text to print.

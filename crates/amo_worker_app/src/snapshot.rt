@@ -1,6 +1,6 @@
 //! To look at a run, as a person does: with what nobody is at any more held, so that it stays so
 //! while it is looked at.
-use crate::session::now;
+use crate::clock::now;
 use amo_fs::{FileDevice, is_at};
 use amo_givens::MAX_WORKERS;
 use amo_journal::{AppendError, DeviceError, texts_in};

@@ -1,19 +1,21 @@
 //! The life of a worker's process.
-ghost use Rattle.std.specs.Prelude.{◌≡◌};
+ghost use Rattle.std.specs.Prelude.{◌≡◌, IfOk, OnOk};
+ghost use Rattle.amo_worker_life.specs.declared.halt.Health.TheVariants.{Fine};
 
-use crate::runner::Runner;
-use crate::session::Session;
-use crate::worker_io::WorkerIo;
-use amo_driver::{Asked, Intent, LifeEnd, Stop, ask_pending};
+use crate::host::RunHost;
+use crate::runner::stays;
+use amo_driver::{Asked, Intent, LifeEnd, Stop};
 use amo_givens::Givens;
+use amo_host::LogFile;
 use amo_run_dir::{
     Fault, Followed, Item, JoinedRound, Later, ListSettings, LockedJournal, Setting, attempts_of,
-    begin, begin_next, check_number, enter, had, has_lines_of, join, known, lock_of, record_of,
-    take_number,
+    begin, begin_next, check_number, enter, had, has_lines_of, join, known, known_again, lock_of,
+    record_of, take_number,
 };
+use amo_run_files::{HashedJobs, RoundFile};
 use amo_run_log::pending;
 use amo_status::Counts;
-use std::alloc::Global;
+use amo_worker_life::{Halt, InRound, Worker, ask_past, report_over, take_part};
 use std::fs;
 use std::fs::File;
 use std::rt::HostRuntime;
@@ -41,19 +43,10 @@ pub(crate) fn work(
         lock: guard,
     } = take_number(rt, setting, worker)?;
     let last = record_of(rt, setting)?;
-    let mut session = Session {
-        rt,
-        worker,
-        journal: Some(journal),
-        jobs: known(rt, setting, last.as_ref())?,
-        serial: 1,
-        partner: Runner::new(rt),
-        is_dismissed: false,
-        has_running: false,
-        fault: None,
-    };
-    session.serial = ask_past(rt.alloc(), &mut session, &texts)?;
-    live(rt, setting, jobs, &guard, boot, session)
+    let known = HashedJobs::new(known(rt, setting, last.as_ref())?);
+    let host = RunHost::new(rt, worker, journal);
+    let process = ask_past_of(Worker::new(host, rt.alloc(), worker, known), &texts)?;
+    live(rt, setting, jobs, &guard, boot, process)
 }
 
 /// Works in one round after the other, each with its own boot id, handles, header and registers.
@@ -65,21 +58,23 @@ fn live(
     jobs: &ListSettings<'_>,
     guard: &File,
     boot: Vec<u8>,
-    session: Session,
-) -> Result<Counts, Fault> {
-    let worker = session.worker;
+    process: Worker<RunHost>,
+) -> Result<Counts, Fault>
+    requires { process.health ≡ Fine }
+{
+    let worker = process.number;
     let mut boot = boot;
-    let mut session = session;
+    let mut process = process;
     let mut followed = None;
     for _round in 0..u64::MAX {
-        if let Some(counts) = begun(rt, setting, jobs, worker, &boot, &mut followed)? {
+        if let Some(counts) = begun(rt, setting, jobs, &boot, &mut process, &mut followed)? {
             return Ok(counts);
         }
         let joined = join(rt, setting, worker, &boot)?;
-        let (stays, read) = work_in(rt, setting, joined, guard, session, followed)?;
-        session = stays;
+        let (stays, read) = work_in(rt, setting, joined, guard, process, followed)?;
+        process = stays;
         followed = Some(read);
-        session.stay()?;
+        stay(rt, &mut process)?;
         check_number(rt, setting, worker, guard)?;
         boot = boot_id(rt, setting)?;
     }
@@ -92,15 +87,18 @@ fn begun(
     rt: HostRuntime,
     setting: &Setting<'_>,
     jobs: &ListSettings<'_>,
-    worker: u64,
     boot: &[u8],
+    process: &mut Worker<RunHost>,
     followed: &mut Option<Followed>,
-) -> Result<Option<Counts>, Fault> {
+) -> Result<Option<Counts>, Fault>
+    ensures { process.new.health ≡ process.old.health }
+{
+    let worker = process.number;
     let Some(lock) = lock_of(rt, setting, Item::Round)? else {
         return Ok(None);
     };
     let begun = match followed {
-        Some(read) => begin_next(rt, setting, jobs, worker, boot, read),
+        Some(read) => begin_next(rt, setting, jobs, worker, boot, &mut process.jobs, read),
         None => begin(rt, setting, jobs, worker, boot),
     };
     drop(lock);
@@ -119,11 +117,18 @@ fn boot_id(rt: HostRuntime, setting: &Setting<'_>) -> Result<Vec<u8>, Fault> {
     Ok(bytes)
 }
 
-/// Asks what became of each pending intent of the worker's journal. Answers the serial number of
-/// the next intent.
-fn ask_past(alloc: Global, talk: &mut Session, texts: &[Vec<u8>]) -> Result<u64, Fault> {
-    let item = Item::Journal(talk.worker);
-    let attempts = attempts_of(alloc, item, talk.jobs.count(), texts)?;
+/// Asks what became of each pending attempt of the worker's journal.
+///
+/// # Errors
+/// `Left` or `Closed` by the runner's reply, and those of a call that failed.
+fn ask_past_of(process: Worker<RunHost>, texts: &[Vec<u8>]) -> Result<Worker<RunHost>, Fault>
+    requires { process.health ≡ Fine }
+    ensures { IfOk result (λ process. process.health ≡ Fine) }
+{
+    let mut process = process;
+    let alloc = process.alloc;
+    let item = Item::Journal(process.number);
+    let attempts = attempts_of(alloc, item, process.jobs.jobs().count(), texts)?;
     let mut intents = Vec::new(alloc);
     for (serial, line) in &pending(alloc, &attempts)? {
         intents.push(Intent {
@@ -131,11 +136,14 @@ fn ask_past(alloc: Global, talk: &mut Session, texts: &[Vec<u8>]) -> Result<u64,
             line: *line,
         })?;
     }
-    match ask_pending(&intents, talk) {
-        Ok(Asked::All) => Ok(attempts.len() as u64 + 1),
+    match ask_past(&mut process, &intents) {
+        Ok(Asked::All) => {
+            process.serial = attempts.len() as u64 + 1;
+            Ok(process)
+        }
         Ok(Asked::Dismissed) => Err(Fault::Left),
         Ok(Asked::Cut(_)) => Err(Fault::Closed),
-        Err(stop) => Err(fault_of(stop, talk)),
+        Err(stop) => Err(fault_of(stop, &mut process)),
     }
 }
 
@@ -149,80 +157,114 @@ fn work_in(
     setting: &Setting<'_>,
     joined: JoinedRound,
     guard: &File,
-    session: Session,
+    process: Worker<RunHost>,
     followed: Option<Followed>,
-) -> Result<(Session, Followed), Fault> {
+) -> Result<(Worker<RunHost>, Followed), Fault>
+    requires { process.health ≡ Fine }
+    ensures { IfOk result (λ stays. stays.0.health ≡ Fine) }
+{
     let JoinedRound {
         file,
         words,
         seat,
         lock,
     } = joined;
-    let mut talk = session;
-    if !has_lines_of(&talk.jobs, &file) {
-        talk.jobs = known(rt, setting, Some(&file))?;
+    let mut worker = process;
+    if !has_lines_of(&mut worker.jobs, &file)? {
+        known_again(rt, setting, &file, &mut worker.jobs)?;
     }
-    let count = talk.jobs.count();
+    let count = worker.jobs.jobs().count();
     let followed = match followed {
         Some(read) => {
             let mut read = read;
             read.stay(rt, setting, &file, count)?;
             read
         }
-        None => Followed::begin(rt, setting, &file, count, talk.worker, guard)?,
+        None => Followed::begin(rt, setting, &file, count, worker.number, guard)?,
     };
-    let mut outside = WorkerIo {
-        talk,
-        words,
-        record: file.header,
-        followed,
+    let Followed { files, logs } = followed;
+    worker.host.enter(words, files);
+    let RoundFile { header, .. } = file;
+    let sizes = header.givens;
+    let mut round = InRound {
+        worker,
+        lines: header.lines,
+        logs,
     };
-    take_part(rt.alloc(), seat, &mut outside)?;
-    drop(lock);
-    let WorkerIo { talk, followed, .. } = outside;
-    Ok((talk, followed))
-}
-
-/// Takes part in a round by this number until that is over, and appends what the worker owes then.
-///
-/// # Errors
-/// Each other end of the worker.
-fn take_part(alloc: Global, seat: u64, outside: &mut WorkerIo) -> Result<(), Fault> {
-    let sizes = outside.record.givens;
     let Ok(givens) = Givens::try_new(sizes.jobs, sizes.workers, sizes.beta) else {
         return Err(Fault::Refused(Item::Record));
     };
+    take_part_of(givens, seat, &mut round)?;
+    drop(lock);
+    let InRound { worker, logs, .. } = round;
+    let mut worker = worker;
+    match worker.host.leave() {
+        Some(files) => Ok((worker, Followed { files, logs })),
+        None => Err(Fault::NoWay),
+    }
+}
+
+/// Takes part in a round by this number until that is over.
+///
+/// # Errors
+/// Each other end of the worker.
+fn take_part_of(givens: Givens, seat: u64, round: &mut InRound<RunHost>) -> Result<(), Fault>
+    requires { round.old.worker.health ≡ Fine }
+    ensures { OnOk result (round.new.worker.health ≡ Fine) }
+{
     if seat < 1 || seat > givens.workers as u64 {
         return Err(Fault::Later(Later::NoSeat));
     }
-    let serial = outside.talk.serial;
-    let end = amo_driver::work(alloc, givens, seat as u32, serial, outside);
-    if end.is_ok() {
-        outside.talk.settle_up()?;
-    }
-    match end {
+    match take_part(givens, seat as u32, round) {
         // Who was told to leave after its last job had nothing to leave.
-        Ok(LifeEnd::Over) if !outside.talk.is_dismissed => Ok(()),
+        Ok(LifeEnd::Over) if !round.worker.is_dismissed => Ok(()),
         Ok(LifeEnd::Over | LifeEnd::Left) => Err(Fault::Left),
         Ok(LifeEnd::Cut(_)) => Err(Fault::Closed),
-        Err(stop) => {
-            let fault = fault_of(stop, &mut outside.talk);
-            let _ = outside.talk.pay();
-            Err(fault)
-        }
+        Err(stop) => Err(fault_of(stop, &mut round.worker)),
+    }
+}
+
+/// Reports that this worker's part of the round is over, and waits until the runner has it go on. A
+/// worker of which an attempt still runs doesn't stay: its next process asks for that.
+///
+/// # Errors
+/// `Later` if the worker doesn't stay, or if the runner has ended. `Left` if the runner's reply is
+/// `leave`, `NoAnswer` if it is invalid.
+fn stay(rt: HostRuntime, process: &mut Worker<RunHost>) -> Result<(), Fault>
+    ensures { process.new.health ≡ process.old.health }
+{
+    if process.has_running {
+        return Err(Fault::Later(Later::Over));
+    }
+    match report_over(process) {
+        Ok(said) => stays(rt, said),
+        Err(_) => Err(process.host.fault.take().unwrap_or(Fault::NoWay)),
     }
 }
 
 /// What a stop comes to.
-fn fault_of(stop: Stop, talk: &mut Session) -> Fault {
+fn fault_of(stop: Stop, process: &mut Worker<RunHost>) -> Fault {
     match stop {
-        Stop::Failed => talk.fault.take().unwrap_or(Fault::NoWay),
+        Stop::Failed => fault_behind(process),
         Stop::NoMemory => Fault::Memory,
         Stop::NoSuchNumber(word, value) => Fault::NoSuchNumber(word, value),
-        Stop::NoAnswer(_) | Stop::OtherAnswer(..) => match talk.partner.shown() {
+        Stop::NoAnswer(_) | Stop::OtherAnswer(..) => match process.host.runner.shown() {
             Ok(text) => Fault::NoAnswer(text),
             Err(_) => Fault::Memory,
         },
         Stop::NoSerial | Stop::TooLong => Fault::NoWay,
+    }
+}
+
+/// Returns why a call of this process has failed.
+fn fault_behind(process: &mut Worker<RunHost>) -> Fault {
+    match process.halt {
+        Some(Halt::Memory) => Fault::Memory,
+        Some(Halt::NoLine) => Fault::NoWay,
+        Some(Halt::Unread(LogFile::Answers)) => Fault::Later(Later::Changed(Item::Answers)),
+        Some(Halt::Unread(LogFile::Journal(worker))) => {
+            Fault::Later(Later::Changed(Item::Journal(worker)))
+        }
+        Some(Halt::Host) | None => process.host.fault.take().unwrap_or(Fault::NoWay),
     }
 }
