@@ -1,6 +1,7 @@
 """The calls of the system that runners and crews make, each in a few lines and without a rule.
 
-`runner` and `crew` decide nothing here. They need Linux 5.3 (pidfd) and Python 3.9.
+`runner` and `crew` decide nothing here. They need Linux 5.3 (pidfd) and Python 3.9. What each line
+of a list costs is in `calls.c`.
 """
 
 from __future__ import annotations
@@ -8,13 +9,18 @@ from __future__ import annotations
 import ctypes
 import fcntl
 import os
+import select
 import signal
 from contextlib import suppress
-from typing import Dict, List, Mapping, NamedTuple, Optional, Sequence, Tuple
+from typing import Dict, FrozenSet, List, Mapping, NamedTuple, Optional, Sequence, Tuple
+
+from amo_jobs.library import library
 
 SET_CHILD_SUBREAPER = 36  # of prctl
 ABOVE = 100  # no process gets one of its files under so high a number
 IGNORED_BY_PYTHON = (signal.SIGPIPE, signal.SIGXFSZ)  # and handed on by exec, if nobody resets them
+ROOM = 64  # children that are reaped by one call
+LONGEST = 1e6  # seconds of one wait
 
 
 class Process(NamedTuple):
@@ -23,10 +29,15 @@ class Process(NamedTuple):
     start: int  # in ticks since the machine was started
 
 
-class Ended(NamedTuple):
-    """A child that has ended and was reaped. A status below 0 is the negative of a signal."""
-    number: int
-    status: int
+ENDED = (ctypes.c_int * (2 * ROOM + 2))()  # what amo_reap has found
+CHILDREN = (ctypes.c_int * 4096)()  # what amo_children has found
+
+
+def checked(result: int) -> int:
+    """Returns what a call of `calls.c` has returned. Raises OSError if that is an error."""
+    if result < 0:
+        raise OSError(-result, os.strerror(-result))
+    return result
 
 
 def become_subreaper() -> None:
@@ -50,13 +61,9 @@ def open_children() -> int:
 def read_children(file: int) -> List[int]:
     """Returns the numbers of the children in such a list, those that nobody has reaped too.
 
-    The list is exact for this process's own children, since nobody else reaps them. Of another
-    process it may lack a child while others end.
+    The list is exact for this process's own children, since nobody else reaps them. Raises OSError.
     """
-    data = b""
-    while part := os.pread(file, 1 << 16, len(data)):
-        data += part
-    return [int(it) for it in data.split()]
+    return CHILDREN[:checked(library().amo_children(file, CHILDREN, len(CHILDREN)))]
 
 
 def children_of(number: int) -> List[int]:
@@ -118,16 +125,16 @@ def send(process: Process, number: int) -> None:
             os.close(handle)
 
 
-def reap() -> Tuple[List[Ended], bool]:
-    """Reaps the children that have ended. Returns them, and whether any child is left."""
-    found: List[Ended] = []
-    with suppress(ChildProcessError):
-        while True:
-            number, status = os.waitpid(-1, os.WNOHANG)
-            if number == 0:
-                return found, True
-            found.append(Ended(number, os.waitstatus_to_exitcode(status)))
-    return found, False
+def reap() -> Tuple[Dict[int, int], bool]:
+    """Reaps the children that have ended. Returns their statuses by their numbers, and whether any
+    child is left. A status below 0 is the negative of a signal."""
+    found: Dict[int, int] = {}
+    count = ROOM
+    while count == ROOM:
+        count = library().amo_reap(ENDED, ROOM)
+        for k in range(0, 2 * count, 2):
+            found[ENDED[k]] = os.waitstatus_to_exitcode(ENDED[k + 1])
+    return found, ENDED[2 * count] == 0
 
 
 def spawn(words: List[bytes], surroundings: Mapping[bytes, bytes], files: Dict[int, int]) -> int:
@@ -160,12 +167,20 @@ def lifted(file: int) -> int:
     return fcntl.fcntl(file, fcntl.F_DUPFD_CLOEXEC, ABOVE)
 
 
+class PolledFile(ctypes.Structure):
+    """What poll(2) calls `struct pollfd`."""
+
+    _fields_ = [("file", ctypes.c_int), ("events", ctypes.c_short), ("ready", ctypes.c_short)]
+
+
 class Bell:
-    """A pipe that wakes a process which polls, whenever a child has ended or a signal has come."""
+    """A pipe that wakes a process which waits, whenever a child has ended or a signal has come."""
 
     def __init__(self, numbers: Sequence[int]):
         self.wake, self.ring = os.pipe2(os.O_NONBLOCK | os.O_CLOEXEC)
         self.signals: List[int] = []
+        self.waits_for: Optional[Tuple[List[int], List[int]]] = None
+        self.call = library().amo_wait
         signal.set_wakeup_fd(self.ring, warn_on_full_buffer=False)
         signal.signal(signal.SIGCHLD, lambda *_: None)
         for number in numbers:
@@ -173,10 +188,24 @@ class Bell:
             if number == signal.SIGTERM or signal.getsignal(number) != signal.SIG_IGN:
                 signal.signal(number, lambda number, _: self.signals.append(number))
 
-    def quiet(self) -> None:
-        """Takes the bytes by which the pipe woke this process."""
-        with suppress(BlockingIOError):
-            os.read(self.wake, 1 << 16)
+    def wait(self, reads: List[int], writes: List[int], seconds: float) -> FrozenSet[int]:
+        """Waits until it rings, one of these files is ready, or so many seconds are over. Returns
+        the files that are ready; `wake` is one of them if it has rung. Raises OSError."""
+        if self.waits_for != (reads, writes):
+            self.set_files(reads, writes)
+        time = int(min(max(seconds, 0), LONGEST) * 1000) + 1
+        bits = self.call(self.polled, self.count, time)
+        if bits not in self.ready:
+            checked(bits)
+            self.ready[bits] = frozenset(it for k, it in enumerate(self.files) if bits >> k & 1)
+        return self.ready[bits]
+
+    def set_files(self, reads: List[int], writes: List[int]) -> None:
+        """Takes the files that are to be polled."""
+        self.waits_for, self.files = (list(reads), list(writes)), [self.wake, *reads, *writes]
+        events = [select.POLLIN] * (1 + len(reads)) + [select.POLLOUT] * len(writes)
+        self.polled = (PolledFile * len(self.files))(*zip(self.files, events))
+        self.count, self.ready = len(self.files), {}  # type: int, Dict[int, FrozenSet[int]]
 
     def taken(self) -> List[int]:
         """Returns the signals that came since the last call, in their order."""

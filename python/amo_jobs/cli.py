@@ -47,6 +47,7 @@ from typing import (
 
 from amo_jobs import crew
 from amo_jobs.forget import Forgetting
+from amo_jobs.library import library
 from amo_jobs.mark import FIRST_VERSION, ID
 from amo_jobs.messages import End, Screen, give_up_output, reason, visible
 from amo_jobs.run_folder import check_list, enter, joined, note_command
@@ -64,6 +65,7 @@ def work(settings: Settings, program: Program) -> int:
     """Performs the commands crew and work. The door is asked before any lock is taken. For a runner
     of a crew its supervisor has done all that."""
     keep_from_commands()
+    library()  # so that nothing is begun if it can't be built
     if settings.caller:
         return runner(settings, program)
     check_list(settings)

@@ -8,10 +8,9 @@ from __future__ import annotations
 
 import os
 import random
-import select
 import sys
-from time import monotonic
-from typing import Any, Callable, Dict, List, Optional, Set
+from time import monotonic, sleep
+from typing import Any, Callable, Collection, Dict, List, Optional
 
 from amo_jobs import calls, crew_rules, reports
 from amo_jobs.crew_rules import (
@@ -30,7 +29,8 @@ from amo_jobs.worker import HERE, Program
 
 # Seconds until a lock is tried or an order is sent again, and until a lock is after some seconds.
 SOON, LATER = 0.05, 0.5
-LOCK, REPORTS, ORDERS = 3, 4, 5  # a runner's files
+TOGETHER = 0.005  # seconds; reports that come meanwhile wake the supervisor once
+LOCK, REPORTS, ORDERS, PART = 3, 4, 5, 1 << 16  # a runner's files, and bytes of one read
 
 
 def state_of(settings: Settings, numbers: List[int]) -> State:
@@ -103,11 +103,12 @@ class Post:
 
     def read(self) -> List[reports.Report]:
         """Returns the reports that there are. Those of a pipe that is at its end are all."""
-        data = b""
+        data, size = b"", PART
         try:
-            while part := os.read(self.files[0], 1 << 16):
-                data += part
-            self.is_open = False
+            while size == PART:
+                part = os.read(self.files[0], PART)
+                data, size = data + part, len(part)
+            self.is_open = size > 0
         except OSError:
             pass
         *lines, self.rest = (self.rest + data).split(b"\n")
@@ -180,31 +181,31 @@ class Crew:
         self.progress.show()
         ready = self.poll()
         if self.bell.wake in ready:
-            self.bell.quiet()
             for number in self.bell.taken():
                 self.feed(Signalled(number))
         for worker, post in list(self.posts.items()):
-            post.send()
+            if post.unsent:
+                post.send()
             if post.files[0] in ready:
                 self.take_reports(worker, post)
         self.take_ended(self.bell.wake in ready)
+        if ready:
+            sleep(TOGETHER)
         for worker, due in list(self.pauses.items()):
             if due <= monotonic():
                 del self.pauses[worker]
                 self.feed(PauseOver(worker))
 
-    def poll(self) -> Set[int]:
+    def poll(self) -> Collection[int]:
         """Waits for reports, signals, ends of children, and times."""
         if self.is_over:
-            return set()
-        poll = select.poll()
-        for file in [self.bell.wake, *(it.files[0] for it in self.posts.values() if it.is_open)]:
-            poll.register(file, select.POLLIN)
+            return ()
         dues = [self.progress.due, *self.pauses.values()]
         dues += [self.try_at] if self.untaken() else []
         dues += [self.look_at] if self.state.has_orphans else []
         dues += [monotonic() + SOON for it in self.posts.values() if it.unsent]
-        return {file for file, _ in poll.poll(max(min(dues) - monotonic(), 0) * 1000 + 1)}
+        reads = [it.files[0] for it in self.posts.values() if it.is_open]
+        return self.bell.wait(reads, [], min(dues) - monotonic())
 
     def untaken(self) -> List[int]:
         """Returns the numbers whose lock another runner has."""
@@ -234,13 +235,13 @@ class Crew:
         """Reaps the children that have ended. What a runner has reported comes before its end."""
         if not has_rung and (not self.state.has_orphans or monotonic() < self.look_at):
             return
-        for ended in calls.reap()[0]:
-            for worker, post in list(self.posts.items()):
-                if post.process == ended.number:
-                    self.take_reports(worker, post)
-                    del self.posts[worker]
-                    post.close()
-                    self.feed(RunnerEnded(worker, ended.status))
+        ended, _ = calls.reap()
+        for worker, post in list(self.posts.items()):
+            if post.process in ended:
+                self.take_reports(worker, post)
+                del self.posts[worker]
+                post.close()
+                self.feed(RunnerEnded(worker, ended[post.process]))
         self.look_at = monotonic() + LATER
         self.feed(self.orphans())
 

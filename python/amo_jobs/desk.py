@@ -5,7 +5,7 @@ from __future__ import annotations
 
 import os
 from contextlib import suppress
-from typing import List, Optional, Tuple
+from typing import FrozenSet, List, Optional, Tuple
 
 from amo_jobs import crew_rules, reports
 from amo_jobs.locks import close_all
@@ -29,9 +29,9 @@ class Desk:
     def __init__(self) -> None:
         self.events: List[Event] = []
 
-    def due(self) -> Optional[float]:
-        """Returns when to show how far the run is; None if it isn't shown here."""
-        return None
+    def due(self) -> List[float]:
+        """Returns when to show how far the run is, if it is shown here."""
+        return []
 
     def show(self) -> None:
         """Shows how far the run is, once that is due."""
@@ -40,11 +40,8 @@ class Desk:
         """Returns what is to be polled: to be read, and to be written."""
         return [], []
 
-    def read(self) -> None:
-        """Takes the orders that there are."""
-
-    def write(self) -> None:
-        """Sends what could not be sent before."""
+    def exchange(self, ready: FrozenSet[int]) -> None:
+        """Takes the orders that there are, and sends what could not be sent before."""
 
     def report(self, report: Report) -> None:
         """Takes a report. Never blocks."""
@@ -64,8 +61,8 @@ class OwnDesk(Desk):
         self.worker, self.state, self.progress = worker, state, progress
         self.status: Optional[int] = None
 
-    def due(self) -> Optional[float]:
-        return self.progress.due
+    def due(self) -> List[float]:
+        return [self.progress.due]
 
     def show(self) -> None:
         self.progress.show()
@@ -101,6 +98,13 @@ class SupervisedDesk(Desk):
     def files(self) -> Tuple[List[int], List[int]]:
         return self.orders, self.out if self.unsent else []
 
+    def exchange(self, ready: FrozenSet[int]) -> None:
+        if self.orders and self.orders[0] in ready:
+            self.read()
+        if self.out and self.out[0] in ready:
+            self.send()
+            self.events += [] if self.unsent else [Plain.SENT]
+
     def read(self) -> None:
         """Takes the orders that there are. At the end of the pipe the supervisor is gone."""
         part = b""
@@ -128,10 +132,6 @@ class SupervisedDesk(Desk):
             self.send()
             is_held = bool(self.unsent)
             self.events += [Plain.HELD if is_held else Plain.SENT] if is_held != was_held else []
-
-    def write(self) -> None:
-        self.send()
-        self.events += [] if self.unsent else [Plain.SENT]
 
     def send(self) -> None:
         """Sends as much as the pipe takes. If it can't be written, the supervisor is gone."""

@@ -2,12 +2,15 @@
 
 from __future__ import annotations
 
-import fcntl
 import os
+import sys
 import time
-from contextlib import suppress
 from typing import List, Optional
 
+from amo_jobs.library import library
+
+NOT_GOT = -4096  # of calls.c
+ENCODING = sys.getfilesystemencoding(), sys.getfilesystemencodeerrors()
 PATIENCE = 5.0  # seconds for which a lock is tried
 
 
@@ -15,24 +18,27 @@ def close_all(files: List[int]) -> None:
     """Closes these descriptors and empties the list. The kernel closes a descriptor even if
     close(2) reports an error, so errors are ignored."""
     while files:
-        with suppress(OSError):
+        try:
             os.close(files.pop())
+        except OSError:
+            pass
 
 
 def locked(path: str, makes: bool) -> Optional[int]:
     """Takes the exclusive lock of a file, and returns its handle; None if another process has the
     lock, or if the name has gone to another file. Nothing is synced: a lock doesn't outlive the
     machine, so its file needn't either. If `makes` is true, a missing file is made."""
-    file = os.open(path, os.O_RDONLY | (os.O_CREAT if makes else 0), 0o600)
-    got = None
-    try:
-        with suppress(BlockingIOError, FileNotFoundError):
-            fcntl.flock(file, fcntl.LOCK_EX | fcntl.LOCK_NB)
-            if os.path.samestat(os.stat(path), os.fstat(file)):
-                got = file
-    finally:
-        close_all([file] if got is None else [])
-    return got
+    got: int = library().amo_lock(path.encode(*ENCODING), makes)
+    if got >= 0:
+        return got
+    if got != NOT_GOT:
+        raise OSError(-got, os.strerror(-got), path)
+    return None
+
+
+def is_free(path: str) -> bool:
+    """Returns whether nobody has the lock of a command, and removes its file then (`calls.c`)."""
+    return bool(library().amo_is_free(path.encode(*ENCODING)))
 
 
 def locked_soon(path: str, makes: bool = False, end: Optional[float] = None) -> Optional[int]:

@@ -27,13 +27,10 @@ class Family:
         """Takes the names of programs that a command may leave behind. Raises OSError."""
         self.may_leave, self.file = frozenset(may_leave), calls.open_children()
 
-    def close(self) -> None:
-        """Gives the list of children up."""
-        os.close(self.file)
-
     def others(self, known: Collection[int]) -> List[int]:
         """Returns the children, the dead ones too, without these numbers. Raises OSError."""
-        return [it for it in calls.read_children(self.file) if it not in known]
+        found = calls.read_children(self.file)
+        return [] if found == known else [it for it in found if it not in known]
 
     def snapshot(self, known: Collection[int]) -> FrozenSet[Process]:
         """Returns the children, without these numbers, so that later ones can be told from them.
@@ -46,6 +43,8 @@ class Family:
         a command may leave behind and all below those. `own` is the command itself. If `among` is
         given, it has the children that count. Raises OSError."""
         numbers = self.others(known)
+        if not numbers:
+            return []
         roots = [it for it in named_children(numbers) if it not in before]
         roots = [it for it in roots if among is None or it in among]
         return below(roots, lambda it: it.number != own and self.is_named(it))

@@ -9,21 +9,22 @@ from __future__ import annotations
 import errno
 import os
 import random
-import select
 import signal
 from contextlib import suppress
+from math import inf
 from time import monotonic, time
-from typing import Any, Callable, Dict, List, Optional, Set, Tuple
+from typing import Any, Callable, Dict, FrozenSet, List, Optional, Tuple
 
 from amo_jobs import calls, reports, runner_rules
-from amo_jobs.command import Command, Commands, is_free, NotStarted
+from amo_jobs.command import Command, Commands, NotStarted
 from amo_jobs.desk import Desk
+from amo_jobs.locks import is_free
 from amo_jobs.messages import reason
 from amo_jobs.processes import described, Family, Signals
 from amo_jobs.reports import Report
 from amo_jobs.runner_events import (
-    Action, Answer, Begin, CommandEnded, Elapsed, End, Event, GRACE, LINGER, Look, Looked, MOMENT,
-    PAUSE, Plain, Rest, Send, StartFailed, StartWorker, Tell, TIMEOUT, Wait, WorkerEnded
+    Action, Answer, Begin, CommandEnded, Elapsed, End, Event, Look, Looked, PAUSE, Plain, Rest,
+    Send, StartFailed, StartWorker, Tell, Wait, WorkerEnded
 )
 from amo_jobs.runner_state import Options, State
 from amo_jobs.settings import Settings
@@ -37,12 +38,6 @@ PACE = 1.0  # seconds between two notes of the pace
 MOST_TAKEN = 10  # messages that a runner hands on
 
 
-def options_of(settings: Settings) -> Options:
-    """Returns what the operator has asked for, of all commands."""
-    return Options(settings.timeout, settings.grace, settings.linger,
-                   frozenset(settings.untouched))
-
-
 class Runner:
     """The runner of one worker, whose number it has."""
 
@@ -54,14 +49,16 @@ class Runner:
         calls.become_subreaper()
         calls.sign(f"{settings.run}/runner.{worker}")
         self.family = Family(settings.may_leave)
-        self.commands = Commands(settings, worker, self.family)
         self.signals = Signals(lambda text: self.desk.report(Report(reports.SAYS, text=text)))
         self.bell = calls.Bell(SIGNALS)
-        self.state = State(worker, options_of(settings))
+        self.commands = Commands(settings, worker, self.family)  # after the signals are handled
+        self.state = State(worker, Options(settings.timeout, settings.grace, settings.linger,
+                                           frozenset(settings.untouched)))
         self.process: Optional[WorkerProcess] = None
         self.attempts: Dict[int, Command] = {}  # those of which something may be left
         self.timers: Dict[Tuple[str, int], float] = {}
         self.look_at = 0.0  # when to look again what is left
+        self.due = inf  # when the first time is over
         self.taken, self.ends, self.begun, self.paced = 0, 0, time(), 0.0
         self.status: Optional[int] = None
 
@@ -70,7 +67,7 @@ class Runner:
         self.act(runner_rules.begin(self.state))
         while self.status is None:
             self.turn()
-        self.commands.close()
+        self.commands.starter.remove()
         self.desk.close()
         return self.status
 
@@ -78,36 +75,34 @@ class Runner:
         """Waits until something has happened, and takes it."""
         while self.desk.events:
             self.feed(self.desk.events.pop(0))
+        if self.status is not None:
+            return
         self.desk.show()
-        ready = self.poll()
-        if self.bell.wake in ready:
-            self.bell.quiet()
+        ready, process = self.wait_for(), self.process
+        has_rung = self.bell.wake in ready
+        if has_rung:
             for number in self.bell.taken():
                 self.desk.signalled(number)
-        self.take_ended()
-        reads, writes = self.desk.files()
-        if set(reads) & ready:
-            self.desk.read()
-        if set(writes) & ready:
-            self.desk.write()
-        self.take_left(self.bell.wake in ready)
-        self.take_worker(ready)
-        self.take_times()
+        if has_rung or not ready:
+            self.take_ended()
+        self.desk.exchange(ready)
+        if self.attempts:
+            self.take_left(has_rung)
+        if process and (process.status is not None or not ready.isdisjoint(process.files)):
+            self.take_worker(process)
+        if monotonic() >= self.due:
+            self.take_times()
 
-    def poll(self) -> Set[int]:
+    def wait_for(self) -> FrozenSet[int]:
         """Waits for the files and times, and returns the files that are ready."""
-        if self.status is not None:
-            return set()
         reads, writes = self.desk.files()
-        poll = select.poll()
-        for file in [self.bell.wake, *reads, *(self.process.files() if self.process else [])]:
-            poll.register(file, select.POLLIN)
-        for file in writes:
-            poll.register(file, select.POLLOUT)
-        dues = [*self.timers.values(), *([self.look_at] if self.waits_for() else [])]
-        dues += [it for it in [self.desk.due()] if it is not None]
-        left = max(min(dues) - monotonic(), 0) * 1000 + 1 if dues else None
-        return {file for file, _ in poll.poll(left)}
+        if self.process:
+            reads = reads + self.process.files
+        dues = [*self.timers.values(), *self.desk.due()]
+        if self.attempts and self.waits_for():
+            dues.append(self.look_at)
+        self.due = min(dues, default=inf)
+        return self.bell.wait(reads, writes, self.due - monotonic())
 
     def waits_for(self) -> List[int]:
         """Returns the attempts whose commands have ended, and of which something is left."""
@@ -126,11 +121,11 @@ class Runner:
     def take_ended(self) -> None:
         """Reaps the children that have ended, and takes the end of the command."""
         ended, has_more = calls.reap()
-        found: Dict[int, Optional[int]] = {it.number: it.status for it in ended}
+        found: Dict[int, Optional[int]] = dict(ended)
         current = self.attempts.get(self.state.current or 0)
         if not has_more:
             self.add_unreported(found, current)
-        if self.process and self.process.status is None and self.process.process in found:
+        if self.process and self.process.process in found:
             status = found[self.process.process]
             self.process.status = -1 if status is None else status
         if current and current.process in found:
@@ -156,16 +151,9 @@ class Runner:
         is_soon = self.state.current is not None
         self.look_at = monotonic() + (SOON if is_soon else LATER)
 
-    def take_worker(self, ready: Set[int]) -> None:
+    def take_worker(self, process: WorkerProcess) -> None:
         """Takes what the worker says, and its end. Once it is dead no line is carried out."""
-        process = self.process
-        if process is None:
-            return
-        if set(process.errors) & ready:
-            process.read_errors()
-        if set(process.output) & ready or process.status is not None:
-            process.read()
-            self.take_ended()
+        process.read()
         while process.lines and (self.state.asks is None or process.status is not None):
             self.feed(said_by(process.lines.pop(0), process.status is None))
         if process.has_ended():
@@ -222,7 +210,7 @@ class Runner:
             del self.attempts[action.serial]
             self.feed(StartFailed(str(why)))
         else:
-            for it in self.attempts.values():
+            for it in self.attempts.values() if len(self.attempts) > 1 else ():
                 it.until = command.before if it.until is None and it is not command else it.until
             self.feed(Plain.STARTED)
 
@@ -236,8 +224,7 @@ class Runner:
             rest = Rest.NOTHING if is_free(self.commands.lock_path(serial)) else Rest.SEEN
         if rest is Rest.NOTHING and command:
             del self.attempts[serial]
-            for timer in (MOMENT, TIMEOUT, GRACE, LINGER):
-                self.timers.pop((timer, serial), None)
+            self.timers = {it: due for it, due in self.timers.items() if it[1] != serial}
             self.note_pace()
         self.feed(Looked(serial, rest))
 

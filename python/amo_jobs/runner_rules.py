@@ -34,8 +34,9 @@ def begin(state: State) -> Actions:
 
 def take(state: State, event: Event) -> Actions:
     """Takes an event, and returns what the runner does about it."""
-    kind = event if isinstance(event, Plain) else type(event)
-    return [] if state.is_over else HANDLERS[kind](state, event)
+    if state.is_over:
+        return []
+    return (HANDLERS.get(type(event)) or HANDLERS[event])(state, event)
 
 
 def start_worker(state: State) -> Actions:

@@ -4,6 +4,7 @@ from __future__ import annotations
 
 import os
 import re
+from contextlib import suppress
 from typing import Callable, Dict, List, Optional
 
 from amo_jobs import calls
@@ -44,18 +45,27 @@ class WorkerProcess:
             close_all(files)
             raise
         self.input, self.output, self.errors = [files[1]], [files[2]], [files[4]]
+        self.files = self.output + self.errors  # what is to be polled
         close_all([files[0], files[3], files[5]])
 
-    def files(self) -> List[int]:
-        """Returns what is to be polled: output and errors, as far as they aren't at their ends."""
-        return self.output + self.errors
-
     def read(self) -> None:
-        """Takes the whole lines that there are. A line without its end counts for nothing."""
+        """Takes the whole lines and the messages that there are, and then the end of the worker. A
+        line without its end counts for nothing."""
         part = read_part(self.output)
         if part:
             *lines, self.rest = (self.rest + part).split(b"\n")
             self.lines += lines
+        else:
+            self.read_errors()
+            self.files = self.output + self.errors
+        self.check()
+
+    def check(self) -> None:
+        """Takes its end, if it has ended."""
+        if self.status is None:
+            with suppress(ChildProcessError):
+                number, status = os.waitpid(self.process, os.WNOHANG)
+                self.status = os.waitstatus_to_exitcode(status) if number else None
 
     def read_errors(self) -> bool:
         """Takes the messages that there are, and returns whether there may be more. A full pipe

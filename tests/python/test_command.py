@@ -14,8 +14,9 @@ from unittest import mock
 
 import package  # noqa: F401
 
-from amo_jobs import calls, command
-from amo_jobs.command import Command, Commands, is_free, NotStarted
+from amo_jobs import calls, command, starter
+from amo_jobs.command import Command, Commands, NotStarted
+from amo_jobs.locks import is_free
 from amo_jobs.processes import Family
 from amo_jobs.runner_events import Rest
 from amo_jobs.settings import Settings
@@ -53,7 +54,7 @@ class Case(unittest.TestCase):
             for it in numbers:
                 os.kill(it, signal.SIGKILL)
             calls.reap()
-        self.family.close()
+        os.close(self.family.file)
 
     def commands(self, *words, **more):
         settings = Settings(command=list(words), run=self.run, results=self.run,
@@ -85,7 +86,7 @@ class Case(unittest.TestCase):
 
 
 class Spawned(Case):
-    """Without a timeout a command is started without a copy of this process."""
+    """Commands without a timeout."""
 
     def test_it_ends_and_leaves_nothing(self):
         found = self.start(self.commands("sh", "-c", "exit 3"))
@@ -210,9 +211,18 @@ class Spawned(Case):
     def test_a_lock_that_cannot_be_tried_is_not_free(self):
         found = self.start(self.commands("true"))
         self.end(found)
-        with mock.patch.object(fcntl, "flock", side_effect=OSError(37, "ENOLCK")):
-            self.assertIs(found.rest(()), Rest.SEEN)
+        os.rename(found.path, f"{self.run}/moved.txt")
+        os.symlink(found.path, found.path)  # which can't be opened
+        self.assertIs(found.rest(()), Rest.SEEN)
+        os.rename(f"{self.run}/moved.txt", found.path)
         self.assertIs(found.rest(()), Rest.NOTHING)
+
+    def test_the_signal_of_the_timer_ends_a_command(self):
+        signal.signal(signal.SIGALRM, signal.SIG_DFL if self.timeout is None else signal.SIG_IGN)
+        self.addCleanup(signal.signal, signal.SIGALRM, signal.SIG_DFL)
+        found = self.start(self.commands("sh", "-c", SLEEPS))
+        os.kill(found.process, signal.SIGALRM)
+        self.assertEqual(self.end(found), -signal.SIGALRM)
 
     def test_empty_outputs_serve_the_next_command(self):
         commands = self.commands("sh", "-c", "[ $AMO_JOB = quiet ] || echo $AMO_JOB")
@@ -226,7 +236,7 @@ class Spawned(Case):
         self.assertEqual(numbers[0], numbers[2])
         self.assertNotEqual(numbers[2], numbers[3])
         self.assertEqual(self.text("out.3.3"), "loud\n")
-        commands.close()
+        commands.starter.remove()
         self.assertEqual(self.files(), ["out.3.3"])
 
     def test_an_output_that_somebody_has_stays_with_its_attempt(self):
@@ -293,10 +303,20 @@ class NotBegun(Case):
             self.assertEqual(self.files(), [])
 
     def test_a_system_without_processes(self):
-        call = "fork" if self.timeout else "posix_spawnp"
-        error = BlockingIOError(errno.EAGAIN, os.strerror(errno.EAGAIN))
-        with mock.patch.object(os, call, side_effect=error):
-            self.assertIn("allow more processes", self.refused(self.commands("true")))
+        commands = self.commands("true")
+        begin = commands.starter.call
+
+        def refuse(given):
+            begin(given)  # which makes the lock and the outputs
+            calls.reap()
+            commands.starter.given.failed = starter.NO_FILE
+            return -errno.EAGAIN
+
+        commands.starter.call = refuse
+        with self.assertRaises(NotStarted) as raised:
+            self.start(commands)
+        self.assertIn("allow more processes", str(raised.exception))
+        self.assertEqual(self.files(), [])
 
     def test_children_that_cannot_be_seen(self):
         with mock.patch.object(self.family, "others", side_effect=OSError(5, "Input/output error")):
@@ -306,39 +326,22 @@ class NotBegun(Case):
 
 
 class Timed:
-    """With a timeout a command is started by a copy of this process."""
+    """With a timeout the kernel ends a command too."""
 
     timeout = 100.0
 
 
-class ForkedCommand(Timed, Spawned):
+class TimedCommand(Timed, Spawned):
     """The same commands, with a timeout."""
 
+    def test_the_kernel_ends_a_command_whose_runner_does_not(self):
+        commands = self.commands("sh", "-c", SLEEPS, grace=0.0)
+        commands.starter.given.timer[:] = [0, 0, 0, 1000]
+        self.assertEqual(self.end(self.start(commands)), -signal.SIGALRM)
 
-class ForkedNotBegun(Timed, NotBegun):
+
+class TimedNotBegun(Timed, NotBegun):
     """The same failures, with a timeout."""
-
-    def test_a_system_without_pipes(self):
-        error = OSError(errno.EMFILE, os.strerror(errno.EMFILE))
-        with mock.patch.object(os, "pipe", side_effect=error):
-            self.assertIn("allow more open files", self.refused(self.commands("true")))
-
-    def test_a_report_that_cannot_be_read_leaves_a_doubt(self):
-        with mock.patch.object(os, "read", side_effect=OSError(5, "EIO")):
-            found = self.start(self.commands("./there-is-none"))
-        self.assertEqual(self.end(found), -9)
-
-    def test_a_child_that_cannot_be_waited_for_counts_as_begun(self):
-        with mock.patch.object(os, "waitpid", side_effect=ChildProcessError(10, "ECHILD")):
-            found = self.start(self.commands("./there-is-none"))
-        self.assertEqual(self.end(found), -9)
-
-    def test_the_kernels_timer_ends_it(self):
-        self.timeout = 0.1
-        found = self.start(self.commands("sh", "-c", SLEEPS, grace=0.0))
-        begun = time.monotonic()
-        self.assertEqual(self.end(found), -signal.SIGALRM)
-        self.assertGreater(time.monotonic() - begun, 0.9)
 
 
 if __name__ == "__main__":

@@ -62,7 +62,7 @@ class Pipes(unittest.TestCase):
         data = b""
         while self.desk.unsent:
             data += os.read(self.reports, 1 << 16)
-            self.desk.write()
+            self.desk.exchange(frozenset(self.desk.out))
         data += os.read(self.reports, 1 << 16)
         self.assertEqual(self.events(), [Plain.SENT])
         self.assertEqual(self.desk.files()[1], [])

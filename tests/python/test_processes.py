@@ -39,7 +39,7 @@ class Processes(unittest.TestCase):
     def setUp(self):
         calls.become_subreaper()
         self.family = Family()
-        self.addCleanup(self.family.close)
+        self.addCleanup(os.close, self.family.file)
         self.addCleanup(self.end_all)
 
     def end_all(self):
@@ -60,21 +60,27 @@ class Processes(unittest.TestCase):
         number = self.start("exit 3")
         self.assertEqual(self.family.others(()), [number])
         self.assertEqual(self.family.others([number]), [])
-        ended = []
-        until(lambda: ended.extend(calls.reap()[0]) or ended)
-        self.assertEqual(ended, [(number, 3)])
+        ended = {}
+        until(lambda: ended.update(calls.reap()[0]) or ended)
+        self.assertEqual(ended, {number: 3})
         self.assertEqual(self.family.others(()), [])
-        self.assertEqual(calls.reap(), ([], False))
+        self.assertEqual(calls.reap(), ({}, False))
 
     def test_a_signal_is_a_status_below_0(self):
         number = self.start("kill -9 $$")
-        ended = []
-        until(lambda: ended.extend(calls.reap()[0]) or ended)
-        self.assertEqual(ended, [(number, -9)])
+        ended = {}
+        until(lambda: ended.update(calls.reap()[0]) or ended)
+        self.assertEqual(ended, {number: -9})
+
+    def test_more_children_than_one_call_reaps(self):
+        numbers = {self.start("exit 0") for _ in range(2 * calls.ROOM + 1)}
+        ended = {}
+        until(lambda: ended.update(calls.reap()[0]) or len(ended) == len(numbers))
+        self.assertEqual(ended, dict.fromkeys(numbers, 0))
 
     def test_a_living_child_is_no_end(self):
         self.start(SLEEPS)
-        self.assertEqual(calls.reap(), ([], True))
+        self.assertEqual(calls.reap(), ({}, True))
 
     def test_who_loses_its_parent_comes_here(self):
         number = self.start("setsid sh -c 'sleep 60 & wait' < /dev/null & exec sleep 60")
@@ -123,12 +129,20 @@ class Processes(unittest.TestCase):
         self.assertEqual(self.family.rest((), ()), [])
 
     def test_a_list_that_cannot_be_read_is_an_error(self):
-        with mock.patch.object(os, "pread", side_effect=OSError(5, "EIO")):
-            self.assertRaises(OSError, self.family.rest, (), ())
+        file, self.family.file = self.family.file, -1
+        self.assertRaises(OSError, self.family.rest, (), ())
+        self.family.file = file
 
     def test_a_list_may_be_longer_than_a_page(self):
-        with mock.patch.object(os, "pread", side_effect=[b"12 3", b"4 5 ", b""]):
-            self.assertEqual(calls.read_children(0), [12, 34, 5])
+        for numbers in (list(range(4096)), [4194304, 1]):
+            with tempfile.TemporaryFile() as file:
+                file.write(b"".join(b"%d " % it for it in numbers))
+                file.flush()
+                self.assertEqual(calls.read_children(file.fileno()), numbers)
+        with tempfile.TemporaryFile() as file:
+            file.write(b"1 " * 4097)
+            file.flush()
+            self.assertRaises(OSError, calls.read_children, file.fileno())
 
     def test_processes_that_are_gone_are_left_out(self):
         self.assertEqual(named([0]), [])
@@ -199,7 +213,7 @@ class Processes(unittest.TestCase):
         calls.send(Process(number, calls.start_of(number) + 1), signal.SIGKILL)
         calls.send(Process(0x3fffff, 1), signal.SIGKILL)
         time.sleep(0.05)
-        self.assertEqual(calls.reap(), ([], True))
+        self.assertEqual(calls.reap(), ({}, True))
         calls.send(process_of(number), signal.SIGKILL)
         until(lambda: calls.reap()[0])
 

@@ -24,9 +24,9 @@ SPOILED = [
     ("no_clearance", spoiled.try_drawn_registers, "^performed twice: ", "no_clearance_drawn"),
     ("damage_is_cut_off", spoiled.try_damage, "^performed twice: "),
 ]
-HANDED = "{0: self.locks[0], 1: files[0], 2: files[1], further: self.locks[0]}"
-INPUT = ["return {0: self.locks[0],", "return {0: os.open(os.devnull, os.O_RDONLY),"]
-FURTHER = [", further: self.locks[0]}", "}"]
+INPUT = ["if (dup2(files[kind], kind) < 0)",
+         'if (dup2(kind ? files[kind] : open("/dev/null", O_RDONLY), kind) < 0)']
+FURTHER = ["return dup2(files[0], further);", "return 0;"]
 NO_SUBREAPER = ["        calls.become_subreaper()\n        calls.sign(", "        calls.sign(",
                 "        calls.become_subreaper()\n        self.family", "        self.family"]
 POST = "            self.posts[action.worker] = Post(words, self.locks[action.worker])\n"
@@ -42,8 +42,7 @@ OF_THE_RUNNER = [
     ("lock_is_probed_by_the_inherited_handle", [
         *NO_SUBREAPER, "        self.process = 0\n        close_all(self.locks)\n",
         "        self.process = 0\n"], rules.try_left_behind, TWICE + "|did nothing"),
-    ("lock_is_not_handed_on", [HANDED, "{0: os.open(os.devnull, os.O_RDONLY), 1: files[0], 2: files[1]}"],
-     rules.try_orphan, TWICE),
+    ("lock_is_not_handed_on", [*INPUT, *FURTHER], rules.try_orphan, TWICE),
     ("lock_only_as_standard_input", FURTHER, rules.try_left_behind, TWICE + "|did nothing"),
     ("lock_only_as_a_further_descriptor", INPUT, rules.try_closed, TWICE),
     ("runner_without_lock", [

@@ -16,12 +16,11 @@
    or more, as run/command.N.N; that of the list of a process's children and of its state is its
    path, as /proc/N/stat. KIND of a process is `door` or `status` for the first ones that amo_jobs
    begins by vfork; `runner` for one with a word that begins with --as=; `worker` for the first one
-   with the word `work` that a runner begins by posix_spawn; `command` for the others of these, and
-   for each that it begins by fork; `again` for all others, and `children` for any child. A pipe has
-   the kind of the process for which it was made, and its number among the pipes of that process, as
-   worker.2. The pipe of a command is `report`; the one that doesn't block is `bell`; those of a
-   runner to and from its supervisor are `reports` and `orders` in the runner. A pipe is later.N as
-   long as it isn't known for which process it was made.
+   with the word `work` that a runner begins by posix_spawn; `command` for each that it begins by
+   clone; `again` for all others, and `children` for any child. A pipe has the kind of the process for
+   which it was made, and its number among the pipes of that process, as worker.2. The one that
+   doesn't block is `bell`; those of a runner to and from its supervisor are `reports` and `orders` in
+   the runner. A pipe is later.N as long as it isn't known for which process it was made.
    What a child does before it becomes another program counts if it is the first child of its kind.
    Its KIND begins with `child:` then, as child:command. */
 #define _GNU_SOURCE
@@ -65,6 +64,7 @@ static int wanted_error, is_on, stage, pipes, children;
 static const char *in_child; /* what a child is to become, before it does; else NULL */
 static long wanted_count;
 static pid_t (*real_fork)(void);
+static int (*real_clone)(int (*)(void *), void *, int, void *, ...);
 static int (*real_poll)(struct pollfd *, nfds_t, int);
 static int (*real_spawn)(pid_t *, const char *, const posix_spawn_file_actions_t *,
                          const posix_spawnattr_t *, char *const[], char *const[]);
@@ -92,6 +92,7 @@ __attribute__((constructor)) static void begin(void) {
              *fault = getenv("AMO_FAULT"), *as = getenv("AMO_FAULT_AS");
   is_on = given && path && (!as || has_word(as));
   *(void **)&real_fork = dlsym(RTLD_NEXT, "fork");
+  *(void **)&real_clone = dlsym(RTLD_NEXT, "clone");
   *(void **)&real_poll = dlsym(RTLD_NEXT, "poll");
   *(void **)&real_spawn = dlsym(RTLD_NEXT, "posix_spawnp");
   if (!is_on)
@@ -374,7 +375,8 @@ int dup2(int file, int other) {
     return syscall(SYS_dup3, file, other, 0);
   struct call call = enter("dup2", kind);
   int result = call.fails ? -1 : (int)syscall(SYS_dup3, file, other, 0);
-  name_file(result, kinds[file]);
+  if (!in_child) /* which may share its parent's memory */
+    name_file(result, kinds[file]);
   return leave(&call, result);
 }
 
@@ -439,10 +441,7 @@ static void name_pipes(const char *kind) {
   for (int file = 0; file < MOST_FILES; file++)
     if (strncmp(kinds[file], "later.", 6) == 0) {
       int number = atoi(kinds[file] + 6);
-      if (strcmp(kind, "command") == 0)
-        strcpy(kinds[file], "report");
-      else
-        snprintf(kinds[file], MOST_NAME, "%s.%d", kind, number);
+      snprintf(kinds[file], MOST_NAME, "%s.%d", kind, number);
     }
 }
 
@@ -453,9 +452,9 @@ static void note_process(pid_t process, const char *kind) {
     begun[children].process = process, begun[children++].kind = kind;
 }
 
-/* Python begins door and status by vfork, and timed commands by fork; here both are fork, since no
-   function gives back twice from a vfork. If a vfork fails Python tries a fork: that fails then too,
-   as it would if there were no room for a process. */
+/* Python begins door and status by vfork; here that is a fork, since no function gives back twice
+   from a vfork. If a vfork fails Python tries a fork: that fails then too, as it would if there were
+   no room for a process. */
 static pid_t begun_by(const char *name, const char *kind) {
   static int has_failed;
   if (!is_on || in_child)
@@ -485,10 +484,9 @@ int posix_spawnp(pid_t *process, const char *file, const posix_spawn_file_action
   int is_worker = words[0] && words[1] && strcmp(words[1], "work") == 0, is_runner = 0;
   for (int k = 0; words[k]; k++)
     is_runner |= strncmp(words[k], "--as=", 5) == 0;
-  const char *kind = is_runner    ? "runner"
-                     : !is_worker ? "command"
-                     : stage < 3  ? stages[stage]
-                                  : "again";
+  const char *kind = is_runner                ? "runner"
+                     : is_worker && stage < 3 ? stages[stage]
+                                              : "again";
   struct call call = enter("spawn", kind);
   int error = call.fails ? wanted_error
                          : real_spawn(process, file, actions, how, words, surroundings);
@@ -499,7 +497,22 @@ int posix_spawnp(pid_t *process, const char *file, const posix_spawn_file_action
   return error;
 }
 
-pid_t fork(void) { return begun_by("fork", "command"); }
+/* A runner begins each command by clone. The child shares this memory, and this process stands still
+   until the child is another program, or is gone. */
+int clone(int (*function)(void *), void *stack, int flags, void *given, ...) {
+  if (!is_on || in_child)
+    return real_clone(function, stack, flags, given);
+  struct call call = enter("clone", "command");
+  in_child = "command", is_on = call.count == 1;
+  int process = call.fails ? -1 : real_clone(function, stack, flags, given), error = errno;
+  in_child = NULL, is_on = 1, errno = call.fails ? wanted_error : error;
+  leave(&call, process > 0 ? 1 : process);
+  if (process > 0)
+    note_process(process, "command");
+  return process;
+}
+
+pid_t fork(void) { return begun_by("fork", stage < 3 ? stages[stage] : "again"); }
 pid_t vfork(void) { return begun_by("vfork", stage < 3 ? stages[stage] : "again"); }
 
 static pid_t waited(const char *name, pid_t process, int *status, int options,

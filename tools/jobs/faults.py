@@ -154,6 +154,7 @@ read worker.2 2            | EIO               | 73    | % | 1 | 2
 read worker.3 1            | EIO               | 73    | % | 0 | 0
 write worker.1 1           | EPIPE             | 0     | 3 done | 0 | 0
 waitpid children 1 2 3     | EINTR ECHILD      | 0     | 3 done | 0 | 0
+waitpid worker 1 2         | EINTR ECHILD      | 0     | 3 done | 0 | 0
 write screen 1 2           | EIO EPIPE         | 0     |  | 0 | 0
 """
 
@@ -166,8 +167,7 @@ stat run/command.N.N 1     | EIO ENOENT        | 69    | NOT * (no line was lost
 fstat run/command.N.N 1    | EIO               | 69    | NOT * (no line was lost) | 0 | 3
 open run/out.N.N 1         | EIO EACCES EMFILE ENOSPC | 69    | NOT *: % | 0 | 3
 open run/err.N.N 1         | EIO EACCES EMFILE ENOSPC | 69    | NOT *: % | 0 | 3
-pipe2 later.1 1            | EMFILE            | 69    | NOT *: % | 0 | 3
-fork command 1             | EAGAIN ENOMEM     | 69    | NOT *: % | 0 | 3
+clone command 1            | EAGAIN ENOMEM     | 69    | NOT *: % | 0 | 3
 setsid child:command 1     | EPERM             | 69    | NOT % (no line was lost); correct the command | 0 | 3
 dup2 child:command 1 2 3 4 | EMFILE            | 69    | NOT % (no line was lost); correct the command | 0 | 3
 setitimer child:command 1  | EINVAL            | 69    | NOT % (no line was lost); correct the command | 0 | 3
@@ -176,17 +176,17 @@ execve child:command 1     | ENOEXEC ETXTBSY   | 69    | NOT % (no line was lost
 execve child:command 1     | ENOMEM E2BIG      | 69    | NOT % (no line was lost); correct the command | 0 | 3
 """
 
-# Without a timeout a command is begun by posix_spawn, which reports the failures of its child.
-SPAWNED = """
-spawn command 1            | EAGAIN ENOMEM     | 69    | NOT *: % | 0 | 3
-spawn command 1            | ENOENT EACCES     | 69    | NOT % (no line was lost); correct the command | 0 | 3
-spawn command 1            | ENOEXEC ETXTBSY E2BIG EMFILE EPERM | 69 | NOT % (no line was lost); correct the command | 0 | 3
+# A command without a timeout, whose child sets no timer, isn't started either if a call fails.
+UNTIMED = """
+clone command 1            | EAGAIN ENOMEM     | 69    | NOT *: % | 0 | 3
+setsid child:command 1     | EPERM             | 69    | NOT % (no line was lost); correct the command | 0 | 3
+dup2 child:command 1 2 3 4 | EMFILE            | 69    | NOT % (no line was lost); correct the command | 0 | 3
+execve child:command 1     | ENOENT EACCES     | 69    | NOT % (no line was lost); correct the command | 0 | 3
+execve child:command 1     | ENOEXEC ETXTBSY E2BIG EMFILE EPERM | 69 | NOT % (no line was lost); correct the command | 0 | 3
 """
 
 # After a command is begun. None of these failures opens its line again, and none matters.
 BEGUN = """
-close report 1 2           | EIO EINTR         | 0     | 3 done | 0 | 0
-read report 1              | EIO EINTR         | 0     | 3 done | 0 | 0
 close run/out.N.N 1        | EIO EINTR ENOSPC EDQUOT | 0     | 3 done | 0 | 0
 close run/err.N.N 1        | EIO EINTR ENOSPC EDQUOT | 0     | 3 done | 0 | 0
 close run/command.N.N 1 2 3 | EIO               | 0     | 3 done | 0 | 0
@@ -210,6 +210,7 @@ close run/pace.N 1         | EIO ENOSPC        | 0     | 3 done | 0 | 0
 
 # After the last line the status is asked. All lines are done by then.
 AT_LAST = """
+pipe2 later.1 1            | EMFILE            | 73    | % | 0 | 0
 pipe2 later.2 1            | EMFILE            | 73    | % | 0 | 0
 *fstat later.1 1           | EIO               | 0/73  |  | 0 | 0
 *lseek later.1 1           | EIO               | 0/73  |  | 0 | 0
@@ -270,7 +271,6 @@ ioctl runner.1 1           | EIO               | 74    | worker 1: *% | 0 | *
 ioctl runner.2 1           | EIO               | 74    | worker 1: *% | 0 | *
 read runner.1 1 2 3        | EIO EINTR EAGAIN  | 0     | 3 done | 0 | 0
 waitpid children 1 2       | EINTR             | 0     | 3 done | 0 | 0
-pipe2 later.1 1            | EMFILE            | 73    | % | 0 | 0
 write screen 1 2           | EIO EPIPE         | 0     |  | 0 | 0
 """
 
@@ -323,6 +323,7 @@ read worker.2 2            | EIO               | 73    | % | 1 | 2
 read worker.3 1            | EIO               | 73    | % | 0 | 0
 write worker.1 1           | EPIPE             | 0     | 3 done | 0 | 0
 waitpid children 1 2 3     | EINTR ECHILD      | 0     | 3 done | 0 | 0
+waitpid worker 1 2         | EINTR ECHILD      | 0     | 3 done | 0 | 0
 write reports 1            | EINTR EAGAIN      | 0     | 3 done | 0 | 0
 write reports 1            | SHORT             | 0     | 3 done | 0 | 0
 write reports 1            | ENOMEM EPIPE      | 69    | its runner has failed (status 69) | 0 | 2
@@ -334,15 +335,12 @@ read orders 1              | EIO               | 73    | % | 1 | 2
 read orders 1              | EINTR EAGAIN      | 1     | 2 done, 1 failed | 0 | 0
 """
 
-# The command doesn't exist. Its child reports that and kills itself. If the report can't be
-# written or read, or if the child's end isn't known, the command counts as begun. Its line is in
-# doubt then, and is neither open nor done.
+# The command doesn't exist. Its child kills itself, and the runner reaps it. If the child's end
+# isn't known, the command counts as begun. Its line is in doubt then, and is neither open nor done.
 MISSING = """
-write child:command 1      | EIO EPIPE         | 2     | 1 in doubt | 1 | 3
-read report 1              | EIO               | 2     | 1 in doubt | 1 | 3
 waitpid command 1          | ECHILD            | 2     | 1 in doubt | 1 | 3
+waitpid command 1          | EINTR             | 69    | NOT No such file or directory (no line was lost) | 0 | 3
 kill child:command 1       | EPERM             | 69    | NOT No such file or directory (no line was lost) | 0 | 3
-close report 1 2           | EIO               | 69    | --command-changed | 0 | 3
 close run/out.N.N 1        | EIO               | 69    | --command-changed | 0 | 3
 close run/err.N.N 1        | EIO               | 69    | --command-changed | 0 | 3
 close run/command.N.N 1    | EIO               | 69    | --command-changed | 0 | 3
@@ -494,13 +492,13 @@ WAYS = {
     "moved": Way(MOVED, before=move, is_early=True),
     "plain": Way(CREW + UNBEGUN + BEGUN + AT_LAST),
     "missing": Way(MISSING, LEFT, command="./there-is-none"),
-    "spawned": Way(SPAWNED, options=("--linger", "20")),
+    "untimed": Way(UNTIMED, options=("--linger", "20")),
     "supervisor": Way(SUPERVISOR + AT_LAST, process="crew"),
     "acknowledges": Way(ACKNOWLEDGES, FAILED, ("fail", "quick", "quick"), process="crew"),
     "supervised": Way(SUPERVISED + UNBEGUN + BEGUN, process="runner"),
     "acknowledged": Way(ACKNOWLEDGED, FAILED, ("fail", "quick", "quick"), process="runner"),
     "missing, supervised": Way(MISSING, LEFT, command="./there-is-none", process="runner"),
-    "spawned, supervised": Way(SPAWNED, options=("--linger", "20"), process="runner"),
+    "untimed, supervised": Way(UNTIMED, options=("--linger", "20"), process="runner"),
 }
 ANY = -1  # in a row's ends
 
@@ -652,7 +650,7 @@ def try_before(bench) -> str:
 
 def try_calls(bench) -> str:
     """the same for a runner that has no supervisor: no line counts without its effect"""
-    return try_ways(bench, ["plain", "missing", "spawned"], WAYS["before"].table)
+    return try_ways(bench, ["plain", "missing", "untimed"], WAYS["before"].table)
 
 
 def try_supervisor_calls(bench) -> str:
@@ -662,7 +660,7 @@ def try_supervisor_calls(bench) -> str:
 
 def try_runner_calls(bench) -> str:
     """the same for a runner that has a supervisor: if it fails, its crew stops"""
-    ways = ["supervised", "acknowledged", "missing, supervised", "spawned, supervised"]
+    ways = ["supervised", "acknowledged", "missing, supervised", "untimed, supervised"]
     return try_ways(bench, ways, part=SHORT_PART)
 
 

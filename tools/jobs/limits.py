@@ -14,7 +14,7 @@ import sys
 from typing import Callable, NamedTuple
 
 from jobs.rules import until
-from jobs.scene import BUILD, DOUBTFUL, LEFT, READ, WRITE, Bench, Scene, want
+from jobs.scene import BUILD, DONE, DOUBTFUL, LEFT, READ, WRITE, Bench, Scene, want
 from jobs.spoiled import audit_lines, begun_by, status_of
 from jobs.unseen import fed, is_not_listed, runner_of
 
@@ -80,8 +80,8 @@ def set_limit(scene: Scene, process: int, limit: Limit) -> None:
 
 
 def try_limit(bench: Bench, limit: Limit) -> None:
-    """Sets the limit of a runner, which then can't start a command; and of a supervisor whose
-    runner is killed, which then can't start another one."""
+    """Sets the limit of a runner, which then can't start a command, but for that on memory; and of
+    a supervisor whose runner is killed, which then can't start another one."""
     for who in WHO:
         scene = scene_of(bench, limit)
         if scene is None:
@@ -93,9 +93,20 @@ def try_limit(bench: Bench, limit: Limit) -> None:
         if who == "supervisor":
             os.kill(runner_of(scene), signal.SIGKILL)
         scene.let(*(f"go.{line}" for line in range(1, LINES + 1)))
+        if limit is MEMORY and who == "runner":
+            stop_later(crew)
         see_limited(scene, who, limit, status_of(crew))
         scene.see_out()
         scene.audit()
+
+
+def stop_later(crew: subprocess.Popen) -> None:
+    """Stops a crew that doesn't end soon: if a worker ends early and a runner has no memory for the
+    next one, the runner tries again until it is stopped."""
+    try:
+        crew.wait(30)
+    except subprocess.TimeoutExpired:
+        crew.send_signal(signal.SIGTERM)
 
 
 def see_limited(scene: Scene, who: str, limit: Limit, status: int) -> None:
@@ -107,6 +118,9 @@ def see_limited(scene: Scene, who: str, limit: Limit, status: int) -> None:
         want(did or it.answer != "done", f"{who}: {it.name()} counts as done, and did nothing")
         want(not did or it.answer != "unbegun", f"{who}: {it.name()} is open, and did it")
     told = scene.tale()
+    if limit is MEMORY and who == "runner":  # to start a command takes no memory
+        want(status in (DONE, *STOPPED), f"{who}: status {status}: {told[-500:]}")
+        return
     want(status in STOPPED, f"{who}: status {status}: {told[-500:]}")
     want(re.search(limit.says, told, re.I), f"{who}: it never meets the limit: {told[-500:]}")
 

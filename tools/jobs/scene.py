@@ -36,13 +36,15 @@ def want(so, what):
 
 def compiled(program: str, room: str) -> str:
     """Copies amo_jobs with its package, or the folder of a worker in Python, into a new folder, and
-    compiles it there; returns the path of the copy. (They compile their modules at each start, and
+    compiles it there, with its part in C; returns the path of the copy. (They compile their modules at each start, and
     write nothing into their own folders. A run of these tests starts thousands.)"""
     top = os.path.dirname(os.path.realpath(program))
     if program.endswith(".py"):
         shutil.copytree(top, room)
     else:
         copy_program(program, room)
+        words = [sys.executable, "-B", "-c", "from amo_jobs.library import library; library()"]
+        subprocess.run(words, cwd=f"{room}/python", stdin=subprocess.DEVNULL, check=True)
     compileall.compile_dir(room, quiet=2)
     return f"{room}/{os.path.basename(program)}"
 
@@ -60,7 +62,7 @@ def changed(program: str, room: str, pairs: list) -> str:
     """Copies a program and the package into a new folder, with the first text of each pair replaced
     by the second; returns the path of the copy. Each first text must stand there once."""
     copy_program(program, room)
-    files = glob.glob(f"{room}/python/amo_jobs/*.py")
+    files = [*glob.glob(f"{room}/python/amo_jobs/*.py"), f"{room}/python/amo_jobs/calls.c"]
     for old, new in zip(pairs[::2], pairs[1::2]):
         texts = {it: folder.read(it).decode() for it in files}
         found = sum(it.count(old) for it in texts.values())
