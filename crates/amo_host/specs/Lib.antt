@@ -1,4 +1,9 @@
+pub mod Beginning
 pub mod Calls
+pub mod Joining
 pub mod Logs
+pub mod Opened
 pub mod Phase
 pub mod Protocol
+pub mod Reading
+pub mod Starting

@@ -1,5 +1,5 @@
 -- The protocol of a run: the calls that each phase of a process allows, and the phase after each call.
-use Rattle.std.specs.Prelude.{◌≡◌, ◌⊎◌, ℕ, zero, suc, ◌+◌, Bool, true, false, List, [], ◌∷◌, Option, Some, None, slice_get}
+use Rattle.std.specs.Prelude.{◌≡◌, ◌⊎◌, ℕ, zero, suc, Bool, true, false, List, [], ◌∷◌, Option, Some, None, slice_get}
 use Rattle.amo_givens.specs.declared.limits.TheConstants.{MAX_WORKERS}
 use Rattle.amo_process.specs.Stepped.{ProcessView}
 use Rattle.amo_driver.specs.declared.answer.JobResult.{JobResult}
@@ -9,8 +9,11 @@ use Rattle.amo_driver.specs.declared.model.Deed.TheVariants.{Loaded as WasLoaded
 use Rattle.amo_driver.specs.declared.model.Try.{Try}
 use Rattle.amo_driver.specs.declared.model.Try.TheVariants.{Load, Store, Find, Intend, Clear, Perform, Note, Ask}
 use Rattle.amo_driver.specs.Course.{due, stage_after, stage_cleared}
-use Rattle.amo_driver.specs.Stage.{Stage, Clearing, Broken}
+use Rattle.amo_driver.specs.Stage.{Stage, Asking, Clearing, Broken}
+use Rattle.amo_driver.specs.declared.answer.Way.{Way}
+use Rattle.amo_driver.specs.declared.answer.Way.TheVariants.{Go, Leave}
 use Rattle.amo_protocol.specs.Lines.{reply_heard}
+use Rattle.amo_protocol.specs.Replies.{way_in}
 use Rattle.amo_protocol.specs.Sayings.{over_text, perform_text, was_text}
 use Rattle.amo_run_files.specs.Jobs.{line_of}
 use Rattle.amo_run_log.specs.declared.entry.Entry.{Entry}
@@ -19,10 +22,17 @@ use Rattle.amo_run_log.specs.declared.entry.Outcome.{Outcome}
 use Rattle.amo_run_log.specs.declared.entry.Outcome.TheVariants.{Done as DoneAt, Doubt as DoubtAt, Unbegun as NotBegun, Untouched as UntouchedAt}
 use Rattle.amo_run_log.specs.Clearance.{is_clear}
 use Rattle.amo_host.specs.declared.model.LogFile.{LogFile}
-use Rattle.amo_host.specs.declared.model.LogFile.TheVariants.{Answers, Journal}
-use Rattle.amo_host.specs.Calls.{Request, LoadRegister, StoreRegister, PassOver, Put, Owe, Pay, ReadOn, Say, Call, Loaded, Stored, PassedOver, HasPut, HasOwed, HasPaid, HasRead, Heard, Fell, request_of}
-use Rattle.amo_host.specs.Logs.{Logs, logs_after}
-use Rattle.amo_host.specs.Phase.{Identity, Phase, Asks, Works, Clears, Unclear, Ended}
+use Rattle.amo_host.specs.declared.model.LogFile.TheVariants.{Answers}
+use Rattle.amo_host.specs.declared.model.Hold.{Hold}
+use Rattle.amo_host.specs.declared.model.Hold.TheVariants.{Shared, Exclusive}
+use Rattle.amo_host.specs.declared.model.RunLock.TheVariants.{Round}
+use Rattle.amo_host.specs.Calls.{Request, TryLock, Unlock, CheckFolder, LoadRegister, StoreRegister, PassOver, Put, Owe, Pay, ReadOn, Say, Call, Tried, HasUnlocked, FolderIsKept, Loaded, Stored, PassedOver, HasPut, HasOwed, HasPaid, HasRead, Heard, Fell, request_of}
+use Rattle.amo_host.specs.Beginning.{begins_on, MayDo}
+use Rattle.amo_host.specs.Joining.{joins_on, MayJoin}
+use Rattle.amo_host.specs.Logs.{Logs, journals_from, logs_after, others}
+use Rattle.amo_host.specs.Phase.{Identity, Locked, LockedAlone, Phase, Starts, Asks, Idle, Begins, Joins, Reads, Works, Clears, Unclear, Over, Stays, Ended}
+use Rattle.amo_host.specs.Reading.{reads_after, MayRead}
+use Rattle.amo_host.specs.Starting.{starts_on, MayStart}
 
 -- The line of this job, from 1.
 abbrev pub line_at : (jobs : List ℕ) → (job : ℕ) → Option ℕ
@@ -74,11 +84,6 @@ abbrev pub stage_by : Option Try → Stage → Call → Stage
 stage_by None st c = st
 stage_by (Some t) st c = stage_after st (effect_of t c)
 
--- The journals of so many workers, from this one on.
-abbrev pub journals_from : (worker count : ℕ) → List LogFile
-journals_from worker zero = []
-journals_from worker (suc n) = Journal worker ∷ journals_from (worker + 1) n
-
 -- Whether the line of this job is clear for the attempt of this serial number, by what was read.
 abbrev pub job_is_clear : Identity → (serial : ℕ) → (line : Option ℕ) → Logs → Bool
 job_is_clear me serial None logs = false
@@ -94,11 +99,6 @@ reads_on me jobs s a j (Some logs) [] = Works me jobs (stage_cleared s a j (job_
 abbrev pub reads_first : Identity → (jobs : List ℕ) → Stage → Logs → LogFile → List (List ℕ) → Phase
 reads_first me jobs (Clearing s a j) logs f texts = reads_on me jobs s a j (logs_after logs f texts) (journals_from 1 MAX_WORKERS)
 reads_first me jobs st logs f texts = Ended
-
--- All but the first.
-abbrev pub others : List LogFile → List LogFile
-others [] = []
-others (f ∷ left) = left
 
 -- Whether it owes an outcome after a call.
 abbrev pub owes_after : Bool → Call → Bool
@@ -122,6 +122,7 @@ fails me jobs st owes logs r = Works me jobs Broken owes logs
 
 -- The phase after a call in a round.
 abbrev pub works_on : Identity → (jobs : List ℕ) → Stage → (owes : Bool) → Logs → Call → Phase
+works_on me jobs st owes logs (HasUnlocked lock) = Over me logs
 works_on me jobs st owes logs (HasRead f texts) = reads_first me jobs st logs f texts
 works_on me jobs st owes logs (Fell r) = fails me jobs st owes logs r
 works_on me jobs st owes logs c = Works me jobs (stage_by (due st) st c) (owes_after owes c) logs
@@ -132,22 +133,71 @@ clears_on me jobs s a j logs left (HasRead f texts) = reads_on me jobs s a j (lo
 clears_on me jobs s a j logs left (Fell (ReadOn f)) = Unclear s
 clears_on me jobs s a j logs left c = Ended
 
+-- The phase after a process has tried the lock of the round. It was in the phase `from`, and in no round. It joins a round if it shares the
+-- lock, and begins one if it has the lock alone.
+abbrev pub locked_if : (from : Phase) → Identity → Option Logs → Hold → Bool → Phase
+locked_if from me prior Shared true = Joins me (Locked prior)
+locked_if from me prior Exclusive true = Begins me (LockedAlone prior)
+locked_if from me prior hold false = from
+
+-- The phase after a call of a process that asks for earlier attempts, or has asked for all of them.
+abbrev pub asks_on : Identity → Stage → Call → Phase
+asks_on me st (Tried lock hold got) = locked_if (Asks me st) me None hold got
+asks_on me st c = Asks me (stage_by (due st) st c)
+
+-- The phase after a call of a process that is in no round.
+abbrev pub idles_on : Identity → Logs → Call → Phase
+idles_on me logs (Tried lock hold got) = locked_if (Idle me logs) me (Some logs) hold got
+idles_on me logs c = Ended
+
+-- The reply to `over` that this line is, without its end. If no whole line came, it is no reply.
+abbrev pub over_way : Option (List ℕ) → Option Way
+over_way (Some line) = way_in line
+over_way None = None
+
+-- The phase after the runner has replied to `over`.
+abbrev pub stays_if : Identity → Logs → Option Way → Phase
+stays_if me logs (Some Go) = Stays me logs
+stays_if me logs (Some Leave) = Ended
+stays_if me logs None = Ended
+
+-- The phase after a call of a process whose part of the round is over.
+abbrev pub over_on : Identity → Logs → Call → Phase
+over_on me logs (Heard line reply) = stays_if me logs (over_way reply)
+over_on me logs c = Ended
+
+-- The phase after a call of a process that stays.
+abbrev pub stays_on : Identity → Logs → Call → Phase
+stays_on me logs FolderIsKept = Idle me logs
+stays_on me logs c = Ended
+
 -- The phase after a call.
 abbrev pub phase_after : Phase → Call → Phase
-phase_after (Asks me st) c = Asks me (stage_by (due st) st c)
+phase_after (Starts worker start) c = starts_on worker start c
+phase_after (Asks me st) c = asks_on me st c
+phase_after (Idle me logs) c = idles_on me logs c
+phase_after (Begins me begin) c = begins_on me begin c
+phase_after (Joins me join) c = joins_on me join c
+phase_after (Reads me purpose logs counts left) c = reads_after me purpose logs counts left c
 phase_after (Works me jobs st owes logs) c = works_on me jobs st owes logs c
 phase_after (Clears me jobs s a j logs left) c = clears_on me jobs s a j logs left c
 phase_after (Unclear s) c = Ended
+phase_after (Over me logs) c = over_on me logs c
+phase_after (Stays me logs) c = stays_on me logs c
 phase_after Ended c = Ended
 
--- Before a round it may carry out what is due.
-abbrev pub MayAsk : Identity → Stage → Request → Type 0
-MayAsk me st r = (t : Try) × (due st ≡ Some t) × CarriesOutBefore me t r
+-- In no round, it may try the lock of the round.
+abbrev pub MayTryRound : Request → Type 0
+MayTryRound r = (hold : Hold) × (r ≡ TryLock Round hold)
 
--- In a round it may carry out what is due. If nothing is, it may append what it owes, and then report that its part of the round is over.
+-- Before a round it may carry out what is due. Once it has asked for all earlier attempts, it may try the lock of the round.
+abbrev pub MayAsk : Identity → Stage → Request → Type 0
+MayAsk me st r = ((t : Try) × (due st ≡ Some t) × CarriesOutBefore me t r) ⊎ ((st ≡ Asking []) × MayTryRound r)
+
+-- In a round it may carry out what is due. If nothing is, it may append what it owes, and then unlock the round.
 abbrev pub MayWork : Identity → (jobs : List ℕ) → Stage → (owes : Bool) → Request → Type 0
 MayWork me jobs st owes r =
-    ((t : Try) × (due st ≡ Some t) × CarriesOut me jobs t r) ⊎ ((due st ≡ None) × ((r ≡ Pay) ⊎ ((owes ≡ false) × (r ≡ Say over_text))))
+    ((t : Try) × (due st ≡ Some t) × CarriesOut me jobs t r) ⊎ ((due st ≡ None) × ((r ≡ Pay) ⊎ ((owes ≡ false) × (r ≡ Unlock Round))))
 
 -- It may read on what is next, or record that the attempt was not started.
 abbrev pub MayClear : (serial : ℕ) → (left : List LogFile) → Request → Type 0
@@ -156,10 +206,17 @@ MayClear s (f ∷ left) r = (r ≡ ReadOn f) ⊎ (r ≡ Put (outcome_entry s 0 U
 
 -- The calls that a phase allows.
 abbrev pub Allows : Phase → Request → Type 0
+Allows (Starts worker start) r = MayStart worker start r
 Allows (Asks me st) r = MayAsk me st r
+Allows (Idle me logs) r = MayTryRound r
+Allows (Begins me begin) r = MayDo me begin r
+Allows (Joins me join) r = MayJoin join r
+Allows (Reads me purpose logs counts left) r = MayRead purpose left r
 Allows (Works me jobs st owes logs) r = MayWork me jobs st owes r
 Allows (Clears me jobs s a j logs left) r = MayClear s left r
 Allows (Unclear s) r = r ≡ Put (outcome_entry s 0 Unbegun)
+Allows (Over me logs) r = r ≡ Say over_text
+Allows (Stays me logs) r = r ≡ CheckFolder
 Allows Ended r = ⊥
 
 -- It is in a phase that allows this.

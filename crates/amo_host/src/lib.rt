@@ -1,7 +1,7 @@
 //! The operating system as a process of the run sees it: one trait, `Host`, each method of which is
 //! one call. The run's protocol (`specs/Protocol`) says which calls each phase of a process allows,
-//! and which phase follows. So far it has the calls by which a worker asks what became of earlier
-//! attempts, and those by which it works in a round.
+//! and which phase follows. It has a worker's whole process: it takes its number, asks what became
+//! of earlier attempts, begins a round or joins one, works in it, and stays for the next one.
 #![tactic(auto)]
 
 mod host;
@@ -9,4 +9,4 @@ pub mod laws;
 mod model;
 
 pub use host::{Failed, Host};
-pub use model::LogFile;
+pub use model::{Hold, LogFile, LogPart, Registers, RunLock};
