@@ -13,9 +13,9 @@ use Rattle.amo_driver.specs.Standing.{MayCall as MayTry}
 use Rattle.amo_host.specs.declared.model.LogFile.{LogFile}
 use Rattle.amo_host.specs.declared.model.LogFile.TheVariants.{Answers, Journal}
 use Rattle.amo_host.specs.Calls.{HasRead, ReadOn, Fell}
-use Rattle.amo_host.specs.Logs.{Logs, logs_after}
+use Rattle.amo_host.specs.Logs.{Logs, journals_from, logs_after}
 use Rattle.amo_host.specs.Phase.{Identity, Phase, Works, Clears, Unclear}
-use Rattle.amo_host.specs.Protocol.{journals_from, reads_on, MayCall, Moves}
+use Rattle.amo_host.specs.Protocol.{reads_on, MayCall, Moves}
 use Rattle.amo_worker_life.specs.declared.halt.Health.{Health}
 use Rattle.amo_worker_life.specs.declared.halt.Health.TheVariants.{Fine, Broken, Lost}
 use Rattle.amo_worker_life.specs.Where.{WorksAt}

@@ -1,2 +1,5 @@
+pub mod AllLogs
+pub mod Begins
 pub mod Clearing
 pub mod Ends
+pub mod Serials

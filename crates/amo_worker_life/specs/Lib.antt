@@ -1,2 +1,3 @@
+pub mod Begin
 pub mod Where
 pub mod Reading

@@ -1,13 +1,16 @@
 -- The logs that a worker has read, and the phase after it reads on.
-use Rattle.std.specs.Prelude.{◌≡◌, ℕ, ◌⊎◌, Bool, true, false, List, [], length, map, Some, None}
+use Rattle.std.specs.Prelude.{◌≡◌, ℕ, ◌⊎◌, Bool, true, false, List, [], ◌∷◌, ◌++◌, length, map, Option, Some, None}
 use Rattle.amo_process.specs.Stepped.{ProcessView}
 use Rattle.amo_driver.specs.Stage.{Clearing}
+use Rattle.amo_run_files.specs.declared.extent.Extent.{Extent}
+use Rattle.amo_run_files.specs.declared.round_file.RoundFile.{RoundFile}
 use Rattle.amo_run_log.specs.declared.read_logs.ReadLogs.{ReadLogs}
 use Rattle.amo_host.specs.declared.model.LogFile.{LogFile}
-use Rattle.amo_host.specs.Calls.{HasRead, ReadOn, Fell}
-use Rattle.amo_host.specs.Logs.{Logs, logs_after}
-use Rattle.amo_host.specs.Phase.{Identity, Phase, Works, Unclear}
+use Rattle.amo_host.specs.Calls.{HasRead, LogIs, ReadOn, Fell}
+use Rattle.amo_host.specs.Logs.{Logs, all_logs, logs_after}
+use Rattle.amo_host.specs.Phase.{Identity, Phase, Purpose, Reads as ReadsFor, Works, Unclear}
 use Rattle.amo_host.specs.Protocol.{reads_on, Moves}
+use Rattle.amo_host.specs.Reading.{last_for, reads_more, MayReadFor}
 
 -- The contents of these logs.
 abbrev pub logs_of : ReadLogs → Logs
@@ -21,6 +24,21 @@ logs_of logs = record {
 abbrev pub Adds : Bool → (old : Logs) → LogFile → List (List ℕ) → (new : Logs) → Type 0
 Adds true old f texts new = logs_after old f texts ≡ Some new
 Adds false old f texts new = logs_after old f texts ≡ None
+
+-- It may read all logs, for some purpose.
+abbrev pub MayReadAll : (Phase → Type 0) → Identity → (last : Option RoundFile) → Logs → Type 0
+MayReadAll stands me last logs = (purpose : Purpose) × MayReadFor purpose × (last_for purpose ≡ last) × stands (ReadsFor me purpose logs [] all_logs)
+
+-- If it might read all logs for a purpose, it is in the phase after these were read, and the others are left.
+abbrev pub ReadsTo : (before after : Phase → Type 0) → Identity → (last : Option RoundFile) → (first logs : Logs) → (counts : List Extent) → (left : List LogFile) → Type 0
+ReadsTo before after me last first logs counts left =
+    (purpose : Purpose) → MayReadFor purpose → last_for purpose ≡ last → before (ReadsFor me purpose first [] all_logs)
+    → after (reads_more me purpose (Some logs) counts left)
+
+-- A call that read this log, and how many of its appends stay on the disk.
+abbrev pub ReadsLog : (before after : Phase → Type 0) → (last : Option RoundFile) → LogFile → (old new : Logs) → (counts more : List Extent) → Type 0
+ReadsLog before after last f old new counts more =
+    (texts : List (List ℕ)) × (counted : Extent) × Moves before after (LogIs f last texts counted) × (logs_after old f texts ≡ Some new) × (more ≡ counts ++ counted ∷ [])
 
 -- A call that returns whether it could read this log on: if it couldn't, the host's call failed, or the texts can't follow.
 abbrev pub ReadsOne : Bool → (before after : Phase → Type 0) → LogFile → (old new : Logs) → Type 0

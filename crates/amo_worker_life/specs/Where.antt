@@ -1,17 +1,21 @@
 -- The stages at which a worker may be, by the phases in which its host may be.
-use Rattle.std.specs.Prelude.{◌≡◌, ℕ, Bool, true, false, List, None}
+use Rattle.std.specs.Prelude.{◌≡◌, ℕ, Bool, true, false, List, [], Option, Some, None}
 use Rattle.amo_driver.specs.declared.answer.Reply.{Reply}
 use Rattle.amo_driver.specs.declared.answer.Reply.TheVariants.{Answered, Running}
-use Rattle.amo_driver.specs.declared.answer.Way.TheVariants.{Leave}
+use Rattle.amo_driver.specs.declared.answer.Way.{Way}
+use Rattle.amo_driver.specs.declared.answer.Way.TheVariants.{Go, Leave}
 use Rattle.amo_driver.specs.declared.stop.Stop.{Stop}
 use Rattle.amo_driver.specs.declared.stop.Stop.TheVariants.{Failed, NoMemory, NoSuchNumber, NoAnswer, OtherAnswer, NoSerial, TooLong}
 use Rattle.amo_driver.specs.Course.{due}
-use Rattle.amo_driver.specs.Stage.{Stage, Broken as BrokenStage}
+use Rattle.amo_driver.specs.Stage.{Stage, Asking, Broken as BrokenStage}
 use Rattle.amo_host.specs.Logs.{Logs}
-use Rattle.amo_host.specs.Phase.{Identity, Phase, Asks, Works}
+use Rattle.amo_host.specs.Phase.{Identity, Phase, Asks, Idle, Works}
 use Rattle.amo_host.specs.Protocol.{Lives}
+use Rattle.amo_protocol.specs.Replies.{way_in}
 use Rattle.amo_worker_life.specs.declared.halt.Health.{Health}
 use Rattle.amo_worker_life.specs.declared.halt.Health.TheVariants.{Fine, Broken, Lost}
+use Rattle.amo_worker_life.specs.declared.part.OverReply.{OverReply}
+use Rattle.amo_worker_life.specs.declared.part.OverReply.TheVariants.{Stays, Leaves, Closed, Invalid}
 
 -- The worker of this number, whose run knows these lines.
 abbrev pub me_of : ℕ → List (List ℕ) → Identity
@@ -39,9 +43,29 @@ WorksAt stands me jobs logs Lost st = (st ≡ BrokenStage) × Lives stands
 abbrev pub IsOver : (Phase → Type 0) → Identity → (jobs : List ℕ) → Logs → (Stage → Type 0) → Type 0
 IsOver stands me jobs logs How = (st : Stage) × How st × (due st ≡ None) × stands (Works me jobs st false logs)
 
--- It works at a stage of some round, nothing is due, and it owes nothing.
-abbrev pub HasPaid : (Phase → Type 0) → Type 0
-HasPaid stands = (me : Identity) × (jobs : List ℕ) × (st : Stage) × (logs : Logs) × stands (Works me jobs st false logs) × (due st ≡ None)
+-- It works in a round, nothing is due, and it owes nothing.
+abbrev pub HasPaid : (Phase → Type 0) → Identity → (jobs : List ℕ) → Logs → Type 0
+HasPaid stands me jobs logs = (st : Stage) × stands (Works me jobs st false logs) × (due st ≡ None)
+
+-- It has read logs, and is in the phase that they give.
+abbrev pub IsAt : (Phase → Type 0) → (Logs → Phase) → Option Logs → Type 0
+IsAt stands phase read = (logs : Logs) × (read ≡ Some logs) × stands (phase logs)
+
+-- The phase of a worker that is in no round and has asked for all earlier attempts, by the logs that it has read in earlier rounds.
+abbrev pub idle_at : Identity → Option Logs → Phase
+idle_at me None = Asks me (Asking [])
+idle_at me (Some logs) = Idle me logs
+
+-- The reply to `over` by whether the worker must leave.
+abbrev pub reply_of_way : Option Way → OverReply
+reply_of_way (Some Go) = Stays
+reply_of_way (Some Leave) = Leaves
+reply_of_way None = Invalid
+
+-- The reply to `over` that this line is, without its end. If no whole line came, the runner is gone.
+abbrev pub over_reply : Option (List ℕ) → OverReply
+over_reply (Some line) = reply_of_way (way_in line)
+over_reply None = Closed
 
 -- Whether a reply has the worker leave.
 abbrev pub dismisses : Reply → Bool

@@ -1,23 +1,24 @@
 //! A worker's part of a round, and what comes before it.
-ghost use Rattle.std.specs.Prelude.{◌≡◌, false, IfOk, OnOk};
+ghost use Rattle.std.specs.Prelude.{◌≡◌, true, false, option_map, Ok, IfOk, OnOk};
 ghost use Rattle.amo_givens.specs.Givens.{IsWorker};
 ghost use Rattle.amo_driver.specs.Course.{first_stage};
 ghost use Rattle.amo_driver.specs.Stage.{Asking};
 ghost use Rattle.amo_driver.specs.declared.past.Asked.TheVariants.{All};
 ghost use Rattle.amo_driver.specs.Stops.{AsksTo, EndsAt};
-ghost use Rattle.amo_host.specs.Phase.{Asks, Works};
+ghost use Rattle.amo_host.specs.Phase.{Asks, Works, Over};
 ghost use Rattle.amo_host.specs.Protocol.{Lives};
-ghost use Rattle.amo_worker_life.specs.Where.{ends_the_work, me_of, AsksAt, HasPaid, IsOver};
+ghost use Rattle.amo_worker_life.specs.Where.{ends_the_work, idle_at, me_of, over_reply, AsksAt, HasPaid, IsAt, IsOver};
 ghost use Rattle.amo_worker_life.specs.Reading.{logs_of};
 ghost use Rattle.amo_worker_life.specs.declared.halt.Health.TheVariants.{Fine};
+ghost use Rattle.amo_worker_life.specs.declared.part.OverReply.TheVariants.{Stays, Running};
 
 use crate::halt::{Halt, Health};
 use crate::round::InRound;
 use crate::worker::Worker;
-use amo_driver::{Asked, Failed, Intent, LifeEnd, Stop, ask_pending, work};
+use amo_driver::{Asked, Failed, Intent, LifeEnd, Stop, Way, ask_pending, work};
 use amo_givens::Givens;
-use amo_host::Host;
-use amo_protocol::over_text;
+use amo_host::{Host, RunLock};
+use amo_protocol::{over_reply_in, over_text};
 
 /// Asks the runner what became of each of these attempts, which the worker's journal has pending,
 /// and records each outcome before it asks for the next.
@@ -68,22 +69,76 @@ pub fn take_part<H: Host>(
     }
 }
 
-/// Reports to the runner that the worker's part of a round is over, and returns its reply, without
-/// its end. Returns `None` if no whole line comes any more.
+/// Unlocks the round once this worker's part of it is over. Returns the worker, with the answers
+/// and journals that it has read.
+pub fn leave<H: Host>(round: InRound<H>) -> Worker<H>
+    requires paid { HasPaid (H.stands round.worker.host) (me_of round.worker.number round.worker.jobs) round.lines.items (logs_of round.logs) }
+    ensures over { IsAt (H.stands result.host) (Over (me_of result.number result.jobs)) (option_map logs_of result.logs) }
+    ensures health { result.health ≡ round.worker.health }
+    ensures running { result.has_running ≡ round.worker.has_running }
+{
+    let InRound { worker, logs, .. } = round;
+    let mut worker = worker;
+    worker.host.unlock(RunLock::Round);
+    worker.logs = Some(logs);
+    worker
+}
+
+/// The runner's reply to a worker whose part of a round is over.
+#[derive(Clone, Copy, Debug, PartialEq, Eq)]
+pub enum OverReply {
+    /// The worker stays for the next round.
+    Stays,
+    /// It must leave.
+    Leaves,
+    /// No whole line comes any more.
+    Closed,
+    /// The line is no reply.
+    Invalid,
+    /// The runner wasn't asked, since an attempt of this worker still runs: its next process asks
+    /// for that.
+    Running,
+}
+
+/// Reports to the runner that the worker's part of a round is over, and returns the reply. If the
+/// worker stays, it has checked the folder once more.
 ///
 /// # Errors
 /// `Failed` if the host's call failed.
-pub fn report_over<H: Host>(worker: &mut Worker<H>) -> Result<Option<Vec<u8>>, Failed>
-    requires over { HasPaid (H.stands worker.old.host) }
+pub fn stay<H: Host>(worker: &mut Worker<H>) -> Result<OverReply, Failed>
+    requires over { IsAt (H.stands worker.old.host) (Over (me_of worker.old.number worker.old.jobs)) (option_map logs_of worker.old.logs) }
+    ensures idle { result ≡ Ok Stays → H.stands worker.new.host (idle_at (me_of worker.new.number worker.new.jobs) (option_map logs_of worker.new.logs)) }
     ensures lives { Lives (H.stands worker.new.host) }
-    ensures health { worker.new.health ≡ worker.old.health }
+    ensures health { IfOk result (λ reply. worker.new.health ≡ worker.old.health) }
+    ensures running { worker.old.has_running ≡ true → (result ≡ Ok Running) × (worker.new ≡ worker.old) }
 {
-    match worker.host.say(over_text()) {
-        Ok(reply) => Ok(reply),
-        Err(_) => {
-            worker.halt = Some(Halt::Host);
-            Err(Failed)
-        }
+    if worker.has_running {
+        return Ok(OverReply::Running);
+    }
+    let Ok(said) = worker.host.say(over_text()) else {
+        return Err(worker.fails(Halt::Host));
+    };
+    let reply = over_reply(&said);
+    if reply != OverReply::Stays {
+        return Ok(reply);
+    }
+    match worker.host.check_folder() {
+        Ok(()) => Ok(reply),
+        Err(_) => Err(worker.fails(Halt::Host)),
+    }
+}
+
+/// Returns the reply that this line is, without its end. No line is `Closed`.
+fn over_reply(said: &Option<Vec<u8>>) -> OverReply
+    ensures { result ≡ over_reply (option_map (λ line. line.items) said.now) }
+{
+    let Some(line) = said else {
+        return OverReply::Closed;
+    };
+    match over_reply_in(line) {
+        Some(Way::Go) => OverReply::Stays,
+        Some(Way::Leave) => OverReply::Leaves,
+        None => OverReply::Invalid,
     }
 }
 

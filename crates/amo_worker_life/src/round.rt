@@ -27,6 +27,14 @@ pub struct InRound<H: Host> {
 }
 
 impl<H: Host> InRound<H> {
+    /// Returns the worker, which makes no further call.
+    pub(crate) fn into_worker(self) -> Worker<H>
+        ensures { result ≡ self.worker }
+    {
+        let InRound { worker, .. } = self;
+        worker
+    }
+
     /// Remembers that a call of the host has failed.
     fn breaks(&mut self) -> Failed
         ensures host { self.new.worker.host ≡ self.old.worker.host }
@@ -219,7 +227,7 @@ impl<H: Host> InRound<H> {
 }
 
 /// Adds these texts to what was read of a log, and returns whether they can follow it.
-fn add(logs: &mut ReadLogs, log: LogFile, texts: &[Vec<u8>]) -> Result<bool, AllocError>
+pub(crate) fn add(logs: &mut ReadLogs, log: LogFile, texts: &[Vec<u8>]) -> Result<bool, AllocError>
     ensures { IfOk result (λ added. Adds added (logs_of logs.old) log (map (λ text. text.items) texts.now) (logs_of logs.new)) }
 {
     match log {

@@ -1,5 +1,5 @@
 //! A worker's process: its host, the lines of its run, and what its runner said last.
-ghost use Rattle.std.specs.Prelude.{◌≡◌, ◌||◌, ℕ, List, Option, true, false, option_map, IfOk, OnErr};
+ghost use Rattle.std.specs.Prelude.{◌≡◌, ◌||◌, ℕ, List, Option, None, true, false, option_map, IfOk, OnErr};
 ghost use Rattle.amo_driver.specs.Standing.{MayCall as MayTry};
 ghost use Rattle.amo_driver.specs.declared.model.Try.TheVariants.{Ask, Note};
 ghost use Rattle.amo_host.specs.Calls.{Say, Heard, Fell};
@@ -14,6 +14,7 @@ use amo_driver::{Failed, JobResult, Past, Reply, Way};
 use amo_host::Host;
 use amo_protocol::{reply_in, was_text};
 use amo_run_files::HashedJobs;
+use amo_run_log::ReadLogs;
 use std::alloc::Global;
 
 /// A worker's process. After a call has failed, `halt` says why.
@@ -25,6 +26,9 @@ pub struct Worker<H: Host> {
     pub number: u64,
     /// The lines that the run knows.
     pub jobs: HashedJobs,
+    /// The answers and journals, as far as it has read them in earlier rounds. `None` before the
+    /// first round, and in a round.
+    pub logs: Option<ReadLogs>,
     /// The serial number of its next attempt.
     pub serial: u64,
     /// True if the runner's last reply was that this worker must leave.
@@ -41,6 +45,7 @@ impl<H: Host> Worker<H> {
         ensures host { result.host ≡ host }
         ensures number { result.number ≡ number }
         ensures jobs { result.jobs ≡ jobs }
+        ensures logs { result.logs ≡ None }
         ensures health { result.health ≡ Fine }
     {
         Worker {
@@ -48,6 +53,7 @@ impl<H: Host> Worker<H> {
             alloc,
             number,
             jobs,
+            logs: None,
             serial: 1,
             is_dismissed: false,
             has_running: false,
@@ -62,6 +68,7 @@ impl<H: Host> Worker<H> {
         ensures health { self.new.health ≡ Lost }
         ensures number { self.new.number ≡ self.old.number }
         ensures jobs { self.new.jobs ≡ self.old.jobs }
+        ensures logs { self.new.logs ≡ self.old.logs }
     {
         self.halt = Some(halt);
         self.health = Health::Lost;

@@ -2,7 +2,7 @@ use Rattle.std.proofs.Common.{◌+◌, ◌-◌, subst, ◌∙◌, List}
 use Rattle.amo_givens.specs.declared.limits.TheConstants.{MAX_WORKERS}
 use Rattle.amo_host.specs.declared.model.LogFile.{LogFile}
 use Rattle.amo_host.specs.declared.model.LogFile.TheVariants.{Journal}
-use Rattle.amo_host.specs.Protocol.{journals_from}
+use Rattle.amo_host.specs.Logs.{journals_from}
 use Rattle.amo_worker_life.specs.Reading.{logs_of, Reads, ReadsOne}
 use Rattle.amo_worker_life.specs.Where.{me_of}
 use Rattle.amo_worker_life.proofs.Clearing.{goes_on, goes_on_not, journals_left, may_go_on}

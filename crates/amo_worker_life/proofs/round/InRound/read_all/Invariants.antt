@@ -1,6 +1,6 @@
 use Rattle.std.proofs.Common.{◌≡◌, ◌+◌, ◌-◌}
 use Rattle.amo_givens.specs.declared.limits.TheConstants.{MAX_WORKERS}
-use Rattle.amo_host.specs.Protocol.{journals_from}
+use Rattle.amo_host.specs.Logs.{journals_from}
 use Rattle.amo_worker_life.specs.Reading.{logs_of, Reads}
 use Rattle.amo_worker_life.specs.Where.{me_of}
 use Rattle.amo_worker_life.proofs.round.InRound.read_all.Given as goal
