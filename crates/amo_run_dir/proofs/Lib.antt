@@ -1,2 +1,1 @@
 mod Extents
-mod ReadUpTo

@@ -39,8 +39,8 @@ IsWhyUnknown (F.Refused item) extents bytes =
 IsWhyUnknown _ extents bytes = ⊥
 
 -- the fault says of a list why it isn't taken in place of what is known; out of memory says nothing
-abbrev pub IsWhyNotGrown : Fault → List ℕ → List ℕ → Type 0
-IsWhyNotGrown F.Memory known list = Unit {0}
-IsWhyNotGrown (F.Changed number) known list = ¬ (BeginsWith known list)
-IsWhyNotGrown (F.List number why) known list = BeginsWith known list × IsRefused list true (J.Refused number why)
-IsWhyNotGrown _ known list = ⊥
+abbrev pub IsWhyNotGrown : Fault → (known list : List ℕ) → (cut : Bool) → Type 0
+IsWhyNotGrown F.Memory known list cut = Unit {0}
+IsWhyNotGrown (F.Changed number) known list cut = ¬ (BeginsWith known list)
+IsWhyNotGrown (F.List number why) known list cut = BeginsWith known list × IsRefused list cut (J.Refused number why)
+IsWhyNotGrown _ known list cut = ⊥

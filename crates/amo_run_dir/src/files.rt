@@ -6,7 +6,7 @@ use amo_fs::{create_private, open_private, read_file, replace_file, sync_folder}
 use std::alloc::Global;
 use std::fs;
 use std::fs::File;
-use std::io::ErrorKind;
+use std::io::{ErrorKind, Read};
 use std::os::unix::fs::FileExt;
 use std::rt::HostRuntime;
 
@@ -104,4 +104,17 @@ pub fn replaced(
         synced,
     );
     written(item, made)
+}
+
+/// Returns the bytes of the file of this path outside of the folder, all of them on the disk. What
+/// is synced is the file that was read, also if another has come into its place meanwhile.
+///
+/// # Errors
+/// `Read` for the system's.
+pub fn synced_bytes(rt: HostRuntime, item: Item, path: &str) -> Result<Vec<u8>, Fault> {
+    let mut file = had(item, fs::open(&rt, path))?;
+    let mut bytes = Vec::new(rt.alloc());
+    had(item, file.read_to_end(&mut bytes))?;
+    had(item, file.sync_all())?;
+    Ok(bytes)
 }

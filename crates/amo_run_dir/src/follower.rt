@@ -38,7 +38,7 @@ impl Follower {
     pub(crate) fn open(
         rt: HostRuntime,
         setting: &Setting<'_>,
-        last: &RoundFile,
+        last: Option<&RoundFile>,
         item: Item,
         own: Option<&File>,
     ) -> Result<(Follower, Log), Fault> {
@@ -108,12 +108,12 @@ impl Follower {
         &self,
         rt: HostRuntime,
         setting: &Setting<'_>,
-        last: &RoundFile,
+        last: Option<&RoundFile>,
     ) -> Result<(), Fault> {
         let first = first_checksum(rt, setting, self.item)?;
-        let counted = counted_in(rt, self.item, Some(last))?;
+        let counted = counted_in(rt, self.item, last)?;
         match loss_in(first, counted, &self.checksums) {
-            Some(why) => Err(fault_of(self.item, why, counted, Some(last))),
+            Some(why) => Err(fault_of(self.item, why, counted, last)),
             None => Ok(()),
         }
     }

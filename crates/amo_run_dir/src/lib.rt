@@ -19,7 +19,6 @@ mod locks;
 mod logs;
 mod loss;
 mod names;
-mod new_round;
 mod registers;
 mod round;
 mod settings;
@@ -29,19 +28,19 @@ pub use admission::{enter, look_at_folder, look_to_read, look_to_write, open};
 pub use damage::{DamagedRun, ReadableLog, look_for_damage};
 pub use disk::Disk;
 pub use error::{Door, Fault, Later, had, written};
-pub use files::{bytes_of, path_of};
-pub use following::{Followed, FollowedFiles};
+pub use files::{bytes_of, path_of, replaced, sync, synced_bytes};
+pub use following::FollowedFiles;
 pub use identity::{Age, check_id, check_kept};
 pub use journal::OpenJournal;
 pub use layout::Item;
 pub use locks::{
-    LockedJournal, Tried, check_number, lock_of, lock_within, settled, take_number, try_lock_of,
+    LockedJournal, Tried, check_number, holder, lock_of, lock_within, recovered, settled,
+    shared_lock_of, try_lock_of,
 };
 pub use logs::{Logs, log_of, read_logs};
 pub use loss::Loss;
 pub use names::is_id;
-pub use new_round::{begin, begin_next};
 pub use registers::Words;
-pub use round::{JoinedRound, join, record_of};
+pub use round::{record_of, replace_record};
 pub use settings::{ListSettings, Setting};
-pub use state::{RawLogs, RunState, attempts_of, has_lines_of, known, known_again};
+pub use state::{RawLogs, RunState, attempts_of, known, known_again};

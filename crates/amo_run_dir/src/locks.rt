@@ -9,6 +9,7 @@ use crate::round::record_of;
 use crate::settings::Setting;
 use amo_fs::{FileDevice, is_at, try_exclusive, try_shared};
 use amo_journal::{DeviceError, RecoverError};
+use amo_run_files::RoundFile;
 use std::fs::File;
 use std::os::unix::fs::MetadataExt;
 use std::rt::HostRuntime;
@@ -55,25 +56,9 @@ pub fn lock_within(
     Ok(None)
 }
 
-/// Takes a shared lock on a file of the run, and tries for two seconds. Returns `None` if another
-/// process has the exclusive lock for all of them.
-pub fn shared_lock_within(
-    rt: HostRuntime,
-    setting: &Setting<'_>,
-    item: Item,
-) -> Result<Option<File>, Fault> {
-    for _try in 0..TRIES {
-        if let Some(lock) = shared_lock_of(rt, setting, item)? {
-            return Ok(Some(lock));
-        }
-        thread::sleep(&rt, Duration::from_millis(PAUSE));
-    }
-    Ok(None)
-}
-
 /// Takes a shared lock on a file of the run, by a new handle. Returns `None` if another process has
 /// the exclusive lock.
-fn shared_lock_of(
+pub fn shared_lock_of(
     rt: HostRuntime,
     setting: &Setting<'_>,
     item: Item,
@@ -117,12 +102,10 @@ fn check_name(
     }
 }
 
-/// Recovers the journal of a handle that has its lock, and syncs the folder. The journal is first
-/// compared with what the last round's file counts of it, so that nothing is cut from one that has
-/// lost appends.
+/// Recovers the journal of a handle that has its lock, and syncs the folder.
 ///
 /// # Errors
-/// As [`log_of`]; then nothing was written.
+/// As [`recovered`].
 pub fn settled(
     rt: HostRuntime,
     setting: &Setting<'_>,
@@ -130,18 +113,7 @@ pub fn settled(
     lock: File,
 ) -> Result<LockedJournal, Fault> {
     let last = record_of(rt, setting)?;
-    log_of(rt, setting, item, last.as_ref())?;
-    let handle = written(item, lock.try_clone())?;
-    let device = had(item, FileDevice::open(rt.alloc(), handle))?;
-    let first = first_checksum(rt, setting, item)?;
-    let (journal, texts) = match OpenJournal::recover(rt.alloc(), device, first) {
-        Ok(both) => both,
-        Err(RecoverError::Damaged { number, kind }) => {
-            return Err(Fault::Damaged(item, number, kind));
-        }
-        Err(RecoverError::Device(DeviceError::Memory)) => return Err(Fault::Memory),
-        Err(RecoverError::Device(DeviceError::Failed)) => return Err(Fault::Journal(item)),
-    };
+    let (journal, texts) = recovered(rt, setting, item, last.as_ref(), &lock)?;
     sync(rt, setting)?;
     Ok(LockedJournal {
         journal,
@@ -150,21 +122,28 @@ pub fn settled(
     })
 }
 
-/// Takes the number of a worker: the lock on its journal, which is then recovered. The folder is
-/// compared with the run once more under the lock: the run may have been given up, and another
-/// folder put in its place.
-pub fn take_number(
+/// Recovers the journal of a handle that has its lock, and returns the records of its appends. The
+/// journal is first compared with what the file of the last round counts of it, so that nothing is
+/// cut from one that has lost appends. `last` is that file, which the caller has read before.
+///
+/// # Errors
+/// As [`log_of`]; then nothing was written.
+pub fn recovered(
     rt: HostRuntime,
     setting: &Setting<'_>,
-    worker: u64,
-) -> Result<LockedJournal, Fault> {
-    let item = Item::Journal(worker);
-    match lock_within(rt, setting, item)? {
-        Some(lock) => {
-            check_kept(rt, setting)?;
-            settled(rt, setting, item, lock)
-        }
-        None => Err(Fault::Later(holder(rt, setting, item))),
+    item: Item,
+    last: Option<&RoundFile>,
+    lock: &File,
+) -> Result<(OpenJournal<FileDevice>, Vec<Vec<u8>>), Fault> {
+    log_of(rt, setting, item, last)?;
+    let handle = written(item, lock.try_clone())?;
+    let device = had(item, FileDevice::open(rt.alloc(), handle))?;
+    let first = first_checksum(rt, setting, item)?;
+    match OpenJournal::recover(rt.alloc(), device, first) {
+        Ok(both) => Ok(both),
+        Err(RecoverError::Damaged { number, kind }) => Err(Fault::Damaged(item, number, kind)),
+        Err(RecoverError::Device(DeviceError::Memory)) => Err(Fault::Memory),
+        Err(RecoverError::Device(DeviceError::Failed)) => Err(Fault::Journal(item)),
     }
 }
 
@@ -211,7 +190,7 @@ pub fn try_lock_of(rt: HostRuntime, setting: &Setting<'_>, item: Item) -> Result
 }
 
 /// Returns why a number can't be taken, with the process that has its lock if the system lists it.
-fn holder(rt: HostRuntime, setting: &Setting<'_>, item: Item) -> Later {
+pub fn holder(rt: HostRuntime, setting: &Setting<'_>, item: Item) -> Later {
     match holder_of(rt, setting, item) {
         Ok(Some(process)) => Later::TakenBy(process),
         _ => Later::Taken,

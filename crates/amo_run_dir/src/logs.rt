@@ -92,19 +92,19 @@ pub fn log_of(
 /// is read on.
 ///
 /// # Errors
-/// As [`log_of`], but never `Missing`.
+/// As [`log_of`], but `Missing` only of the round's file.
 pub(crate) fn log_in(
     rt: HostRuntime,
     setting: &Setting<'_>,
     item: Item,
-    last: &RoundFile,
+    last: Option<&RoundFile>,
     file: &File,
 ) -> Result<(Log, Place), Fault> {
     let first = first_checksum(rt, setting, item)?;
-    let counted = counted_in(rt, item, Some(last))?;
+    let counted = counted_in(rt, item, last)?;
     match look_in(rt.alloc(), item, file, first, counted)? {
-        Look::Read(log, place) => Ok((log, place)),
-        Look::Refused(why, _) => Err(fault_of(item, why, counted, Some(last))),
+        Look::Read(log, place) => Ok((begun(rt, setting, last, log)?, place)),
+        Look::Refused(why, _) => Err(fault_of(item, why, counted, last)),
     }
 }
 

@@ -1,52 +1,68 @@
 //! The operating system, as a worker's process has it: the files of its run, its runner, the clock.
 ghost use Rattle.std.specs.Prelude.{◌≡◌};
 
-use crate::clock::now;
+use crate::clock::{boot_id, now};
 use crate::runner::Runner;
 use amo_fs::FileDevice;
-use amo_host::{Failed, Host, LogFile};
+use amo_host::{Failed, Hold, Host, LogFile, LogPart, Registers, RunLock};
 use amo_journal::{AppendError, DeviceError};
-use amo_run_dir::{Fault, FollowedFiles, Item, OpenJournal, Words};
+use amo_run_dir::{
+    Fault, FollowedFiles, Item, ListSettings, OpenJournal, Setting, Words, check_kept,
+    check_number, known, known_again, lock_of, record_of, recovered, replace_record, replaced,
+    shared_lock_of, sync, synced_bytes,
+};
+use amo_run_files::{HashedJobs, RoundFile};
 use amo_run_log::{AttemptId, Entry};
+use std::fs::File;
 use std::rt::HostRuntime;
+use std::thread;
+use std::time::Duration;
+
+/// The pause between two tries of a lock, in milliseconds.
+const PAUSE: u64 = 20;
 
 /// The files of a run and the runner, as the worker's process has them open. After a call has
 /// failed, `fault` says why.
 #[derive(Drop)]
-pub(crate) struct RunHost {
+pub(crate) struct RunHost<'a> {
     rt: HostRuntime,
+    setting: Setting<'a>,
+    /// The path of the user's list.
+    list: &'a str,
     worker: u64,
-    /// `None` after an append has failed.
+    /// The handle that has the lock on the worker's journal.
+    guard: Option<File>,
+    /// The handle that has the lock of the round.
+    round: Option<File>,
+    /// `None` before it was recovered, and after an append has failed.
     journal: Option<OpenJournal<FileDevice>>,
-    /// The registers of the round, and the answers and journals that are read on, if the worker is
-    /// in a round.
-    round: Option<(Words, FollowedFiles)>,
+    registers: Option<Words>,
+    logs: FollowedFiles,
     pub(crate) runner: Runner,
     pub(crate) fault: Option<Fault>,
 }
 
-impl RunHost {
-    /// Returns a host with the journal of this worker, which is in no round.
-    pub(crate) fn new(rt: HostRuntime, worker: u64, journal: OpenJournal<FileDevice>) -> RunHost {
+impl<'a> RunHost<'a> {
+    /// Returns a host that has nothing open yet.
+    pub(crate) fn new(
+        rt: HostRuntime,
+        setting: &Setting<'a>,
+        jobs: &ListSettings<'a>,
+        worker: u64,
+    ) -> RunHost<'a> {
         RunHost {
             rt,
+            setting: *setting,
+            list: jobs.list,
             worker,
-            journal: Some(journal),
+            guard: None,
             round: None,
+            journal: None,
+            registers: None,
+            logs: FollowedFiles::new(rt.alloc()),
             runner: Runner::new(rt),
             fault: None,
         }
-    }
-
-    /// Enters a round.
-    pub(crate) fn enter(&mut self, words: Words, files: FollowedFiles) {
-        self.round = Some((words, files));
-    }
-
-    /// Leaves the round, and returns the answers and journals that were read on.
-    pub(crate) fn leave(&mut self) -> Option<FollowedFiles> {
-        let (_words, files) = self.round.take()?;
-        Some(files)
     }
 
     /// Remembers why a call has failed.
@@ -79,22 +95,182 @@ impl RunHost {
             Err(_) => self.told(Err(Fault::Journal(Item::Journal(self.worker)))),
         }
     }
+
+    /// Takes a lock, and returns the handle that has it. Returns `None` if another process has one
+    /// that excludes it.
+    fn locked(&self, lock: RunLock, hold: Hold) -> Result<Option<File>, Fault> {
+        let item = item_of_lock(lock);
+        match hold {
+            Hold::Shared => shared_lock_of(self.rt, &self.setting, item),
+            Hold::Exclusive => lock_of(self.rt, &self.setting, item),
+        }
+    }
+
+    /// Recovers the worker's journal, and keeps it.
+    fn recovered(&mut self, last: Option<&RoundFile>) -> Result<Vec<Vec<u8>>, Fault> {
+        let item = Item::Journal(self.worker);
+        let Some(guard) = &self.guard else {
+            return Err(Fault::NoWay);
+        };
+        let (journal, texts) = recovered(self.rt, &self.setting, item, last, guard)?;
+        self.journal = Some(journal);
+        Ok(texts)
+    }
+
+    /// Opens the registers, and keeps them.
+    fn opened(&mut self, front: usize) -> Result<Option<Registers>, Fault> {
+        let Some(words) = Words::open(self.rt, &self.setting)? else {
+            return Ok(None);
+        };
+        let mut bytes = vec![in self.rt.alloc(); 0u8; front]?;
+        let Some(len) = words.front(&mut bytes)? else {
+            return Ok(None);
+        };
+        self.registers = Some(words);
+        Ok(Some(Registers { len, front: bytes }))
+    }
+
+    /// Reads a log, from its beginning or on.
+    fn part_of(&mut self, log: LogFile, last: Option<&RoundFile>) -> Result<LogPart, Fault> {
+        let item = item_of_log(log);
+        let own = guard_of(&self.guard, log == LogFile::Journal(self.worker));
+        let (texts, counted) = self.logs.read(self.rt, &self.setting, last, item, own)?;
+        Ok(LogPart { texts, counted })
+    }
 }
 
-impl Host for RunHost {
+/// Returns the handle of a guard if it is wanted.
+fn guard_of(guard: &Option<File>, is_wanted: bool) -> Option<&File> {
+    if is_wanted { guard.as_ref() } else { None }
+}
+
+/// Returns the file whose lock this is.
+fn item_of_lock(lock: RunLock) -> Item {
+    match lock {
+        RunLock::Guard(worker) => Item::Journal(worker),
+        RunLock::Round => Item::Round,
+    }
+}
+
+/// Returns the file that this log is.
+pub(crate) fn item_of_log(log: LogFile) -> Item {
+    match log {
+        LogFile::Answers => Item::Answers,
+        LogFile::Journal(worker) => Item::Journal(worker),
+    }
+}
+
+/// Reads the lines that the run knows, and takes them in place of those in `jobs`.
+fn read_known(
+    rt: HostRuntime,
+    setting: &Setting<'_>,
+    last: Option<&RoundFile>,
+    jobs: &mut HashedJobs,
+) -> Result<(), Fault> {
+    match last {
+        Some(file) => known_again(rt, setting, file, jobs),
+        None => {
+            *jobs = HashedJobs::new(known(rt, setting, None)?);
+            Ok(())
+        }
+    }
+}
+
+impl<'a> Host for RunHost<'a> {
     ghost stands = { λ _ _. Unit {0} };
 
+    fn try_lock(&mut self, lock: RunLock, hold: Hold) -> Result<bool, Failed> {
+        let locked = self.locked(lock, hold);
+        let handle = self.told(locked)?;
+        let got = handle.is_some();
+        match lock {
+            RunLock::Guard(_) => self.guard = handle,
+            RunLock::Round => self.round = handle,
+        }
+        Ok(got)
+    }
+
+    fn unlock(&mut self, lock: RunLock) {
+        match lock {
+            RunLock::Guard(_) => self.guard = None,
+            RunLock::Round => self.round = None,
+        }
+    }
+
+    fn check_folder(&mut self) -> Result<(), Failed> {
+        let checked = match &self.guard {
+            Some(guard) => check_number(self.rt, &self.setting, self.worker, guard),
+            None => check_kept(self.rt, &self.setting),
+        };
+        self.told(checked)
+    }
+
+    fn sync_folder(&mut self) -> Result<(), Failed> {
+        let synced = sync(self.rt, &self.setting);
+        self.told(synced)
+    }
+
+    fn read_boot(&mut self) -> Result<Vec<u8>, Failed> {
+        let boot = boot_id(self.rt, self.setting.boot);
+        self.told(boot)
+    }
+
+    fn read_round(&mut self) -> Result<Option<RoundFile>, Failed> {
+        let last = record_of(self.rt, &self.setting);
+        self.told(last)
+    }
+
+    fn recover(&mut self, last: Option<&RoundFile>) -> Result<Vec<Vec<u8>>, Failed> {
+        let texts = self.recovered(last);
+        self.told(texts)
+    }
+
+    fn read_jobs(&mut self, last: Option<&RoundFile>, jobs: &mut HashedJobs) -> Result<(), Failed> {
+        let read = read_known(self.rt, &self.setting, last, jobs);
+        self.told(read)
+    }
+
+    fn open_registers(&mut self, front: usize) -> Result<Option<Registers>, Failed> {
+        let opened = self.opened(front);
+        self.told(opened)
+    }
+
+    fn read_log(&mut self, log: LogFile, last: Option<&RoundFile>) -> Result<LogPart, Failed> {
+        let part = self.part_of(log, last);
+        self.told(part)
+    }
+
+    fn read_list(&mut self) -> Result<Vec<u8>, Failed> {
+        let bytes = synced_bytes(self.rt, Item::List, self.list);
+        self.told(bytes)
+    }
+
+    fn make_jobs(&mut self, bytes: &[u8]) -> Result<(), Failed> {
+        let made = replaced(self.rt, &self.setting, Item::Known, bytes, true);
+        self.told(made)
+    }
+
+    fn make_round(&mut self, file: &RoundFile) -> Result<(), Failed> {
+        let made = replace_record(self.rt, &self.setting, file);
+        self.told(made)
+    }
+
+    fn make_registers(&mut self, bytes: &[u8]) -> Result<(), Failed> {
+        let made = replaced(self.rt, &self.setting, Item::Words, bytes, false);
+        self.told(made)
+    }
+
     fn load(&mut self, register: u64) -> Result<u64, Failed> {
-        let loaded = match &self.round {
-            Some((words, _)) => words.load(register),
+        let loaded = match &self.registers {
+            Some(words) => words.load(register),
             None => Err(Fault::NoWay),
         };
         self.told(loaded)
     }
 
     fn store(&mut self, register: u64, value: u64) -> Result<(), Failed> {
-        let stored = match &self.round {
-            Some((words, _)) => words.store(register, value),
+        let stored = match &self.registers {
+            Some(words) => words.store(register, value),
             None => Err(Fault::NoWay),
         };
         self.told(stored)
@@ -123,17 +299,17 @@ impl Host for RunHost {
     }
 
     fn read_on(&mut self, log: LogFile) -> Result<Vec<Vec<u8>>, Failed> {
-        let read = match (&mut self.round, log) {
-            (Some((_, files)), LogFile::Answers) => files.read_answers(self.rt),
-            (Some((_, files)), LogFile::Journal(worker)) => files.read_journal(self.rt, worker),
-            (None, _) => Err(Fault::NoWay),
-        };
+        let read = self.logs.read_on(self.rt, item_of_log(log));
         self.told(read)
     }
 
     fn say(&mut self, line: &[u8]) -> Result<Option<Vec<u8>>, Failed> {
         let heard = self.runner.ask(line);
         self.told(heard)
+    }
+
+    fn pause(&self) {
+        thread::sleep(&self.rt, Duration::from_millis(PAUSE));
     }
 
     fn now(&self) -> u64 {

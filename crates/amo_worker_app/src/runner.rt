@@ -1,13 +1,6 @@
 //! The runner, which starts the commands: the worker speaks with it by standard input and output.
-ghost use Rattle.std.specs.Prelude.{◌≡◌, ◌≢◌, Err, None, Some, OnErr, OnOk, option_map};
-ghost use Rattle.amo_driver.specs.declared.answer.Way.TheVariants.{Go, Leave};
-ghost use Rattle.amo_worker_app.specs.Notes.{over_way};
-ghost use Rattle.amo_run_dir.specs.declared.error.Fault.TheVariants.{Later as LaterFault, Left};
-ghost use Rattle.amo_run_dir.specs.declared.error.Later.TheVariants.{Over};
-
-use amo_driver::Way;
-use amo_protocol::{over_reply_in, whole_line};
-use amo_run_dir::{Fault, Later};
+use amo_protocol::whole_line;
+use amo_run_dir::Fault;
 use std::alloc::AllocError;
 use std::io;
 use std::io::{BufRead, Input, Write};
@@ -65,31 +58,6 @@ impl Runner {
     /// Returns the runner's last line as a text to print.
     pub(crate) fn shown(&self) -> Result<String, AllocError> {
         shown(self.rt, &self.said)
-    }
-}
-
-/// Decides whether a worker stays for the next round, by the runner's reply to `over`: that line
-/// without its end, or `None` if no whole line came.
-///
-/// # Errors
-/// `Later` if no whole line came, since the worker's part of the round is over. `Left` if the line
-/// is `leave`. `NoAnswer` for each other line, and `Memory` if that finds no room.
-pub(crate) fn stays(rt: HostRuntime, said: Option<Vec<u8>>) -> Result<(), Fault>
-    ensures goes { OnOk result (over_way (option_map (λ line. line.items) said) ≡ Some Go) }
-    ensures ends { OnErr result (over_way (option_map (λ line. line.items) said) ≢ Some Go) }
-    ensures leaves { over_way (option_map (λ line. line.items) said) ≡ Some Leave → result ≡ Err Left }
-    ensures gone { said ≡ None → result ≡ Err (LaterFault Over) }
-{
-    let Some(line) = said else {
-        return Err(Fault::Later(Later::Over));
-    };
-    match over_reply_in(&line) {
-        Some(Way::Go) => Ok(()),
-        Some(Way::Leave) => Err(Fault::Left),
-        None => match shown(rt, &line) {
-            Ok(text) => Err(Fault::NoAnswer(text)),
-            Err(_) => Err(Fault::Memory),
-        },
     }
 }
 
