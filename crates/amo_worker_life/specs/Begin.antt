@@ -1,5 +1,5 @@
 -- How a worker begins a round.
-use Rattle.std.specs.Prelude.{◌≡◌, ℕ, Bool, true, false, List, [], Option, Some}
+use Rattle.std.specs.Prelude.{◌≡◌, ◌≢◌, ℕ, Bool, true, false, List, [], Option, Some}
 use Rattle.amo_run_files.specs.declared.extent.Extent.{Extent}
 use Rattle.amo_run_files.specs.declared.fault.JobsFault.TheVariants as J
 use Rattle.amo_run_files.specs.declared.round_file.RoundFile.{RoundFile}
@@ -42,10 +42,16 @@ IsWhyNoneOpen H.Memory journals findings = Unit {0}
 IsWhyNoneOpen (H.Misplaced number) journals findings = IsOutOfPlace journals findings number
 IsWhyNoneOpen _ journals findings = ⊥
 
--- If no round was begun since no line is open, none is, by the logs that were read.
-abbrev pub IsNothingOpen : Begun → Identity → (read : Option Logs) → Type 0
-IsNothingOpen (B.NothingOpen len) me read = (logs : Logs) × (read ≡ Some logs) × (open_by me logs ≡ [])
-IsNothingOpen _ me read = Unit {0}
+-- A round was begun if a line is open by the logs that were read, and none if no line is. By a worker that has the lock of the round.
+abbrev pub IsMade : Begun → Identity → (read : Option Logs) → Type 0
+IsMade (B.NothingOpen len) me read = (logs : Logs) × (read ≡ Some logs) × (open_by me logs ≡ [])
+IsMade B.Round me read = (logs : Logs) × (read ≡ Some logs) × (open_by me logs ≢ [])
+IsMade B.Elsewhere me read = ⊥
+
+-- By a worker that may not have got the lock.
+abbrev pub IsBegun : Begun → Identity → (read : Option Logs) → Type 0
+IsBegun B.Elsewhere me read = Unit {0}
+IsBegun begun me read = IsMade begun me read
 
 -- If a life ends since no line is open, none is, by the logs that were read.
 abbrev pub EndsWell : Ending → Identity → (read : Option Logs) → Type 0

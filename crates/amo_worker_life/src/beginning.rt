@@ -1,9 +1,10 @@
 //! How a worker begins a round: under the lock of the round, which it has alone, it reads all that
 //! there is, and makes the files of a round of the open lines.
-ghost use Rattle.std.specs.Prelude.{◌≡◌, ◌≤◌, ◌∷◌, nat_lt, length, take, option_map, IfErr, IfOk, OnOk};
+ghost use Rattle.std.specs.Prelude.{◌≡◌, ◌≤◌, ◌∷◌, nat_lt, length, take, option_map, Ok, IfErr, IfOk, OnOk};
 ghost use Rattle.amo_givens.specs.declared.limits.TheConstants.{MAX_JOBS, MAX_WORKERS, MAX_BETA};
 ghost use Rattle.amo_run_files.specs.Lines.{lines_in, BeginsWith};
 ghost use Rattle.amo_run_files.specs.Refusals.{IsTaken};
+ghost use Rattle.amo_run_files.specs.Rounds.{givens_of};
 ghost use Rattle.amo_run_log.specs.Findings.{AreInPlace};
 ghost use Rattle.amo_run_log.specs.Open.{open_lines};
 ghost use Rattle.amo_run_log.specs.Texts.{ended};
@@ -11,9 +12,10 @@ ghost use Rattle.amo_host.specs.Beginning.{open_by, round_after, AreCounted, Are
 ghost use Rattle.amo_host.specs.Phase.{Begins, LockedAlone, HasLast, KnowsJobs, KnowsAll, RoundMade, RegistersMade};
 ghost use Rattle.amo_host.specs.Protocol.{Lives};
 ghost use Rattle.amo_host.specs.Reading.{has_all};
-ghost use Rattle.amo_worker_life.specs.Begin.{locks_if, IsNothingOpen, IsWhyNoneOpen, IsWhyNotTaken, MayMake};
+ghost use Rattle.amo_worker_life.specs.Begin.{locks_if, IsBegun, IsMade, IsWhyNoneOpen, IsWhyNotTaken, MayMake};
 ghost use Rattle.amo_worker_life.specs.Reading.{logs_of};
 ghost use Rattle.amo_worker_life.specs.Where.{idle_at, me_of};
+ghost use Rattle.amo_worker_life.specs.declared.beginning.Begun.TheVariants.{Elsewhere};
 ghost use Rattle.amo_worker_life.specs.declared.halt.Health.TheVariants.{Fine};
 
 use crate::halt::Halt;
@@ -80,7 +82,8 @@ pub fn begin<H: Host>(worker: &mut Worker<H>, sharing: Sharing) -> Result<Begun,
     requires idle { H.stands worker.old.host (idle_at (me_of worker.old.number worker.old.jobs) (option_map logs_of worker.old.logs)) }
     requires fine { worker.old.health ≡ Fine }
     ensures idle { IfOk result (λ begun. H.stands worker.new.host (idle_at (me_of worker.new.number worker.new.jobs) (option_map logs_of worker.new.logs))) }
-    ensures nothing { IfOk result (λ begun. IsNothingOpen begun (me_of worker.new.number worker.new.jobs) (option_map logs_of worker.new.logs)) }
+    ensures begun { IfOk result (λ begun. IsBegun begun (me_of worker.new.number worker.new.jobs) (option_map logs_of worker.new.logs)) }
+    ensures elsewhere { result ≡ Ok Elsewhere → worker.new.logs ≡ worker.old.logs }
     ensures lives { Lives (H.stands worker.new.host) }
     ensures fine { IfOk result (λ begun. worker.new.health ≡ Fine) }
 {
@@ -102,6 +105,7 @@ impl<H: Host> Worker<H> {
     fn lock_round(&mut self) -> Result<bool, Failed>
         requires idle { H.stands self.old.host (idle_at (me_of self.old.number self.old.jobs) (option_map logs_of self.old.logs)) }
         ensures locks { IfOk result (λ got. H.stands self.new.host (locks_if got (me_of self.new.number self.new.jobs) (option_map logs_of self.new.logs))) }
+        ensures logs { IfOk result (λ got. self.new.logs ≡ self.old.logs) }
         ensures lives { Lives (H.stands self.new.host) }
         ensures health { IfOk result (λ got. self.new.health ≡ self.old.health) }
     {
@@ -214,7 +218,7 @@ impl<H: Host> Worker<H> {
         requires lines { read.lines.items ≡ open_by (me_of self.old.number self.old.jobs) (logs_of read.logs) }
         requires placed { AreInPlace (logs_of read.logs).journals (logs_of read.logs).findings }
         ensures idle { IfOk result (λ begun. H.stands self.new.host (idle_at (me_of self.new.number self.new.jobs) (option_map logs_of self.new.logs))) }
-        ensures nothing { IfOk result (λ begun. IsNothingOpen begun (me_of self.new.number self.new.jobs) (option_map logs_of self.new.logs)) }
+        ensures begun { IfOk result (λ begun. IsMade begun (me_of self.new.number self.new.jobs) (option_map logs_of self.new.logs)) }
         ensures lives { Lives (H.stands self.new.host) }
         ensures health { IfOk result (λ begun. self.new.health ≡ self.old.health) }
     {
@@ -339,6 +343,8 @@ fn next_file(
     counts: Vec<Extent>,
 ) -> Result<RoundFile, AllocError>
     ensures next { IfOk result (λ file. IsNext first last.now.boot.items last.now.file lines.now file.header) }
+    ensures shared { IfOk result (λ file. file.header.givens ≡ givens_of (length file.header.lines.items) sharing.workers sharing.beta) }
+    ensures workers { IfOk result (λ file. file.header.workers ≡ sharing.workers) }
     ensures counted { IfOk result (λ file. AreCounted jobs.old counts.items file.extents.items) }
     ensures same { jobs.new ≡ jobs.old }
 {

@@ -1,12 +1,14 @@
 //! A worker's part of a round, and what comes before it.
-ghost use Rattle.std.specs.Prelude.{◌≡◌, true, false, option_map, Ok, IfOk, OnOk};
+ghost use Rattle.std.specs.Prelude.{◌≡◌, ℕ, List, Option, true, false, option_map, Ok, IfOk, OnOk};
 ghost use Rattle.amo_givens.specs.Givens.{IsWorker};
 ghost use Rattle.amo_driver.specs.Course.{first_stage};
 ghost use Rattle.amo_driver.specs.Stage.{Asking};
 ghost use Rattle.amo_driver.specs.declared.past.Asked.TheVariants.{All};
 ghost use Rattle.amo_driver.specs.Stops.{AsksTo, EndsAt};
+ghost use Rattle.amo_host.specs.Calls.{Heard, Say};
 ghost use Rattle.amo_host.specs.Phase.{Asks, Works, Over};
-ghost use Rattle.amo_host.specs.Protocol.{Lives};
+ghost use Rattle.amo_host.specs.Protocol.{Lives, MayCall, Moves};
+ghost use Rattle.amo_protocol.specs.Sayings.{over_text};
 ghost use Rattle.amo_worker_life.specs.Where.{ends_the_work, idle_at, me_of, over_reply, AsksAt, HasPaid, IsAt, IsOver};
 ghost use Rattle.amo_worker_life.specs.Reading.{logs_of};
 ghost use Rattle.amo_worker_life.specs.declared.halt.Health.TheVariants.{Fine};
@@ -111,19 +113,36 @@ pub fn stay<H: Host>(worker: &mut Worker<H>) -> Result<OverReply, Failed>
     ensures lives { Lives (H.stands worker.new.host) }
     ensures health { IfOk result (λ reply. worker.new.health ≡ worker.old.health) }
     ensures running { worker.old.has_running ≡ true → (result ≡ Ok Running) × (worker.new ≡ worker.old) }
+    ensures only_running { result ≡ Ok Running → worker.old.has_running ≡ true }
 {
     if worker.has_running {
         return Ok(OverReply::Running);
     }
-    let Ok(said) = worker.host.say(over_text()) else {
-        return Err(worker.fails(Halt::Host));
-    };
-    let reply = over_reply(&said);
+    let reply = say_over(worker)?;
     if reply != OverReply::Stays {
         return Ok(reply);
     }
     match worker.host.check_folder() {
         Ok(()) => Ok(reply),
+        Err(_) => Err(worker.fails(Halt::Host)),
+    }
+}
+
+/// Reports to the runner that the worker's part of the round is over, and returns the reply.
+///
+/// # Errors
+/// `Failed` if the host's call failed.
+fn say_over<H: Host>(worker: &mut Worker<H>) -> Result<OverReply, Failed>
+    requires { MayCall (H.stands worker.old.host) (Say over_text) }
+    ensures heard { IfOk result (λ reply. (heard : Option (List ℕ)) × (reply ≡ over_reply heard) × Moves (H.stands worker.old.host) (H.stands worker.new.host) (Heard over_text heard)) }
+    ensures lives { Lives (H.stands worker.new.host) }
+    ensures health { IfOk result (λ reply. worker.new.health ≡ worker.old.health) }
+    ensures number { worker.new.number ≡ worker.old.number }
+    ensures jobs { worker.new.jobs ≡ worker.old.jobs }
+    ensures logs { worker.new.logs ≡ worker.old.logs }
+{
+    match worker.host.say(over_text()) {
+        Ok(said) => Ok(over_reply(&said)),
         Err(_) => Err(worker.fails(Halt::Host)),
     }
 }

@@ -47,6 +47,8 @@ impl<H: Host> Worker<H> {
         ensures jobs { result.jobs ≡ jobs }
         ensures logs { result.logs ≡ None }
         ensures health { result.health ≡ Fine }
+        ensures dismissed { result.is_dismissed ≡ false }
+        ensures running { result.has_running ≡ false }
     {
         Worker {
             host,
