@@ -9,11 +9,11 @@ use Rattle.amo_host.specs.declared.model.RunLock.TheVariants.{Guard}
 use Rattle.amo_host.specs.Calls.{Request, TryLock, CheckFolder, SyncFolder, ReadRound, Recover, ReadJobs, Call, Tried, FolderIsKept, FolderIsSynced, RoundIs, Recovered, JobsAre}
 use Rattle.amo_host.specs.Phase.{Start, Unborn, Guards, Checked, Knows, HasRecovered, Settled, Phase, Starts, Asks, Ended}
 
--- an attempt by its serial number and its line
+-- An attempt, by its serial number and its line.
 abbrev pub intent_of : ℕ × ℕ → Intent
 intent_of i = record { serial = i.0; line = i.1 }
 
--- the attempts of a journal that are pending, in order
+-- The attempts of a journal that are pending, in order.
 abbrev pub pending_of : List Attempt → List Intent
 pending_of attempts = map intent_of (pending_from 1 attempts)
 

@@ -18,7 +18,6 @@ pub use beginning::{Begun, Sharing, begin};
 pub use halt::{Halt, Health};
 pub use joining::{Seat, join};
 pub use life::{Ending, live};
-pub use outcome::outcome_entry;
 pub use part::{OverReply, ask_past, leave, stay, take_part};
 pub use round::InRound;
 pub use start::take_number;

@@ -7,7 +7,7 @@ use amo_run_log::{Entry, Outcome};
 
 /// Returns the entry of the outcome of the attempt of this serial number, which came at this time,
 /// in seconds since 1970.
-pub fn outcome_entry(serial: u64, time: u64, became: JobResult) -> Entry
+pub(crate) fn outcome_entry(serial: u64, time: u64, became: JobResult) -> Entry
     ensures { result ≡ outcome_entry serial time became }
 {
     Entry::Answer {
