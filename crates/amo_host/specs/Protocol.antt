@@ -143,6 +143,7 @@ locked_if from me prior hold false = from
 -- The phase after a call of a process that asks for earlier attempts, or has asked for all of them.
 abbrev pub asks_on : Identity → Stage → Call → Phase
 asks_on me st (Tried lock hold got) = locked_if (Asks me st) me None hold got
+asks_on me st (Fell (TryLock lock hold)) = Ended
 asks_on me st c = Asks me (stage_by (due st) st c)
 
 -- The phase after a call of a process that is in no round.

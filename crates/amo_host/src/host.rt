@@ -175,8 +175,8 @@ pub trait Host {
     /// Waits for a moment, before a lock is tried again. The protocol doesn't speak of it.
     fn pause(&self);
 
-    /// Returns the time in seconds since 1970. It is recorded for persons, and the protocol doesn't
-    /// speak of it.
+    /// Returns the time in seconds since 1970, or 0 if the clock can't be read. It is recorded for
+    /// persons, and the protocol doesn't speak of it.
     fn now(&self) -> u64;
 
     /// Tells a person that a line isn't handed over, and which attempt stands against it. The
