@@ -1,0 +1,5 @@
+use Rattle.amo_operator.proofs.Steps.{calls_allowed}
+use Rattle.amo_operator.proofs.laws.calls_are_allowed.Goals as goal
+
+pub returns : goal.returns
+returns c = calls_allowed

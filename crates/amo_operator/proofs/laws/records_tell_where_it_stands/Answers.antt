@@ -1,0 +1,5 @@
+use Rattle.amo_operator.proofs.Steps.{stands_more}
+use Rattle.amo_operator.proofs.laws.records_tell_where_it_stands.Goals as goal
+
+pub returns : goal.returns
+returns c = stands_more
