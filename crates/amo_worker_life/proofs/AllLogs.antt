@@ -8,8 +8,11 @@ use Rattle.amo_host.specs.declared.model.LogFile.TheVariants.{Answers}
 use Rattle.amo_host.specs.Calls.{ReadLog}
 use Rattle.amo_host.specs.Logs.{Logs, all_logs, journals_from}
 use Rattle.amo_host.specs.Phase.{Identity, Phase, Purpose, Reads as ReadsFor}
-use Rattle.amo_host.specs.Protocol.{MayCall}
+use Rattle.amo_host.specs.Protocol.{Lives, MayCall}
 use Rattle.amo_host.specs.Reading.{last_for, reads_more, MayReadFor}
+use Rattle.amo_worker_life.specs.declared.halt.Halt.{Halt}
+use Rattle.amo_worker_life.specs.declared.halt.Halt.TheVariants as H
+use Rattle.amo_worker_life.specs.Halting.{HaltsBy, IsWhyUnread}
 use Rattle.amo_worker_life.specs.Reading.{MayReadAll, ReadsLog, ReadsTo}
 
 module _ (me : Identity) (last : Option RoundFile) where
@@ -41,3 +44,20 @@ module _ (me : Identity) (last : Option RoundFile) where
       -- it has read that
       pub goes_on : (after : Phase → Type 0) (next : Logs) (more : List Extent) → ReadsLog mid after last f logs next counts more → ReadsTo before after me last first next more left
       goes_on after next more read purpose for_it of here = step mid after logs next counts more f left purpose for_it of read (reads purpose for_it of here)
+
+      -- or it couldn't
+      pub goes_no_further : (after : Phase → Type 0) (who : Identity) (read : Option Logs) (why : Halt) → IsWhyUnread why mid after last f logs → Lives after → HaltsBy after who read why
+      goes_no_further after who read H.Memory is lives = lives
+      goes_no_further after who read H.Host is lives = is (ReadsFor me may.0 logs counts (f ∷ left)) (reads may.0 may.1 may.2 may.3) (may.1, ap (ReadLog f) (sym may.2))
+      goes_no_further after who read (H.Unread log) is lives =
+          subst (λ (o : Option Logs). after (reads_more me may.0 o (counts ++ is.2 ∷ []) left)) is.4
+          (is.3 (ReadsFor me may.0 logs counts (f ∷ left)) (reads may.0 may.1 may.2 may.3) (may.1, ap (ReadLog f) (sym may.2)))
+      goes_no_further after who read H.NoLine is lives = absurd is
+      goes_no_further after who read (H.Held lock) is lives = absurd is
+      goes_no_further after who read (H.Entry n) is lives = absurd is
+      goes_no_further after who read (H.Changed n) is lives = absurd is
+      goes_no_further after who read (H.List n fault) is lives = absurd is
+      goes_no_further after who read (H.Misplaced n) is lives = absurd is
+      goes_no_further after who read H.OtherRound is lives = absurd is
+      goes_no_further after who read H.NoSeat is lives = absurd is
+      goes_no_further after who read H.BadRound is lives = absurd is

@@ -17,5 +17,8 @@ module _ (before : Phase → Type 0) (me : Identity) (logs : Logs) (file : Round
   makes after moves = moves (Begins me (KnowsAll may.0 may.1 logs may.2)) may.3 (inl (file, may.4, refl))
 
   -- or it couldn't
+  pub makes_none : (after : Phase → Type 0) → Moves before after (Fell (MakeRound file)) → after Ended
+  makes_none after moves = moves (Begins me (KnowsAll may.0 may.1 logs may.2)) may.3 (inl (file, may.4, refl))
+
   pub makes_not : (after : Phase → Type 0) → Moves before after (Fell (MakeRound file)) → Lives after
-  makes_not after moves = (Ended, moves (Begins me (KnowsAll may.0 may.1 logs may.2)) may.3 (inl (file, may.4, refl)))
+  makes_not after moves = (Ended, makes_none after moves)

@@ -16,6 +16,7 @@ use Rattle.amo_host.specs.Calls.{HasRead, ReadOn, Fell}
 use Rattle.amo_host.specs.Logs.{Logs, journals_from, logs_after}
 use Rattle.amo_host.specs.Phase.{Identity, Phase, Works, Clears, Unclear}
 use Rattle.amo_host.specs.Protocol.{reads_on, MayCall, Moves}
+use Rattle.amo_worker_life.specs.declared.halt.Halt.{Halt}
 use Rattle.amo_worker_life.specs.declared.halt.Health.{Health}
 use Rattle.amo_worker_life.specs.declared.halt.Health.TheVariants.{Fine, Broken, Lost}
 use Rattle.amo_worker_life.specs.Where.{WorksAt}
@@ -51,12 +52,12 @@ clearing_is (Asking (i ∷ rest)) s j e = absurd (cc)
 clearing_is st s j e = absurd (cc)
 
 -- a worker whose clearance is due asks for it
-pub clearing_of : (stands : Phase → Type 0) (me : Identity) (jobs : List ℕ) (logs : Logs) (h : Health) (s j : ℕ) → MayTry (WorksAt stands me jobs logs h) (Clear s j) → IsClearing stands me jobs s j logs
-clearing_of stands me jobs logs Fine s j may =
+pub clearing_of : (stands : Phase → Type 0) (me : Identity) (jobs : List ℕ) (logs : Logs) (h : Health) (halt : Option Halt) (s j : ℕ) → MayTry (WorksAt stands me jobs logs h halt) (Clear s j) → IsClearing stands me jobs s j logs
+clearing_of stands me jobs logs Fine halt s j may =
     let it = clearing_is may.0 s j may.2 in
     (it.0, may.1.0, subst (λ (st : Stage). stands (Works me jobs st may.1.0 logs)) it.1 may.1.1)
-clearing_of stands me jobs logs Broken s j may = absurd (not_broken may.0 (Clear s j) may.1.0 may.2)
-clearing_of stands me jobs logs Lost s j may = absurd (not_broken may.0 (Clear s j) may.1.0 may.2)
+clearing_of stands me jobs logs Broken halt s j may = absurd (not_broken may.0 (Clear s j) may.1.0 may.2)
+clearing_of stands me jobs logs Lost halt s j may = absurd (not_broken may.0 (Clear s j) may.1.0 may.2)
 
 module _ (me : Identity) (jobs : List ℕ) (s j : ℕ) where
   module _ (before : Phase → Type 0) (first : Logs) (asks : IsClearing before me jobs s j first) where

@@ -3,3 +3,4 @@ pub mod Begins
 pub mod Clearing
 pub mod Ends
 pub mod Serials
+pub mod Unreadable

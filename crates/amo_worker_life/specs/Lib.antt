@@ -1,3 +1,4 @@
 pub mod Begin
+pub mod Halting
 pub mod Where
 pub mod Reading

@@ -1,5 +1,5 @@
 -- The stages at which a worker may be, by the phases in which its host may be.
-use Rattle.std.specs.Prelude.{◌≡◌, ℕ, Bool, true, false, List, [], Option, Some, None}
+use Rattle.std.specs.Prelude.{◌≡◌, ◌⊎◌, ℕ, Bool, true, false, List, [], Option, Some, None}
 use Rattle.amo_driver.specs.declared.answer.Reply.{Reply}
 use Rattle.amo_driver.specs.declared.answer.Reply.TheVariants.{Answered, Running}
 use Rattle.amo_driver.specs.declared.answer.Way.{Way}
@@ -9,9 +9,12 @@ use Rattle.amo_driver.specs.declared.stop.Stop.TheVariants.{Failed, NoMemory, No
 use Rattle.amo_driver.specs.Course.{due}
 use Rattle.amo_driver.specs.Stage.{Stage, Asking, Broken as BrokenStage}
 use Rattle.amo_host.specs.Logs.{Logs}
-use Rattle.amo_host.specs.Phase.{Identity, Phase, Asks, Idle, Works}
+use Rattle.amo_host.specs.declared.model.LogFile.{LogFile}
+use Rattle.amo_host.specs.Phase.{Identity, Phase, Asks, Ended, Idle, Works}
 use Rattle.amo_host.specs.Protocol.{Lives}
 use Rattle.amo_protocol.specs.Replies.{way_in}
+use Rattle.amo_worker_life.specs.declared.halt.Halt.{Halt}
+use Rattle.amo_worker_life.specs.declared.halt.Halt.TheVariants as H
 use Rattle.amo_worker_life.specs.declared.halt.Health.{Health}
 use Rattle.amo_worker_life.specs.declared.halt.Health.TheVariants.{Fine, Broken, Lost}
 use Rattle.amo_worker_life.specs.declared.part.OverReply.{OverReply}
@@ -27,17 +30,46 @@ broken Fine = Broken
 broken Broken = Broken
 broken Lost = Lost
 
--- Before a round: if it isn't fine, something has failed.
-abbrev pub AsksAt : (Phase → Type 0) → Identity → Health → Stage → Type 0
-AsksAt stands me Fine st = stands (Asks me st)
-AsksAt stands me Broken st = (st ≡ BrokenStage) × Lives stands
-AsksAt stands me Lost st = (st ≡ BrokenStage) × Lives stands
+-- While it asks, a worker has this reason to go no further, and it is true: after a call that failed nothing is due. Without memory or the line it has called nothing.
+abbrev pub AsksNoMore : (Phase → Type 0) → Identity → Halt → Type 0
+AsksNoMore stands me H.Host = stands (Asks me BrokenStage)
+AsksNoMore stands me H.Memory = Lives stands
+AsksNoMore stands me H.NoLine = Lives stands
+AsksNoMore stands me _ = ⊥
+
+-- A worker whose asking has failed is at the stage after a call that failed, or had no memory or no line.
+abbrev pub HasFailedAsking : (Phase → Type 0) → Identity → Option Halt → Type 0
+HasFailedAsking stands me halt = stands (Asks me BrokenStage) ⊎ ((why : Halt) × (halt ≡ Some why) × AsksNoMore stands me why)
+
+-- Before a round: if it isn't fine, it makes no further call, and there is a reason.
+abbrev pub AsksAt : (Phase → Type 0) → Identity → Health → Option Halt → Stage → Type 0
+AsksAt stands me Fine halt st = stands (Asks me st)
+AsksAt stands me Broken halt st = ⊥
+AsksAt stands me Lost halt st = (st ≡ BrokenStage) × Lives stands × (why : Halt) × (halt ≡ Some why) × AsksNoMore stands me why
+
+-- In a round, a worker has this true reason to make no further call. It may make none after an append that failed, and once a log couldn't be
+-- read on. Without memory or the line it has called nothing.
+abbrev pub WorksNoMore : (Phase → Type 0) → Halt → Type 0
+WorksNoMore stands H.Host = stands Ended
+WorksNoMore stands (H.Unread log) = stands Ended
+WorksNoMore stands H.Memory = Lives stands
+WorksNoMore stands H.NoLine = Lives stands
+WorksNoMore stands _ = ⊥
 
 -- In a round.
-abbrev pub WorksAt : (Phase → Type 0) → Identity → (jobs : List ℕ) → Logs → Health → Stage → Type 0
-WorksAt stands me jobs logs Fine st = (owes : Bool) × stands (Works me jobs st owes logs)
-WorksAt stands me jobs logs Broken st = (st ≡ BrokenStage) × (owes : Bool) × stands (Works me jobs BrokenStage owes logs)
-WorksAt stands me jobs logs Lost st = (st ≡ BrokenStage) × Lives stands
+abbrev pub WorksAt : (Phase → Type 0) → Identity → (jobs : List ℕ) → Logs → Health → Option Halt → Stage → Type 0
+WorksAt stands me jobs logs Fine halt st = (owes : Bool) × stands (Works me jobs st owes logs)
+WorksAt stands me jobs logs Broken halt st = (st ≡ BrokenStage) × (owes : Bool) × stands (Works me jobs BrokenStage owes logs)
+WorksAt stands me jobs logs Lost halt st = (st ≡ BrokenStage) × Lives stands × (why : Halt) × (halt ≡ Some why) × WorksNoMore stands why
+
+-- A worker's work in a round has failed. It is at the stage after a call that failed, it may make no further call, or it had no memory or
+-- no line.
+abbrev pub HasFailed : (Phase → Type 0) → Identity → (jobs : List ℕ) → Logs → Option Halt → Type 0
+HasFailed stands me jobs logs halt = ((owes : Bool) × stands (Works me jobs BrokenStage owes logs)) ⊎ ((why : Halt) × (halt ≡ Some why) × WorksNoMore stands why)
+
+-- A worker couldn't read a log on: the call failed, or the texts can't follow what was read before.
+abbrev pub IsUnread : Option Halt → Type 0
+IsUnread halt = (halt ≡ Some H.Host) ⊎ ((log : LogFile) × (halt ≡ Some (H.Unread log)))
 
 -- It works at a stage at which nothing is due, and owes nothing.
 abbrev pub IsOver : (Phase → Type 0) → Identity → (jobs : List ℕ) → Logs → (Stage → Type 0) → Type 0

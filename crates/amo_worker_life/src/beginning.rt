@@ -1,6 +1,6 @@
 //! How a worker begins a round: under the lock of the round, which it has alone, it reads all that
 //! there is, and makes the files of a round of the open lines.
-ghost use Rattle.std.specs.Prelude.{◌≡◌, ◌≤◌, ◌∷◌, nat_lt, length, take, option_map, Ok, IfErr, IfOk, OnOk};
+ghost use Rattle.std.specs.Prelude.{◌≡◌, ◌≤◌, ◌∷◌, nat_lt, length, take, option_map, Ok, IfErr, IfOk, OnErr, OnOk};
 ghost use Rattle.amo_givens.specs.declared.limits.TheConstants.{MAX_JOBS, MAX_WORKERS, MAX_BETA};
 ghost use Rattle.amo_run_files.specs.Lines.{lines_in, BeginsWith};
 ghost use Rattle.amo_run_files.specs.Refusals.{IsTaken};
@@ -13,6 +13,7 @@ ghost use Rattle.amo_host.specs.Phase.{Begins, LockedAlone, HasLast, KnowsJobs, 
 ghost use Rattle.amo_host.specs.Protocol.{Lives};
 ghost use Rattle.amo_host.specs.Reading.{has_all};
 ghost use Rattle.amo_worker_life.specs.Begin.{locks_if, IsBegun, IsMade, IsWhyNoneOpen, IsWhyNotTaken, MayMake};
+ghost use Rattle.amo_worker_life.specs.Halting.{Halts, IsWhyNoRegisters};
 ghost use Rattle.amo_worker_life.specs.Reading.{logs_of};
 ghost use Rattle.amo_worker_life.specs.Where.{idle_at, me_of};
 ghost use Rattle.amo_worker_life.specs.declared.beginning.Begun.TheVariants.{Elsewhere};
@@ -84,6 +85,7 @@ pub fn begin<H: Host>(worker: &mut Worker<H>, sharing: Sharing) -> Result<Begun,
     ensures idle { IfOk result (λ begun. H.stands worker.new.host (idle_at (me_of worker.new.number worker.new.jobs) (option_map logs_of worker.new.logs))) }
     ensures begun { IfOk result (λ begun. IsBegun begun (me_of worker.new.number worker.new.jobs) (option_map logs_of worker.new.logs)) }
     ensures elsewhere { result ≡ Ok Elsewhere → worker.new.logs ≡ worker.old.logs }
+    ensures halts { OnErr result (Halts (H.stands worker.new.host) (me_of worker.new.number worker.new.jobs) (option_map logs_of worker.new.logs) worker.new.halt) }
     ensures lives { Lives (H.stands worker.new.host) }
     ensures fine { IfOk result (λ begun. worker.new.health ≡ Fine) }
 {
@@ -106,6 +108,7 @@ impl<H: Host> Worker<H> {
         requires idle { H.stands self.old.host (idle_at (me_of self.old.number self.old.jobs) (option_map logs_of self.old.logs)) }
         ensures locks { IfOk result (λ got. H.stands self.new.host (locks_if got (me_of self.new.number self.new.jobs) (option_map logs_of self.new.logs))) }
         ensures logs { IfOk result (λ got. self.new.logs ≡ self.old.logs) }
+        ensures halts { OnErr result (Halts (H.stands self.new.host) (me_of self.new.number self.new.jobs) (option_map logs_of self.new.logs) self.new.halt) }
         ensures lives { Lives (H.stands self.new.host) }
         ensures health { IfOk result (λ got. self.new.health ≡ self.old.health) }
     {
@@ -122,6 +125,7 @@ impl<H: Host> Worker<H> {
     fn read_last(&mut self) -> Result<Last, Failed>
         requires locked { H.stands self.old.host (Begins (me_of self.old.number self.old.jobs) (LockedAlone (option_map logs_of self.old.logs))) }
         ensures last { IfOk result (λ last. H.stands self.new.host (Begins (me_of self.new.number self.new.jobs) (HasLast (option_map logs_of self.new.logs) last.boot.items last.file))) }
+        ensures halts { OnErr result (Halts (H.stands self.new.host) (me_of self.new.number self.new.jobs) (option_map logs_of self.new.logs) self.new.halt) }
         ensures lives { Lives (H.stands self.new.host) }
         ensures health { IfOk result (λ last. self.new.health ≡ self.old.health) }
     {
@@ -141,6 +145,7 @@ impl<H: Host> Worker<H> {
     fn read_known(&mut self, last: &Last) -> Result<(), Failed>
         requires last { H.stands self.old.host (Begins (me_of self.old.number self.old.jobs) (HasLast (option_map logs_of self.old.logs) last.now.boot.items last.now.file)) }
         ensures jobs { OnOk result (H.stands self.new.host (Begins (me_of self.new.number self.new.jobs) (KnowsJobs (option_map logs_of self.new.logs) last.now.boot.items last.now.file))) }
+        ensures halts { OnErr result (Halts (H.stands self.new.host) (me_of self.new.number self.new.jobs) (option_map logs_of self.new.logs) self.new.halt) }
         ensures lives { Lives (H.stands self.new.host) }
         ensures health { OnOk result (self.new.health ≡ self.old.health) }
     {
@@ -160,6 +165,7 @@ impl<H: Host> Worker<H> {
         ensures all { IfOk result (λ read. H.stands self.new.host (Begins (me_of self.new.number self.new.jobs) (has_all read.more last.now.boot.items last.now.file (logs_of read.logs) read.counts.items))) }
         ensures lines { IfOk result (λ read. read.lines.items ≡ open_by (me_of self.new.number self.new.jobs) (logs_of read.logs)) }
         ensures placed { IfOk result (λ read. AreInPlace (logs_of read.logs).journals (logs_of read.logs).findings) }
+        ensures halts { OnErr result (Halts (H.stands self.new.host) (me_of self.new.number self.new.jobs) (option_map logs_of self.new.logs) self.new.halt) }
         ensures lives { Lives (H.stands self.new.host) }
         ensures health { IfOk result (λ read. self.new.health ≡ self.old.health) }
     {
@@ -195,6 +201,7 @@ impl<H: Host> Worker<H> {
     fn know_all(&mut self, last: &Last, read: &AllRead) -> Result<(), Failed>
         requires all { H.stands self.old.host (Begins (me_of self.old.number self.old.jobs) (has_all read.now.more last.now.boot.items last.now.file (logs_of read.now.logs) read.now.counts.items)) }
         ensures knows { OnOk result (H.stands self.new.host (Begins (me_of self.new.number self.new.jobs) (KnowsAll last.now.boot.items last.now.file (logs_of read.now.logs) read.now.counts.items))) }
+        ensures halts { OnErr result (Halts (H.stands self.new.host) (me_of self.new.number self.new.jobs) (option_map logs_of self.new.logs) self.new.halt) }
         ensures lives { Lives (H.stands self.new.host) }
         ensures health { OnOk result (self.new.health ≡ self.old.health) }
         ensures number { self.new.number ≡ self.old.number }
@@ -219,6 +226,7 @@ impl<H: Host> Worker<H> {
         requires placed { AreInPlace (logs_of read.logs).journals (logs_of read.logs).findings }
         ensures idle { IfOk result (λ begun. H.stands self.new.host (idle_at (me_of self.new.number self.new.jobs) (option_map logs_of self.new.logs))) }
         ensures begun { IfOk result (λ begun. IsMade begun (me_of self.new.number self.new.jobs) (option_map logs_of self.new.logs)) }
+        ensures halts { OnErr result (Halts (H.stands self.new.host) (me_of self.new.number self.new.jobs) (option_map logs_of self.new.logs) self.new.halt) }
         ensures lives { Lives (H.stands self.new.host) }
         ensures health { IfOk result (λ begun. self.new.health ≡ self.old.health) }
     {
@@ -251,6 +259,7 @@ impl<H: Host> Worker<H> {
     fn make_files(&mut self, file: &RoundFile, logs: &ReadLogs) -> Result<(), Failed>
         requires next { MayMake (H.stands self.old.host) (me_of self.old.number self.old.jobs) (logs_of logs.now) file.now }
         ensures made { OnOk result (H.stands self.new.host (Begins (me_of self.new.number self.new.jobs) (RegistersMade (logs_of logs.now)))) }
+        ensures halts { OnErr result (Halts (H.stands self.new.host) (me_of self.new.number self.new.jobs) (option_map logs_of self.new.logs) self.new.halt) }
         ensures lives { Lives (H.stands self.new.host) }
         ensures health { OnOk result (self.new.health ≡ self.old.health) }
         ensures number { self.new.number ≡ self.old.number }
@@ -274,6 +283,7 @@ impl<H: Host> Worker<H> {
     fn make_file(&mut self, file: &RoundFile, logs: &ReadLogs) -> Result<(), Failed>
         requires next { MayMake (H.stands self.old.host) (me_of self.old.number self.old.jobs) (logs_of logs.now) file.now }
         ensures made { OnOk result (H.stands self.new.host (Begins (me_of self.new.number self.new.jobs) (RoundMade file.now (logs_of logs.now)))) }
+        ensures halts { OnErr result (Halts (H.stands self.new.host) (me_of self.new.number self.new.jobs) (option_map logs_of self.new.logs) self.new.halt) }
         ensures lives { Lives (H.stands self.new.host) }
         ensures health { OnOk result (self.new.health ≡ self.old.health) }
         ensures number { self.new.number ≡ self.old.number }
@@ -402,7 +412,8 @@ fn all_extents(alloc: Global, of_jobs: Extent, logs: Vec<Extent>) -> Result<Vec<
 /// # Errors
 /// `Memory` if there was no memory, `BadRound` if the round has impossible numbers.
 fn new_registers(alloc: Global, header: &RoundHeader) -> Result<Vec<u8>, Halt>
-    ensures { IfOk result (λ bytes. AreNew header.now bytes.items) }
+    ensures new { IfOk result (λ bytes. AreNew header.now bytes.items) }
+    ensures refused { IfErr result (λ halt. IsWhyNoRegisters halt header.now) }
 {
     let givens = header.givens;
     if givens.jobs > MAX_JOBS as u64 || givens.workers > MAX_WORKERS as u64 {

@@ -1,6 +1,6 @@
 //! How a worker joins a round: under the lock of the round, which it shares, it reads the round's
 //! file, opens its registers, and reads the answers and all journals.
-ghost use Rattle.std.specs.Prelude.{◌≡◌, ◌≤◌, false, [], map, option_map, Some, Ok, IfOk, OnOk};
+ghost use Rattle.std.specs.Prelude.{◌≡◌, ◌≤◌, false, [], map, option_map, Some, Ok, IfErr, IfOk, OnOk, OnErr};
 ghost use Rattle.amo_givens.specs.declared.limits.TheConstants.{MAX_JOBS, MAX_WORKERS};
 ghost use Rattle.amo_givens.specs.Givens.{givens_of, IsWorker};
 ghost use Rattle.amo_driver.specs.Course.{first_stage};
@@ -12,6 +12,7 @@ ghost use Rattle.amo_host.specs.Logs.{all_logs, next_serial};
 ghost use Rattle.amo_host.specs.Opened.{file_of};
 ghost use Rattle.amo_host.specs.Phase.{Joins, Reads, Works, Locked, HasHeader, HasJobs, Seated, ToWork};
 ghost use Rattle.amo_host.specs.Protocol.{Lives};
+ghost use Rattle.amo_worker_life.specs.Halting.{Halts, IsWhyNoSeat};
 ghost use Rattle.amo_worker_life.specs.Reading.{logs_of};
 ghost use Rattle.amo_worker_life.specs.Where.{idle_at, me_of};
 ghost use Rattle.amo_worker_life.specs.declared.halt.Health.TheVariants.{Fine};
@@ -46,6 +47,7 @@ pub fn join<H: Host>(worker: &mut Worker<H>) -> Result<(Seat, ReadLogs), Failed>
     requires fine { worker.old.health ≡ Fine }
     ensures works { IfOk result (λ joined. H.stands worker.new.host (Works (me_of worker.new.number worker.new.jobs) joined.0.file.header.lines.items (first_stage joined.0.givens joined.0.participant worker.new.serial) false (logs_of joined.1))) }
     ensures participant { IfOk result (λ joined. IsWorker joined.0.givens joined.0.participant) }
+    ensures halts { OnErr result (Halts (H.stands worker.new.host) (me_of worker.new.number worker.new.jobs) (option_map logs_of worker.new.logs) worker.new.halt) }
     ensures lives { Lives (H.stands worker.new.host) }
     ensures fine { IfOk result (λ joined. worker.new.health ≡ Fine) }
 {
@@ -68,6 +70,7 @@ impl<H: Host> Worker<H> {
     fn share_round(&mut self) -> Result<(), Failed>
         requires idle { H.stands self.old.host (idle_at (me_of self.old.number self.old.jobs) (option_map logs_of self.old.logs)) }
         ensures locked { OnOk result (H.stands self.new.host (Joins (me_of self.new.number self.new.jobs) (Locked (option_map logs_of self.new.logs)))) }
+        ensures halts { OnErr result (Halts (H.stands self.new.host) (me_of self.new.number self.new.jobs) (option_map logs_of self.new.logs) self.new.halt) }
         ensures lives { Lives (H.stands self.new.host) }
         ensures health { OnOk result (self.new.health ≡ self.old.health) }
     {
@@ -88,6 +91,7 @@ impl<H: Host> Worker<H> {
     fn read_header(&mut self) -> Result<RoundFile, Failed>
         requires locked { H.stands self.old.host (Joins (me_of self.old.number self.old.jobs) (Locked (option_map logs_of self.old.logs))) }
         ensures header { IfOk result (λ file. H.stands self.new.host (Joins (me_of self.new.number self.new.jobs) (HasHeader (option_map logs_of self.new.logs) file))) }
+        ensures halts { OnErr result (Halts (H.stands self.new.host) (me_of self.new.number self.new.jobs) (option_map logs_of self.new.logs) self.new.halt) }
         ensures lives { Lives (H.stands self.new.host) }
         ensures health { IfOk result (λ file. self.new.health ≡ self.old.health) }
     {
@@ -113,6 +117,7 @@ impl<H: Host> Worker<H> {
     fn read_jobs_of(&mut self, file: &RoundFile) -> Result<(), Failed>
         requires header { H.stands self.old.host (Joins (me_of self.old.number self.old.jobs) (HasHeader (option_map logs_of self.old.logs) file.now)) }
         ensures jobs { OnOk result (H.stands self.new.host (Joins (me_of self.new.number self.new.jobs) (HasJobs (option_map logs_of self.new.logs) file.now))) }
+        ensures halts { OnErr result (Halts (H.stands self.new.host) (me_of self.new.number self.new.jobs) (option_map logs_of self.new.logs) self.new.halt) }
         ensures lives { Lives (H.stands self.new.host) }
         ensures health { OnOk result (self.new.health ≡ self.old.health) }
     {
@@ -131,6 +136,7 @@ impl<H: Host> Worker<H> {
         requires jobs { H.stands self.old.host (Joins (me_of self.old.number self.old.jobs) (HasJobs (option_map logs_of self.old.logs) file)) }
         ensures seated { IfOk result (λ seat. H.stands self.new.host (Joins (me_of self.new.number self.new.jobs) (Seated (option_map logs_of self.new.logs) seat.file seat.givens seat.participant))) }
         ensures participant { IfOk result (λ seat. IsWorker seat.givens seat.participant) }
+        ensures halts { OnErr result (Halts (H.stands self.new.host) (me_of self.new.number self.new.jobs) (option_map logs_of self.new.logs) self.new.halt) }
         ensures lives { Lives (H.stands self.new.host) }
         ensures health { IfOk result (λ seat. self.new.health ≡ self.old.health) }
     {
@@ -162,6 +168,7 @@ impl<H: Host> Worker<H> {
     fn begin_to_read(&mut self, seat: &Seat) -> Result<ReadLogs, Failed>
         requires seated { H.stands self.old.host (Joins (me_of self.old.number self.old.jobs) (Seated (option_map logs_of self.old.logs) seat.now.file seat.now.givens seat.now.participant)) }
         ensures reads { IfOk result (λ logs. H.stands self.new.host (Reads (me_of self.new.number self.new.jobs) (ToWork seat.now.file seat.now.givens seat.now.participant) (logs_of logs) [] all_logs)) }
+        ensures halts { OnErr result (Halts (H.stands self.new.host) (me_of self.new.number self.new.jobs) (option_map logs_of self.new.logs) self.new.halt) }
         ensures lives { Lives (H.stands self.new.host) }
         ensures health { IfOk result (λ logs. self.new.health ≡ self.old.health) }
     {
@@ -186,6 +193,7 @@ fn seat_in(header: &RoundHeader, worker: u64) -> Result<(Givens, u32), Halt>
     ensures participant { IfOk result (λ found. IsWorker found.0 found.1) }
     ensures few_jobs { IfOk result (λ found. header.now.givens.jobs ≤ MAX_JOBS) }
     ensures few_workers { IfOk result (λ found. header.now.givens.workers ≤ MAX_WORKERS) }
+    ensures refused { IfErr result (λ halt. IsWhyNoSeat halt worker header.now) }
 {
     let (first, workers) = (header.first, header.workers);
     if first < 1 || first > workers || workers > MAX_WORKERS as u64 {

@@ -3,6 +3,7 @@ ghost use Rattle.std.specs.Prelude.{◌≡◌, None, option_map, IfErr, IfSome, 
 ghost use Rattle.amo_host.specs.Phase.{Starts, Unborn};
 ghost use Rattle.amo_host.specs.Protocol.{Lives};
 ghost use Rattle.amo_worker_life.specs.Begin.{EndsWell};
+ghost use Rattle.amo_worker_life.specs.Halting.{HasReason};
 ghost use Rattle.amo_worker_life.specs.Reading.{logs_of};
 ghost use Rattle.amo_worker_life.specs.Where.{idle_at, me_of, HasPaid};
 ghost use Rattle.amo_worker_life.specs.declared.halt.Health.TheVariants.{Fine};
@@ -45,6 +46,8 @@ pub fn live<H: Host>(worker: Worker<H>, sharing: Sharing) -> (Worker<H>, Ending)
     requires unborn { H.stands worker.host (Starts worker.number Unborn) }
     requires fine { worker.health ≡ Fine }
     ensures lives { Lives (H.stands result.0.host) }
+    // It has stopped since something failed just if there is a reason.
+    ensures reason { HasReason result.1 (H.stands result.0.host) (me_of result.0.number result.0.jobs) (option_map logs_of result.0.logs) result.0.halt }
     // It says that no line is open just if none is, by all answers and journals.
     ensures nothing { EndsWell result.1 (me_of result.0.number result.0.jobs) (option_map logs_of result.0.logs) }
 {
@@ -72,6 +75,7 @@ fn prepare<H: Host>(worker: &mut Worker<H>) -> Result<(), Ending>
     ensures idle { OnOk result (H.stands worker.new.host (idle_at (me_of worker.new.number worker.new.jobs) (option_map logs_of worker.new.logs))) }
     ensures lives { Lives (H.stands worker.new.host) }
     ensures fine { OnOk result (worker.new.health ≡ Fine) }
+    ensures reason { IfErr result (λ ending. HasReason ending (H.stands worker.new.host) (me_of worker.new.number worker.new.jobs) (option_map logs_of worker.new.logs) worker.new.halt) }
     ensures nothing { IfErr result (λ ending. EndsWell ending (me_of worker.new.number worker.new.jobs) (option_map logs_of worker.new.logs)) }
 {
     let Ok(pending) = take_number(worker) else {
@@ -97,6 +101,7 @@ fn live_a_round<H: Host>(worker: Worker<H>, sharing: Sharing) -> (Worker<H>, Opt
     ensures idle { result.1 ≡ None → H.stands result.0.host (idle_at (me_of result.0.number result.0.jobs) (option_map logs_of result.0.logs)) }
     ensures lives { Lives (H.stands result.0.host) }
     ensures fine { result.1 ≡ None → result.0.health ≡ Fine }
+    ensures reason { IfSome result.1 (λ ending. HasReason ending (H.stands result.0.host) (me_of result.0.number result.0.jobs) (option_map logs_of result.0.logs) result.0.halt) }
     ensures nothing { IfSome result.1 (λ ending. EndsWell ending (me_of result.0.number result.0.jobs) (option_map logs_of result.0.logs)) }
 {
     let mut worker = worker;
@@ -136,6 +141,7 @@ fn stay_after<H: Host>(round: InRound<H>) -> (Worker<H>, Option<Ending>)
     ensures idle { result.1 ≡ None → H.stands result.0.host (idle_at (me_of result.0.number result.0.jobs) (option_map logs_of result.0.logs)) }
     ensures lives { Lives (H.stands result.0.host) }
     ensures fine { result.1 ≡ None → result.0.health ≡ Fine }
+    ensures reason { IfSome result.1 (λ ending. HasReason ending (H.stands result.0.host) (me_of result.0.number result.0.jobs) (option_map logs_of result.0.logs) result.0.halt) }
     ensures nothing { IfSome result.1 (λ ending. EndsWell ending (me_of result.0.number result.0.jobs) (option_map logs_of result.0.logs)) }
 {
     let mut worker = leave(round);

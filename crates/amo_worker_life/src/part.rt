@@ -1,15 +1,18 @@
 //! A worker's part of a round, and what comes before it.
-ghost use Rattle.std.specs.Prelude.{◌≡◌, ℕ, List, Option, true, false, option_map, Ok, IfOk, OnOk};
+ghost use Rattle.std.specs.Prelude.{◌≡◌, ℕ, List, Option, Some, true, false, option_map, Err, Ok, IfErr, IfOk, OnErr, OnOk};
 ghost use Rattle.amo_givens.specs.Givens.{IsWorker};
 ghost use Rattle.amo_driver.specs.Course.{first_stage};
 ghost use Rattle.amo_driver.specs.Stage.{Asking};
 ghost use Rattle.amo_driver.specs.declared.past.Asked.TheVariants.{All};
-ghost use Rattle.amo_driver.specs.Stops.{AsksTo, EndsAt};
-ghost use Rattle.amo_host.specs.Calls.{Heard, Say};
+ghost use Rattle.amo_driver.specs.declared.stop.Stop.TheVariants.{Failed as StopFailed};
+ghost use Rattle.amo_driver.specs.Stops.{AsksTo, EndsAt, HaltsAt};
+ghost use Rattle.amo_host.specs.Calls.{Fell, Heard, Say};
 ghost use Rattle.amo_host.specs.Phase.{Asks, Works, Over};
 ghost use Rattle.amo_host.specs.Protocol.{Lives, MayCall, Moves};
 ghost use Rattle.amo_protocol.specs.Sayings.{over_text};
-ghost use Rattle.amo_worker_life.specs.Where.{ends_the_work, idle_at, me_of, over_reply, AsksAt, HasPaid, IsAt, IsOver};
+ghost use Rattle.amo_worker_life.specs.Halting.{Halts};
+ghost use Rattle.amo_worker_life.specs.declared.halt.Halt.TheVariants.{Host as HostFailed};
+ghost use Rattle.amo_worker_life.specs.Where.{ends_the_work, idle_at, me_of, over_reply, AsksAt, HasFailed, HasFailedAsking, HasPaid, IsAt, IsOver};
 ghost use Rattle.amo_worker_life.specs.Reading.{logs_of};
 ghost use Rattle.amo_worker_life.specs.declared.halt.Health.TheVariants.{Fine};
 ghost use Rattle.amo_worker_life.specs.declared.part.OverReply.TheVariants.{Stays, Running};
@@ -30,7 +33,9 @@ use amo_protocol::{over_reply_in, over_text};
 pub fn ask_past<H: Host>(worker: &mut Worker<H>, pending: &[Intent]) -> Result<Asked, Stop>
     requires begins { H.stands worker.old.host (Asks (me_of worker.old.number worker.old.jobs) (Asking pending.now)) }
     requires fine { worker.old.health ≡ Fine }
-    ensures ends { IfOk result (λ asked. AsksTo (AsksAt (H.stands worker.new.host) (me_of worker.new.number worker.new.jobs) worker.new.health) asked) }
+    ensures ends { IfOk result (λ asked. AsksTo (AsksAt (H.stands worker.new.host) (me_of worker.new.number worker.new.jobs) worker.new.health worker.new.halt) asked) }
+    ensures stops { IfErr result (λ stop. HaltsAt (AsksAt (H.stands worker.new.host) (me_of worker.new.number worker.new.jobs) worker.new.health worker.new.halt) stop) }
+    ensures failed { result ≡ Err StopFailed → HasFailedAsking (H.stands worker.new.host) (me_of worker.new.number worker.new.jobs) worker.new.halt }
     ensures lives { Lives (H.stands worker.new.host) }
     ensures fine { IfOk result (λ asked. asked ≡ All → worker.new.health ≡ Fine) }
 {
@@ -51,6 +56,7 @@ pub fn take_part<H: Host>(
     requires begins { H.stands round.old.worker.host (Works (me_of round.old.worker.number round.old.worker.jobs) round.old.lines.items (first_stage givens participant round.old.worker.serial) false (logs_of round.old.logs)) }
     requires fine { round.old.worker.health ≡ Fine }
     ensures ends { IfOk result (λ end. IsOver (H.stands round.new.worker.host) (me_of round.new.worker.number round.new.worker.jobs) round.new.lines.items (logs_of round.new.logs) (λ st. EndsAt (λ s. s ≡ st) end)) }
+    ensures failed { result ≡ Err StopFailed → HasFailed (H.stands round.new.worker.host) (me_of round.new.worker.number round.new.worker.jobs) round.new.lines.items (logs_of round.new.logs) round.new.worker.halt }
     ensures lives { Lives (H.stands round.new.worker.host) }
     ensures fine { OnOk result (round.new.worker.health ≡ Fine) }
 {
@@ -110,6 +116,7 @@ pub enum OverReply {
 pub fn stay<H: Host>(worker: &mut Worker<H>) -> Result<OverReply, Failed>
     requires over { IsAt (H.stands worker.old.host) (Over (me_of worker.old.number worker.old.jobs)) (option_map logs_of worker.old.logs) }
     ensures idle { result ≡ Ok Stays → H.stands worker.new.host (idle_at (me_of worker.new.number worker.new.jobs) (option_map logs_of worker.new.logs)) }
+    ensures halts { OnErr result (Halts (H.stands worker.new.host) (me_of worker.new.number worker.new.jobs) (option_map logs_of worker.new.logs) worker.new.halt) }
     ensures lives { Lives (H.stands worker.new.host) }
     ensures health { IfOk result (λ reply. worker.new.health ≡ worker.old.health) }
     ensures running { worker.old.has_running ≡ true → (result ≡ Ok Running) × (worker.new ≡ worker.old) }
@@ -135,6 +142,8 @@ pub fn stay<H: Host>(worker: &mut Worker<H>) -> Result<OverReply, Failed>
 fn say_over<H: Host>(worker: &mut Worker<H>) -> Result<OverReply, Failed>
     requires { MayCall (H.stands worker.old.host) (Say over_text) }
     ensures heard { IfOk result (λ reply. (heard : Option (List ℕ)) × (reply ≡ over_reply heard) × Moves (H.stands worker.old.host) (H.stands worker.new.host) (Heard over_text heard)) }
+    ensures fails { OnErr result (Moves (H.stands worker.old.host) (H.stands worker.new.host) (Fell (Say over_text))) }
+    ensures halt { OnErr result (worker.new.halt ≡ Some HostFailed) }
     ensures lives { Lives (H.stands worker.new.host) }
     ensures health { IfOk result (λ reply. worker.new.health ≡ worker.old.health) }
     ensures number { worker.new.number ≡ worker.old.number }

@@ -1,8 +1,10 @@
 //! How a worker reads the answers and all journals, to work in a round or to begin one.
-ghost use Rattle.std.specs.Prelude.{◌≡◌, [], option_map, IfOk};
+ghost use Rattle.std.specs.Prelude.{◌≡◌, [], option_map, Some, IfOk, OnErr};
 ghost use Rattle.amo_host.specs.Calls.{ReadLog};
 ghost use Rattle.amo_host.specs.Logs.{logs_before};
 ghost use Rattle.amo_host.specs.Protocol.{Lives, MayCall};
+ghost use Rattle.amo_worker_life.specs.Halting.{Halts, IsWhyUnread};
+ghost use Rattle.amo_worker_life.specs.declared.halt.Halt.{Halt};
 ghost use Rattle.amo_worker_life.specs.Reading.{logs_of, MayReadAll, ReadsLog, ReadsTo};
 ghost use Rattle.amo_worker_life.specs.Where.{me_of};
 
@@ -30,6 +32,7 @@ impl<H: Host> Worker<H> {
     ) -> Result<Vec<Extent>, Failed>
         requires may { MayReadAll (H.stands self.old.host) (me_of self.old.number self.old.jobs) (option_map (λ file. file.now) last) (logs_of logs.old) }
         ensures all { IfOk result (λ counts. ReadsTo (H.stands self.old.host) (H.stands self.new.host) (me_of self.old.number self.old.jobs) (option_map (λ file. file.now) last.entry) (logs_of logs.old) (logs_of logs.new) counts.items []) }
+        ensures halts { OnErr result (Halts (H.stands self.new.host) (me_of self.new.number self.new.jobs) (option_map logs_of self.new.logs) self.new.halt) }
         ensures lives { Lives (H.stands self.new.host) }
         ensures health { IfOk result (λ counts. self.new.health ≡ self.old.health) }
         ensures number { self.new.number ≡ self.old.number }
@@ -58,6 +61,7 @@ impl<H: Host> Worker<H> {
     ) -> Result<(), Failed>
         requires { MayCall (H.stands self.old.host) (ReadLog log (option_map (λ file. file.now) last)) }
         ensures read { IfOk result (λ _. ReadsLog (H.stands self.old.host) (H.stands self.new.host) (option_map (λ file. file.now) last.entry) log (logs_of logs.old) (logs_of logs.new) counts.old.items counts.new.items) }
+        ensures halts { OnErr result ((why : Halt) × (self.new.halt ≡ Some why) × IsWhyUnread why (H.stands self.old.host) (H.stands self.new.host) (option_map (λ file. file.now) last.entry) log (logs_of logs.old)) }
         ensures lives { Lives (H.stands self.new.host) }
         ensures health { IfOk result (λ _. self.new.health ≡ self.old.health) }
         ensures number { self.new.number ≡ self.old.number }

@@ -1,8 +1,9 @@
 //! A worker in a round: its registers, its journal, what it has read, and its runner.
-ghost use Rattle.std.specs.Prelude.{◌≡◌, map, IfOk, OnOk, OnErr};
-ghost use Rattle.amo_host.specs.Calls.{HasPaid, Pay, ReadOn};
+ghost use Rattle.std.specs.Prelude.{◌≡◌, false, map, Some, Ok, IfOk, OnOk, OnErr};
+ghost use Rattle.amo_host.specs.Calls.{Fell, HasPaid, Pay, ReadOn};
 ghost use Rattle.amo_host.specs.Protocol.{line_at, Lives, MayCall, Moves};
-ghost use Rattle.amo_worker_life.specs.Where.{broken, me_of, WorksAt};
+ghost use Rattle.amo_worker_life.specs.Where.{broken, me_of, IsUnread, WorksAt};
+ghost use Rattle.amo_worker_life.specs.declared.halt.Halt.TheVariants.{Host as HostFailed, Memory};
 ghost use Rattle.amo_worker_life.specs.declared.halt.Health.TheVariants.{Lost};
 ghost use Rattle.amo_worker_life.specs.Reading.{logs_of, Adds, IsClearing, ReadsAll, ReadsOne};
 
@@ -37,6 +38,7 @@ impl<H: Host> InRound<H> {
 
     /// Remembers that a call of the host has failed.
     fn breaks(&mut self) -> Failed
+        ensures halt { self.new.worker.halt ≡ Some HostFailed }
         ensures host { self.new.worker.host ≡ self.old.worker.host }
         ensures health { self.new.worker.health ≡ broken self.old.worker.health }
         ensures number { self.new.worker.number ≡ self.old.worker.number }
@@ -64,7 +66,7 @@ impl<H: Host> InRound<H> {
 }
 
 impl<H: Host> Outside for InRound<H> {
-    ghost stands = { λ w. WorksAt (H.stands w.worker.host) (me_of w.worker.number w.worker.jobs) w.lines.items (logs_of w.logs) w.worker.health };
+    ghost stands = { λ w. WorksAt (H.stands w.worker.host) (me_of w.worker.number w.worker.jobs) w.lines.items (logs_of w.logs) w.worker.health w.worker.halt };
 
     ghost has_done = { λ _ _. Unit {0} };
 
@@ -160,6 +162,8 @@ impl<H: Host> InRound<H> {
     pub(crate) fn pay(&mut self) -> Result<(), Failed>
         requires { MayCall (H.stands self.old.worker.host) Pay }
         ensures paid { OnOk result (Moves (H.stands self.old.worker.host) (H.stands self.new.worker.host) HasPaid) }
+        ensures fails { OnErr result (Moves (H.stands self.old.worker.host) (H.stands self.new.worker.host) (Fell Pay)) }
+        ensures halt { OnErr result (self.new.worker.halt ≡ Some HostFailed) }
         ensures lives { Lives (H.stands self.new.worker.host) }
         ensures health { OnOk result (self.new.worker.health ≡ self.old.worker.health) }
         ensures number { self.new.worker.number ≡ self.old.worker.number }
@@ -183,6 +187,8 @@ impl<H: Host> InRound<H> {
         ensures read { IfOk result (λ read. ReadsAll read (H.stands self.old.worker.host) (H.stands self.new.worker.host) (me_of self.old.worker.number self.old.worker.jobs) self.old.lines.items serial job (logs_of self.old.logs) (logs_of self.new.logs)) }
         ensures health { IfOk result (λ read. self.new.worker.health ≡ self.old.worker.health) }
         ensures fails { OnErr result ((self.new.worker.health ≡ Lost) × Lives (H.stands self.new.worker.host)) }
+        ensures unread { result ≡ Ok false → IsUnread self.new.worker.halt }
+        ensures memory { OnErr result (self.new.worker.halt ≡ Some Memory) }
         ensures number { self.new.worker.number ≡ self.old.worker.number }
         ensures jobs { self.new.worker.jobs ≡ self.old.worker.jobs }
         ensures lines { self.new.lines ≡ self.old.lines }
@@ -207,6 +213,8 @@ impl<H: Host> InRound<H> {
         ensures read { IfOk result (λ read. ReadsOne read (H.stands self.old.worker.host) (H.stands self.new.worker.host) log (logs_of self.old.logs) (logs_of self.new.logs)) }
         ensures health { IfOk result (λ read. self.new.worker.health ≡ self.old.worker.health) }
         ensures fails { OnErr result ((self.new.worker.health ≡ Lost) × Lives (H.stands self.new.worker.host)) }
+        ensures unread { result ≡ Ok false → IsUnread self.new.worker.halt }
+        ensures memory { OnErr result (self.new.worker.halt ≡ Some Memory) }
         ensures number { self.new.worker.number ≡ self.old.worker.number }
         ensures jobs { self.new.worker.jobs ≡ self.old.worker.jobs }
         ensures lines { self.new.lines ≡ self.old.lines }

@@ -1,9 +1,11 @@
 //! How a worker's process takes its number: the lock on its journal, which it then recovers.
-ghost use Rattle.std.specs.Prelude.{◌≡◌, map, IfOk, OnOk};
+ghost use Rattle.std.specs.Prelude.{◌≡◌, map, option_map, IfOk, OnOk, OnErr};
 ghost use Rattle.amo_driver.specs.Stage.{Asking};
 ghost use Rattle.amo_host.specs.Phase.{Asks, Starts, Unborn, Guards, Settled as HasSettled};
 ghost use Rattle.amo_host.specs.Protocol.{Lives};
 ghost use Rattle.amo_host.specs.Starting.{intent_of, pending_of};
+ghost use Rattle.amo_worker_life.specs.Halting.{Halts};
+ghost use Rattle.amo_worker_life.specs.Reading.{logs_of};
 ghost use Rattle.amo_worker_life.specs.Where.{me_of};
 ghost use Rattle.amo_worker_life.specs.declared.halt.Health.TheVariants.{Fine};
 
@@ -36,6 +38,7 @@ pub fn take_number<H: Host>(worker: &mut Worker<H>) -> Result<Vec<Intent>, Faile
     requires starts { H.stands worker.old.host (Starts worker.old.number Unborn) }
     requires fine { worker.old.health ≡ Fine }
     ensures asks { IfOk result (λ pending. H.stands worker.new.host (Asks (me_of worker.new.number worker.new.jobs) (Asking pending.items))) }
+    ensures halts { OnErr result (Halts (H.stands worker.new.host) (me_of worker.new.number worker.new.jobs) (option_map logs_of worker.new.logs) worker.new.halt) }
     ensures lives { Lives (H.stands worker.new.host) }
     ensures fine { IfOk result (λ pending. worker.new.health ≡ Fine) }
     ensures logs { worker.new.logs ≡ worker.old.logs }
@@ -53,6 +56,7 @@ impl<H: Host> Worker<H> {
     fn guard(&mut self) -> Result<(), Failed>
         requires starts { H.stands self.old.host (Starts self.old.number Unborn) }
         ensures guards { OnOk result (H.stands self.new.host (Starts self.new.number Guards)) }
+        ensures halts { OnErr result (Halts (H.stands self.new.host) (me_of self.new.number self.new.jobs) (option_map logs_of self.new.logs) self.new.halt) }
         ensures lives { Lives (H.stands self.new.host) }
         ensures health { OnOk result (self.new.health ≡ self.old.health) }
         ensures logs { self.new.logs ≡ self.old.logs }
@@ -76,6 +80,7 @@ impl<H: Host> Worker<H> {
     fn settle(&mut self) -> Result<Settled, Failed>
         requires guards { H.stands self.old.host (Starts self.old.number Guards) }
         ensures settled { IfOk result (λ s. H.stands self.new.host (Starts self.new.number (HasSettled s.last (map (λ text. text.items) s.texts.items)))) }
+        ensures halts { OnErr result (Halts (H.stands self.new.host) (me_of self.new.number self.new.jobs) (option_map logs_of self.new.logs) self.new.halt) }
         ensures lives { Lives (H.stands self.new.host) }
         ensures health { IfOk result (λ s. self.new.health ≡ self.old.health) }
         ensures logs { self.new.logs ≡ self.old.logs }
@@ -103,6 +108,7 @@ impl<H: Host> Worker<H> {
     fn know(&mut self, settled: &Settled) -> Result<Vec<Intent>, Failed>
         requires settled { H.stands self.old.host (Starts self.old.number (HasSettled settled.now.last (map (λ text. text.items) settled.now.texts.items))) }
         ensures asks { IfOk result (λ pending. H.stands self.new.host (Asks (me_of self.new.number self.new.jobs) (Asking pending.items))) }
+        ensures halts { OnErr result (Halts (H.stands self.new.host) (me_of self.new.number self.new.jobs) (option_map logs_of self.new.logs) self.new.halt) }
         ensures lives { Lives (H.stands self.new.host) }
         ensures health { IfOk result (λ pending. self.new.health ≡ self.old.health) }
         ensures logs { self.new.logs ≡ self.old.logs }

@@ -1,5 +1,5 @@
 //! A worker's process: its host, the lines of its run, and what its runner said last.
-ghost use Rattle.std.specs.Prelude.{◌≡◌, ◌||◌, ℕ, List, Option, None, true, false, option_map, IfOk, OnErr};
+ghost use Rattle.std.specs.Prelude.{◌≡◌, ◌||◌, ℕ, List, Option, None, Some, true, false, option_map, IfOk, OnErr};
 ghost use Rattle.amo_driver.specs.Standing.{MayCall as MayTry};
 ghost use Rattle.amo_driver.specs.declared.model.Try.TheVariants.{Ask, Note};
 ghost use Rattle.amo_host.specs.Calls.{Say, Heard, Fell};
@@ -66,6 +66,7 @@ impl<H: Host> Worker<H> {
 
     /// Remembers why nothing more is called.
     pub(crate) fn fails(&mut self, halt: Halt) -> Failed
+        ensures halt { self.new.halt ≡ Some halt }
         ensures host { self.new.host ≡ self.old.host }
         ensures health { self.new.health ≡ Lost }
         ensures number { self.new.number ≡ self.old.number }
@@ -138,7 +139,7 @@ fn leaves_running(reply: Reply) -> bool
 }
 
 impl<H: Host> Past for Worker<H> {
-    ghost stands = { λ w. AsksAt (H.stands w.host) (me_of w.number w.jobs) w.health };
+    ghost stands = { λ w. AsksAt (H.stands w.host) (me_of w.number w.jobs) w.health w.halt };
 
     fn was(&mut self, serial: u64, line: u64) -> Result<Reply, Failed> {
         let Some(text) = self.jobs.jobs().line(line) else {

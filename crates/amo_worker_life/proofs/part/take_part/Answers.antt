@@ -17,9 +17,9 @@ returns-in-Ok-pay-clause-ends g c =
     (subst (λ (js : List (List ℕ)). IsOver after (me_of mid.worker.number js) new.lines.items (logs_of new.logs) How) (sym c.pay.ensures.jobs)
     (subst (λ (ls : Vec ℕ Global). IsOver after (me_of mid.worker.number mid.worker.jobs) ls.items (logs_of new.logs) How) (sym c.pay.ensures.lines)
     (subst (λ (l : ReadLogs). IsOver after (me_of mid.worker.number mid.worker.jobs) mid.lines.items (logs_of l) How) (sym c.pay.ensures.logs)
-    (ends_over (g.H.Host.stands mid.worker.host) after (me_of mid.worker.number mid.worker.jobs) mid.lines.items (logs_of mid.logs) c.in-Ok-pay.ensures.paid mid.worker.health c.in-Ok.end c.in-Ok.ensures.ends))))
+    (ends_over (g.H.Host.stands mid.worker.host) after (me_of mid.worker.number mid.worker.jobs) mid.lines.items (logs_of mid.logs) c.in-Ok-pay.ensures.paid mid.worker.health mid.worker.halt c.in-Ok.end c.in-Ok.ensures.ends))))
 
 pub returns-in-Ok-pay-clause-fine : goal.returns-in-Ok-pay-clause-fine
 returns-in-Ok-pay-clause-fine g c =
     let mid = c.work.new.outside in
-    c.in-Ok-pay.ensures.health ∙ ends_fine (g.H.Host.stands mid.worker.host) (me_of mid.worker.number mid.worker.jobs) mid.lines.items (logs_of mid.logs) mid.worker.health c.in-Ok.end c.in-Ok.ensures.ends
+    c.in-Ok-pay.ensures.health ∙ ends_fine (g.H.Host.stands mid.worker.host) (me_of mid.worker.number mid.worker.jobs) mid.lines.items (logs_of mid.logs) mid.worker.health mid.worker.halt c.in-Ok.end c.in-Ok.ensures.ends

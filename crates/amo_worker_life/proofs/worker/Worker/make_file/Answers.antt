@@ -1,9 +1,10 @@
 use Rattle.std.proofs.Common.{sym, subst}
-use Rattle.amo_host.specs.Phase.{Begins, RoundMade}
+use Rattle.amo_host.specs.Phase.{Begins, Ended, RoundMade}
 use Rattle.amo_host.specs.Protocol.{Lives}
+use Rattle.amo_worker_life.specs.declared.halt.Halt.TheVariants.{Host}
 use Rattle.amo_worker_life.specs.Reading.{logs_of}
 use Rattle.amo_worker_life.specs.Where.{me_of}
-use Rattle.amo_worker_life.proofs.Begins.{makes, makes_not, may_make}
+use Rattle.amo_worker_life.proofs.Begins.{makes, makes_none, makes_not, may_make}
 use Rattle.amo_worker_life.proofs.worker.Worker.make_file.Goals as goal
 
 pub make_round-requires : goal.make_round-requires
@@ -28,3 +29,11 @@ returns-in-Err-clause-lives g c =
     let old = c.args.self.now in
     subst (λ host. Lives (g.H.Host.stands host)) (sym c.fails.ensures.host)
     (makes_not (g.H.Host.stands old.host) (me_of old.number old.jobs) (logs_of c.args.logs.now) c.args.file.now c.requires.next (g.H.Host.stands c.make_round.new.self) c.in-Err.ensures.fails)
+
+pub returns-in-Err-clause-halts : goal.returns-in-Err-clause-halts
+returns-in-Err-clause-halts g c =
+    let old = c.args.self.now in
+    let ended =
+    subst (λ host. g.H.Host.stands host Ended) (sym c.fails.ensures.host)
+    (makes_none (g.H.Host.stands old.host) (me_of old.number old.jobs) (logs_of c.args.logs.now) c.args.file.now c.requires.next (g.H.Host.stands c.make_round.new.self) c.in-Err.ensures.fails) in
+    (Host, c.fails.ensures.halt, ended)
