@@ -33,14 +33,11 @@ pub use following::FollowedFiles;
 pub use identity::{Age, check_id, check_kept};
 pub use journal::OpenJournal;
 pub use layout::Item;
-pub use locks::{
-    LockedJournal, Tried, check_number, holder, lock_of, lock_within, recovered, settled,
-    shared_lock_of, try_lock_of,
-};
-pub use logs::{Logs, log_of, read_logs};
+pub use locks::{Tried, check_number, holder, lock_of, recovered, shared_lock_of, try_lock_of};
+pub use logs::log_of;
 pub use loss::Loss;
 pub use names::is_id;
 pub use registers::Words;
 pub use round::{record_of, replace_record};
 pub use settings::{ListSettings, Setting};
-pub use state::{RawLogs, RunState, attempts_of, known, known_again};
+pub use state::{known, known_again};

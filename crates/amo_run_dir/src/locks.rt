@@ -1,11 +1,10 @@
 //! The locks of a run, and the guard of a worker's number.
 use crate::error::{Fault, Later, had, written};
-use crate::files::{opened, opened_to_read, path_of, sync};
+use crate::files::{opened, opened_to_read, path_of};
 use crate::identity::{check_kept, first_checksum};
 use crate::journal::OpenJournal;
 use crate::layout::Item;
 use crate::logs::log_of;
-use crate::round::record_of;
 use crate::settings::Setting;
 use amo_fs::{FileDevice, is_at, try_exclusive, try_shared};
 use amo_journal::{DeviceError, RecoverError};
@@ -22,15 +21,6 @@ const TRIES: u32 = 100;
 /// The pause between two tries, in milliseconds.
 const PAUSE: u64 = 20;
 
-/// A journal whose lock this process has. The lock is kept as long as the value is.
-#[derive(Drop)]
-pub struct LockedJournal {
-    pub journal: OpenJournal<FileDevice>,
-    pub texts: Vec<Vec<u8>>,
-    /// The handle that has the lock.
-    pub lock: File,
-}
-
 /// Takes the exclusive lock on a file of the run. Returns `None` if another process has a lock.
 pub fn lock_of(rt: HostRuntime, setting: &Setting<'_>, item: Item) -> Result<Option<File>, Fault> {
     let file = opened(rt, setting, item)?;
@@ -42,7 +32,7 @@ pub fn lock_of(rt: HostRuntime, setting: &Setting<'_>, item: Item) -> Result<Opt
 
 /// Takes the exclusive lock on a file of the run, and tries for two seconds. Returns `None` if
 /// another process has a lock for all of them.
-pub fn lock_within(
+pub(crate) fn lock_within(
     rt: HostRuntime,
     setting: &Setting<'_>,
     item: Item,
@@ -100,26 +90,6 @@ fn check_name(
     } else {
         Err(Fault::Later(Later::Replaced))
     }
-}
-
-/// Recovers the journal of a handle that has its lock, and syncs the folder.
-///
-/// # Errors
-/// As [`recovered`].
-pub fn settled(
-    rt: HostRuntime,
-    setting: &Setting<'_>,
-    item: Item,
-    lock: File,
-) -> Result<LockedJournal, Fault> {
-    let last = record_of(rt, setting)?;
-    let (journal, texts) = recovered(rt, setting, item, last.as_ref(), &lock)?;
-    sync(rt, setting)?;
-    Ok(LockedJournal {
-        journal,
-        texts,
-        lock,
-    })
 }
 
 /// Recovers the journal of a handle that has its lock, and returns the records of its appends. The

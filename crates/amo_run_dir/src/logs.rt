@@ -15,20 +15,11 @@ use crate::layout::Item;
 use crate::loss::Loss;
 use crate::round::record_of;
 use crate::settings::Setting;
-use amo_givens::MAX_WORKERS;
 use amo_journal::{Checksum, DamageKind, Log, Place, ReadError, read_whole};
 use amo_run_files::{Count, Extent, RoundFile};
 use std::alloc::Global;
 use std::fs::File;
 use std::rt::HostRuntime;
-
-/// The journals of a run, and the answers of operators, which have the same form.
-#[derive(Drop)]
-pub struct Logs {
-    pub answers: Log,
-    /// The journals of the workers 1, 2 and so on.
-    pub journals: Vec<Log>,
-}
 
 /// Why a journal isn't read.
 #[derive(Clone, Copy, PartialEq, Eq)]
@@ -45,24 +36,6 @@ pub(crate) enum Unread {
 
 /// How often a journal is read again if it looks damaged and its writer goes on meanwhile.
 pub(crate) const LOOKS: u32 = 100;
-
-/// Reads answers and journals as they are now: the answers first, so that none of them is to an
-/// attempt that isn't read. `last` is the file of the last round, which the caller has read before.
-///
-/// # Errors
-/// As [`log_of`], and `Missing` if something was appended and no round was begun.
-pub fn read_logs(
-    rt: HostRuntime,
-    setting: &Setting<'_>,
-    last: Option<&RoundFile>,
-) -> Result<Logs, Fault> {
-    let answers = log_of(rt, setting, Item::Answers, last)?;
-    let mut journals = Vec::new(rt.alloc());
-    for worker in 1..=MAX_WORKERS as u64 {
-        journals.push(log_of(rt, setting, Item::Journal(worker), last)?)?;
-    }
-    Ok(Logs { answers, journals })
-}
 
 /// Reads a journal, which was made with the run's id. `last` is the file of the last round, which
 /// the caller has read before. A writer may be at work: so a journal that would be refused is read

@@ -1,4 +1,4 @@
-//! What the files of a run say: its jobs, what each worker has noted, what persons found out.
+//! The lines that a run knows: its file `jobs`, and the list from which they come.
 ghost use Rattle.std.specs.Prelude.{◌≡◌, true, false, IfErr, IfOk, OnOk};
 ghost use Rattle.amo_run_log.specs.Texts.{ended};
 ghost use Rattle.amo_run_files.specs.Lines.{lines_in, BeginsWith};
@@ -8,46 +8,11 @@ ghost use Rattle.amo_run_dir.specs.Known.{counts_jobs, IsWhyNotGrown, IsWhyUncou
 use crate::error::Fault;
 use crate::files::bytes_of;
 use crate::layout::Item;
-use crate::logs::{Logs, extent_in};
+use crate::logs::extent_in;
 use crate::settings::Setting;
 use amo_run_files::{HashedJobs, Jobs, JobsFault, RoundFile, first_difference};
-use amo_run_log::{
-    Attempt, Fault as Misread, Finding, first_misplaced, read_attempts, read_findings,
-};
-use amo_status::{AttemptId, RunLog};
 use std::alloc::{AllocError, Global};
 use std::rt::HostRuntime;
-
-/// What the files say, each text of them read.
-#[derive(Drop)]
-pub struct RunState {
-    pub jobs: Jobs,
-    /// Those of the workers 1, 2 and so on.
-    pub journals: Vec<Vec<Attempt>>,
-    pub findings: Vec<Finding>,
-}
-
-/// The records of the journals, and of the answers of operators.
-#[derive(Drop)]
-pub struct RawLogs {
-    pub answers: Vec<Vec<u8>>,
-    /// Those of the workers 1, 2 and so on.
-    pub journals: Vec<Vec<Vec<u8>>>,
-}
-
-impl RawLogs {
-    /// Returns the records of these journals, without their checksums.
-    pub fn of(alloc: Global, logs: Logs) -> Result<RawLogs, Fault> {
-        let mut journals = Vec::new(alloc);
-        for log in logs.journals {
-            journals.push(log.records)?;
-        }
-        Ok(RawLogs {
-            answers: logs.answers.records,
-            journals,
-        })
-    }
-}
 
 /// Returns the lines that the run knows. `last` is the file of the last round, which the caller has
 /// read before.
@@ -172,63 +137,5 @@ fn is_as_counted(bytes: &[u8], last: Option<&RoundFile>) -> bool {
     match extent_in(&last.extents, b"jobs") {
         Some(extent) => extent.is_front_of(bytes),
         None => false,
-    }
-}
-
-impl RunState {
-    /// Returns what these records say of these jobs.
-    pub fn read(alloc: Global, records: &RawLogs, jobs: Jobs) -> Result<RunState, Fault> {
-        let mut journals = Vec::new(alloc);
-        for (i, texts) in records.journals.iter().enumerate() {
-            let item = Item::Journal(i as u64 + 1);
-            journals.push(attempts_of(alloc, item, jobs.count(), texts)?)?;
-        }
-        let findings = findings_of(alloc, &journals, &records.answers)?;
-        Ok(RunState {
-            jobs,
-            journals,
-            findings,
-        })
-    }
-
-    /// What the run has written down of its intents, of which the caller has settled these.
-    pub fn log<'a>(&'a self, finals: &'a [AttemptId]) -> RunLog<'a> {
-        RunLog {
-            findings: self.findings.as_slice(),
-            journals: self.journals.as_slice(),
-            finals,
-        }
-    }
-}
-
-/// The attempts of a journal of a run that has so many lines.
-pub fn attempts_of(
-    alloc: Global,
-    item: Item,
-    count: u64,
-    texts: &[Vec<u8>],
-) -> Result<Vec<Attempt>, Fault> {
-    taken(item, read_attempts(alloc, count, texts))
-}
-
-/// What persons found out, each of an intent that there is, and no two of one.
-fn findings_of(
-    alloc: Global,
-    journals: &[Vec<Attempt>],
-    texts: &[Vec<u8>],
-) -> Result<Vec<Finding>, Fault> {
-    let findings = taken(Item::Answers, read_findings(alloc, texts))?;
-    match first_misplaced(journals, &findings) {
-        None => Ok(findings),
-        Some(number) => Err(Fault::Entry(Item::Answers, number)),
-    }
-}
-
-/// Returns what was read of a file, or the fault that names the file and the append.
-fn taken<T>(item: Item, read: Result<T, Misread>) -> Result<T, Fault> {
-    match read {
-        Ok(value) => Ok(value),
-        Err(Misread::Memory) => Err(Fault::Memory),
-        Err(Misread::Refused(number)) => Err(Fault::Entry(item, number)),
     }
 }

@@ -5,19 +5,12 @@ use crate::command_line::{BOOT, program};
 use crate::remote::ByLines;
 use amo_decimal::number;
 use amo_givens::{MAX_BETA, MAX_JOBS, MAX_WORKERS};
+use amo_operator::Form;
 use amo_run_dir::{ListSettings, Setting, is_id};
 use amo_status::State;
 use clap::error::ErrorKind;
 use clap::{ArgMatches, Error};
 use std::alloc::{AllocError, Global};
-
-/// How lines are printed.
-#[derive(Clone, Copy)]
-pub(crate) enum Form {
-    Text,
-    Json,
-    Lines(State),
-}
 
 /// A command, apart from the run's folder.
 #[derive(Clone, Copy)]

@@ -1,14 +1,14 @@
 //! The whole program: its commands, its messages, and the statuses with which it ends.
 use crate::args::{Misuse, Request, asked};
 use crate::damage::show_damage;
-use crate::print::{show_doubts, show_status};
+use crate::operator::{carry_out, said_by, said_in};
 use crate::remote::work_by_lines;
-use crate::resolve::{answer, answer_from, once_more};
 use crate::worker::work;
+use amo_operator::Command;
 use amo_run_dir::{
-    Fault, Item, Setting, look_at_folder, look_to_read, look_to_write, open, written,
+    Age, Fault, Item, Setting, look_at_folder, look_to_read, look_to_write, open, written,
 };
-use amo_status::{Counts, Said, read_one, status_text};
+use amo_status::{Counts, status_text};
 use clap::Error;
 use std::alloc::AllocError;
 use std::env::Args;
@@ -163,55 +163,33 @@ fn done(rt: HostRuntime, setting: &Setting<'_>, request: Request<'_>) -> Result<
             tell_all_done(rt, &counts)
         }
         Request::Lines(asked) => work_by_lines(rt, asked),
-        Request::Status(form) => {
-            let age = look_to_read(rt, setting)?;
-            show_status(rt, setting, age, form)
-        }
         Request::Damaged => {
             look_at_folder(rt, setting)?;
             show_damage(rt, setting)
         }
+        Request::Status(form) => {
+            let age = look_to_read(rt, setting)?;
+            carry_out(rt, setting, age, &Command::Status(form))
+        }
         Request::Doubts(form) => {
             let age = look_to_read(rt, setting)?;
-            show_doubts(rt, setting, age, form)
+            carry_out(rt, setting, age, &Command::Doubts(form))
         }
         Request::Answer(intent, line, text, verdict, quiet) => {
             look_to_write(rt, setting)?;
             let said = said_by(rt, intent, line, text, verdict)?;
-            answer(rt, setting, quiet, said)
+            carry_out(rt, setting, Age::Now, &Command::Answer(said, quiet))
         }
         Request::AnswerFrom(sheet, quiet) => {
             look_to_write(rt, setting)?;
-            answer_from(rt, setting, quiet, sheet)
+            let said = said_in(rt, sheet)?;
+            carry_out(rt, setting, Age::Now, &Command::Answer(said, quiet))
         }
         Request::Again => {
             look_to_write(rt, setting)?;
-            once_more(rt, setting)
+            carry_out(rt, setting, Age::Now, &Command::Again)
         }
     }
-}
-
-/// Returns the answer that a command line gives.
-///
-/// # Errors
-/// `NoAnswerOf` if it can't be read.
-fn said_by(
-    rt: HostRuntime,
-    intent: &str,
-    line: &str,
-    text: &str,
-    verdict: &str,
-) -> Result<Said, Fault> {
-    let Some((intent, line, verdict)) = read_one(intent, line, verdict) else {
-        return Err(Fault::NoAnswerOf(1));
-    };
-    Ok(Said {
-        worker: intent.worker,
-        serial: intent.serial,
-        line,
-        text: text.as_bytes().to_vec(rt.alloc())?,
-        verdict,
-    })
 }
 
 /// Prints on standard error that no line is open, with the counts.

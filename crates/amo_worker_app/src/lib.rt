@@ -9,11 +9,11 @@ mod command_line;
 mod commands;
 mod damage;
 mod host;
+mod operator;
+mod operator_files;
 mod print;
 mod remote;
-mod resolve;
 mod runner;
-mod snapshot;
 mod worker;
 
 pub use amo_run_dir::{Disk, Door, Fault, Item, Later};
