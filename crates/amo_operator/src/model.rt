@@ -7,7 +7,7 @@ pub enum Command {
     /// To print how all lines stand.
     Status(Form),
     /// To print the lines that are in doubt. Attempts that nobody can report any more are recorded
-    /// as in doubt.
+    /// as in doubt. `Form::Lines` prints the same as `Form::Text`.
     Doubts(Form),
     /// To take these answers: all of them, or none if one is refused. `not-done` of an attempt that
     /// is in doubt or failed is taken once the attempt has been over for so many seconds, or at

@@ -156,8 +156,8 @@ fn findings_in(alloc: Global, answers: &[Vec<u8>]) -> Result<Vec<Finding>, Halt>
     }
 }
 
-#[tactic(auto, using(crate::proofs::Placing::placed))]
 /// Returns the number of the first finding that is out of place, if there is one.
+#[tactic(auto, using(crate::proofs::Placing::placed))]
 fn misplaced(journals: &[Vec<Attempt>], findings: &[Finding]) -> Option<usize>
     ensures none { IfNone result (are_in_place (map (λ journal. journal.items) journals.now) [] findings.now ≡ true) }
     ensures found { IfSome result (λ number. are_in_place (map (λ journal. journal.items) journals.now) [] findings.now ≡ false) }

@@ -58,8 +58,8 @@ impl Survey {
 /// Reads the logs of the run. Those of idle workers, and of who appends answers, are recovered.
 ///
 /// # Errors
-/// `Host` if a call failed, `Memory`, and `Entry` if the appends of a journal can't follow each
-/// other.
+/// `Host` if a call failed, `Memory`, `Entry` if the appends of a log can't follow each other or
+/// are of a line that the run doesn't know, and `Misplaced`.
 pub(crate) fn read_logs<H: OperatorHost>(
     host: &mut H,
     alloc: Global,
