@@ -29,9 +29,11 @@ sudo) ! first || exec sudo -n sh -c 'while [ -d "$1" ] && ! [ -e "$1/go" ]; do s
 echo "did $3" >> "$2"' sh "$room" "$file" "$name"; did 0 ;;
 java) ! first || { export file name room; exec java "$room/Pay.java" "$helps"; }; did 0 ;;
 agent) did 0; python3 -c "
-import subprocess, sys
+import os, subprocess, sys
 it = subprocess.Popen([sys.argv[1] + '/agent', '1000'], stdin=subprocess.DEVNULL, stdout=subprocess.DEVNULL)
-open(sys.argv[1] + '/helper', 'w').write(str(it.pid))" "$room" ;;
+with open(sys.argv[1] + '/helper.new', 'w') as file:
+    file.write(str(it.pid))
+os.rename(file.name, sys.argv[1] + '/helper')" "$room" ;;
 forked) export file name room; python3 -c "
 import os, sys
 if os.fork() == 0:
