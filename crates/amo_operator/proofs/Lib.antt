@@ -1,4 +1,3 @@
-pub mod Causes
 pub mod Knowledge
 pub mod Lines
 pub mod Placing
