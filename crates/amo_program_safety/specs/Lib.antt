@@ -1,0 +1,6 @@
+pub mod Texts
+pub mod World
+pub mod Runs
+pub mod Machine
+pub mod Steps
+pub mod Finality
