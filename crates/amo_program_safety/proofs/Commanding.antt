@@ -95,7 +95,7 @@ module _ (m : Machine) (v : Site) (runs : Runs m v) (pid : ℕ) (o : Operator) (
 
   -- A command that has written its append stays in its phase.
   wrote : (r : Request) → Reaches v (recorded m.world r) → ((q : ℕ) → (recorded m.world r).guard q ≡ m.world.guard q) → Leads v (has_recorded m pid (Some o) r)
-  wrote r reach same = leads m v runs (recorded m.world r) pid (record o { writes = Some r }) m.held m.stopped reach
+  wrote r reach same = leads m v runs (recorded m.world r) pid (record o { writes = Some r }) m.held reach
       (λ q x is. same q ∙ runs.apart q x is)
       (λ x n q h. h)
       (λ v' turned goes. stands_still m (has_recorded m pid (Some o) r) v v' pid o.phase turned.settled turned.kept (λ q h. h) stood)
@@ -115,14 +115,14 @@ records_lead m v pid r (o, (lives, allowed), idle, may) runs =
 
 module _ (m : Machine) (v : Site) (runs : Runs m v) (pid : ℕ) (o : Operator) (lives : m.operator pid ≡ Some o) where
   -- The model follows a call that changes only locks and the phase of the command.
-  locks_lead : (held stopped : ℕ → Option ℕ) (ph : Phase) → ((q r : ℕ) → held q ≡ Some r → m.world.guard q ≡ None) → KeepsOthers m pid held
-      → StandsAt (turned_to m m.world pid (record { phase = ph; writes = None }) held stopped) v pid ph
-      → Leads v (turned_to m m.world pid (record { phase = ph; writes = None }) held stopped)
-  locks_lead held stopped ph apart others here = leads m v runs m.world pid (record { phase = ph; writes = None }) held stopped (same_world m v runs) apart others
+  locks_lead : (held : ℕ → Option ℕ) (ph : Phase) → ((q r : ℕ) → held q ≡ Some r → m.world.guard q ≡ None) → KeepsOthers m pid held
+      → StandsAt (turned_to m m.world pid (record { phase = ph; writes = None }) held) v pid ph
+      → Leads v (turned_to m m.world pid (record { phase = ph; writes = None }) held)
+  locks_lead held ph apart others here = leads m v runs m.world pid (record { phase = ph; writes = None }) held (same_world m v runs) apart others
       (λ v' turned goes. stands_still now now v v' pid ph turned.settled turned.kept (λ q h. h) here)
     where
       now : Machine
-      now = turned_to m m.world pid (record { phase = ph; writes = None }) held stopped
+      now = turned_to m m.world pid (record { phase = ph; writes = None }) held
 
   -- ---- the command gets the lock on a journal
 
@@ -178,7 +178,7 @@ module _ (m : Machine) (v : Site) (runs : Runs m v) (pid : ℕ) (o : Operator) (
   got_at w now own mine ph allowed h = tt
 
   tried_lead : (w : ℕ) → Allows o.phase (TryLock (JournalLock w)) → (m.world.guard w ≡ None) × (m.held w ≡ None) → Leads v (called m pid (Some o) (Tried (JournalLock w) true))
-  tried_lead w allowed free = locks_lead (with_at m.held w (Some pid)) m.stopped (phase_after o.phase (Tried (JournalLock w) true)) (got_apart w free.0) (got_others w free.1)
+  tried_lead w allowed free = locks_lead (with_at m.held w (Some pid)) (phase_after o.phase (Tried (JournalLock w) true)) (got_apart w free.0) (got_others w free.1)
       (got_at w (called m pid (Some o) (Tried (JournalLock w) true)) (got_own w) (at_it m.held w (Some pid)) o.phase allowed (stood m v runs pid o lives))
 
   -- ---- the command unlocks
@@ -221,7 +221,7 @@ module _ (m : Machine) (v : Site) (runs : Runs m v) (pid : ℕ) (o : Operator) (
   rested_at w now own ph allowed h = tt
 
   unlocked_lead : (w : ℕ) → Allows o.phase (Unlock w) → Leads v (called m pid (Some o) (HasUnlocked w))
-  unlocked_lead w allowed = locks_lead (with_at m.held w (freed (m.held w) pid)) m.stopped (phase_after o.phase (HasUnlocked w)) (freed_apart w) (freed_others w)
+  unlocked_lead w allowed = locks_lead (with_at m.held w (freed (m.held w) pid)) (phase_after o.phase (HasUnlocked w)) (freed_apart w) (freed_others w)
       (rested_at w (called m pid (Some o) (HasUnlocked w)) (λ q n is. at_other m.held w (freed (m.held w) pid) q n ∙ is) o.phase allowed (stood m v runs pid o lives))
 
   free_at : (now : Machine) (ph : Phase) → Allows ph UnlockAll → StandsAt now v pid (phase_after ph HasUnlockedAll)
@@ -237,7 +237,7 @@ module _ (m : Machine) (v : Site) (runs : Runs m v) (pid : ℕ) (o : Operator) (
   free_at now ph allowed = tt
 
   all_unlocked_lead : Allows o.phase UnlockAll → Leads v (called m pid (Some o) HasUnlockedAll)
-  all_unlocked_lead allowed = locks_lead (λ q. freed (m.held q) pid) (λ q. freed (m.stopped q) pid) (phase_after o.phase HasUnlockedAll)
+  all_unlocked_lead allowed = locks_lead (λ q. freed (m.held q) pid) (phase_after o.phase HasUnlockedAll)
       (λ q r is. runs.apart q r (freed_had (m.held q) pid r is))
       (λ r other q is. freed_keeps (m.held q) pid r other is)
       (free_at (called m pid (Some o) HasUnlockedAll) o.phase allowed)
@@ -273,9 +273,9 @@ module _ (m : Machine) (v : Site) (runs : Runs m v) (pid : ℕ) (o : Operator) (
 
   -- The model follows a call that changes only logs and the phase of the command.
   logs_lead : (logs : LogFile → Log) (ph : Phase) → Reaches v (record m.world { logs = logs })
-      → ((v' : Site) → Turned v v' → Goes (record m.world { logs = logs }) v' → StandsAt (turned_to m (record m.world { logs = logs }) pid (record { phase = ph; writes = None }) m.held m.stopped) v' pid ph)
-      → Leads v (turned_to m (record m.world { logs = logs }) pid (record { phase = ph; writes = None }) m.held m.stopped)
-  logs_lead logs ph reach new = leads m v runs (record m.world { logs = logs }) pid (record { phase = ph; writes = None }) m.held m.stopped reach runs.apart (λ r n q h. h) new
+      → ((v' : Site) → Turned v v' → Goes (record m.world { logs = logs }) v' → StandsAt (turned_to m (record m.world { logs = logs }) pid (record { phase = ph; writes = None }) m.held) v' pid ph)
+      → Leads v (turned_to m (record m.world { logs = logs }) pid (record { phase = ph; writes = None }) m.held)
+  logs_lead logs ph reach new = leads m v runs (record m.world { logs = logs }) pid (record { phase = ph; writes = None }) m.held reach runs.apart (λ r n q h. h) new
 
   -- ---- the command has recovered a log
 

@@ -137,7 +137,7 @@ final_stays m v (Begins h) worker serial may runs settled final = record {
   not_held = final.not_held;
   not_waiting = λ x one named. final.not_waiting x (left_of h m.waiting x one) named;
   not_running = λ x one named. ⊎_elim
-      (λ (e : h ≡ x). final.not_waiting x (subst (IsOneOf m.waiting) e may.0) named)
+      (λ (e : h ≡ x). final.not_waiting x (subst (IsOneOf m.waiting) e may) named)
       (λ old. final.not_running x old named) one;
 }
 final_stays m v (Exits h) worker serial may runs settled final = record {
@@ -196,4 +196,4 @@ module _
   pub doubts_never_begin : (steps : List Step) (pid : ℕ) (i : AttemptId) (time : ℕ) (more : List Step) (h : Handing)
       → IsRun (steps ++ Records pid (PutDoubt i time) ∷ more) → MayFollow (machine_of (steps ++ Records pid (PutDoubt i time) ∷ more)) (Begins h)
       → IsNamed i.worker i.serial h → ⊥
-  doubts_never_begin steps pid i time more h run may named = (doubts_stay_final steps pid i time more run).not_waiting h may.0 named
+  doubts_never_begin steps pid i time more h run may named = (doubts_stay_final steps pid i time more run).not_waiting h may named

@@ -39,3 +39,7 @@ mod StoppingSteps
 mod Final
 mod Holding
 mod Forever
+mod Playing
+mod Witness
+mod Twice
+mod Alone

@@ -184,7 +184,7 @@ module _ (m : Machine) (v : Site) (pid : ℕ) (o : Operator) where
   pends_stops command last t w left (Tried (Runner worker) true) may gives stands h =
       let same : worker ≡ w = cc may in (
         idle_so (Tried (Runner worker) true) tt t h,
-        stopped_so (Tried (Runner worker) true) tt w (record { held = stands.held; idle = λ x one is. gives.1 x one (is ∙ sym same) }),
+        stopped_so (Tried (Runner worker) true) tt w (record { held = stands.held; idle = λ x one is. gives x one (is ∙ sym same) }),
       )
   pends_stops command last t w left (Tried (Journal worker) true) may gives stands h = absurd (cc may)
   pends_stops command last t w left (Tried AnswersLock true) may gives stands h = absurd (cc may)

@@ -122,7 +122,7 @@ step_stops m v (Begins h) may runs stops = others_stop m (machine_after m (Begin
     (λ pid. record {
       held = λ q is. is;
       waiting = λ x held one. left_of h m.waiting x one;
-      running = λ x one. ⊎_elim (λ e. inr (subst (IsOneOf m.waiting) e may.0)) (λ old. inl old) one;
+      running = λ x one. ⊎_elim (λ e. inr (subst (IsOneOf m.waiting) e may)) (λ old. inl old) one;
     }) stops
 step_stops m v (Exits h) may runs stops = others_stop m (machine_after m (Exits h)) refl
     (λ pid. record { held = λ q is. is; waiting = λ x held one. one; running = λ x one. inl (left_of h m.running x one) }) stops

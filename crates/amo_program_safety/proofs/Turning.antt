@@ -9,7 +9,7 @@ use Rattle.amo_operator.specs.declared.model.OperatorLock.TheVariants.{Answers a
 use Rattle.amo_operator.specs.Calls.{Call, Tried, HasUnlocked, HasUnlockedAll, Recovered, HasPutDoubt, HasPutAnswer}
 use Rattle.amo_operator.specs.Protocol.{phase_after}
 use Rattle.amo_program_safety.specs.World.{Log, World, freed}
-use Rattle.amo_program_safety.specs.Machine.{Operator, Machine, called, held_by, stopped_by, logs_by}
+use Rattle.amo_program_safety.specs.Machine.{Operator, Machine, called, held_by, logs_by}
 use Rattle.amo_program_safety.proofs.Standing.{Settled, Goes}
 use Rattle.amo_program_safety.proofs.Moves.{Reaches}
 use Rattle.amo_program_safety.proofs.Ordering.{StandsAt, Runs, Leads}
@@ -35,17 +35,17 @@ freed_had (Some h) pid r is = by_test (h == pid) is
     by_test false is = is
 
 -- The machine after a step of this command, with this world, this command and these locks.
-abbrev pub turned_to : Machine → World → (pid : ℕ) → Operator → (held stopped : ℕ → Option ℕ) → Machine
-turned_to m w pid o held stopped = record m { world = w; operator = with_at m.operator pid (Some o); held = held; stopped = stopped }
+abbrev pub turned_to : Machine → World → (pid : ℕ) → Operator → (held : ℕ → Option ℕ) → Machine
+turned_to m w pid o held = record m { world = w; operator = with_at m.operator pid (Some o); held = held }
 
 -- The other commands keep their locks on journals.
 abbrev pub KeepsOthers : Machine → (pid : ℕ) → (held : ℕ → Option ℕ) → Type 0
 KeepsOthers m pid held = (r : ℕ) → (r ≡ pid → ⊥) → (q : ℕ) → m.held q ≡ Some r → held q ≡ Some r
 
-module _ (m : Machine) (v : Site) (runs : Runs m v) (w : World) (pid : ℕ) (o : Operator) (held stopped : ℕ → Option ℕ) where
+module _ (m : Machine) (v : Site) (runs : Runs m v) (w : World) (pid : ℕ) (o : Operator) (held : ℕ → Option ℕ) where
   pub leads : (reach : Reaches v w) → ((q r : ℕ) → held q ≡ Some r → w.guard q ≡ None) → KeepsOthers m pid held
-      → ((v' : Site) → Turned v v' → Goes w v' → StandsAt (turned_to m w pid o held stopped) v' pid o.phase)
-      → Leads v (turned_to m w pid o held stopped)
+      → ((v' : Site) → Turned v v' → Goes w v' → StandsAt (turned_to m w pid o held) v' pid o.phase)
+      → Leads v (turned_to m w pid o held)
   leads reach apart others new = record {
     events = reach.events;
     run = reach.run;
@@ -55,14 +55,14 @@ module _ (m : Machine) (v : Site) (runs : Runs m v) (w : World) (pid : ℕ) (o :
       turned : Turned v (site_from v reach.events)
       turned = record { settled = settled_from v reach.events; kept = kept_from v reach.events }
 
-      stands : (r : ℕ) (x : Operator) → with_at m.operator pid (Some o) r ≡ Some x → StandsAt (turned_to m w pid o held stopped) (site_from v reach.events) r x.phase
-      stands r x is = at_number (λ (y : Option Operator). y ≡ Some x → StandsAt (turned_to m w pid o held stopped) (site_from v reach.events) r x.phase) m.operator pid (Some o) r
+      stands : (r : ℕ) (x : Operator) → with_at m.operator pid (Some o) r ≡ Some x → StandsAt (turned_to m w pid o held) (site_from v reach.events) r x.phase
+      stands r x is = at_number (λ (y : Option Operator). y ≡ Some x → StandsAt (turned_to m w pid o held) (site_from v reach.events) r x.phase) m.operator pid (Some o) r
           (λ (e : r ≡ pid) (s : Some o ≡ Some x).
           let same : o ≡ x = cc s in
-          subst (λ (y : Operator). StandsAt (turned_to m w pid o held stopped) (site_from v reach.events) r y.phase) same
-          (subst (λ (n : ℕ). StandsAt (turned_to m w pid o held stopped) (site_from v reach.events) n o.phase) (sym e) (new (site_from v reach.events) turned reach.goes)))
+          subst (λ (y : Operator). StandsAt (turned_to m w pid o held) (site_from v reach.events) r y.phase) same
+          (subst (λ (n : ℕ). StandsAt (turned_to m w pid o held) (site_from v reach.events) n o.phase) (sym e) (new (site_from v reach.events) turned reach.goes)))
           (λ (n : r ≡ pid → ⊥) (s : m.operator r ≡ Some x).
-          stands_still m (turned_to m w pid o held stopped) v (site_from v reach.events) r x.phase turned.settled turned.kept (others r n) (runs.stands r x s))
+          stands_still m (turned_to m w pid o held) v (site_from v reach.events) r x.phase turned.settled turned.kept (others r n) (runs.stands r x s))
           is
 
 -- ---- calls that change no log and no lock on a journal
@@ -104,9 +104,9 @@ after_call o c = record { phase = phase_after o.phase c; writes = None }
 module _ (m : Machine) (v : Site) (runs : Runs m v) (pid : ℕ) (o : Operator) where
   pub still_leads : (c : Call) → IsStill c → StandsAt m v pid (phase_after o.phase c) → Leads v (called m pid (Some o) c)
   still_leads c still here =
-      subst (λ (l : LogFile → Log). Leads v (turned_to m (record m.world { logs = l }) pid (after_call o c) (held_by m.held pid c) (stopped_by m.stopped pid c))) (sym ((stills pid c still).logs m.world.logs))
-      (subst (λ (h : ℕ → Option ℕ). Leads v (turned_to m m.world pid (after_call o c) h (stopped_by m.stopped pid c))) (sym ((stills pid c still).held m.held))
-      (leads m v runs m.world pid (after_call o c) m.held (stopped_by m.stopped pid c) (same_world m v runs) runs.apart (λ r n q h. h) new))
+      subst (λ (l : LogFile → Log). Leads v (turned_to m (record m.world { logs = l }) pid (after_call o c) (held_by m.held pid c))) (sym ((stills pid c still).logs m.world.logs))
+      (subst (λ (h : ℕ → Option ℕ). Leads v (turned_to m m.world pid (after_call o c) h)) (sym ((stills pid c still).held m.held))
+      (leads m v runs m.world pid (after_call o c) m.held (same_world m v runs) runs.apart (λ r n q h. h) new))
     where
-      new : (v' : Site) → Turned v v' → Goes m.world v' → StandsAt (turned_to m m.world pid (after_call o c) m.held (stopped_by m.stopped pid c)) v' pid (phase_after o.phase c)
-      new v' turned goes = stands_still m (turned_to m m.world pid (after_call o c) m.held (stopped_by m.stopped pid c)) v v' pid (phase_after o.phase c) turned.settled turned.kept (λ q h. h) here
+      new : (v' : Site) → Turned v v' → Goes m.world v' → StandsAt (turned_to m m.world pid (after_call o c) m.held) v' pid (phase_after o.phase c)
+      new v' turned goes = stands_still m (turned_to m m.world pid (after_call o c) m.held) v v' pid (phase_after o.phase c) turned.settled turned.kept (λ q h. h) here

@@ -4,3 +4,4 @@ pub mod Runs
 pub mod Machine
 pub mod Steps
 pub mod Finality
+pub mod Without

@@ -5,7 +5,7 @@ use Rattle.amo_clearance_safety.specs.Model.{Handing, with_at}
 use Rattle.amo_host.specs.declared.model.LogFile.{LogFile}
 use Rattle.amo_host.specs.declared.model.LogFile.TheVariants.{Answers, Journal as JournalFile}
 use Rattle.amo_operator.specs.declared.model.Command.{Command}
-use Rattle.amo_operator.specs.declared.model.OperatorLock.TheVariants.{Journal, Runner}
+use Rattle.amo_operator.specs.declared.model.OperatorLock.TheVariants.{Journal}
 use Rattle.amo_operator.specs.Calls.{Request, PutDoubt, PutAnswer, Call, Tried, HasUnlocked, HasUnlockedAll, Recovered, HasPutDoubt, HasPutAnswer}
 use Rattle.amo_operator.specs.Phase.{Phase, Enters as Entering}
 use Rattle.amo_operator.specs.Protocol.{phase_after}
@@ -25,8 +25,6 @@ pub record Machine : Type 0 where
   pub operator : ℕ → Option Operator
   -- For each worker, the operator's command that has the lock on the worker's journal, if there is one.
   pub held : ℕ → Option ℕ
-  -- For each worker, the operator's command that has the lock of the worker's runner, if there is one.
-  pub stopped : ℕ → Option ℕ
   -- The attempts that runners have, and whose commands were not started.
   pub waiting : List Handing
   -- The attempts whose commands were started, as long as something of the command is left on this machine.
@@ -76,12 +74,6 @@ held_by held process (HasUnlocked worker) = with_at held worker (freed (held wor
 held_by held process HasUnlockedAll = λ worker. freed (held worker) process
 held_by held process c = held
 
--- For each worker, the command that has the lock of the worker's runner, after a call of this command.
-abbrev pub stopped_by : (ℕ → Option ℕ) → (process : ℕ) → Call → ℕ → Option ℕ
-stopped_by stopped process (Tried (Runner worker) true) = with_at stopped worker (Some process)
-stopped_by stopped process HasUnlockedAll = λ worker. freed (stopped worker) process
-stopped_by stopped process c = stopped
-
 -- The machine after a call of this operator's command. If no such command lives, the machine stays as it is.
 abbrev pub called : Machine → (process : ℕ) → Option Operator → Call → Machine
 called m process None c = m
@@ -89,7 +81,6 @@ called m process (Some o) c = record m {
   world = record m.world { logs = logs_by m.world.logs c };
   operator = with_at m.operator process (Some (record { phase = phase_after o.phase c; writes = None }));
   held = held_by m.held process c;
-  stopped = stopped_by m.stopped process c;
 }
 
 -- The machine after this operator's command has written the append of a request. If no such command lives, the machine stays as it is.
@@ -112,7 +103,6 @@ happened m (Stops left) = record m {
   world = world_after m.world (Stops left);
   operator = λ process. None;
   held = λ worker. None;
-  stopped = λ worker. None;
   waiting = [];
   running = [];
 }
@@ -130,9 +120,8 @@ machine_after m (Calls process c) = called m process (m.operator process) c
 machine_after m (Dies process) = record m {
   operator = with_at m.operator process None;
   held = λ worker. freed (m.held worker) process;
-  stopped = λ worker. freed (m.stopped worker) process;
 }
 
 -- The machine before the first step.
 abbrev pub first_machine : Machine
-first_machine = record { world = first_world; operator = λ process. None; held = λ worker. None; stopped = λ worker. None; waiting = []; running = [] }
+first_machine = record { world = first_world; operator = λ process. None; held = λ worker. None; waiting = []; running = [] }

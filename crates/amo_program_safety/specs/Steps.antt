@@ -40,7 +40,7 @@ MayRecord m r = ⊥
 -- command only if nothing of that command is left on this machine. It learns that its append is on the disk only after the append was written.
 abbrev pub MachineGives : Machine → Operator → Call → Type 0
 MachineGives m o (Tried (Journal worker) true) = (m.world.guard worker ≡ None) × (m.held worker ≡ None)
-MachineGives m o (Tried (Runner worker) true) = (m.stopped worker ≡ None) × ((h : Handing) → IsOneOf m.waiting h → h.worker ≡ worker → ⊥)
+MachineGives m o (Tried (Runner worker) true) = (h : Handing) → IsOneOf m.waiting h → h.worker ≡ worker → ⊥
 MachineGives m o (Tried (CommandLock worker serial) true) = (h : Handing) → IsOneOf m.running h → IsNamed worker serial h → ⊥
 MachineGives m o (LogIs log last texts) = AreRead (m.world.logs log) texts
 MachineGives m o (Recovered log last texts) = AreRead (m.world.logs log) texts
@@ -61,7 +61,7 @@ MayRequest m process o r = (m.operator process ≡ Some o) × Allows o.phase r
 -- runners and the operators.
 abbrev pub MayFollow : Machine → Step → Type 0
 MayFollow m (Happens e) = MayCome m.world e × LockIsFree m e × IsOfNoCommand e
-MayFollow m (Begins h) = IsOneOf m.waiting h × (m.stopped h.worker ≡ None)
+MayFollow m (Begins h) = IsOneOf m.waiting h
 MayFollow m (Exits h) = ⊤
 MayFollow m (Drops h) = ⊤
 MayFollow m (Enters process command) = m.operator process ≡ None
@@ -85,3 +85,8 @@ IsRun steps = IsRunFrom first_machine steps
 
 abbrev pub machine_of : List Step → Machine
 machine_of steps = machine_from first_machine steps
+
+-- None of these events is of an operator's command.
+abbrev pub AreOfNoCommand : List Event → Type 0
+AreOfNoCommand [] = ⊤
+AreOfNoCommand (e ∷ es) = IsOfNoCommand e × AreOfNoCommand es

@@ -1,16 +1,20 @@
-//! The theorems of this crate. The contract of each function states a theorem, and no function does
-//! anything when it runs.
-ghost use Rattle.std.specs.Prelude.{◌≡◌, ◌++◌, ◌∷◌, ℕ, List, Some, map};
+//! The theorems of this crate, runs that they speak of, and runs in which a premise fails. The
+//! contract of each function states a theorem, and no function does anything when it runs.
 ghost use Rattle.amo_clearance_safety.specs.Model.{AreDistinct, Handing, IsOneOf};
-ghost use Rattle.amo_operator.specs.declared.model.Command.{Command};
+ghost use Rattle.amo_host.specs.Calls.{Put};
+ghost use Rattle.amo_host.specs.declared.model.LogFile.TheVariants.{Journal};
 ghost use Rattle.amo_operator.specs.Calls.{PutDoubt};
 ghost use Rattle.amo_operator.specs.Phase.{Known, Probes};
+ghost use Rattle.amo_operator.specs.declared.model.Command.{Command};
 ghost use Rattle.amo_program_safety.specs.Finality.{IsFinalHere};
-ghost use Rattle.amo_program_safety.specs.Machine.{Machine, Operator, Records, Step};
+ghost use Rattle.amo_program_safety.specs.Machine.{Happens, Machine, Operator, Records, Step};
 ghost use Rattle.amo_program_safety.specs.Runs.{IsRun, world_of};
-ghost use Rattle.amo_program_safety.specs.Steps.{IsRun as IsRunOfAll, machine_of};
-ghost use Rattle.amo_program_safety.specs.World.{Event};
+ghost use Rattle.amo_program_safety.specs.Steps.{AreOfNoCommand, IsRun as IsRunOfAll, machine_of};
+ghost use Rattle.amo_program_safety.specs.Without.{AnswersFollowIntents, AppendsAreKept, AppendsAreWritten, AttemptsPerformOnce, CommandsLock, HeldAreNotAnswered, IsRunWithout, LinesComeOnce, LiveAreNotAnswered, LiveAreNotDenied, LocksExclude, OperatorsAreTruthful, PerformedAreNotAnswered, PerformedAreNotDenied, ReadsAreCurrent, RunnersAreHonest};
+ghost use Rattle.amo_program_safety.specs.World.{Event, Stops, Writes};
+ghost use Rattle.amo_run_log.specs.declared.entry.Entry.TheVariants.{Intent};
 ghost use Rattle.amo_status.specs.declared.state.AttemptId.{AttemptId};
+ghost use Rattle.std.specs.Prelude.{◌≡◌, ◌++◌, ◌∷◌, ℕ, List, Some, map, [], codes};
 
 use amo_clearance_safety::laws::lines_are_performed_once_by_journals_alone;
 
@@ -45,3 +49,132 @@ pub fn programs_perform_each_line_at_most_once()
 {
     lines_are_performed_once_by_journals_alone();
 }
+
+/// Each run of processes of `work` without operators' commands is a run of both, with the same
+/// world.
+pub fn workers_run_without_commands()
+    ensures { (es : List Event) → IsRun es → AreOfNoCommand es → IsRunOfAll (map Happens es) × ((machine_of (map Happens es)).world ≡ world_of es) }
+{}
+
+/// There is a run in which a line is performed.
+pub fn a_line_is_performed()
+    ensures { (es : List Event) × IsRun es × (map (λ h. h.line) (world_of es).performed ≡ 1 ∷ []) }
+{}
+
+/// The machine stops while an intent is appended, and takes it; then the line is performed.
+pub fn a_line_is_performed_after_a_stop_in_an_append()
+    ensures { (before : List Event) × (after : List Event)
+        × IsRun (before ++ Writes 1 (Put (Intent 1 1 0)) ∷ Stops (λ log. 0) ∷ after)
+        × (map (λ h. h.line) (world_of (before ++ Writes 1 (Put (Intent 1 1 0)) ∷ Stops (λ log. 0) ∷ after)).performed ≡ 1 ∷ []) }
+{}
+
+/// The machine stops while an intent is appended, and leaves it. The next process asks for it, and
+/// performs the line by another attempt.
+pub fn a_line_is_performed_after_a_stop_that_leaves_an_append()
+    ensures { (before : List Event) × (after : List Event)
+        × IsRun (before ++ Writes 1 (Put (Intent 1 1 0)) ∷ Stops (λ log. 1) ∷ after)
+        × (map (λ h. h.serial) (world_of (before ++ Writes 1 (Put (Intent 1 1 0)) ∷ Stops (λ log. 1) ∷ after)).handed ≡ 2 ∷ [])
+        × (map (λ h. h.line) (world_of (before ++ Writes 1 (Put (Intent 1 1 0)) ∷ Stops (λ log. 1) ∷ after)).performed ≡ 1 ∷ []) }
+{}
+
+/// A process dies once its attempt is handed over. The next one learns from the runner that it is
+/// done, and records that.
+pub fn an_attempt_of_a_dead_process_is_asked_for()
+    ensures { (es : List Event) × IsRun es × (map (λ h. h.line) (world_of es).performed ≡ 1 ∷ [])
+        × (((world_of es).logs (Journal 1)).kept ≡ codes "intent 1 1 0" ∷ codes "done 1 0 0" ∷ []) }
+{}
+
+/// An attempt is handed over and does nothing. Its process dies, and an operator answers that it
+/// is not done. Then another worker performs the line.
+pub fn an_attempt_that_did_nothing_is_tried_again()
+    ensures { (es : List Event) × IsRun es × (map (λ h. h.line) (world_of es).handed ≡ 1 ∷ 1 ∷ []) × (map (λ h. h.line) (world_of es).performed ≡ 1 ∷ []) }
+{}
+
+/// An attempt is handed over, and its runner replies that it was not started. Then another worker
+/// performs the line.
+pub fn an_attempt_that_was_not_started_is_tried_again()
+    ensures { (es : List Event) × IsRun es × (map (λ h. h.line) (world_of es).performed ≡ 1 ∷ []) × (map (λ h. h.line) (world_of es).handed ≡ 1 ∷ 1 ∷ []) }
+{}
+
+/// If two processes get the lock of one journal, they perform a line twice.
+pub fn without_locks_that_exclude_a_line_is_performed_twice()
+    ensures { (es : List Event) × IsRunWithout LocksExclude es × (map (λ h. h.line) (world_of es).performed ≡ 1 ∷ 1 ∷ []) }
+{}
+
+/// If a read misses what is kept of a journal, two workers perform a line twice.
+pub fn without_current_reads_a_line_is_performed_twice()
+    ensures { (es : List Event) × IsRunWithout ReadsAreCurrent es × (map (λ h. h.line) (world_of es).performed ≡ 1 ∷ 1 ∷ []) }
+{}
+
+/// If a recovery takes away what was kept of a journal, two workers perform a line twice.
+pub fn without_kept_appends_a_line_is_performed_twice()
+    ensures { (es : List Event) × IsRunWithout AppendsAreKept es × (map (λ h. h.line) (world_of es).performed ≡ 1 ∷ 1 ∷ []) }
+{}
+
+/// If a process learns that its intent is on the disk, although it was not written, two workers
+/// perform a line twice.
+pub fn without_written_appends_a_line_is_performed_twice()
+    ensures { (es : List Event) × IsRunWithout AppendsAreWritten es × (map (λ h. h.line) (world_of es).performed ≡ 1 ∷ 1 ∷ []) }
+{}
+
+/// If a command recovers the journal of a living process, two workers perform a line twice.
+pub fn without_commands_that_lock_a_line_is_performed_twice()
+    ensures { (es : List Event) × IsRunWithout CommandsLock es × (map (λ h. h.line) (world_of es).performed ≡ 1 ∷ 1 ∷ []) }
+{}
+
+/// If a runner replies that an attempt was not started, and performs it then, a line is performed
+/// twice.
+pub fn without_honest_runners_a_line_is_performed_twice()
+    ensures { (es : List Event) × IsRunWithout RunnersAreHonest es × (map (λ h. h.line) (world_of es).performed ≡ 1 ∷ 1 ∷ []) }
+{}
+
+/// If a runner replies that an attempt was not started while it is under way, a line is performed
+/// twice.
+pub fn if_live_attempts_are_denied_a_line_is_performed_twice()
+    ensures { (es : List Event) × IsRunWithout LiveAreNotDenied es × (map (λ h. h.line) (world_of es).performed ≡ 1 ∷ 1 ∷ []) }
+{}
+
+/// If a runner replies that an attempt was not started that has performed its line, the line is
+/// performed twice.
+pub fn if_performed_attempts_are_denied_a_line_is_performed_twice()
+    ensures { (es : List Event) × IsRunWithout PerformedAreNotDenied es × (map (λ h. h.line) (world_of es).performed ≡ 1 ∷ 1 ∷ []) }
+{}
+
+/// If a line comes to a runner again after an operator has answered its attempt, the line is
+/// performed twice.
+pub fn without_lines_that_come_once_a_line_is_performed_twice()
+    ensures { (es : List Event) × IsRunWithout LinesComeOnce es × (map (λ h. h.line) (world_of es).performed ≡ 1 ∷ 1 ∷ []) }
+{}
+
+/// If an attempt performs its line again, the line is performed twice.
+pub fn without_attempts_that_perform_once_a_line_is_performed_twice()
+    ensures { (es : List Event) × IsRunWithout AttemptsPerformOnce es × (map (λ h. h.line) (world_of es).performed ≡ 1 ∷ 1 ∷ []) }
+{}
+
+/// If an operator answers `not-done` to an attempt that a runner has, a line is performed twice.
+pub fn without_truthful_operators_a_line_is_performed_twice()
+    ensures { (es : List Event) × IsRunWithout OperatorsAreTruthful es × (map (λ h. h.line) (world_of es).performed ≡ 1 ∷ 1 ∷ []) }
+{}
+
+/// If an operator answers `not-done` to an attempt before its intent is on the disk, a line is
+/// performed twice.
+pub fn if_attempts_without_intents_are_answered_a_line_is_performed_twice()
+    ensures { (es : List Event) × IsRunWithout AnswersFollowIntents es × (map (λ h. h.line) (world_of es).performed ≡ 1 ∷ 1 ∷ []) }
+{}
+
+/// If an operator answers `not-done` to an attempt that a process is about to hand over, a line
+/// is performed twice.
+pub fn if_held_attempts_are_answered_a_line_is_performed_twice()
+    ensures { (es : List Event) × IsRunWithout HeldAreNotAnswered es × (map (λ h. h.line) (world_of es).performed ≡ 1 ∷ 1 ∷ []) }
+{}
+
+/// If an operator answers `not-done` to an attempt that is under way, a line is performed twice.
+pub fn if_live_attempts_are_answered_a_line_is_performed_twice()
+    ensures { (es : List Event) × IsRunWithout LiveAreNotAnswered es × (map (λ h. h.line) (world_of es).performed ≡ 1 ∷ 1 ∷ []) }
+{}
+
+/// If an operator answers `not-done` to an attempt that has performed its line, the line is
+/// performed twice.
+pub fn if_performed_attempts_are_answered_a_line_is_performed_twice()
+    ensures { (es : List Event) × IsRunWithout PerformedAreNotAnswered es × (map (λ h. h.line) (world_of es).performed ≡ 1 ∷ 1 ∷ []) }
+{}

@@ -1,0 +1,5 @@
+use Rattle.amo_program_safety.proofs.Twice.{if_held_attempts_are_answered}
+use Rattle.amo_program_safety.proofs.laws.if_held_attempts_are_answered_a_line_is_performed_twice.Goals as goal
+
+pub returns : goal.returns
+returns c = if_held_attempts_are_answered

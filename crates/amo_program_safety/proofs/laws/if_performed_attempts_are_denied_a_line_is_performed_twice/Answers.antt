@@ -1,0 +1,5 @@
+use Rattle.amo_program_safety.proofs.Twice.{if_performed_attempts_are_denied}
+use Rattle.amo_program_safety.proofs.laws.if_performed_attempts_are_denied_a_line_is_performed_twice.Goals as goal
+
+pub returns : goal.returns
+returns c = if_performed_attempts_are_denied

@@ -1,0 +1,5 @@
+use Rattle.amo_program_safety.proofs.Twice.{without_locks}
+use Rattle.amo_program_safety.proofs.laws.without_locks_that_exclude_a_line_is_performed_twice.Goals as goal
+
+pub returns : goal.returns
+returns c = without_locks

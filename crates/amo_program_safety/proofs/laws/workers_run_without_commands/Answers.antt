@@ -1,0 +1,5 @@
+use Rattle.amo_program_safety.proofs.Alone.{workers_run_alone}
+use Rattle.amo_program_safety.proofs.laws.workers_run_without_commands.Goals as goal
+
+pub returns : goal.returns
+returns c es run none = workers_run_alone es run none
