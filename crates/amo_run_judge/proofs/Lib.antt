@@ -1,0 +1,10 @@
+pub mod Found
+pub mod Logs
+pub mod Outcomes
+pub mod Places
+pub mod Reasons
+pub mod Refuted
+pub mod Runs
+pub mod Steps
+pub mod Told
+pub mod Words

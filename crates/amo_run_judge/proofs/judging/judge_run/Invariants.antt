@@ -1,0 +1,13 @@
+use Rattle.std.proofs.Common.{map, take}
+use Rattle.amo_clearance_safety.specs.Runs.{Clearance, IsRun, site_of}
+use Rattle.amo_givens.specs.declared.limits.TheConstants.{MAX_WORKERS}
+use Rattle.amo_run_judge.specs.Events.{event_of}
+use Rattle.amo_run_judge.specs.Seen.{Shows}
+use Rattle.amo_run_judge.proofs.judging.judge_run.Given as goal
+
+-- the events so far are a run, and the state shows the site after them
+abbrev pub invariant-loop-index : goal.invariant-loop-index
+invariant-loop-index l = record {
+  run : IsRun Clearance MAX_WORKERS (map event_of (take l.index l.events));
+  shows : Shows l.site (site_of (map event_of (take l.index l.events)));
+}

@@ -1,0 +1,5 @@
+use Rattle.amo_run_judge.proofs.Refuted.{refuted}
+use Rattle.amo_run_judge.proofs.laws.a_reason_is_against_the_rule.Goals as goal
+
+pub returns : goal.returns
+returns c = refuted

@@ -1,0 +1,5 @@
+use Rattle.amo_run_judge.proofs.Logs.{same_log}
+use Rattle.amo_run_judge.proofs.laws.a_text_is_the_log_of_one_list.Goals as goal
+
+pub returns : goal.returns
+returns c = same_log

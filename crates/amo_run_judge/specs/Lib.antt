@@ -1,0 +1,10 @@
+pub mod Against
+pub mod Events
+pub mod Grammar
+pub mod Judgement
+pub mod Lines
+pub mod Reading
+pub mod Results
+pub mod Rules
+pub mod Seen
+pub mod Telling
