@@ -60,7 +60,13 @@ judge_runs() {
   expect 'amo_show judge of nothing' 0 "$(lines refused 'line 1: this is no first line of a history')" /dev/null "$show" judge </dev/null
   yes 'jobs' | head -c 1048576 >"$room/longest"
   expect 'amo_show judge of the longest text' 0 "$(lines refused 'line 1: this is no first line of a history')" /dev/null "$show" judge <"$room/longest"
+  for log in power_cut no_clearance; do
+    expect "amo_show judge --run of examples/runs/$log.log" 0 "examples/runs/$log.answer" /dev/null "$show" judge --run <"examples/runs/$log.log"
+  done
+  expect 'amo_show judge --run of a history' 0 "$(lines refused 'line 1: this is no event')" /dev/null "$show" judge --run <examples/histories/celery.history
+  expect 'amo_show judge --run of the longest text' 0 "$(lines refused 'line 1: this is no event')" /dev/null "$show" judge --run <"$room/longest"
   echo >>"$room/longest"
+  expect 'amo_show judge --run of a byte more' 1 /dev/null "$(line 'fault 11 TooLong')" "$show" judge --run <"$room/longest"
   expect 'amo_show judge of a byte more' 1 /dev/null "$(line 'fault 11 TooLong')" "$show" judge <"$room/longest"
   expect 'amo_show explain of a byte more' 1 /dev/null "$(line 'fault 11 TooLong')" "$show" explain <"$room/longest"
 }
@@ -176,7 +182,7 @@ all_runs() {
 # amo_show: its words, its plans and its streams.
 show_runs() {
   local words
-  for words in '' traces --help -- 'trace x' 'trace trace' replay 'picture 0 2 5 6' 'picture x x x x x x x x x' explains 'judge judge' worse 'worst 1' al alls 'all all'; do
+  for words in '' traces --help -- 'trace x' 'trace trace' replay 'picture 0 2 5 6' 'picture x x x x x x x x x' explains 'judge judge' 'judge run' '--run judge' 'judge --run --run' 'trace --run' worse 'worst 1' al alls 'all all'; do
     # shellcheck disable=SC2086
     expect "amo_show${words:+ }$words" 2 /dev/null "$(line 'fault words')" "$show" $words <examples/plans/each_stop.toml
   done

@@ -2,7 +2,7 @@
 //! for each move of its run, `amo_show picture` a picture of it, `amo_show worst` the plan that
 //! leaves the fewest of its jobs performed, `amo_show all` what all orders of turns and stops lead
 //! to, `amo_show explain` what it asks for or what is wrong with it. `amo_show judge` reads a
-//! history and writes whether it is a run.
+//! history and writes whether it is a run, and `amo_show judge --run` does so for a log of a run.
 #![tactic(auto)]
 
 use amo_cli::serve_words;

@@ -9,14 +9,15 @@ use Rattle.amo_render.specs.Written.{Writes, Refuses}
 use Rattle.amo_render.specs.OfBytes.{WritesOf, RefusesOf}
 use Rattle.amo_explain.specs.Heading.{BeginsWith, explanation_head}
 use Rattle.amo_judge.specs.Judgement.{judgement}
+use Rattle.amo_run_judge.specs.Judgement.{IsAnswer}
 use Rattle.amo_show_commands.specs.Shown.{text_of}
 use Rattle.amo_worst_case.specs.Answer.{worst_of}
 use Rattle.amo_state_space.specs.Answer.{IsAllOfBytes, AreNoPlan}
 use Rattle.amo_cli.specs.Statuses.{Left}
 use Rattle.amo_show_commands.specs.declared.told.Told.{Told}
-use Rattle.amo_show_commands.specs.declared.told.Told.TheVariants.{Explanation, Judgement}
+use Rattle.amo_show_commands.specs.declared.told.Told.TheVariants.{Explanation, Judgement, RunJudgement}
 use Rattle.amo_show_commands.specs.declared.show.Show.{Show}
-use Rattle.amo_show_commands.specs.declared.show.Show.TheVariants.{Run, Explain, Judge, Worst, All}
+use Rattle.amo_show_commands.specs.declared.show.Show.TheVariants.{Run, Explain, Judge, JudgeRun, Worst, All}
 
 -- the text begins with the line `taken` where the bytes are a plan, and with the line of their fault where they are none
 abbrev pub Explains : List ℕ → List ℕ → Type 0
@@ -30,6 +31,7 @@ Judges bytes text = text ≡ judgement bytes
 abbrev pub IsTold : Told → List ℕ → List ℕ → Type 0
 IsTold Explanation = Explains
 IsTold Judgement = Judges
+IsTold RunJudgement = IsAnswer
 
 -- the text with the worst schedule; each plan has it, or the line that says why there is none
 abbrev pub worst_text_of : PlanSeen → Result (List ℕ) PlanFault
@@ -40,6 +42,7 @@ abbrev pub writes : Show → Left
 writes (Run shown) = Writes (text_of shown)
 writes Explain = WritesOf (IsTold Explanation)
 writes Judge = WritesOf (IsTold Judgement)
+writes JudgeRun = WritesOf (IsTold RunJudgement)
 writes Worst = Writes worst_text_of
 writes All = WritesOf IsAllOfBytes
 
@@ -48,6 +51,7 @@ abbrev pub refuses : Show → ReplayFault → Left
 refuses (Run shown) fault = Refuses (text_of shown) fault
 refuses Explain fault = RefusesOf (IsTold Explanation) (λ _ _. ⊥) fault
 refuses Judge fault = RefusesOf (IsTold Judgement) (λ _ _. ⊥) fault
+refuses JudgeRun fault = RefusesOf (IsTold RunJudgement) (λ _ _. ⊥) fault
 refuses Worst fault = Refuses worst_text_of fault
 refuses All fault = RefusesOf IsAllOfBytes AreNoPlan fault
 
@@ -60,5 +64,6 @@ pub plan_keeps : (show : Show) (f : PlanFault) (known old new : Option (List ℕ
 plan_keeps (Run shown) f known old new h = h.2
 plan_keeps Explain f known old new h = h.1
 plan_keeps Judge f known old new h = h.1
+plan_keeps JudgeRun f known old new h = h.1
 plan_keeps Worst f known old new h = h.2
 plan_keeps All f known old new h = h.1

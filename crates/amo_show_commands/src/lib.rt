@@ -1,5 +1,5 @@
 //! All that the program `amo_show` does, over any source and any two sinks: which words are a
-//! command, and what each command writes of the plan or the history that is read.
+//! command, and what each command writes of the plan, the history or the log that is read.
 #![tactic(auto)]
 
 mod show;

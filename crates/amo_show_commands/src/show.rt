@@ -2,7 +2,7 @@
 ghost use Rattle.std.specs.Prelude.{◌≡◌, map, string_bytes};
 ghost use Rattle.std.specs.Option.{ok_or};
 ghost use Rattle.amo_cli.specs.declared.fault.Fault.TheVariants.{NoCommand};
-ghost use Rattle.amo_show_commands.specs.Words.{command_asked, asked_after_name};
+ghost use Rattle.amo_show_commands.specs.Words.{command_asked, option_asked, asked_after_name};
 
 use crate::shown::Shown;
 use crate::told::Told;
@@ -22,6 +22,8 @@ pub enum Show {
     Explain,
     /// To write what the judge says of the history that is read.
     Judge,
+    /// To write the answer to the log of a run that is read.
+    JudgeRun,
     /// To write the plan that leaves the fewest jobs of the one that is read performed.
     Worst,
     /// To write what all worlds come to that the jobs and workers of the plan that is read can
@@ -44,12 +46,23 @@ fn command_asked(word: &str) -> Option<Show>
     }
 }
 
+/// Returns what a word and its option ask for.
+fn option_asked(word: &str, option: &str) -> Option<Show>
+    ensures { result ≡ option_asked word.now option.now }
+{
+    if word == "judge" && option == "--run" {
+        return Some(Show::JudgeRun);
+    }
+    None
+}
+
 /// What all words of a command line ask for, the program's name first.
 fn asked(words: &[String]) -> Option<Show>
     ensures { result ≡ asked_after_name (map string_bytes words.now) }
 {
     match words {
         [_, word] => command_asked(word.as_str()),
+        [_, word, option] => option_asked(word.as_str(), option.as_str()),
         _ => None,
     }
 }
@@ -88,6 +101,7 @@ impl<R: Sync> Command<R> for Show {
             Show::Run(shown) => Ok(write_of(alloc, shown, reader, out)?),
             Show::Explain => Ok(write_of_bytes(alloc, &Told::Explanation, reader, out)?),
             Show::Judge => Ok(write_of_bytes(alloc, &Told::Judgement, reader, out)?),
+            Show::JudgeRun => Ok(write_of_bytes(alloc, &Told::RunJudgement, reader, out)?),
             Show::Worst => Ok(write_of(alloc, &Worst, reader, out)?),
             Show::All => Ok(write_of_bytes(alloc, &AllWorlds, reader, out)?),
         }

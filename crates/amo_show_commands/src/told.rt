@@ -2,6 +2,7 @@
 use amo_explain::explanation;
 use amo_judge::judgement;
 use amo_render::{BytesText, ReplayFault};
+use amo_run_judge::run_judgement;
 use std::alloc::Global;
 
 /// What is told of bytes, whatever they are.
@@ -10,6 +11,8 @@ pub(crate) enum Told {
     Explanation,
     /// What the judge says of a history.
     Judgement,
+    /// The answer to the log of a run.
+    RunJudgement,
 }
 
 impl BytesText for Told {
@@ -23,6 +26,7 @@ impl BytesText for Told {
         match self {
             Told::Explanation => Ok(explanation(alloc, bytes)?),
             Told::Judgement => Ok(judgement(alloc, bytes)?),
+            Told::RunJudgement => Ok(run_judgement(alloc, bytes)?),
         }
     }
 }
