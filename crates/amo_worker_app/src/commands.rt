@@ -1,6 +1,8 @@
 //! The whole program: its commands, its messages, and the statuses with which it ends.
 use crate::args::{Misuse, Request, asked};
+use crate::call_log::VARIABLE;
 use crate::damage::show_damage;
+use crate::end::End;
 use crate::operator::{carry_out, said_by, said_in};
 use crate::remote::work_by_lines;
 use crate::worker::work;
@@ -107,11 +109,20 @@ fn serve_words(rt: HostRuntime, words: &[String]) -> u8 {
             let file = file_of(&request);
             match done(rt, &setting, request) {
                 Ok(()) => 0,
-                Err(fault) => tell_fault_of(rt, &setting, file, &fault),
+                Err(End::Fault(fault)) => tell_fault_of(rt, &setting, file, &fault),
+                Err(End::Log(error)) => tell_log(rt, &error),
             }
         }
         Err(misuse) => tell_misuse(rt, &misuse),
     }
+}
+
+/// Prints that the log of calls can't be written, and returns the status.
+fn tell_log(rt: HostRuntime, error: &io::Error) -> u8 {
+    let _ = eprintln!(rt;
+        "amo_worker: `{VARIABLE}`: cannot be written: {error}; name a file that can be written, or unset the variable"
+    );
+    73
 }
 
 /// Prints why a command line is no request, or the help that it asks for, and returns the status.
@@ -155,17 +166,17 @@ fn tell_words(rt: HostRuntime, error: &Error) -> u8 {
 }
 
 /// Does what is asked for.
-fn done(rt: HostRuntime, setting: &Setting<'_>, request: Request<'_>) -> Result<(), Fault> {
+fn done(rt: HostRuntime, setting: &Setting<'_>, request: Request<'_>) -> Result<(), End> {
     match request {
-        Request::Door(jobs, into) => open(rt, setting, &jobs, into),
+        Request::Door(jobs, into) => Ok(open(rt, setting, &jobs, into)?),
         Request::Work(jobs, worker) => {
             let counts = work(rt, setting, &jobs, worker)?;
-            tell_all_done(rt, &counts)
+            Ok(tell_all_done(rt, &counts)?)
         }
-        Request::Lines(asked) => work_by_lines(rt, asked),
+        Request::Lines(asked) => Ok(work_by_lines(rt, asked)?),
         Request::Damaged => {
             look_at_folder(rt, setting)?;
-            show_damage(rt, setting)
+            Ok(show_damage(rt, setting)?)
         }
         Request::Status(form) => {
             let age = look_to_read(rt, setting)?;

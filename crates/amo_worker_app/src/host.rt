@@ -65,6 +65,11 @@ impl<'a> RunHost<'a> {
         }
     }
 
+    /// Returns which log the worker's own journal is.
+    pub(crate) fn own_log(&self) -> LogFile {
+        LogFile::Journal(self.worker)
+    }
+
     /// Remembers why a call has failed.
     fn told<T>(&mut self, given: Result<T, Fault>) -> Result<T, Failed> {
         match given {

@@ -4,11 +4,15 @@
 #![tactic(auto)]
 
 mod args;
+mod call_log;
 mod clock;
 mod command_line;
 mod commands;
 mod damage;
+mod end;
 mod host;
+mod logged_files;
+mod logged_host;
 mod operator;
 mod operator_files;
 mod print;

@@ -1,5 +1,8 @@
 //! The commands of an operator, over the files of a run.
+use crate::call_log::CallLog;
+use crate::end::End;
 use crate::host::item_of_log;
+use crate::logged_files::LoggedFiles;
 use crate::operator_files::OperatorFiles;
 use amo_operator::{Command, Halt, run};
 use amo_run_dir::{Age, Fault, Item, Later, Setting, had};
@@ -13,24 +16,29 @@ use std::rt::HostRuntime;
 /// # Errors
 /// The fault of the call that failed, or of what the run has written down, or of an answer that is
 /// refused. `Later` if another process is answering, or an answer is to an attempt that may still
-/// run.
+/// run. `Log` if the log of calls has failed.
 pub(crate) fn carry_out(
     rt: HostRuntime,
     setting: &Setting<'_>,
     age: Age,
     command: &Command,
-) -> Result<(), Fault> {
-    let mut files = OperatorFiles::new(rt, setting, age);
-    match run(&mut files, rt.alloc(), command) {
+) -> Result<(), End> {
+    let log = CallLog::begin(rt, 0, setting.run)?;
+    let mut files = LoggedFiles::new(OperatorFiles::new(rt, setting, age), log);
+    let ran = run(&mut files, rt.alloc(), command);
+    if let Some(end) = files.take_failure() {
+        return Err(end);
+    }
+    match ran {
         Ok(()) => Ok(()),
-        Err(halt) => Err(fault_of(halt, &mut files)),
+        Err(halt) => Err(End::Fault(fault_of(halt, &mut files))),
     }
 }
 
 /// Returns the fault that a halt comes to.
-fn fault_of(halt: Halt, files: &mut OperatorFiles<'_>) -> Fault {
+fn fault_of(halt: Halt, files: &mut LoggedFiles<'_>) -> Fault {
     match halt {
-        Halt::Host => files.fault.take().unwrap_or(Fault::NoWay),
+        Halt::Host => files.inner.fault.take().unwrap_or(Fault::NoWay),
         Halt::Memory => Fault::Memory,
         Halt::Held => Fault::Later(Later::Answering),
         Halt::Entry(log, number) => Fault::Entry(item_of_log(log), number),

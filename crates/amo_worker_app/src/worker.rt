@@ -1,7 +1,10 @@
 //! The command `work`: the life of a worker's process over the files of its run.
 ghost use Rattle.std.specs.Prelude.{◌≡◌};
 
+use crate::call_log::CallLog;
+use crate::end::End;
 use crate::host::{RunHost, item_of_log};
+use crate::logged_host::LoggedHost;
 use amo_driver::Stop;
 use amo_host::RunLock;
 use amo_run_dir::{Fault, Item, Later, ListSettings, Setting, enter, holder};
@@ -16,29 +19,46 @@ use std::rt::HostRuntime;
 /// once none is open.
 ///
 /// # Errors
-/// Each other end: `Later` if there is more to do.
+/// Each other end: `Later` if there is more to do, `Log` if the log of calls has failed.
 pub(crate) fn work(
     rt: HostRuntime,
     setting: &Setting<'_>,
     jobs: &ListSettings<'_>,
     worker: u64,
-) -> Result<Counts, Fault> {
+) -> Result<Counts, End> {
     enter(rt, setting)?;
     let sharing = Sharing {
         workers: jobs.workers,
         beta: jobs.beta,
     };
-    let host = RunHost::new(rt, setting, jobs, worker);
+    let log = CallLog::begin(rt, worker, setting.run)?;
+    let host = LoggedHost::new(RunHost::new(rt, setting, jobs, worker), log);
     let process = Worker::new(host, rt.alloc(), worker, no_jobs(rt.alloc())?);
     let (process, ending) = live(process, sharing);
     let mut process = process;
+    if let Some(end) = process.host.take_failure() {
+        return Err(end);
+    }
+    Ok(counts_after(rt, setting, ending, &mut process)?)
+}
+
+/// Returns how all lines stand, if none is open by this ending.
+///
+/// # Errors
+/// The fault that each other ending comes to.
+fn counts_after(
+    rt: HostRuntime,
+    setting: &Setting<'_>,
+    ending: Ending,
+    process: &mut Worker<LoggedHost<'_>>,
+) -> Result<Counts, Fault> {
     match ending {
-        Ending::NothingOpen(len) => counts_of(&process, len),
+        Ending::NothingOpen(len) => counts_of(process, len),
         Ending::Left => Err(Fault::Left),
         Ending::Closed => Err(Fault::Closed),
         Ending::Over => Err(Fault::Later(Later::Over)),
-        Ending::InvalidReply => Err(invalid(&process)),
-        Ending::Stopped(stop) => Err(fault_of(rt, setting, stop, &mut process)),
+        Ending::InvalidReply => Err(invalid(process)),
+        Ending::Stopped(stop) => Err(fault_of(rt, setting, stop, process)),
         Ending::TooManyRounds => Err(Fault::NoWay),
     }
 }
@@ -57,7 +77,7 @@ fn no_jobs(alloc: Global) -> Result<HashedJobs, Fault> {
 ///
 /// # Errors
 /// `List` if the list has a last line without its end: nobody waits for it.
-fn counts_of(process: &Worker<RunHost<'_>>, len: usize) -> Result<Counts, Fault> {
+fn counts_of(process: &Worker<LoggedHost<'_>>, len: usize) -> Result<Counts, Fault> {
     let jobs = process.jobs.jobs();
     if len > jobs.bytes().len() {
         let line = (jobs.count() as usize).saturating_add(1);
@@ -81,8 +101,8 @@ fn counts_in(alloc: Global, logs: &ReadLogs, count: u64) -> Result<Counts, Fault
 }
 
 /// Returns the fault that the runner's last line is no reply.
-fn invalid(process: &Worker<RunHost<'_>>) -> Fault {
-    match process.host.runner.shown() {
+fn invalid(process: &Worker<LoggedHost<'_>>) -> Fault {
+    match process.host.inner.runner.shown() {
         Ok(text) => Fault::NoAnswer(text),
         Err(_) => Fault::Memory,
     }
@@ -93,7 +113,7 @@ fn fault_of(
     rt: HostRuntime,
     setting: &Setting<'_>,
     stop: Stop,
-    process: &mut Worker<RunHost<'_>>,
+    process: &mut Worker<LoggedHost<'_>>,
 ) -> Fault {
     match stop {
         Stop::Failed => fault_behind(rt, setting, process),
@@ -108,13 +128,13 @@ fn fault_of(
 fn fault_behind(
     rt: HostRuntime,
     setting: &Setting<'_>,
-    process: &mut Worker<RunHost<'_>>,
+    process: &mut Worker<LoggedHost<'_>>,
 ) -> Fault {
     let Some(halt) = process.halt else {
         return Fault::NoWay;
     };
     match halt {
-        Halt::Host => process.host.fault.take().unwrap_or(Fault::NoWay),
+        Halt::Host => process.host.inner.fault.take().unwrap_or(Fault::NoWay),
         Halt::Memory => Fault::Memory,
         Halt::NoLine => Fault::NoWay,
         Halt::Unread(log) => Fault::Later(Later::Changed(item_of_log(log))),

@@ -1,0 +1,30 @@
+//! Why a command ends early.
+use amo_run_dir::Fault;
+use std::alloc::AllocError;
+use std::io;
+
+/// Why a command ends before it has done what it was asked for.
+#[derive(Drop)]
+pub(crate) enum End {
+    Fault(Fault),
+    /// The log of calls can't be opened or written.
+    Log(io::Error),
+}
+
+impl From<Fault> for End {
+    fn from(fault: Fault) -> Self {
+        End::Fault(fault)
+    }
+}
+
+impl From<io::Error> for End {
+    fn from(error: io::Error) -> Self {
+        End::Log(error)
+    }
+}
+
+impl From<AllocError> for End {
+    fn from(_: AllocError) -> Self {
+        End::Fault(Fault::Memory)
+    }
+}
