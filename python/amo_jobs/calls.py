@@ -14,6 +14,7 @@ import signal
 from contextlib import suppress
 from typing import Dict, FrozenSet, List, Mapping, NamedTuple, Optional, Sequence, Tuple
 
+from amo_jobs.call_log import note
 from amo_jobs.library import library
 
 SET_CHILD_SUBREAPER = 36  # of prctl
@@ -134,6 +135,7 @@ def reap() -> Tuple[Dict[int, int], bool]:
         count = library().amo_reap(ENDED, ROOM)
         for k in range(0, 2 * count, 2):
             found[ENDED[k]] = os.waitstatus_to_exitcode(ENDED[k + 1])
+            note("gone", ENDED[k])
     return found, ENDED[2 * count] == 0
 
 

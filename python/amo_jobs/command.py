@@ -10,6 +10,7 @@ import os
 from contextlib import suppress
 from typing import Collection, FrozenSet, List, Optional
 
+from amo_jobs.call_log import note
 from amo_jobs.calls import Process
 from amo_jobs.locks import close_all, is_free, locked
 from amo_jobs.messages import lowered, reason
@@ -68,6 +69,7 @@ class Command:
         command that was not begun is open again.
         """
         starter = self.commands.starter
+        note("starts", self.name(), self.line)
         try:
             self.before = self.commands.family.snapshot(known)
             process = starter.start(text, self.line, self.serial)
@@ -79,6 +81,11 @@ class Command:
             raise self.not_started(f"{lowered(starter.error())} {NOTHING_LOST}; correct the"
                                    " command, and start again with --command-changed")
         self.process = process
+        note("started", self.name(), process)
+
+    def name(self) -> str:
+        """Returns the name of the attempt."""
+        return f"{self.commands.worker}.{self.serial}"
 
     def not_started(self, why: str) -> NotStarted:
         """Gives the lock and the outputs up, and returns the reason. If the lock's file stays, it
@@ -92,6 +99,7 @@ class Command:
 
     def ended(self) -> None:
         """Closes the runner's handle of the lock, once the process of the command has ended."""
+        note("ended", self.name())
         self.process = 0
         close_all(self.locks)
 

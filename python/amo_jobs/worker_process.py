@@ -8,6 +8,7 @@ from contextlib import suppress
 from typing import Callable, Dict, List, Optional
 
 from amo_jobs import calls
+from amo_jobs.call_log import line_text, note
 from amo_jobs.locks import close_all
 from amo_jobs.runner_events import Said, STAY
 
@@ -55,6 +56,8 @@ class WorkerProcess:
         if part:
             *lines, self.rest = (self.rest + part).split(b"\n")
             self.lines += lines
+            for line in lines:
+                note("receives", self.process, line_text(line))
         else:
             self.read_errors()
             self.files = self.output + self.errors
@@ -66,6 +69,8 @@ class WorkerProcess:
             with suppress(ChildProcessError):
                 number, status = os.waitpid(self.process, os.WNOHANG)
                 self.status = os.waitstatus_to_exitcode(status) if number else None
+                if number:
+                    note("gone", number)
 
     def read_errors(self) -> bool:
         """Takes the messages that there are, and returns whether there may be more. A full pipe
@@ -82,6 +87,7 @@ class WorkerProcess:
 
     def answer(self, text: str) -> bool:
         """Answers. Returns whether the worker may have got it: if not, it is dead, or leaves."""
+        note("replies", self.process, text)
         try:
             os.write(self.input[0], f"{text}\n".encode())
             return True
