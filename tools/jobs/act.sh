@@ -1,15 +1,18 @@
 #!/bin/sh
-# act.sh ROOM TEXT: the command of the tests. TEXT is a number and what to do; what happens is appended to ROOM/effects/LINE, a
-# line each: `begun P.S PROCESS`, `did P.S`. The intent is the name of the lock that stands as
-# standard input. The first attempt at a line that waits does its work once a test has made the file
-# ROOM/go. A line that stays goes on after that until the test has made ROOM/over. Each attempt at a
-# line that is gated waits for ROOM/go.LINE. So no test has to be faster than a command.
+# act.sh ROOM TEXT: the command of the tests. TEXT is a number and what to do. It appends
+# lines to ROOM/effects/LINE: `begun P.S PROCESS` first, and then `did P.S`. A line of the log that
+# AMO_CALLS names follows. The intent is the name of the lock that stands as standard input. The
+# first attempt at a line that waits does its work once a test has made the file ROOM/go. A line
+# that stays goes on after that until the test has made ROOM/over. Each attempt at a line that is
+# gated waits for ROOM/go.LINE. So no test has to be faster than a command.
 room=$1 what=${2#* } file=$1/effects/$AMO_LINE
 name=$(readlink "/proc/$$/fd/0") name=${name##*/command.}
 echo "begun $name $$" >> "$file"
-did() { sleep "$1"; echo "did $name" >> "$file"; }
+did='echo "did $name" >> "$file"
+if [ -n "$AMO_CALLS" ]; then printf "\nperformed %s %s ." "$name" "$AMO_LINE" >> "$AMO_CALLS"; fi'
+did() { sleep "$1"; eval "$did"; }
 till() { while [ -d "$room" ] && ! [ -e "$room/$1" ]; do sleep 0.02; done; }
-await='while [ -d "$room" ] && ! [ -e "$room/go" ]; do sleep 0.02; done; echo "did $name" >> "$file"'
+await='while [ -d "$room" ] && ! [ -e "$room/go" ]; do sleep 0.02; done; '$did
 helps='echo $$ > "$room/helper.new"; mv "$room/helper.new" "$room/helper"; '$await
 first() { mkdir "$room/tried.$AMO_LINE" 2> /dev/null; }
 case $what in
@@ -56,8 +59,8 @@ open(room + '/closed', 'w').close()
 while os.path.exists(room) and not os.path.exists(room + '/' + awaited):
     time.sleep(0.02)
 open(file, 'a').write('did ' + name + chr(10))" "$file" "$name" "$room" "$what" ;;
-nohup) export file name; nohup sh -c 'sleep 0.4; echo "did $name" >> "$file"' > "$room/nohup.$AMO_LINE" 2>&1 & ;;
-setsid) export file name; setsid sh -c 'sleep 0.4; echo "did $name" >> "$file"' & ;;
+nohup) export file name; nohup sh -c "sleep 0.4; $did" > "$room/nohup.$AMO_LINE" 2>&1 & ;;
+setsid) export file name; setsid sh -c "sleep 0.4; $did" & ;;
 hundred) did 0; exit 100 ;;
 dies) did 0.02; kill -9 $$ ;;
 *) did 0 ;;

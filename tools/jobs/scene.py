@@ -13,6 +13,7 @@ import subprocess
 import sys
 import tempfile
 import time
+from typing import List
 
 from worker import folder
 
@@ -80,10 +81,13 @@ class Bench:
         self.program, self.worker, self.room = os.path.abspath(program), os.path.abspath(worker), os.path.realpath(room)
         self.is_long, self.seed, self.draws, self.mistake = is_long, seed, random.Random(seed), mistake
         self.scenes, self.skipped, self.end, self.counts = [], [], None, {}
+        self.made: List[Scene] = []
+        self.dropped: list = []  # what came of the logs of scenes whose files are gone
         self.kills = 0  # how many kills a test has to make that counts them
 
     def scene(self, *given, **more):
         self.scenes.append(Scene(self, *given, **more))
+        self.made.append(self.scenes[-1])
         return self.scenes[-1]
 
     def close(self):
@@ -112,6 +116,7 @@ class Scene:
         self.bench, self.workers, self.options, self.room = bench, workers, list(options), tempfile.mkdtemp(dir=bench.room)
         self.run, self.jobs, self.boot, self.effects = (f"{self.room}/{it}" for it in ("run", "jobs", "boot", "effects"))
         self.command, self.crews, self.statuses, self.said, self.boots = command or COMMAND + [self.room], [], [], "", 0
+        self.calls, self.is_judged = f"{self.room}.calls", True  # (its calls aren't to fail)
         self.kinds, self.listed, self.file_system, self.numbers, self.known = [], [], None, workers, 0
         self.ends_of_crews = {DONE, FAILED, DOUBTFUL, LEFT, LATER, KILLED, *UNHEARD}
         self.orphaned = ()  # the kinds of commands whose child may be killed by itself, after its parent has ended well
@@ -136,7 +141,8 @@ class Scene:
         # (A shim of python3, as pyenv has it, takes longer to begin than Python.)
         path = f"{os.path.dirname(sys.executable)}:{os.environ['PATH']}"
         named = {"PATH": path, "AMO_REAL": self.bench.worker, "AMO_ROOM": self.room, "AMO_PLAN": plan,
-                 "AMO_MISTAKE": self.bench.mistake, "AMO_TEST_BOOT_ID": self.boot, **more}
+                 "AMO_MISTAKE": self.bench.mistake, "AMO_TEST_BOOT_ID": self.boot,
+                 "AMO_CALLS": self.calls, **more}
         return {name: value for name, value in named.items() if value}
 
     def words(self, command, *words, plan=None):

@@ -18,7 +18,7 @@ import time
 
 from jobs.scene import NO_MEMORY, READ, REFUSED, WRITE, Wrong, want
 from jobs.spoiled import end_all, flip, let_end, refused_file, see_refused
-from worker import folder
+from worker import folder, judged
 from worker.headers import FILES
 from worker.registers import Registers
 from worker.scene import SENSELESS
@@ -304,7 +304,7 @@ def try_kills(bench) -> str:
         bench.add("twice", twice(storm.scene))
         bench.close()
         if not wrongs:
-            shutil.rmtree(storm.scene.room)
+            judged.drop(bench, storm.scene)
     want(not wrongs, f"{len(wrongs)} of {tried} tried: " + "; ".join(wrongs))
     return f"{tried} runs, {bench.counts}"
 

@@ -104,6 +104,7 @@ def try_lists(bench):
 def try_answers(bench):
     """the doubts that are printed with tabs are answered by a file, all or none; a wrong text and a second answer are refused"""
     scene = bench.scene(["dies", "dies", "quick", "dies"])
+    scene.is_judged = False  # the person lies
     scene.ends(scene.start(), DOUBTFUL)
     rows = scene.call("status", "--lines", "doubt").splitlines()
     want([it.split("\t")[1:] for it in rows] == [["1", "1 dies"], ["2", "2 dies"], ["4", "4 dies"]], f"{rows}")

@@ -3,10 +3,10 @@ worker goes on after, and then the power is cut; and storms, runs in which all t
 
 import errno
 import random
-import shutil
 import signal
 import time
 
+from worker import judged
 from worker.disk import Power
 from worker.folder import read
 from worker.kills import Waiting, names_file, state_of
@@ -153,7 +153,7 @@ def storm(bench, seed):
         between(scene, power, runners, draws)
     settle_doubts(scene)
     performs = power.close()
-    shutil.rmtree(scene.room)
+    judged.drop(bench, scene)
     return performs
 
 

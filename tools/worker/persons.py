@@ -203,6 +203,7 @@ def try_not_done_waits(bench):
     """`not-done` of what failed or is in doubt waits until so many seconds have passed since its end, and until somebody looks if
     that is not known or ahead of the clock; `--now` doesn't wait"""
     scene, now = prepared(bench, ["done 3", "doubt", "doubt", "doubt"], lines=4), int(time.time())
+    scene.is_judged = False  # the person lies
     ended_at(scene, {1: now - 10**6, 2: now - 10**6, 3: now + 10**6, 4: 0})
     long, short = ["--quiet", str(2 * 10**6)], ["--quiet", str(10**6)]
     for serial, more, status, said in [
@@ -217,6 +218,7 @@ def try_not_done_waits(bench):
 def try_now_by_default(bench):
     """a `not-done` waits by default, and with --quiet 0 it doesn't"""
     scene, now = prepared(bench, ["done 3", "doubt"], lines=2), int(time.time())
+    scene.is_judged = False  # the person lies
     ended_at(scene, {1: now, 2: now})  # (of a test that takes a minute here nothing is shown)
     for serial in (1, 2):
         name, text = f"1.{serial}", f"job {serial}"
@@ -241,6 +243,7 @@ def try_done_at_once(bench):
 def try_sheet_waits(bench):
     """--from a file: one answer that comes too early refuses all, and each such answer is named"""
     scene, now = prepared(bench, ["doubt", "done 3", "doubt", "doubt", "untouched 75", "doubt"]), int(time.time())
+    scene.is_judged = False  # the person lies
     ended_at(scene, {1: now, 2: now - 10**6, 3: now, 4: now + 10**6, 5: now, 6: now})
     path = f"{scene.room}/verdicts"
 
@@ -328,6 +331,7 @@ def try_listed_though_full(bench):
     for number in numbers:
         for error in (errno.EIO, errno.ENOSPC):
             scene = left_pending(bench)
+            scene.is_judged = False  # the person lies
             status, out, err = scene.call("doubts", scene.run, "--json", faults=f"{number}:{error}")
             want(status == OVER, f"doubts at a failed call {number}: status {status}, {err}")
             told = [(it["intent"], it["ended"], it["age"]) for it in json.loads(out)]

@@ -331,7 +331,9 @@ def before_change(bench: Bench, name: str) -> Tuple[Scene, Runner]:
 
 
 def forget(scene: Scene, name: str) -> None:
-    """What stood in the last append of this file isn't looked for any more."""
+    """What stood in the last append of this file isn't looked for any more. The test has taken it
+    away, so the log isn't judged."""
+    scene.is_judged = False
     if name == "answers":
         scene.answers.clear()
     else:

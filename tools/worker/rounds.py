@@ -196,6 +196,7 @@ def try_jobs_torn(bench):
 def try_many_lines(bench):
     """more lines than a round can have: the first 4096 that are open, and then the rest"""
     scene = bench.scene(4097, 4)
+    scene.is_judged = False  # the test writes a journal
     runner = Runner(scene, 2)
     runner.leaves = True
     live(runner)

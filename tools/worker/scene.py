@@ -16,6 +16,7 @@ import subprocess
 import sys
 import tempfile
 import time
+from typing import List
 
 from worker import folder
 
@@ -67,6 +68,8 @@ class Bench:
     def __init__(self, program, room, is_long, seed, mistake=None):
         self.program, self.room, self.is_long, self.mistake = os.path.abspath(program), os.path.realpath(room), is_long, mistake
         self.draws, self.seed, self.scenes, self.skipped, self.processes = random.Random(seed), seed, 0, [], 0
+        self.made: List[Scene] = []
+        self.dropped: list = []  # what came of the logs of scenes whose files are gone
         self.library, self.runners, self.watches, self.end, self.last = f"{self.room}/faults.so", [], True, None, None
         kind = folder.type_of(self.room)
         self.kind = [] if kind in folder.TAKEN else ["--file-system", kind]  # (as in a container)
@@ -98,6 +101,7 @@ class Bench:
         """A new run, in a folder of its own."""
         self.scenes += 1
         self.last = Scene(self, tempfile.mkdtemp(dir=self.room), lines, workers, **more)
+        self.made.append(self.last)
         return self.last
 
 
@@ -108,6 +112,7 @@ class Scene:
         """Makes the run's folder itself, as the door does, or leaves that to the door."""
         self.bench, self.room, self.workers, self.beta = bench, room, workers, beta
         self.run, self.jobs, self.boot, self.log = f"{room}/run", f"{room}/jobs", f"{room}/boot", f"{room}/log"
+        self.calls, self.is_judged = f"{room}/calls", True
         self.account, self.acknowledged, self.answers, self.by = [], {}, {}, {}
         self.boots, self.logs, self.keeps, self.is_still, self.more = 0, False, False, False, {}
         self.has_true_registers, self.taken = True, []
@@ -144,7 +149,7 @@ class Scene:
     def environment(self, faults=None):
         """What a process of this run is given: the library of faults, and where it writes the calls down."""
         named = {"PATH": os.environ["PATH"], "LD_PRELOAD": self.bench.library, "AMO_RUN": self.run, "AMO_JOBS": self.jobs,
-                 "AMO_HARNESS": str(os.getpid())}
+                 "AMO_HARNESS": str(os.getpid()), "AMO_CALLS": self.calls}
         extra = {"AMO_FAULTS": faults, "AMO_LOG": self.log if self.logs else None, "AMO_BYTES": "yes" if self.keeps else None,
                  "AMO_MISTAKE": self.bench.mistake}
         return {**named, **{name: value for name, value in extra.items() if value}, **self.more}
@@ -178,8 +183,14 @@ class Scene:
     def look(self):
         return folder.Folder(self.run)
 
+    def note_call(self, text: str) -> None:
+        """Appends a line to the log of calls."""
+        with open(self.calls, "ab", buffering=0) as file:
+            file.write(f"\n{text} .".encode())
+
     def performed(self, worker, serial, line):
         """Notes that this line was performed, and stops where it was before."""
+        self.note_call(f"performed {worker}.{serial} {line}")
         before, self.by[line] = self.by.get(line), f"{worker}.{serial}"
         self.account.append(("performed", worker, serial, line))
         want(not before, f"performed twice: line {line} by {worker}.{serial}, and before by {before}")
@@ -390,6 +401,7 @@ class Runner:
 
     def end(self):
         status = self.process.wait()
+        self.scene.note_call(f"gone {self.process.pid}")
         self.hear()
         for stream in (self.process.stdin, self.process.stdout, self.process.stderr):
             stream.close()
@@ -471,6 +483,7 @@ class Runner:
             if self.process:
                 self.process.kill()
                 self.process.wait()
+                self.scene.note_call(f"gone {self.process.pid}")
 
     def close(self):
         """Ends, and kills its worker, if there is one."""

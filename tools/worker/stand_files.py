@@ -17,7 +17,7 @@ MISTAKES = ("intent_after_the_act pending_is_open guard_is_removed words_of_anot
             " counts_are_not_compared compares_after_the_cut seal_is_not_compared"
             " jobs_are_not_compared missing_record_is_taken unknown_is_open"
             " outcomes_without_times no_clearance clears_before_the_intent"
-            " own_attempts_are_not_looked_at skips_a_journal pending_is_opened"
+            " own_attempts_are_not_looked_at skips_a_journal leaves_a_journal_unread pending_is_opened says_the_next_line"
             " others_are_not_compared own_name_is_not_compared keeps_one_of_two two_appends"
             " owed_is_dropped nothing_is_owed reads_three_records not_done_at_once failed_is_quiet"
             " done_waits ahead_is_old first_row_alone_waits again_waits now_is_ignored"

@@ -25,6 +25,7 @@ sys.dont_write_bytecode = True
 sys.path.insert(0, os.path.dirname(os.path.realpath(__file__)))
 
 from stand_attempts import COPIES, journal_of
+from stand_calls import LOG, noted
 from stand_clearance import Clearance
 from stand_damaged import tell_damage
 from stand_files import (
@@ -122,7 +123,9 @@ def record(file, ended):
     left = list(ended)
     with contextlib.suppress(End):
         while left:
-            file.append(b"doubt %d %d" % (left[0], time.time()))
+            doubt = b"doubt %d %d" % (left[0], time.time())
+            with noted("put_doubt", doubt.decode()):
+                file.append(doubt)
             with contextlib.suppress(OSError):
                 os.unlink(f"{file.it.run}/command.{file.name.rpartition('.')[2]}.{left[0]}")
             left.pop(0)
@@ -364,7 +367,7 @@ def work(it):
     for intent in [it for it in own if it.answer is None]:
         answer, leaves = partner.ask(b"was", intent.serial, intent.line, ledger.lines[intent.line - 1])
         if answer:
-            journal.append(answer)
+            journal.put(answer)
         if leaves:
             raise told_to_leave()
     hands = Hands(it, journal, partner, len(own))
@@ -435,7 +438,8 @@ class Hands:
             self.journal.put(intent)
             if self.clearance.takes(serial, line, count):
                 return False
-        answer, leaves = self.partner.ask(b"perform", serial, line, self.lines[line - 1])
+        place = line % count if MISTAKE == "says_the_next_line" else line - 1
+        answer, leaves = self.partner.ask(b"perform", serial, line, self.lines[place])
         if MISTAKE == "intent_after_the_act":
             self.journal.put(intent)
         if answer:
@@ -647,12 +651,18 @@ def answer_once(it, rows):
         for name, verdict in verdicts.items() if not running else ():
             said = numbers(name.split(b"."), 2)
             if not ledger.intent(*said).found:
-                file.append(b"%s %d %d %d" % (verdict, *said, time.time()))
+                put_answer(file, verdict, *said)
         return running
     finally:
         file.close()
         for lock in held:
             os.close(lock)
+
+
+def put_answer(file, verdict, worker, serial):
+    """Appends what an operator found out about an attempt."""
+    with noted("put_answer", verdict.decode(), worker, serial):
+        file.append(b"%s %d %d %d" % (verdict, worker, serial, time.time()))
 
 
 def again(it):
@@ -663,7 +673,7 @@ def again(it):
         if intent.answer and intent.answer[0] == b"untouched" and not intent.found:
             if MISTAKE == "again_waits" and intent.ended() + 60 > time.time():
                 raise End(LATER, f"attempt {intent.name()}: it is too young; wait")
-            file.append(b"not-done %d %d %d" % (intent.worker, intent.serial, time.time()))
+            put_answer(file, b"not-done", intent.worker, intent.serial)
 
 
 class Given:
@@ -740,6 +750,7 @@ def main(words):
     it = None
     try:
         it = Given(words)
+        LOG.begin(it.worker if it.command == "work" else 0, it.run)
         {"door": enter, "work": work, "status": status, "doubts": doubts, "answer": answer, "again": again}[it.command](it)
         sys.stdout.flush()
     except End as end:

@@ -6,6 +6,7 @@ import hashlib
 import os
 from typing import List, Optional
 
+from stand_calls import LOG, attempts_text, noted
 from stand_files import (
     MISTAKE, End, called, has_lock, missing, opened_part, part, put_at, sync, sync_folder, whole,
 )
@@ -147,12 +148,25 @@ class Journal:
         damaged, or lacks what the header counts, is refused before. It cuts what isn't seen too,
         since the disk may still have it after a sync that failed. The file is never empty
         meanwhile."""
+        LOG.note("before", "recover", self.name)
+        try:
+            found = self.recovered(header)
+        except End:
+            LOG.note("after", "recover", "failed")
+            raise
+        lines = [int(it.split(b" ")[2]) for record in found.records
+                 for it in record.split(b"; ") if it.startswith(b"intent ")]
+        LOG.note("after", "recover", attempts_text(lines))
+
+    def recovered(self, header) -> Appends:
+        """Compares the file with the header, and settles it."""
         found = appends_in(self.it, self.name, whole(self.file, self.path))
         if MISTAKE != "compares_after_the_cut" or found.damage():
             self.compare(header, found)
         self.settle(found)
         if MISTAKE == "compares_after_the_cut":
             self.compare(header, found)
+        return found
 
     def compare(self, header, found: Appends) -> None:
         """Refuses the file, if it is damaged or lacks what the header counts."""
@@ -182,6 +196,11 @@ class Journal:
     def put(self, record: bytes) -> None:
         """Appends a record, in one append with the one that is owed: all or none. After an append
         that failed nothing is appended."""
+        with noted("put", record.decode()):
+            self.put_all(record)
+
+    def put_all(self, record: bytes) -> None:
+        """Appends what is owed and a record."""
         records, self.owed = [*self.owed, record], []
         if MISTAKE == "keeps_one_of_two":
             records = records[-1:]
@@ -193,15 +212,17 @@ class Journal:
 
     def owe(self, record: bytes) -> None:
         """Keeps a record for the next append."""
-        if MISTAKE == "nothing_is_owed":
-            self.append(record)
-        else:
-            self.owed.append(record)
+        with noted("owe", record.decode()):
+            if MISTAKE == "nothing_is_owed":
+                self.append(record)
+            else:
+                self.owed.append(record)
 
     def pay(self) -> None:
         """Appends the record that is owed."""
-        if self.owed and MISTAKE != "owed_is_dropped":
-            self.append(self.owed.pop())
+        with noted("pay"):
+            if self.owed and MISTAKE != "owed_is_dropped":
+                self.append(self.owed.pop())
 
     def append(self, record: bytes) -> None:
         """Puts an append behind the last one; it counts once its commit byte is open on the

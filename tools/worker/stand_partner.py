@@ -4,6 +4,7 @@ import os
 import time
 from typing import Optional, Tuple
 
+from stand_calls import LOG, line_text, shown
 from stand_files import LATER, MISTAKE, End, called, number, refused_folder
 
 # How many words each answer has.
@@ -18,6 +19,13 @@ class Partner:
 
     def exchange(self, data: bytes) -> Optional[bytes]:
         """Says a line. Returns the line that answers it, without its end; None if none comes."""
+        LOG.note("before", "say", line_text(data))
+        said = self.reply_to(data)
+        LOG.note("after", "say", "none" if said is None else shown(said))
+        return said
+
+    def reply_to(self, data: bytes) -> Optional[bytes]:
+        """Writes the line, and waits for the one that answers it."""
         while data:
             data = data[called(69, "standard output", os.write, 1, data):]
         while b"\n" not in self.kept:

@@ -265,6 +265,7 @@ def told_one(bench, change, words, status, said):
     """A command that ends with a fault: its status, and its line."""
     scene = prepared(bench, ["done 0", "doubt", "untouched 75"], lines=4)
     change(scene)
+    scene.is_judged = False  # the test has spoiled a file
     command, *more = (it.replace("_", " ") for it in words.split(" "))
     more += [*scene.givens(), scene.jobs] if command in ("door", "work") else []
     ended, out, err = scene.call(command, scene.run, *more)
@@ -424,6 +425,7 @@ def try_order_of_reads(bench):
         bench.skipped.append("the stand-in reads all twice")
         return
     scene = prepared(bench, ["done 3", "doubt", "untouched 75"], lines=4)
+    scene.is_judged = False  # the person lies
     scene.answer(1, 2, 2, "not-done")
     scene.logs, wrongs = True, []
     for words in (["status"], ["doubts"], ["answer", "1.1", "1", "job 1", "done"], ["again"], ["work", "1"]):
