@@ -9,7 +9,7 @@ use Rattle.amo_program_safety.specs.Machine.{Machine, Happens, first_machine, ha
 use Rattle.amo_program_safety.specs.Steps.{AreOfNoCommand, LockIsFree, IsRun as IsRunOfAll, IsRunFrom as IsRunOfAllFrom, machine_from, machine_of}
 
 -- no command has a lock
-abbrev HasNoLock : Machine → Type 0
+abbrev pub HasNoLock : Machine → Type 0
 HasNoLock m = (q : ℕ) → m.held q ≡ None
 
 stays_free : (m : Machine) (e : Event) → HasNoLock m → HasNoLock (happened m e)
@@ -24,7 +24,7 @@ is_free : (m : Machine) (e : Event) → HasNoLock m → LockIsFree m e
 is_free m (Calls process (Tried (Guard worker) hold true)) free = free worker
 is_free m e free = tt
 
-all_run : (es : List Event) (m : Machine) → HasNoLock m → IsRunFrom m.world es → AreOfNoCommand es
+pub all_run : (es : List Event) (m : Machine) → HasNoLock m → IsRunFrom m.world es → AreOfNoCommand es
     → IsRunOfAllFrom m (map Happens es) × ((machine_from m (map Happens es)).world ≡ world_from m.world es)
 all_run [] m free run none = (tt, refl)
 all_run (e ∷ es) m free (may, run) (one, none) =

@@ -40,7 +40,7 @@ kept_on_disk w v goes q s settled = (settled.0.0, ap (λ (l : List ℕ). line_of
 
 module _ (m : Machine) (v : Site) (pid : ℕ) where
   -- The command has the lock on the journal of the attempt whose doubt it writes, and the attempt is settled.
-  doubt_phase : (ph : Phase) (i : AttemptId) (time : ℕ) → Allows ph (PutDoubt i time) → StandsAt m v pid ph → HasOne m v pid i
+  pub doubt_phase : (ph : Phase) (i : AttemptId) (time : ℕ) → Allows ph (PutDoubt i time) → StandsAt m v pid ph → HasOne m v pid i
   doubt_phase (Dates command k j at left) i time allowed h =
       let same : j ≡ i = cc allowed in
       subst (λ (x : AttemptId). HasOne m v pid x) same h.1
@@ -279,7 +279,7 @@ module _ (m : Machine) (v : Site) (runs : Runs m v) (pid : ℕ) (o : Operator) (
 
   -- ---- the command has recovered a log
 
-  recover_free : (ph : Phase) (log : LogFile) (last : Option RoundFile) → Allows ph (Recover log last) → StandsAt m v pid ph → IsUnlocked m.world log
+  pub recover_free : (ph : Phase) (log : LogFile) (last : Option RoundFile) → Allows ph (Recover log last) → StandsAt m v pid ph → IsUnlocked m.world log
   recover_free (Settles command from t) log last allowed h = let same : Answers ≡ log = cc allowed in subst (λ (l : LogFile). IsUnlocked m.world l) same tt
   recover_free (Idles command from t w left) log last allowed h = let same : JournalFile w ≡ log = cc allowed in subst (λ (l : LogFile). IsUnlocked m.world l) same (runs.apart w pid h.held)
   recover_free (Enters command tried) log last (inl e) h = absurd (cc e)

@@ -49,7 +49,7 @@ written_held w pid (Some p) r q s is old = change_held w (written w pid (Some p)
     old
 
 -- an attempt whose intent was just put is the one that the model's process holds
-just_put : (w : World) (v : Site) (pid : ℕ) (p : Process) (s : ℕ) (ph : WorkerPhase) → At w v pid p ph → HasJustPut ph s → Settled v p.worker s → ⊥
+pub just_put : (w : World) (v : Site) (pid : ℕ) (p : Process) (s : ℕ) (ph : WorkerPhase) → At w v pid p ph → HasJustPut ph s → Settled v p.worker s → ⊥
 just_put w v pid p s (Works me jobs st owes logs) at put settled = by st at put
   where
     by : (st : Stage) → At w v pid p (Works me jobs st owes logs) → HasPutIt st s → ⊥

@@ -39,7 +39,11 @@ mod StoppingSteps
 mod Final
 mod Holding
 mod Forever
+mod Noting
+mod Recording
+mod Keeping
 mod Playing
 mod Witness
 mod Twice
 mod Alone
+mod Reported

@@ -13,3 +13,10 @@ pub record IsFinalHere (m : Machine) (worker serial : ℕ) : Type 0 where
   pub not_waiting : (h : Handing) → IsOneOf m.waiting h → IsNamed worker serial h → ⊥
   -- nothing of its command is left
   pub not_running : (h : Handing) → IsOneOf m.running h → IsNamed worker serial h → ⊥
+
+-- No runner has the attempt of this worker and this serial number, and nothing of its command is left on the machine.
+pub record HasEndedHere (m : Machine) (worker serial : ℕ) : Type 0 where
+  -- no runner has it
+  pub not_waiting : (h : Handing) → IsOneOf m.waiting h → IsNamed worker serial h → ⊥
+  -- nothing of its command is left
+  pub not_running : (h : Handing) → IsOneOf m.running h → IsNamed worker serial h → ⊥

@@ -1,17 +1,22 @@
 -- The runs of a machine with workers and operators' commands.
 use Rattle.std.specs.Prelude.{◌≡◌, ⊤, ℕ, ◌<◌, ◌^◌, true, List, [], ◌∷◌, Option, Some, None}
 use Rattle.amo_clearance_safety.specs.Model.{Handing, IsOneOf}
+use Rattle.amo_driver.specs.declared.answer.JobResult.{JobResult}
+use Rattle.amo_driver.specs.declared.answer.Reply.TheVariants.{Answered}
+use Rattle.amo_driver.specs.declared.answer.Way.{Way}
 use Rattle.amo_host.specs.declared.model.RunLock.TheVariants.{Guard}
-use Rattle.amo_host.specs.Calls.{Tried as WorkerTried}
+use Rattle.amo_host.specs.Calls.{Tried as WorkerTried, Heard}
+use Rattle.amo_protocol.specs.Lines.{reply_heard}
 use Rattle.amo_run_log.specs.declared.finding.Finding.{Finding}
 use Rattle.amo_run_log.specs.declared.finding.Resolution.TheVariants.{NotDone}
 use Rattle.amo_run_log.specs.Findings.{FitsFinding}
 use Rattle.amo_operator.specs.declared.model.OperatorLock.TheVariants.{Journal, Runner, Command as CommandLock}
 use Rattle.amo_operator.specs.Calls.{Request, PutDoubt, PutAnswer, Call, Tried, LogIs, Recovered, HasPutDoubt, HasPutAnswer, request_of}
 use Rattle.amo_operator.specs.Protocol.{Allows}
-use Rattle.amo_program_safety.specs.World.{Event, Doubts, Resolves, Recovers, Calls as WorkerCalls}
+use Rattle.amo_program_safety.specs.World.{Process, Event, Doubts, Resolves, Recovers, Calls as WorkerCalls}
 use Rattle.amo_program_safety.specs.Runs.{AreRead, IsNamed, IsUntouched, MayFollow as MayCome}
 use Rattle.amo_program_safety.specs.Machine.{Operator, Machine, Step, Happens, Begins, Exits, Drops, Enters, Records, Calls, Dies, machine_after, first_machine}
+use Rattle.amo_program_safety.specs.Finality.{HasEndedHere}
 
 -- A worker's process gets the lock on a journal only if no operator's command has this lock.
 abbrev pub LockIsFree : Machine → Event → Type 0
@@ -90,3 +95,27 @@ machine_of steps = machine_from first_machine steps
 abbrev pub AreOfNoCommand : List Event → Type 0
 AreOfNoCommand [] = ⊤
 AreOfNoCommand (e ∷ es) = IsOfNoCommand e × AreOfNoCommand es
+
+-- ---- a rule for runners that only some theorems assume
+
+-- A runner reports an outcome of an attempt only after the attempt has ended. Then the runner will not start the command of the attempt, and nothing
+-- of that command is left on this machine.
+abbrev pub RunnerHasEnded : Machine → Event → Type 0
+RunnerHasEnded m (WorkerCalls process (Heard line reply)) =
+    (p : Process) → m.world.process process ≡ Some p → (serial : ℕ) (result : JobResult) (way : Way) → reply_heard reply ≡ Answered serial result way
+    → HasEndedHere m p.worker serial
+RunnerHasEnded m e = ⊤
+
+-- Runners keep this rule in this step.
+abbrev pub RunnerEnds : Machine → Step → Type 0
+RunnerEnds m (Happens e) = RunnerHasEnded m e
+RunnerEnds m s = ⊤
+
+-- Runners keep this rule in all of these steps, from this machine on.
+abbrev pub RunnersEndFrom : Machine → List Step → Type 0
+RunnersEndFrom m [] = ⊤
+RunnersEndFrom m (s ∷ steps) = RunnerEnds m s × RunnersEndFrom (machine_after m s) steps
+
+-- Runners keep this rule in a run of these steps.
+abbrev pub RunnersEnd : List Step → Type 0
+RunnersEnd steps = RunnersEndFrom first_machine steps

@@ -6,13 +6,16 @@ ghost use Rattle.amo_host.specs.declared.model.LogFile.TheVariants.{Journal};
 ghost use Rattle.amo_operator.specs.Calls.{PutDoubt};
 ghost use Rattle.amo_operator.specs.Phase.{Known, Probes};
 ghost use Rattle.amo_operator.specs.declared.model.Command.{Command};
-ghost use Rattle.amo_program_safety.specs.Finality.{IsFinalHere};
+ghost use Rattle.amo_program_safety.specs.Finality.{HasEndedHere, IsFinalHere};
 ghost use Rattle.amo_program_safety.specs.Machine.{Happens, Machine, Operator, Records, Step};
 ghost use Rattle.amo_program_safety.specs.Runs.{IsRun, world_of};
-ghost use Rattle.amo_program_safety.specs.Steps.{AreOfNoCommand, IsRun as IsRunOfAll, machine_of};
+ghost use Rattle.amo_program_safety.specs.Steps.{AreOfNoCommand, IsRun as IsRunOfAll, RunnersEnd, machine_of};
+ghost use Rattle.amo_program_safety.specs.Texts.{entries_of};
 ghost use Rattle.amo_program_safety.specs.Without.{AnswersFollowIntents, AppendsAreKept, AppendsAreWritten, AttemptsPerformOnce, CommandsLock, HeldAreNotAnswered, IsRunWithout, LinesComeOnce, LiveAreNotAnswered, LiveAreNotDenied, LocksExclude, OperatorsAreTruthful, PerformedAreNotAnswered, PerformedAreNotDenied, ReadsAreCurrent, RunnersAreHonest};
 ghost use Rattle.amo_program_safety.specs.World.{Event, Stops, Writes};
-ghost use Rattle.amo_run_log.specs.declared.entry.Entry.TheVariants.{Intent};
+ghost use Rattle.amo_run_log.specs.Entries.{append_in};
+ghost use Rattle.amo_run_log.specs.declared.entry.Entry.TheVariants.{Answer as Answered, Intent};
+ghost use Rattle.amo_run_log.specs.declared.entry.Outcome.{Outcome};
 ghost use Rattle.amo_status.specs.declared.state.AttemptId.{AttemptId};
 ghost use Rattle.std.specs.Prelude.{◌≡◌, ◌++◌, ◌∷◌, ℕ, List, Some, map, [], codes};
 
@@ -38,6 +41,34 @@ pub fn listed_lines_are_final_here()
     ensures recorded { (steps more : List Step) (process : ℕ) (i : AttemptId) (time : ℕ)
         → IsRunOfAll (steps ++ Records process (PutDoubt i time) ∷ more)
         → IsFinalHere (machine_of (steps ++ Records process (PutDoubt i time) ∷ more)) i.worker i.serial }
+{}
+
+/// An attempt whose outcome is on the disk, in the journal of its worker, is final on this machine.
+/// An outcome may also be written and not yet be on the disk. Then no runner has the attempt, and
+/// nothing of its command is left. Its process may still be in the call by which it gives the
+/// attempt up. For this theorem alone, we also assume the rule `RunnersEnd`: a runner reports an
+/// outcome only after the attempt has ended.
+pub fn recorded_outcomes_are_final_here()
+    ensures kept { (steps : List Step) (worker serial : ℕ) (outcome : Outcome) (text : List ℕ) → IsRunOfAll steps → RunnersEnd steps
+        → IsOneOf ((machine_of steps).world.logs (Journal worker)).kept text
+        → IsOneOf (entries_of (append_in text)) (Answered serial outcome) → IsFinalHere (machine_of steps) worker serial }
+    ensures written { (steps : List Step) (worker serial : ℕ) (outcome : Outcome) (text : List ℕ) → IsRunOfAll steps → RunnersEnd steps
+        → IsOneOf (((machine_of steps).world.logs (Journal worker)).kept ++ ((machine_of steps).world.logs (Journal worker)).rest) text
+        → IsOneOf (entries_of (append_in text)) (Answered serial outcome) → HasEndedHere (machine_of steps) worker serial }
+{}
+
+/// There is a run in which runners keep that rule, and in which an outcome is recorded.
+pub fn an_outcome_is_recorded()
+    ensures { (steps : List Step) × IsRunOfAll steps × RunnersEnd steps
+        × (((machine_of steps).world.logs (Journal 1)).kept ≡ codes "intent 1 1 0" ∷ codes "done 1 0 0" ∷ []) }
+{}
+
+/// If a runner reports an outcome of an attempt that it still has, the outcome is recorded, and the
+/// attempt is not final.
+pub fn without_runners_that_end_an_attempt_is_left()
+    ensures { (steps : List Step) × IsRunOfAll steps
+        × (((machine_of steps).world.logs (Journal 1)).kept ≡ codes "intent 1 1 0" ∷ codes "done 1 0 0" ∷ [])
+        × (map (λ h. h.serial) (machine_of steps).waiting ≡ 1 ∷ []) }
 {}
 
 /// Each line is performed at most once, in every run of processes of `work` alone. Here operators'

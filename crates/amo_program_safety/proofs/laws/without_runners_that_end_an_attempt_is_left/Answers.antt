@@ -1,0 +1,5 @@
+use Rattle.amo_program_safety.proofs.Reported.{an_attempt_is_left}
+use Rattle.amo_program_safety.proofs.laws.without_runners_that_end_an_attempt_is_left.Goals as goal
+
+pub returns : goal.returns
+returns c = an_attempt_is_left
