@@ -265,7 +265,7 @@ class Translation:
 
     def end_saying(self, process: Process, more: List[str]) -> None:
         text, reply, process.reply = " ".join(more), process.reply, None
-        if reply not in (None, text) and text != "none":
+        if reply not in (None, text) and text not in ("none", "failed"):
             self.wrong(f"the worker hears `{text}`, and its runner said `{reply}`")
 
     def begin_saying(self, process: Process, more: List[str]) -> None:

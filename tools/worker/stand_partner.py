@@ -20,7 +20,11 @@ class Partner:
     def exchange(self, data: bytes) -> Optional[bytes]:
         """Says a line. Returns the line that answers it, without its end; None if none comes."""
         LOG.note("before", "say", line_text(data))
-        said = self.reply_to(data)
+        try:
+            said = self.reply_to(data)
+        except End:
+            LOG.note("after", "say", "failed")
+            raise
         LOG.note("after", "say", "none" if said is None else shown(said))
         return said
 
