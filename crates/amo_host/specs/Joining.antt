@@ -1,5 +1,5 @@
 -- How a process joins a round: under the lock of the round, which it shares, it reads the round's file and opens its registers.
-use Rattle.std.specs.Prelude.{◌≡◌, ℕ, ◌==◌, ◌&&◌, Bool, true, false, List, [], length, Option, Some, None, Result, Ok, Err}
+use Rattle.std.specs.Prelude.{◌≡◌, ◌⊎◌, ℕ, ◌==◌, ◌&&◌, Bool, true, false, List, [], length, Option, Some, None, Result, Ok, Err}
 use Rattle.std.specs.Str.{bytes_eq}
 use Rattle.amo_givens.specs.declared.givens.Givens.{Givens}
 use Rattle.amo_givens.specs.declared.givens.GivensFault.{GivensFault}
@@ -10,9 +10,10 @@ use Rattle.amo_run_files.specs.Heads.{head_of}
 use Rattle.amo_run_files.specs.Records.{said_by}
 use Rattle.amo_run_files.specs.Rounds.{seat_of}
 use Rattle.amo_run_files.specs.Words.{words_len}
-use Rattle.amo_host.specs.Calls.{Request, SyncFolder, ReadBoot, ReadRound, ReadJobs, OpenRegisters, Call, FolderIsSynced, BootIs, RoundIs, JobsAre, RegistersAre}
+use Rattle.amo_host.specs.declared.model.RunLock.TheVariants.{Round}
+use Rattle.amo_host.specs.Calls.{Request, Unlock, SyncFolder, ReadBoot, ReadRound, ReadJobs, OpenRegisters, Call, HasUnlocked, FolderIsSynced, BootIs, RoundIs, JobsAre, RegistersAre}
 use Rattle.amo_host.specs.Logs.{Logs, all_logs, logs_before}
-use Rattle.amo_host.specs.Phase.{Identity, Join, Locked, Booted, HasHeader, HasJobs, Seated, ToWork, Phase, Joins, Reads, Ended}
+use Rattle.amo_host.specs.Phase.{Identity, Join, Locked, Booted, HasHeader, HasJobs, Seated, ToWork, Phase, Joins, Reads, Over, Ended}
 
 -- Whether the file of the registers begins with this head.
 abbrev pub has_head : (front : List ℕ) → (head : Option (List ℕ)) → Bool
@@ -46,19 +47,21 @@ abbrev pub seated_in : Identity → Option Logs → RoundFile → RoundHeader �
 seated_in me prior file h registers =
     seated me prior file (seat_of me.worker h.first h.workers h.givens.workers) (givens_of h.givens.jobs h.givens.workers h.givens.beta) (are_of h registers)
 
--- The phase after a call.
+-- The phase after a call. A process that unlocks the round takes no part in it. It is then in the phase that follows its part.
 abbrev pub joins_on : Identity → Join → Call → Phase
 joins_on me (Locked prior) (BootIs boot) = Joins me (Booted prior boot)
 joins_on me (Booted prior boot) (RoundIs last) = has_header me prior boot last
 joins_on me (HasHeader prior file) (JobsAre last lines) = Joins (record me { lines = lines }) (HasJobs prior file)
+joins_on me (HasHeader prior file) (HasUnlocked lock) = Over me (logs_before (length me.lines) prior)
 joins_on me (HasJobs prior file) (RegistersAre front registers) = seated_in me prior file file.header registers
 joins_on me (Seated prior file givens seat) FolderIsSynced = Reads me (ToWork file givens seat) (logs_before (length me.lines) prior) [] all_logs
 joins_on me join c = Ended
 
--- The call that each step allows.
+-- The calls that each step allows. Once it has read the round's file, a process may unlock the round and take no part in it. No line depends
+-- on that.
 abbrev pub MayJoin : Join → Request → Type 0
 MayJoin (Locked prior) r = r ≡ ReadBoot
 MayJoin (Booted prior boot) r = r ≡ ReadRound
-MayJoin (HasHeader prior file) r = r ≡ ReadJobs (Some file)
+MayJoin (HasHeader prior file) r = (r ≡ ReadJobs (Some file)) ⊎ (r ≡ Unlock Round)
 MayJoin (HasJobs prior file) r = (front : ℕ) × (r ≡ OpenRegisters front)
 MayJoin (Seated prior file givens seat) r = r ≡ SyncFolder

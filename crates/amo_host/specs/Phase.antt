@@ -86,7 +86,7 @@ pub data Phase : Type 0 where
   Clears : Identity → (jobs : List ℕ) → (serial : ℕ) → ProcessView → (job : ℕ) → Logs → (left : List LogFile) → Phase
   -- It couldn't find out whether the line of the attempt of this serial number is clear, and doesn't hand it over.
   Unclear : (serial : ℕ) → Phase
-  -- Its part of the round is over, and it has unlocked the round.
+  -- It has unlocked the round: its part of it is over, or it takes none.
   Over : Identity → Logs → Phase
   -- The runner has it stay for the next round.
   Stays : Identity → Logs → Phase

@@ -51,9 +51,6 @@ pub enum Later {
     /// Record and words are of another boot, or not of each other, while others are at work.
     #[error("the current round cannot be joined; start again when all of its workers have ended")]
     OtherRound,
-    /// This worker has no part in the round that is there.
-    #[error("this worker has no seat in the current round; start again when that round is over")]
-    NoSeat,
     /// The worker has done its part of the round. The next round is begun once no worker is left in
     /// this one.
     #[error("this round is over for this worker; start again to join the next one")]

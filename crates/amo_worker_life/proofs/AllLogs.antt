@@ -59,5 +59,4 @@ module _ (me : Identity) (last : Option RoundFile) where
       goes_no_further after who read (H.List n fault) is lives = absurd is
       goes_no_further after who read (H.Misplaced n) is lives = absurd is
       goes_no_further after who read H.OtherRound is lives = absurd is
-      goes_no_further after who read H.NoSeat is lives = absurd is
       goes_no_further after who read H.BadRound is lives = absurd is

@@ -44,10 +44,12 @@ IsWhyUnread H.Host before after last f old = Moves before after (Fell (ReadLog f
 IsWhyUnread (H.Unread log) before after last f old = (log ≡ f) × (texts : List (List ℕ)) × (counted : Extent) × Moves before after (LogIs f last texts counted) × (logs_after old f texts ≡ None)
 IsWhyUnread _ before after last f old = ⊥
 
--- The reason why a worker has no seat in a round is true. The round has impossible numbers, or it has no seat for this worker.
+-- The reason why a worker has no seat in a round is true: with these numbers no worker, or not this one, can have one.
 abbrev pub IsWhyNoSeat : Halt → (worker : ℕ) → RoundHeader → Type 0
-IsWhyNoSeat H.BadRound worker header = (givens : Givens) → 1 ≤ header.first → header.first ≤ header.workers → header.workers ≤ MAX_WORKERS → givens_of header.givens.jobs header.givens.workers header.givens.beta ≢ Ok givens
-IsWhyNoSeat H.NoSeat worker header = (seat : ℕ) → 1 ≤ seat → seat ≤ header.givens.workers → seat_of worker header.first header.workers header.givens.workers ≢ Some seat
+IsWhyNoSeat H.BadRound worker header =
+    (givens : Givens) (seat : ℕ) → 1 ≤ header.first → header.first ≤ header.workers → header.workers ≤ MAX_WORKERS
+    → givens_of header.givens.jobs header.givens.workers header.givens.beta ≡ Ok givens
+    → 1 ≤ seat → seat ≤ header.givens.workers → seat_of worker header.first header.workers header.givens.workers ≢ Some seat
 IsWhyNoSeat _ worker header = ⊥
 
 -- The reason why a round has no registers is true: it has impossible numbers. Out of memory says nothing.

@@ -1,4 +1,5 @@
 pub mod Begin
 pub mod Halting
+pub mod Join
 pub mod Where
 pub mod Reading

@@ -25,8 +25,6 @@ pub enum Halt {
     Misplaced(usize),
     /// The last round is of another boot, or the registers are those of another round.
     OtherRound,
-    /// The worker has no seat in the round.
-    NoSeat,
     /// The file of the round has impossible numbers.
     BadRound,
 }

@@ -1,20 +1,21 @@
 //! How a worker joins a round: under the lock of the round, which it shares, it reads the round's
-//! file, opens its registers, and reads the answers and all journals.
-ghost use Rattle.std.specs.Prelude.{◌≡◌, ◌≤◌, false, [], map, option_map, Some, Ok, IfErr, IfOk, OnOk, OnErr};
+//! file, opens its registers, and reads the answers and all journals. If it takes no part in the
+//! round, it unlocks it once it has read that file.
+ghost use Rattle.std.specs.Prelude.{◌≡◌, ◌≤◌, true, [], map, option_map, Some, IfErr, IfOk, OnOk, OnErr};
 ghost use Rattle.amo_givens.specs.declared.limits.TheConstants.{MAX_JOBS, MAX_WORKERS};
 ghost use Rattle.amo_givens.specs.Givens.{givens_of, IsWorker};
-ghost use Rattle.amo_driver.specs.Course.{first_stage};
 ghost use Rattle.amo_run_files.specs.Heads.{head_of};
 ghost use Rattle.amo_run_files.specs.Records.{said_by};
 ghost use Rattle.amo_run_files.specs.Rounds.{seat_of};
 ghost use Rattle.amo_host.specs.Joining.{are_of};
 ghost use Rattle.amo_host.specs.Logs.{all_logs, next_serial};
 ghost use Rattle.amo_host.specs.Opened.{file_of};
-ghost use Rattle.amo_host.specs.Phase.{Joins, Reads, Works, Locked, HasHeader, HasJobs, Seated, ToWork};
+ghost use Rattle.amo_host.specs.Phase.{Joins, Over, Reads, Locked, HasHeader, HasJobs, Seated, ToWork};
 ghost use Rattle.amo_host.specs.Protocol.{Lives};
 ghost use Rattle.amo_worker_life.specs.Halting.{Halts, IsWhyNoSeat};
+ghost use Rattle.amo_worker_life.specs.Join.{has_joined, has_no_seat, takes_no_part, HasJoined, IsSeated};
 ghost use Rattle.amo_worker_life.specs.Reading.{logs_of};
-ghost use Rattle.amo_worker_life.specs.Where.{idle_at, me_of};
+ghost use Rattle.amo_worker_life.specs.Where.{idle_at, me_of, IsAt};
 ghost use Rattle.amo_worker_life.specs.declared.halt.Health.TheVariants.{Fine};
 
 use crate::halt::Halt;
@@ -37,28 +38,42 @@ pub struct Seat {
     pub participant: u32,
 }
 
-/// Joins the round that was begun last. Returns the worker's seat in it, and the answers and
-/// journals that were read.
+/// The result of a try to join a round.
+#[derive(Drop)]
+pub enum Joined {
+    /// The worker takes part in it: its seat, and the answers and journals that were read.
+    TakesPart(Seat, ReadLogs),
+    /// It takes no part, and has unlocked the round.
+    PassesBy,
+}
+
+/// Joins the round that was begun last. The worker passes by a round in which it has no seat, and
+/// one that it has joined before: its part of that round is over.
 ///
 /// # Errors
 /// `Failed`, and the worker's `halt` says why.
-pub fn join<H: Host>(worker: &mut Worker<H>) -> Result<(Seat, ReadLogs), Failed>
+pub fn join<H: Host>(worker: &mut Worker<H>) -> Result<Joined, Failed>
     requires idle { H.stands worker.old.host (idle_at (me_of worker.old.number worker.old.jobs) (option_map logs_of worker.old.logs)) }
     requires fine { worker.old.health ≡ Fine }
-    ensures works { IfOk result (λ joined. H.stands worker.new.host (Works (me_of worker.new.number worker.new.jobs) joined.0.file.header.lines.items (first_stage joined.0.givens joined.0.participant worker.new.serial) false (logs_of joined.1))) }
-    ensures participant { IfOk result (λ joined. IsWorker joined.0.givens joined.0.participant) }
+    ensures joined { IfOk result (λ joined. HasJoined joined (H.stands worker.new.host) (me_of worker.new.number worker.new.jobs) (option_map logs_of worker.new.logs) worker.new.serial) }
+    ensures seat { IfOk result IsSeated }
     ensures halts { OnErr result (Halts (H.stands worker.new.host) (me_of worker.new.number worker.new.jobs) (option_map logs_of worker.new.logs) worker.new.halt) }
     ensures lives { Lives (H.stands worker.new.host) }
     ensures fine { IfOk result (λ joined. worker.new.health ≡ Fine) }
 {
     worker.share_round()?;
     let file = worker.read_header()?;
+    if takes_no_part(worker.number, worker.joined, &file.header) {
+        worker.pass_by(&file)?;
+        return Ok(Joined::PassesBy);
+    }
     worker.read_jobs_of(&file)?;
     let seat = worker.take_seat(file)?;
     let mut logs = worker.begin_to_read(&seat)?;
     worker.read_logs(Some(&seat.file), &mut logs)?;
     worker.serial = next_serial(logs.journals(), worker.number);
-    Ok((seat, logs))
+    worker.joined = Some(seat.file.header.round);
+    Ok(Joined::TakesPart(seat, logs))
 }
 
 impl<H: Host> Worker<H> {
@@ -110,6 +125,28 @@ impl<H: Host> Worker<H> {
         Ok(file)
     }
 
+    /// Unlocks the round of this file, in which the worker takes no part. The worker keeps the
+    /// answers and journals that it has read.
+    ///
+    /// # Errors
+    /// `Failed` if there was no memory.
+    fn pass_by(&mut self, file: &RoundFile) -> Result<(), Failed>
+        requires header { H.stands self.old.host (Joins (me_of self.old.number self.old.jobs) (HasHeader (option_map logs_of self.old.logs) file.now)) }
+        requires no_part { takes_no_part self.old.number self.old.joined file.now.header ≡ true }
+        ensures over { OnOk result (IsAt (H.stands self.new.host) (Over (me_of self.new.number self.new.jobs)) (option_map logs_of self.new.logs)) }
+        ensures halts { OnErr result (Halts (H.stands self.new.host) (me_of self.new.number self.new.jobs) (option_map logs_of self.new.logs) self.new.halt) }
+        ensures lives { Lives (H.stands self.new.host) }
+        ensures health { OnOk result (self.new.health ≡ self.old.health) }
+    {
+        let count = self.jobs.jobs().count();
+        let Ok(logs) = logs_before(self.alloc, count, self.logs.take()) else {
+            return Err(self.fails(Halt::Memory));
+        };
+        self.host.unlock(RunLock::Round);
+        self.logs = Some(logs);
+        Ok(())
+    }
+
     /// Reads the lines that the run knows, as this round counts them.
     ///
     /// # Errors
@@ -130,8 +167,8 @@ impl<H: Host> Worker<H> {
     /// Opens the registers of this round, and takes the worker's seat in it.
     ///
     /// # Errors
-    /// `Failed` if a call failed, if there was no memory, if the worker has no seat, or if the
-    /// registers are those of another round.
+    /// `Failed` if a call failed, if there was no memory, if the round has impossible numbers, or
+    /// if the registers are those of another round.
     fn take_seat(&mut self, file: RoundFile) -> Result<Seat, Failed>
         requires jobs { H.stands self.old.host (Joins (me_of self.old.number self.old.jobs) (HasJobs (option_map logs_of self.old.logs) file)) }
         ensures seated { IfOk result (λ seat. H.stands self.new.host (Joins (me_of self.new.number self.new.jobs) (Seated (option_map logs_of self.new.logs) seat.file seat.givens seat.participant))) }
@@ -183,10 +220,43 @@ impl<H: Host> Worker<H> {
     }
 }
 
+/// Returns true if a worker takes no part in the round of this header: it has no seat there, or the
+/// round is the one that it has joined last.
+fn takes_no_part(worker: u64, joined: Option<u64>, header: &RoundHeader) -> bool
+    ensures { result ≡ takes_no_part worker joined header.now }
+{
+    has_joined(joined, header.round) || has_no_seat(worker, header)
+}
+
+/// Returns true if this round is the one that a worker has joined last.
+fn has_joined(joined: Option<u64>, round: u64) -> bool
+    ensures { result ≡ has_joined joined round }
+{
+    match joined {
+        Some(last) => last == round,
+        None => false,
+    }
+}
+
+/// Returns true if the header gives this worker no seat. A header with impossible numbers is
+/// refused later.
+fn has_no_seat(worker: u64, header: &RoundHeader) -> bool
+    ensures { result ≡ has_no_seat worker header.now }
+{
+    let (first, workers) = (header.first, header.workers);
+    if first == 0 || first > workers || workers > MAX_WORKERS as u64 {
+        return false;
+    }
+    match seat_of(worker, first, workers, header.givens.workers) {
+        Some(_) => false,
+        None => true,
+    }
+}
+
 /// Returns the givens of a round, and as which of its participants this worker acts.
 ///
 /// # Errors
-/// `BadRound` if the round has impossible numbers, `NoSeat` if the worker has no seat in it.
+/// `BadRound` if the round has impossible numbers, or no seat for the worker.
 fn seat_in(header: &RoundHeader, worker: u64) -> Result<(Givens, u32), Halt>
     ensures seat { IfOk result (λ found. seat_of worker header.now.first header.now.workers header.now.givens.workers ≡ Some found.1) }
     ensures givens { IfOk result (λ found. givens_of header.now.givens.jobs header.now.givens.workers header.now.givens.beta ≡ Ok found.0) }
@@ -205,7 +275,7 @@ fn seat_in(header: &RoundHeader, worker: u64) -> Result<(Givens, u32), Halt>
     };
     match seat_of(worker, first, workers, sizes.workers) {
         Some(seat) if seat >= 1 && seat <= sizes.workers => Ok((givens, seat as u32)),
-        _ => Err(Halt::NoSeat),
+        _ => Err(Halt::BadRound),
     }
 }
 

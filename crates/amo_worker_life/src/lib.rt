@@ -16,7 +16,7 @@ mod worker;
 
 pub use beginning::{Begun, Sharing, begin};
 pub use halt::{Halt, Health};
-pub use joining::{Seat, join};
+pub use joining::{Joined, Seat, join};
 pub use life::{Ending, live};
 pub use part::{OverReply, ask_past, leave, stay, take_part};
 pub use round::InRound;

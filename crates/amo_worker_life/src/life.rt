@@ -1,15 +1,15 @@
 //! The whole life of a worker's process.
 ghost use Rattle.std.specs.Prelude.{◌≡◌, None, option_map, IfErr, IfSome, OnOk};
-ghost use Rattle.amo_host.specs.Phase.{Starts, Unborn};
+ghost use Rattle.amo_host.specs.Phase.{Over, Starts, Unborn};
 ghost use Rattle.amo_host.specs.Protocol.{Lives};
 ghost use Rattle.amo_worker_life.specs.Begin.{EndsWell};
 ghost use Rattle.amo_worker_life.specs.Halting.{HasReason};
 ghost use Rattle.amo_worker_life.specs.Reading.{logs_of};
-ghost use Rattle.amo_worker_life.specs.Where.{idle_at, me_of, HasPaid};
+ghost use Rattle.amo_worker_life.specs.Where.{idle_at, me_of, HasPaid, IsAt};
 ghost use Rattle.amo_worker_life.specs.declared.halt.Health.TheVariants.{Fine};
 
 use crate::beginning::{Begun, Sharing, begin};
-use crate::joining::{Seat, join};
+use crate::joining::{Joined, Seat, join};
 use crate::part::{OverReply, ask_past, leave, stay, take_part};
 use crate::round::InRound;
 use crate::start::take_number;
@@ -27,8 +27,8 @@ pub enum Ending {
     Left,
     /// Nothing more comes from the runner.
     Closed,
-    /// The worker's part of a round is over, and it doesn't stay: nothing more comes from the
-    /// runner, or an attempt of this worker still runs.
+    /// The worker's part of a round is over, or it has none, and it doesn't stay: nothing more
+    /// comes from the runner, or an attempt of this worker still runs.
     Over,
     /// The runner's reply to `over` is invalid.
     InvalidReply,
@@ -93,7 +93,7 @@ fn prepare<H: Host>(worker: &mut Worker<H>) -> Result<(), Ending>
     }
 }
 
-/// Begins a round if nobody is in one, takes part in the round that there is, and stays for the
+/// Begins a round if nobody is in one, takes its part in the round that there is, and stays for the
 /// next one. Returns how the worker's life ends, if it doesn't stay.
 fn live_a_round<H: Host>(worker: Worker<H>, sharing: Sharing) -> (Worker<H>, Option<Ending>)
     requires idle { H.stands worker.host (idle_at (me_of worker.number worker.jobs) (option_map logs_of worker.logs)) }
@@ -110,8 +110,10 @@ fn live_a_round<H: Host>(worker: Worker<H>, sharing: Sharing) -> (Worker<H>, Opt
         Ok(Begun::Round | Begun::Elsewhere) => {}
         Err(_) => return (worker, Some(Ending::Stopped(Stop::Failed))),
     }
-    let Ok((seat, logs)) = join(&mut worker) else {
-        return (worker, Some(Ending::Stopped(Stop::Failed)));
+    let (seat, logs) = match join(&mut worker) {
+        Ok(Joined::TakesPart(seat, logs)) => (seat, logs),
+        Ok(Joined::PassesBy) => return stay_on(worker),
+        Err(_) => return (worker, Some(Ending::Stopped(Stop::Failed))),
     };
     let Seat {
         file,
@@ -144,7 +146,20 @@ fn stay_after<H: Host>(round: InRound<H>) -> (Worker<H>, Option<Ending>)
     ensures reason { IfSome result.1 (λ ending. HasReason ending (H.stands result.0.host) (me_of result.0.number result.0.jobs) (option_map logs_of result.0.logs) result.0.halt) }
     ensures nothing { IfSome result.1 (λ ending. EndsWell ending (me_of result.0.number result.0.jobs) (option_map logs_of result.0.logs)) }
 {
-    let mut worker = leave(round);
+    stay_on(leave(round))
+}
+
+/// Stays for the next round, after it has unlocked this one, if the runner has the worker stay.
+fn stay_on<H: Host>(worker: Worker<H>) -> (Worker<H>, Option<Ending>)
+    requires over { IsAt (H.stands worker.host) (Over (me_of worker.number worker.jobs)) (option_map logs_of worker.logs) }
+    requires fine { worker.health ≡ Fine }
+    ensures idle { result.1 ≡ None → H.stands result.0.host (idle_at (me_of result.0.number result.0.jobs) (option_map logs_of result.0.logs)) }
+    ensures lives { Lives (H.stands result.0.host) }
+    ensures fine { result.1 ≡ None → result.0.health ≡ Fine }
+    ensures reason { IfSome result.1 (λ ending. HasReason ending (H.stands result.0.host) (me_of result.0.number result.0.jobs) (option_map logs_of result.0.logs) result.0.halt) }
+    ensures nothing { IfSome result.1 (λ ending. EndsWell ending (me_of result.0.number result.0.jobs) (option_map logs_of result.0.logs)) }
+{
+    let mut worker = worker;
     let ending = match stay(&mut worker) {
         Ok(OverReply::Stays) => None,
         Ok(OverReply::Leaves) => Some(Ending::Left),

@@ -92,7 +92,7 @@ pub fn leave<H: Host>(round: InRound<H>) -> Worker<H>
     worker
 }
 
-/// The runner's reply to a worker whose part of a round is over.
+/// The runner's reply to a worker whose part of a round is over, or that has none.
 #[derive(Clone, Copy, Debug, PartialEq, Eq)]
 pub enum OverReply {
     /// The worker stays for the next round.

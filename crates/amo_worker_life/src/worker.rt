@@ -29,6 +29,8 @@ pub struct Worker<H: Host> {
     /// The answers and journals, as far as it has read them in earlier rounds. `None` before the
     /// first round, and in a round.
     pub logs: Option<ReadLogs>,
+    /// The number of the round that it has joined last.
+    pub joined: Option<u64>,
     /// The serial number of its next attempt.
     pub serial: u64,
     /// True if the runner's last reply was that this worker must leave.
@@ -56,6 +58,7 @@ impl<H: Host> Worker<H> {
             number,
             jobs,
             logs: None,
+            joined: None,
             serial: 1,
             is_dismissed: false,
             has_running: false,
