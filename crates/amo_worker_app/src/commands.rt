@@ -1,16 +1,17 @@
 //! The whole program: its commands, its messages, and the statuses with which it ends.
-use crate::args::{Misuse, Request, asked};
-use crate::call_log::VARIABLE;
 use crate::damage::show_damage;
-use crate::end::End;
+use crate::follow::follow;
 use crate::operator::{carry_out, said_by, said_in};
 use crate::remote::work_by_lines;
 use crate::worker::work;
+use amo_call_log::{End, VARIABLE};
 use amo_operator::Command;
 use amo_run_dir::{
-    Age, Fault, Item, Setting, look_at_folder, look_to_read, look_to_write, open, written,
+    Age, Fault, Item, ListSettings, Setting, look_at_folder, look_to_read, look_to_write, open,
+    written,
 };
-use amo_status::{Counts, status_text};
+use amo_status::{Counts, Said, status_text};
+use amo_worker_args::{Misuse, Request, asked};
 use clap::Error;
 use std::alloc::AllocError;
 use std::env::Args;
@@ -168,39 +169,70 @@ fn tell_words(rt: HostRuntime, error: &Error) -> u8 {
 /// Does what is asked for.
 fn done(rt: HostRuntime, setting: &Setting<'_>, request: Request<'_>) -> Result<(), End> {
     match request {
-        Request::Door(jobs, into) => Ok(open(rt, setting, &jobs, into)?),
-        Request::Work(jobs, worker) => {
-            let counts = work(rt, setting, &jobs, worker)?;
-            Ok(tell_all_done(rt, &counts)?)
-        }
-        Request::Lines(asked) => Ok(work_by_lines(rt, asked)?),
-        Request::Damaged => {
-            look_at_folder(rt, setting)?;
-            Ok(show_damage(rt, setting)?)
-        }
-        Request::Status(form) => {
-            let age = look_to_read(rt, setting)?;
-            carry_out(rt, setting, age, &Command::Status(form))
-        }
-        Request::Doubts(form) => {
-            let age = look_to_read(rt, setting)?;
-            carry_out(rt, setting, age, &Command::Doubts(form))
-        }
+        Request::Door(jobs, into) => ended(open(rt, setting, &jobs, into)),
+        Request::Work(jobs, worker) => work_and_tell(rt, setting, &jobs, worker),
+        Request::Lines(asked) => ended(work_by_lines(rt, asked)),
+        Request::Damaged => ended(show_folder(rt, setting)),
+        Request::Follow(is_once) => ended(follow(rt, setting, is_once)),
+        Request::Status(form) => look(rt, setting, &Command::Status(form)),
+        Request::Doubts(form) => look(rt, setting, &Command::Doubts(form)),
         Request::Answer(intent, line, text, verdict, quiet) => {
-            look_to_write(rt, setting)?;
-            let said = said_by(rt, intent, line, text, verdict)?;
-            carry_out(rt, setting, Age::Now, &Command::Answer(said, quiet))
+            ended(look_to_write(rt, setting))?;
+            answer(rt, setting, said_by(rt, intent, line, text, verdict), quiet)
         }
         Request::AnswerFrom(sheet, quiet) => {
-            look_to_write(rt, setting)?;
-            let said = said_in(rt, sheet)?;
-            carry_out(rt, setting, Age::Now, &Command::Answer(said, quiet))
+            ended(look_to_write(rt, setting))?;
+            answer(rt, setting, said_in(rt, sheet), quiet)
         }
-        Request::Again => {
-            look_to_write(rt, setting)?;
-            carry_out(rt, setting, Age::Now, &Command::Again)
-        }
+        Request::Again => again(rt, setting),
     }
+}
+
+/// Returns how a command ends that keeps no log of calls.
+fn ended(done: Result<(), Fault>) -> Result<(), End> {
+    match done {
+        Ok(()) => Ok(()),
+        Err(fault) => Err(End::Fault(fault)),
+    }
+}
+
+/// Runs a worker, and prints on standard error how all lines stand once none is open.
+fn work_and_tell(
+    rt: HostRuntime,
+    setting: &Setting<'_>,
+    jobs: &ListSettings<'_>,
+    worker: u64,
+) -> Result<(), End> {
+    let counts = work(rt, setting, jobs, worker)?;
+    ended(tell_all_done(rt, &counts))
+}
+
+/// Prints what can be read of a run that is refused.
+fn show_folder(rt: HostRuntime, setting: &Setting<'_>) -> Result<(), Fault> {
+    look_at_folder(rt, setting)?;
+    show_damage(rt, setting)
+}
+
+/// Carries out a command that only looks at the run, or records what is in doubt.
+fn look(rt: HostRuntime, setting: &Setting<'_>, command: &Command) -> Result<(), End> {
+    let age = look_to_read(rt, setting)?;
+    carry_out(rt, setting, age, command)
+}
+
+/// Opens untouched lines again.
+fn again(rt: HostRuntime, setting: &Setting<'_>) -> Result<(), End> {
+    look_to_write(rt, setting)?;
+    carry_out(rt, setting, Age::Now, &Command::Again)
+}
+
+/// Takes these answers, if they could be read.
+fn answer(
+    rt: HostRuntime,
+    setting: &Setting<'_>,
+    said: Result<Vec<Said>, Fault>,
+    quiet: Option<u64>,
+) -> Result<(), End> {
+    carry_out(rt, setting, Age::Now, &Command::Answer(said?, quiet))
 }
 
 /// Prints on standard error that no line is open, with the counts.

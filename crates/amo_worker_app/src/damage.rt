@@ -1,6 +1,6 @@
 //! To show what can be read of a run that is refused.
-use crate::print::print;
 use amo_run_dir::{DamagedRun, Fault, Item, ReadableLog, Setting, look_for_damage};
+use amo_run_host::print;
 use amo_run_log::{Append, Entry};
 use std::alloc::{AllocError, Global};
 use std::rt::HostRuntime;
@@ -15,13 +15,18 @@ type Named = (u64, u64, u64);
 /// `DamagedRun` if something is wrong.
 pub(crate) fn show_damage(rt: HostRuntime, setting: &Setting<'_>) -> Result<(), Fault> {
     let run = look_for_damage(rt, setting)?;
-    let text = damage_text(rt.alloc(), &run)?;
-    print(rt, &text)?;
+    print_run(rt, &run)?;
     if run.is_damaged() {
         Err(Fault::DamagedRun)
     } else {
         Ok(())
     }
+}
+
+/// Prints the whole text.
+fn print_run(rt: HostRuntime, run: &DamagedRun) -> Result<(), Fault> {
+    let text = damage_text(rt.alloc(), run)?;
+    print(rt, &text)
 }
 
 /// Returns the whole text.

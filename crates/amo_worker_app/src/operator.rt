@@ -1,11 +1,8 @@
 //! The commands of an operator, over the files of a run.
-use crate::call_log::CallLog;
-use crate::end::End;
-use crate::host::item_of_log;
-use crate::logged_files::LoggedFiles;
-use crate::operator_files::OperatorFiles;
+use amo_call_log::{CallLog, End, LoggedFiles};
 use amo_operator::{Command, Halt, run};
 use amo_run_dir::{Age, Fault, Item, Later, Setting, had};
+use amo_run_host::{OperatorFiles, item_of_log};
 use amo_run_log::Fault as Misread;
 use amo_status::{EarlyAnswers, Said, read_answers, read_one};
 use std::fs;
@@ -26,19 +23,24 @@ pub(crate) fn carry_out(
     let log = CallLog::begin(rt, 0, setting.run)?;
     let mut files = LoggedFiles::new(OperatorFiles::new(rt, setting, age), log);
     let ran = run(&mut files, rt.alloc(), command);
+    ended(ran, &mut files)
+}
+
+/// Returns how a command ends that has called all that it calls.
+fn ended(ran: Result<(), Halt>, files: &mut LoggedFiles<'_>) -> Result<(), End> {
     if let Some(end) = files.take_failure() {
         return Err(end);
     }
     match ran {
         Ok(()) => Ok(()),
-        Err(halt) => Err(End::Fault(fault_of(halt, &mut files))),
+        Err(halt) => Err(End::Fault(fault_of(halt, files))),
     }
 }
 
 /// Returns the fault that a halt comes to.
 fn fault_of(halt: Halt, files: &mut LoggedFiles<'_>) -> Fault {
     match halt {
-        Halt::Host => files.inner.fault.take().unwrap_or(Fault::NoWay),
+        Halt::Host => files.inner.take_fault().unwrap_or(Fault::NoWay),
         Halt::Memory => Fault::Memory,
         Halt::Held => Fault::Later(Later::Answering),
         Halt::Entry(log, number) => Fault::Entry(item_of_log(log), number),

@@ -2,25 +2,13 @@
 //! journal too.
 ghost use Rattle.std.specs.Prelude.{◌≡◌};
 
-use crate::runner::{Runner, shown};
 use amo_driver::{Failed, LifeEnd, Stop, Try, work};
 use amo_givens::Givens;
 use amo_protocol::{Lines, Wire, text_of};
 use amo_run_dir::Fault;
+use amo_run_host::{Runner, shown};
+use amo_worker_args::ByLines;
 use std::rt::HostRuntime;
-
-/// A worker by lines: of which round, and which of its workers.
-#[derive(Clone, Copy)]
-pub(crate) struct ByLines {
-    /// How many jobs the round has, up to 4096.
-    pub(crate) jobs: u64,
-    /// How many workers, 1 to 16.
-    pub(crate) workers: u64,
-    /// The threshold.
-    pub(crate) beta: u64,
-    /// The worker's number.
-    pub(crate) worker: u64,
-}
 
 /// The partner, and why a call has failed.
 #[derive(Drop)]

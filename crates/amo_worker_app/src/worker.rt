@@ -1,14 +1,12 @@
 //! The command `work`: the life of a worker's process over the files of its run.
 ghost use Rattle.std.specs.Prelude.{◌≡◌};
 
-use crate::call_log::CallLog;
-use crate::end::End;
-use crate::host::{RunHost, item_of_log};
-use crate::logged_host::LoggedHost;
+use amo_call_log::{CallLog, End, LoggedHost};
 use amo_driver::Stop;
 use amo_host::RunLock;
 use amo_run_dir::{Fault, Item, Later, ListSettings, Setting, enter, holder};
 use amo_run_files::{HashedJobs, Jobs, JobsFault, Why};
+use amo_run_host::{RunHost, item_of_log};
 use amo_run_log::ReadLogs;
 use amo_status::{Counts, RunLog, counts, standings};
 use amo_worker_life::{Ending, Halt, Sharing, Worker, live};
@@ -102,7 +100,7 @@ fn counts_in(alloc: Global, logs: &ReadLogs, count: u64) -> Result<Counts, Fault
 
 /// Returns the fault that the runner's last line is no reply.
 fn invalid(process: &Worker<LoggedHost<'_>>) -> Fault {
-    match process.host.inner.runner.shown() {
+    match process.host.inner.reply_text() {
         Ok(text) => Fault::NoAnswer(text),
         Err(_) => Fault::Memory,
     }
@@ -134,7 +132,7 @@ fn fault_behind(
         return Fault::NoWay;
     };
     match halt {
-        Halt::Host => process.host.inner.fault.take().unwrap_or(Fault::NoWay),
+        Halt::Host => process.host.inner.take_fault().unwrap_or(Fault::NoWay),
         Halt::Memory => Fault::Memory,
         Halt::NoLine => Fault::NoWay,
         Halt::Unread(log) => Fault::Later(Later::Changed(item_of_log(log))),
@@ -147,7 +145,6 @@ fn fault_behind(
         Halt::List(line, why) => Fault::List(line, why),
         Halt::Misplaced(number) => Fault::Entry(Item::Answers, number),
         Halt::OtherRound => Fault::Later(Later::OtherRound),
-        Halt::NoSeat => Fault::Later(Later::NoSeat),
         Halt::BadRound => Fault::Refused(Item::Record),
     }
 }

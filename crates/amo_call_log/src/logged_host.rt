@@ -3,27 +3,27 @@ ghost use Rattle.std.specs.Prelude.{◌≡◌};
 
 use crate::call_log::{CallLog, Words, ended, heard, recovered};
 use crate::end::End;
-use crate::host::RunHost;
 use amo_host::{Failed, Hold, Host, LogFile, LogPart, Registers, RunLock};
 use amo_run_files::{HashedJobs, RoundFile};
+use amo_run_host::RunHost;
 use amo_run_log::{AttemptId, Entry};
 
 /// The files of a run and the runner, and the log of the calls on them. The log has those calls
 /// that write the journal, look for clearance, and speak with the runner.
 #[derive(Drop)]
-pub(crate) struct LoggedHost<'a> {
-    pub(crate) inner: RunHost<'a>,
+pub struct LoggedHost<'a> {
+    pub inner: RunHost<'a>,
     log: Option<CallLog>,
 }
 
 impl<'a> LoggedHost<'a> {
     /// Returns this host, with this log.
-    pub(crate) fn new(inner: RunHost<'a>, log: Option<CallLog>) -> LoggedHost<'a> {
+    pub fn new(inner: RunHost<'a>, log: Option<CallLog>) -> LoggedHost<'a> {
         LoggedHost { inner, log }
     }
 
     /// Returns why the log has failed, if it has.
-    pub(crate) fn take_failure(&mut self) -> Option<End> {
+    pub fn take_failure(&mut self) -> Option<End> {
         match &mut self.log {
             Some(log) => log.take_failure(),
             None => None,

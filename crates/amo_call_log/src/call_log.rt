@@ -16,14 +16,14 @@ use std::rt::HostRuntime;
 use std::{io, process};
 
 /// The environment variable that names the file.
-pub(crate) const VARIABLE: &str = "AMO_CALLS";
+pub const VARIABLE: &str = "AMO_CALLS";
 
 /// The longest text that a line shows. Of a longer one it has the length and the SHA-256.
 const LONGEST: usize = 200;
 
 /// A log of calls. Other processes append to it at the same time.
 #[derive(Drop)]
-pub(crate) struct CallLog {
+pub struct CallLog {
     rt: HostRuntime,
     file: File,
     process: u32,
@@ -62,7 +62,7 @@ impl CallLog {
     ///
     /// # Errors
     /// `Log` if the log can't be opened or written, and `Memory`.
-    pub(crate) fn begin(rt: HostRuntime, worker: u64, run: &str) -> Result<Option<CallLog>, End> {
+    pub fn begin(rt: HostRuntime, worker: u64, run: &str) -> Result<Option<CallLog>, End> {
         let Some(path) = path_of(rt)? else {
             return Ok(None);
         };

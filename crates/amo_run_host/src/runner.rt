@@ -8,15 +8,16 @@ use std::rt::HostRuntime;
 
 /// The runner, and its last line.
 #[derive(Drop)]
-pub(crate) struct Runner {
+pub struct Runner {
     rt: HostRuntime,
     input: <HostRuntime as Input>::Reader,
     /// The runner's last line, without its line feed.
-    pub(crate) said: Vec<u8>,
+    said: Vec<u8>,
 }
 
 impl Runner {
-    pub(crate) fn new(rt: HostRuntime) -> Runner {
+    /// Returns the runner on standard input and output, which has said nothing yet.
+    pub fn new(rt: HostRuntime) -> Runner {
         Runner {
             rt,
             input: rt.reader(),
@@ -29,7 +30,7 @@ impl Runner {
     ///
     /// # Errors
     /// `Memory` if the reply finds no room.
-    pub(crate) fn exchange(&mut self, line: &[u8]) -> Result<Option<Vec<u8>>, Fault> {
+    pub fn exchange(&mut self, line: &[u8]) -> Result<Option<Vec<u8>>, Fault> {
         let mut out = self.rt.stdout();
         if out.write_all(line).is_err() || out.flush().is_err() {
             return Ok(None);
@@ -62,7 +63,7 @@ impl Runner {
 }
 
 /// Returns a line as a text to print.
-pub(crate) fn shown(rt: HostRuntime, said: &[u8]) -> Result<String, AllocError> {
+pub fn shown(rt: HostRuntime, said: &[u8]) -> Result<String, AllocError> {
     match std::str::from_utf8(said) {
         Ok(text) => String::from_str(rt.alloc(), text),
         Err(_) => String::from_str(rt.alloc(), "(not UTF-8)"),

@@ -5,7 +5,7 @@ use std::io;
 
 /// Why a command ends before it has done what it was asked for.
 #[derive(Drop)]
-pub(crate) enum End {
+pub enum End {
     Fault(Fault),
     /// The log of calls can't be opened or written.
     Log(io::Error),

@@ -1,8 +1,8 @@
 //! To parse the command line: what is asked for.
 ghost use Rattle.std.specs.Prelude.{◌≤◌, IfOk};
 
+use crate::by_lines::ByLines;
 use crate::command_line::{BOOT, program};
-use crate::remote::ByLines;
 use amo_decimal::number;
 use amo_givens::{MAX_BETA, MAX_JOBS, MAX_WORKERS};
 use amo_operator::Form;
@@ -14,7 +14,7 @@ use std::alloc::{AllocError, Global};
 
 /// A command, apart from the run's folder.
 #[derive(Clone, Copy)]
-pub(crate) enum Request<'a> {
+pub enum Request<'a> {
     /// Checks that workers may begin, and makes the run's folder if it is missing. With `true` it
     /// is made under its own name.
     Door(ListSettings<'a>, bool),
@@ -26,6 +26,8 @@ pub(crate) enum Request<'a> {
     Status(Form),
     /// Prints what can be read of a run that is refused.
     Damaged,
+    /// Prints a line of JSON a second, without any lock. With `true` it prints one line.
+    Follow(bool),
     /// Prints the doubts that are final.
     Doubts(Form),
     /// Takes an answer: attempt, line, text and verdict. `not-done` is taken once the attempt has
@@ -39,7 +41,7 @@ pub(crate) enum Request<'a> {
 
 /// Why a command line is no request.
 #[derive(Drop)]
-pub(crate) enum Misuse {
+pub enum Misuse {
     Memory,
     /// The command line has no such command or option, or asks for help.
     Words(Error),
@@ -181,6 +183,8 @@ fn request_of<'a>(name: &str, matches: &ArgMatches<'a>) -> Result<Request<'a>, M
         }
         "lines" => Ok(Request::Lines(by_lines_of(matches)?)),
         "status" if matches.get_flag("damaged") => Ok(Request::Damaged),
+        "status" if matches.get_flag("follow") => Ok(Request::Follow(matches.get_flag("once"))),
+        "status" if matches.get_flag("once") => Err(Misuse::Word("--once", "given with --follow")),
         "status" => Ok(Request::Status(form_of(matches)?)),
         "doubts" => Ok(Request::Doubts(form_of(matches)?)),
         "answer" => answer_of(matches),
@@ -209,7 +213,7 @@ fn without_end(path: &str) -> &str {
 ///
 /// # Errors
 /// `Misuse`, also if help is asked for.
-pub(crate) fn asked<'a>(
+pub fn asked<'a>(
     alloc: Global,
     words: &'a [&'a str],
 ) -> Result<(Setting<'a>, Request<'a>), Misuse> {

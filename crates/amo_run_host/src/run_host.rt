@@ -2,17 +2,21 @@
 ghost use Rattle.std.specs.Prelude.{◌≡◌};
 
 use crate::clock::{boot_id, now};
+use crate::items::{item_of_log, item_of_run_lock};
+use crate::last_fault::{LastFault, appended};
+use crate::lines::read_known;
 use crate::runner::Runner;
 use amo_fs::FileDevice;
 use amo_host::{Failed, Hold, Host, LogFile, LogPart, Registers, RunLock};
-use amo_journal::{AppendError, DeviceError};
+use amo_journal::AppendError;
 use amo_run_dir::{
     Fault, FollowedFiles, Item, ListSettings, OpenJournal, Setting, Words, check_kept,
-    check_number, known, known_again, lock_of, record_of, recovered, replace_record, replaced,
-    shared_lock_of, sync, synced_bytes,
+    check_number, lock_of, record_of, recovered, replace_record, replaced, shared_lock_of, sync,
+    synced_bytes,
 };
 use amo_run_files::{HashedJobs, RoundFile};
 use amo_run_log::{AttemptId, Entry};
+use std::alloc::AllocError;
 use std::fs::File;
 use std::rt::HostRuntime;
 use std::thread;
@@ -22,9 +26,9 @@ use std::time::Duration;
 const PAUSE: u64 = 20;
 
 /// The files of a run and the runner, as the worker's process has them open. After a call has
-/// failed, `fault` says why.
+/// failed, `take_fault` says why.
 #[derive(Drop)]
-pub(crate) struct RunHost<'a> {
+pub struct RunHost<'a> {
     rt: HostRuntime,
     setting: Setting<'a>,
     /// The path of the user's list.
@@ -38,13 +42,13 @@ pub(crate) struct RunHost<'a> {
     journal: Option<OpenJournal<FileDevice>>,
     registers: Option<Words>,
     logs: FollowedFiles,
-    pub(crate) runner: Runner,
-    pub(crate) fault: Option<Fault>,
+    runner: Runner,
+    fault: LastFault,
 }
 
 impl<'a> RunHost<'a> {
     /// Returns a host that has nothing open yet.
-    pub(crate) fn new(
+    pub fn new(
         rt: HostRuntime,
         setting: &Setting<'a>,
         jobs: &ListSettings<'a>,
@@ -61,50 +65,46 @@ impl<'a> RunHost<'a> {
             registers: None,
             logs: FollowedFiles::new(rt.alloc()),
             runner: Runner::new(rt),
-            fault: None,
+            fault: LastFault::none(),
         }
     }
 
     /// Returns which log the worker's own journal is.
-    pub(crate) fn own_log(&self) -> LogFile {
+    pub fn own_log(&self) -> LogFile {
         LogFile::Journal(self.worker)
     }
 
-    /// Remembers why a call has failed.
-    fn told<T>(&mut self, given: Result<T, Fault>) -> Result<T, Failed> {
-        match given {
-            Ok(value) => Ok(value),
-            Err(fault) => {
-                self.fault = Some(fault);
-                Err(Failed)
-            }
-        }
+    /// Returns why a call has failed, if one has.
+    pub fn take_fault(&mut self) -> Option<Fault> {
+        self.fault.take()
+    }
+
+    /// Returns the runner's last line as a text to print.
+    pub fn reply_text(&self) -> Result<String, AllocError> {
+        self.runner.shown()
     }
 
     /// Takes the journal, for one call. After a call has failed it is gone.
     fn take_journal(&mut self) -> Result<OpenJournal<FileDevice>, Failed> {
         match self.journal.take() {
             Some(journal) => Ok(journal),
-            None => self.told(Err(Fault::Journal(Item::Journal(self.worker)))),
+            None => self
+                .fault
+                .told(Err(Fault::Journal(Item::Journal(self.worker)))),
         }
     }
 
     /// Keeps the journal that a call has returned.
     fn keep(&mut self, given: Result<OpenJournal<FileDevice>, AppendError>) -> Result<(), Failed> {
-        match given {
-            Ok(journal) => {
-                self.journal = Some(journal);
-                Ok(())
-            }
-            Err(AppendError::Device(DeviceError::Memory)) => self.told(Err(Fault::Memory)),
-            Err(_) => self.told(Err(Fault::Journal(Item::Journal(self.worker)))),
-        }
+        let journal = appended(Item::Journal(self.worker), given);
+        self.journal = Some(self.fault.told(journal)?);
+        Ok(())
     }
 
     /// Takes a lock, and returns the handle that has it. Returns `None` if another process has one
     /// that excludes it.
     fn locked(&self, lock: RunLock, hold: Hold) -> Result<Option<File>, Fault> {
-        let item = item_of_lock(lock);
+        let item = item_of_run_lock(lock);
         match hold {
             Hold::Shared => shared_lock_of(self.rt, &self.setting, item),
             Hold::Exclusive => lock_of(self.rt, &self.setting, item),
@@ -149,44 +149,12 @@ fn guard_of(guard: &Option<File>, is_wanted: bool) -> Option<&File> {
     if is_wanted { guard.as_ref() } else { None }
 }
 
-/// Returns the file whose lock this is.
-fn item_of_lock(lock: RunLock) -> Item {
-    match lock {
-        RunLock::Guard(worker) => Item::Journal(worker),
-        RunLock::Round => Item::Round,
-    }
-}
-
-/// Returns the file that this log is.
-pub(crate) fn item_of_log(log: LogFile) -> Item {
-    match log {
-        LogFile::Answers => Item::Answers,
-        LogFile::Journal(worker) => Item::Journal(worker),
-    }
-}
-
-/// Reads the lines that the run knows, and takes them in place of those in `jobs`.
-fn read_known(
-    rt: HostRuntime,
-    setting: &Setting<'_>,
-    last: Option<&RoundFile>,
-    jobs: &mut HashedJobs,
-) -> Result<(), Fault> {
-    match last {
-        Some(file) => known_again(rt, setting, file, jobs),
-        None => {
-            *jobs = HashedJobs::new(known(rt, setting, None)?);
-            Ok(())
-        }
-    }
-}
-
 impl<'a> Host for RunHost<'a> {
     ghost stands = { λ _ _. Unit {0} };
 
     fn try_lock(&mut self, lock: RunLock, hold: Hold) -> Result<bool, Failed> {
         let locked = self.locked(lock, hold);
-        let handle = self.told(locked)?;
+        let handle = self.fault.told(locked)?;
         let got = handle.is_some();
         match lock {
             RunLock::Guard(_) => self.guard = handle,
@@ -207,62 +175,62 @@ impl<'a> Host for RunHost<'a> {
             Some(guard) => check_number(self.rt, &self.setting, self.worker, guard),
             None => check_kept(self.rt, &self.setting),
         };
-        self.told(checked)
+        self.fault.told(checked)
     }
 
     fn sync_folder(&mut self) -> Result<(), Failed> {
         let synced = sync(self.rt, &self.setting);
-        self.told(synced)
+        self.fault.told(synced)
     }
 
     fn read_boot(&mut self) -> Result<Vec<u8>, Failed> {
         let boot = boot_id(self.rt, self.setting.boot);
-        self.told(boot)
+        self.fault.told(boot)
     }
 
     fn read_round(&mut self) -> Result<Option<RoundFile>, Failed> {
         let last = record_of(self.rt, &self.setting);
-        self.told(last)
+        self.fault.told(last)
     }
 
     fn recover(&mut self, last: Option<&RoundFile>) -> Result<Vec<Vec<u8>>, Failed> {
         let texts = self.recovered(last);
-        self.told(texts)
+        self.fault.told(texts)
     }
 
     fn read_jobs(&mut self, last: Option<&RoundFile>, jobs: &mut HashedJobs) -> Result<(), Failed> {
         let read = read_known(self.rt, &self.setting, last, jobs);
-        self.told(read)
+        self.fault.told(read)
     }
 
     fn open_registers(&mut self, front: usize) -> Result<Option<Registers>, Failed> {
         let opened = self.opened(front);
-        self.told(opened)
+        self.fault.told(opened)
     }
 
     fn read_log(&mut self, log: LogFile, last: Option<&RoundFile>) -> Result<LogPart, Failed> {
         let part = self.part_of(log, last);
-        self.told(part)
+        self.fault.told(part)
     }
 
     fn read_list(&mut self) -> Result<Vec<u8>, Failed> {
         let bytes = synced_bytes(self.rt, Item::List, self.list);
-        self.told(bytes)
+        self.fault.told(bytes)
     }
 
     fn make_jobs(&mut self, bytes: &[u8]) -> Result<(), Failed> {
         let made = replaced(self.rt, &self.setting, Item::Known, bytes, true);
-        self.told(made)
+        self.fault.told(made)
     }
 
     fn make_round(&mut self, file: &RoundFile) -> Result<(), Failed> {
         let made = replace_record(self.rt, &self.setting, file);
-        self.told(made)
+        self.fault.told(made)
     }
 
     fn make_registers(&mut self, bytes: &[u8]) -> Result<(), Failed> {
         let made = replaced(self.rt, &self.setting, Item::Words, bytes, false);
-        self.told(made)
+        self.fault.told(made)
     }
 
     fn load(&mut self, register: u64) -> Result<u64, Failed> {
@@ -270,7 +238,7 @@ impl<'a> Host for RunHost<'a> {
             Some(words) => words.load(register),
             None => Err(Fault::NoWay),
         };
-        self.told(loaded)
+        self.fault.told(loaded)
     }
 
     fn store(&mut self, register: u64, value: u64) -> Result<(), Failed> {
@@ -278,7 +246,7 @@ impl<'a> Host for RunHost<'a> {
             Some(words) => words.store(register, value),
             None => Err(Fault::NoWay),
         };
-        self.told(stored)
+        self.fault.told(stored)
     }
 
     fn pass_over(&mut self, _job: u32) -> Result<(), Failed> {
@@ -305,12 +273,12 @@ impl<'a> Host for RunHost<'a> {
 
     fn read_on(&mut self, log: LogFile) -> Result<Vec<Vec<u8>>, Failed> {
         let read = self.logs.read_on(self.rt, item_of_log(log));
-        self.told(read)
+        self.fault.told(read)
     }
 
     fn say(&mut self, line: &[u8]) -> Result<Option<Vec<u8>>, Failed> {
         let heard = self.runner.ask(line);
-        self.told(heard)
+        self.fault.told(heard)
     }
 
     fn pause(&self) {

@@ -3,18 +3,20 @@
 ghost use Rattle.std.specs.Prelude.{◌≡◌};
 
 use crate::clock::now;
-use crate::host::item_of_log;
-use crate::print::print;
+use crate::items::{item_of_lock, item_of_log};
+use crate::last_fault::{LastFault, appended};
+use crate::old::old_texts_of;
+use crate::output::print;
 use amo_fs::{FileDevice, is_at};
 use amo_host::{Failed, LogFile};
-use amo_journal::{AppendError, DeviceError, texts_in};
+use amo_journal::AppendError;
 use amo_operator::{OperatorHost, OperatorLock};
 use amo_run_dir::{
-    Age, Fault, Item, OpenJournal, Setting, Tried, bytes_of, check_id, check_kept, had, known,
-    lock_of, log_of, path_of, record_of, recovered, sync, try_lock_of,
+    Age, Fault, Item, OpenJournal, Setting, Tried, check_id, check_kept, had, known, lock_of,
+    log_of, path_of, record_of, recovered, sync, try_lock_of,
 };
 use amo_run_files::{Jobs, RoundFile};
-use amo_run_log::{Entry, Finding, Outcome, with_time};
+use amo_run_log::{Entry, Finding, Outcome};
 use amo_status::AttemptId;
 use std::fs::File;
 use std::rt::HostRuntime;
@@ -39,40 +41,34 @@ struct RecoveredLog {
 }
 
 /// The files of a run, as an operator's command has them open. In a folder of version 0.1.0 nothing
-/// is made or written. After a call has failed, `fault` says why.
+/// is made or written. After a call has failed, `take_fault` says why.
 #[derive(Drop)]
-pub(crate) struct OperatorFiles<'a> {
+pub struct OperatorFiles<'a> {
     rt: HostRuntime,
     setting: Setting<'a>,
     age: Age,
     held: Vec<HeldLock>,
     /// After an append to a log has failed, that log is gone.
     logs: Vec<RecoveredLog>,
-    pub(crate) fault: Option<Fault>,
+    fault: LastFault,
 }
 
 impl<'a> OperatorFiles<'a> {
     /// Returns a host that has nothing open yet. `age` says how the folder was made.
-    pub(crate) fn new(rt: HostRuntime, setting: &Setting<'a>, age: Age) -> OperatorFiles<'a> {
+    pub fn new(rt: HostRuntime, setting: &Setting<'a>, age: Age) -> OperatorFiles<'a> {
         OperatorFiles {
             rt,
             setting: *setting,
             age,
             held: Vec::new(rt.alloc()),
             logs: Vec::new(rt.alloc()),
-            fault: None,
+            fault: LastFault::none(),
         }
     }
 
-    /// Remembers why a call has failed.
-    fn told<T>(&mut self, given: Result<T, Fault>) -> Result<T, Failed> {
-        match given {
-            Ok(value) => Ok(value),
-            Err(fault) => {
-                self.fault = Some(fault);
-                Err(Failed)
-            }
-        }
+    /// Returns why a call has failed, if one has.
+    pub fn take_fault(&mut self) -> Option<Fault> {
+        self.fault.take()
     }
 
     /// Tries a lock, and returns true if this process has got it.
@@ -152,7 +148,7 @@ impl<'a> OperatorFiles<'a> {
     fn take_log(&mut self, log: LogFile) -> Result<OpenJournal<FileDevice>, Failed> {
         match self.logs.iter().position(|it| it.log == log) {
             Some(place) => Ok(self.logs.remove(place).journal),
-            None => self.told(Err(Fault::Journal(item_of_log(log)))),
+            None => self.fault.told(Err(Fault::Journal(item_of_log(log)))),
         }
     }
 
@@ -162,14 +158,9 @@ impl<'a> OperatorFiles<'a> {
         log: LogFile,
         given: Result<OpenJournal<FileDevice>, AppendError>,
     ) -> Result<(), Fault> {
-        match given {
-            Ok(journal) => {
-                self.logs.push(RecoveredLog { log, journal })?;
-                Ok(())
-            }
-            Err(AppendError::Device(DeviceError::Memory)) => Err(Fault::Memory),
-            Err(_) => Err(Fault::Journal(item_of_log(log))),
-        }
+        let journal = appended(item_of_log(log), given)?;
+        self.logs.push(RecoveredLog { log, journal })?;
+        Ok(())
     }
 }
 
@@ -178,16 +169,6 @@ fn may_be_missing(lock: OperatorLock) -> bool {
     match lock {
         OperatorLock::Command(..) => true,
         OperatorLock::Answers | OperatorLock::Journal(_) | OperatorLock::Runner(_) => false,
-    }
-}
-
-/// Returns the file whose lock this is.
-fn item_of_lock(lock: OperatorLock) -> Item {
-    match lock {
-        OperatorLock::Answers => Item::Answers,
-        OperatorLock::Journal(worker) => Item::Journal(worker),
-        OperatorLock::Runner(worker) => Item::Runner(worker),
-        OperatorLock::Command(worker, serial) => Item::Command(worker, serial),
     }
 }
 
@@ -209,25 +190,12 @@ fn handle_of(held: &[HeldLock], lock: OperatorLock) -> Option<&File> {
     None
 }
 
-/// Returns the texts of a log of version 0.1.0, as they are written today. One that is missing has
-/// none.
-fn old_texts_of(rt: HostRuntime, setting: &Setting<'_>, item: Item) -> Result<Vec<Vec<u8>>, Fault> {
-    let mut texts = Vec::new(rt.alloc());
-    let Some(bytes) = bytes_of(rt, setting, item)? else {
-        return Ok(texts);
-    };
-    for text in &texts_in(rt.alloc(), &bytes)? {
-        texts.push(with_time(rt.alloc(), text)?)?;
-    }
-    Ok(texts)
-}
-
 impl<'a> OperatorHost for OperatorFiles<'a> {
     ghost stands = { λ _ _. Unit {0} };
 
     fn try_lock(&mut self, lock: OperatorLock) -> Result<bool, Failed> {
         let is_got = self.locked(lock);
-        self.told(is_got)
+        self.fault.told(is_got)
     }
 
     fn unlock(&mut self, worker: u64) {
@@ -243,27 +211,27 @@ impl<'a> OperatorHost for OperatorFiles<'a> {
 
     fn check_folder(&mut self, kept: bool) -> Result<(), Failed> {
         let checked = self.checked(kept);
-        self.told(checked)
+        self.fault.told(checked)
     }
 
     fn read_round(&mut self) -> Result<Option<RoundFile>, Failed> {
         let last = self.last_round();
-        self.told(last)
+        self.fault.told(last)
     }
 
     fn read_log(&mut self, log: LogFile, last: Option<&RoundFile>) -> Result<Vec<Vec<u8>>, Failed> {
         let texts = self.texts_of(log, last);
-        self.told(texts)
+        self.fault.told(texts)
     }
 
     fn recover(&mut self, log: LogFile, last: Option<&RoundFile>) -> Result<Vec<Vec<u8>>, Failed> {
         let texts = self.recovered(log, last);
-        self.told(texts)
+        self.fault.told(texts)
     }
 
     fn read_jobs(&mut self, last: Option<&RoundFile>) -> Result<Jobs, Failed> {
         let jobs = known(self.rt, &self.setting, last);
-        self.told(jobs)
+        self.fault.told(jobs)
     }
 
     fn read_clock(&mut self) -> u64 {
@@ -279,7 +247,7 @@ impl<'a> OperatorHost for OperatorFiles<'a> {
         };
         let given = journal.put(self.rt.alloc(), entry);
         let kept = self.keep_log(log, given);
-        self.told(kept)
+        self.fault.told(kept)
     }
 
     fn remove_command_file(&mut self, attempt: AttemptId) {
@@ -293,12 +261,12 @@ impl<'a> OperatorHost for OperatorFiles<'a> {
         let journal = self.take_log(LogFile::Answers)?;
         let given = journal.put_finding(self.rt.alloc(), answer);
         let kept = self.keep_log(LogFile::Answers, given);
-        self.told(kept)
+        self.fault.told(kept)
     }
 
     fn print(&mut self, text: &[u8]) -> Result<(), Failed> {
         let printed = print(self.rt, text);
-        self.told(printed)
+        self.fault.told(printed)
     }
 
     fn pause(&self) {

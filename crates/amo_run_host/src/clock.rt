@@ -9,7 +9,7 @@ const LONGEST_BOOT: usize = 200;
 
 /// Returns the time in seconds since 1970, or 0 if the clock can't be read. It is noted for
 /// persons, and decides nothing but from when on their answer `not-done` is taken.
-pub(crate) fn now(rt: HostRuntime) -> u64 {
+pub fn now(rt: HostRuntime) -> u64 {
     match SystemTime::now(&rt) {
         Ok(time) => match time.duration_since(UNIX_EPOCH) {
             Ok(since) => since.as_secs(),

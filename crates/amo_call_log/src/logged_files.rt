@@ -3,28 +3,28 @@ ghost use Rattle.std.specs.Prelude.{◌≡◌};
 
 use crate::call_log::{CallLog, Words, ended, recovered};
 use crate::end::End;
-use crate::operator_files::OperatorFiles;
 use amo_host::{Failed, LogFile};
 use amo_operator::{OperatorHost, OperatorLock};
 use amo_run_files::{Jobs, RoundFile};
+use amo_run_host::OperatorFiles;
 use amo_run_log::{Entry, Finding, Outcome};
 use amo_status::AttemptId;
 
 /// The files of a run, and the log of the calls by which an operator's command writes them.
 #[derive(Drop)]
-pub(crate) struct LoggedFiles<'a> {
-    pub(crate) inner: OperatorFiles<'a>,
+pub struct LoggedFiles<'a> {
+    pub inner: OperatorFiles<'a>,
     log: Option<CallLog>,
 }
 
 impl<'a> LoggedFiles<'a> {
     /// Returns these files, with this log.
-    pub(crate) fn new(inner: OperatorFiles<'a>, log: Option<CallLog>) -> LoggedFiles<'a> {
+    pub fn new(inner: OperatorFiles<'a>, log: Option<CallLog>) -> LoggedFiles<'a> {
         LoggedFiles { inner, log }
     }
 
     /// Returns why the log has failed, if it has.
-    pub(crate) fn take_failure(&mut self) -> Option<End> {
+    pub fn take_failure(&mut self) -> Option<End> {
         match &mut self.log {
             Some(log) => log.take_failure(),
             None => None,

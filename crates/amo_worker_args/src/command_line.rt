@@ -60,7 +60,7 @@ static COMMANDS: [(&str, &str); 7] = [
 ];
 
 /// The arguments of all commands, in the order of the help.
-static ARGUMENTS: [Argument; 24] = [
+static ARGUMENTS: [Argument; 26] = [
     Argument {
         name: "RUN",
         commands: &["door", "work", "status", "doubts", "answer", "again"],
@@ -181,6 +181,20 @@ static ARGUMENTS: [Argument; 24] = [
         help: "print what can be read of a run that is refused; no line counts as open (default: refuse it)",
     },
     Argument {
+        name: "follow",
+        commands: &["status"],
+        kind: Kind::Flag,
+        excludes: &["json", "lines", "damaged"],
+        help: "print a line of JSON a second, without any lock, as docs/follow.schema.json says (default: print once)",
+    },
+    Argument {
+        name: "once",
+        commands: &["status"],
+        kind: Kind::Flag,
+        excludes: &[],
+        help: "with --follow: print one line, and end (default: go on)",
+    },
+    Argument {
         name: "quiet",
         commands: &["answer"],
         kind: Kind::Default("SECONDS", "60"),
@@ -277,11 +291,14 @@ impl Kind {
             Kind::Required => arg.required(true),
             Kind::Optional => arg,
             Kind::Flag => arg.long(name).action(ArgAction::SetTrue),
-            Kind::Value(value) => arg.long(name).value_name(value),
-            Kind::Needed(value) => arg.long(name).value_name(value).required(true),
-            Kind::Default(value, default) => {
-                arg.long(name).value_name(value).default_value(default)
-            }
+            Kind::Value(value) => valued(arg, name, value),
+            Kind::Needed(value) => valued(arg, name, value).required(true),
+            Kind::Default(value, default) => valued(arg, name, value).default_value(default),
         }
     }
+}
+
+/// Returns this argument as an option of this name, which takes a value of that name.
+fn valued<'a>(arg: Arg<'a>, name: &'static str, value: &'static str) -> Arg<'a> {
+    arg.long(name).value_name(value)
 }

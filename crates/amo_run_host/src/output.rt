@@ -7,7 +7,7 @@ use std::rt::HostRuntime;
 ///
 /// # Errors
 /// `Write` if it can't be written.
-pub(crate) fn print(rt: HostRuntime, text: &[u8]) -> Result<(), Fault> {
+pub fn print(rt: HostRuntime, text: &[u8]) -> Result<(), Fault> {
     let mut out = rt.stdout();
     written(Item::Output, out.write_all(text))?;
     written(Item::Output, out.flush())

@@ -1,0 +1,20 @@
+//! The lines that a run knows, as a worker reads them again.
+use amo_run_dir::{Fault, Setting, known, known_again};
+use amo_run_files::{HashedJobs, RoundFile};
+use std::rt::HostRuntime;
+
+/// Reads the lines that the run knows, and takes them in place of those in `jobs`.
+pub(crate) fn read_known(
+    rt: HostRuntime,
+    setting: &Setting<'_>,
+    last: Option<&RoundFile>,
+    jobs: &mut HashedJobs,
+) -> Result<(), Fault> {
+    match last {
+        Some(file) => known_again(rt, setting, file, jobs),
+        None => {
+            *jobs = HashedJobs::new(known(rt, setting, None)?);
+            Ok(())
+        }
+    }
+}
