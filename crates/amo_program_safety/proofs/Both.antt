@@ -1,5 +1,5 @@
 -- A run of workers and commands is a run of the model by journals alone.
-use Rattle.std.proofs.Common.{ℕ, List, [], ◌∷◌, ◌++◌, map, sym, subst}
+use Rattle.std.proofs.Common.{◌≡◌, ℕ, List, [], ◌∷◌, ◌++◌, map, sym, subst}
 use Rattle.amo_clearance_safety.specs.Model.{AreDistinct, Handing, Site, first_site, Event as ModelEvent}
 use Rattle.amo_clearance_safety.specs.Runs.{Clearance, IsRun as IsModelRun, site_from, site_of}
 use Rattle.amo_givens.specs.declared.limits.TheConstants.{MAX_WORKERS}
@@ -42,9 +42,15 @@ module _
         runs = subst (Runs (machine_from (machine_after m s) steps)) (sym (site_both v first.events rest.events)) rest.runs;
       }
 
+  -- Each run of workers and commands is a run of the model, in which the same attempts perform lines.
+  pub both_run : (steps : List Step) → IsRun steps → (es : List ModelEvent) × IsModelRun Clearance MAX_WORKERS es × ((site_of es).performed ≡ (machine_of steps).world.performed)
+  both_run steps run =
+      let all = all_lead steps first_machine first_site run first_runs in
+      (all.events, all.run, all.runs.goes.performed)
+
   -- If each run of the model performs each line at most once, so does each run of workers and commands.
   pub both_performed_once : ((n : ℕ) (es : List ModelEvent) → IsModelRun Clearance n es → AreDistinct (map (λ (h : Handing). h.line) (site_of es).performed))
       → (steps : List Step) → IsRun steps → AreDistinct (map (λ (h : Handing). h.line) (machine_of steps).world.performed)
   both_performed_once model steps run =
-      let all = all_lead steps first_machine first_site run first_runs in
-      subst (λ (hs : List Handing). AreDistinct (map (λ (h : Handing). h.line) hs)) all.runs.goes.performed (model MAX_WORKERS all.events all.run)
+      let (es, model_run, same) = both_run steps run in
+      subst (λ (hs : List Handing). AreDistinct (map (λ (h : Handing). h.line) hs)) same (model MAX_WORKERS es model_run)

@@ -276,6 +276,7 @@ joins_none : (me : Identity) (join : Join) (c : Call) → noted_in (joins_on me 
 joins_none me (Locked prior) (BootIs boot) = refl
 joins_none me (Booted prior boot) (RoundIs last) = header_none me prior boot last
 joins_none me (HasHeader prior file) (JobsAre last lines) = refl
+joins_none me (HasHeader prior file) (HasUnlocked lock) = refl
 joins_none me (HasJobs prior file) (RegistersAre front registers) =
     let h = file.header in
     seated_none me prior file (seat_of me.worker h.first h.workers h.givens.workers) (givens_of h.givens.jobs h.givens.workers h.givens.beta) (are_of h registers)

@@ -116,7 +116,7 @@ module _ (g : Given) (texts : LogFile → List (List ℕ)) where
   join_allowed : (join : Join) → MayJoin join (request_of (next_join join))
   join_allowed (Locked prior) = refl
   join_allowed (Booted prior boot) = refl
-  join_allowed (HasHeader prior file) = refl
+  join_allowed (HasHeader prior file) = inl refl
   join_allowed (HasJobs prior file) = (512, refl)
   join_allowed (Seated prior file givens seat) = refl
 

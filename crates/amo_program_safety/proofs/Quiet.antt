@@ -137,6 +137,7 @@ joins_next : (w : World) (v : Site) (pid : ℕ) (p : Process) (me : Identity) (j
 joins_next w v pid p me (Locked prior) (BootIs boot) low high same k quiet = inr (same, k, quiet)
 joins_next w v pid p me (Booted prior boot) (RoundIs last) low high same k quiet = round_next w v pid p me same quiet prior boot last k
 joins_next w v pid p me (HasHeader prior file) (JobsAre last lines) low high same k quiet = inr (same, k, quiet)
+joins_next w v pid p me (HasHeader prior file) (HasUnlocked lock) low high same k quiet = inr (same, knows_before v p.read _ prior k, quiet)
 joins_next w v pid p me (HasJobs prior file) (RegistersAre front registers) low high same k quiet = seat_next w v pid p me same quiet prior file _ _ _ k
 joins_next w v pid p me (Seated prior file givens seat) FolderIsSynced low high same k quiet =
     inr (same, knows_before v p.read _ prior k, quiet, reads_own file givens seat)
@@ -148,7 +149,8 @@ joins_next w v pid p me join c low high same k quiet = inl refl
 pub plain_joining : (join : Join) (r : Request) → MayJoin join r → IsPlainRequest r
 plain_joining (Locked prior) r e = subst IsPlainRequest (sym e) tt
 plain_joining (Booted prior boot) r e = subst IsPlainRequest (sym e) tt
-plain_joining (HasHeader prior file) r e = subst IsPlainRequest (sym e) tt
+plain_joining (HasHeader prior file) r (inl e) = subst IsPlainRequest (sym e) tt
+plain_joining (HasHeader prior file) r (inr e) = subst IsPlainRequest (sym e) tt
 plain_joining (HasJobs prior file) r (front, e) = subst IsPlainRequest (sym e) tt
 plain_joining (Seated prior file givens seat) r e = subst IsPlainRequest (sym e) tt
 

@@ -59,7 +59,7 @@ begins_quietly me (RegistersMade logs) x e = cc
 joins_quietly : (join : Join) (x : List ℕ) → MayJoin join (Say x) → ⊥
 joins_quietly (Locked prior) x e = cc
 joins_quietly (Booted prior boot) x e = cc
-joins_quietly (HasHeader prior file) x e = cc
+joins_quietly (HasHeader prior file) x h = ⊎_elim (λ e. cc e) (λ e. cc e) h
 joins_quietly (HasJobs prior file) x h = let e = h.1 in cc
 joins_quietly (Seated prior file givens seat) x e = cc
 

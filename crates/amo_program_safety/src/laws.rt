@@ -1,6 +1,8 @@
 //! The theorems of this crate, runs that they speak of, and runs in which a premise fails. The
 //! contract of each function states a theorem, and no function does anything when it runs.
-ghost use Rattle.amo_clearance_safety.specs.Model.{AreDistinct, Handing, IsOneOf};
+ghost use Rattle.amo_clearance_safety.specs.Model.{AreDistinct, Event as ModelEvent, Handing, IsOneOf};
+ghost use Rattle.amo_clearance_safety.specs.Runs.{Clearance, IsRun as IsModelRun, site_of};
+ghost use Rattle.amo_givens.specs.declared.limits.TheConstants.{MAX_WORKERS};
 ghost use Rattle.amo_host.specs.Calls.{Put};
 ghost use Rattle.amo_host.specs.declared.model.LogFile.TheVariants.{Journal};
 ghost use Rattle.amo_operator.specs.Calls.{PutDoubt};
@@ -30,6 +32,13 @@ pub fn programs_and_commands_perform_each_line_at_most_once()
 {
     lines_are_performed_once_by_journals_alone();
 }
+
+/// Each run of processes of `work` and operators' commands is a run of the model by journals alone,
+/// in which the same attempts perform their lines. So what the short theorem of that model says of
+/// its runs holds for the programs.
+pub fn programs_and_commands_run_by_journals_alone()
+    ensures { (steps : List Step) → IsRunOfAll steps → (es : List ModelEvent) × IsModelRun Clearance MAX_WORKERS es × ((site_of es).performed ≡ (machine_of steps).world.performed) }
+{}
 
 /// An attempt that a command finds final is final on this machine: no process may hand it over, no
 /// runner has it, and nothing of its command is left. If the command records that the attempt is in
