@@ -1,0 +1,92 @@
+"""The charts of the report: the timeline, and the histogram of durations."""
+
+from __future__ import annotations
+
+import time
+from typing import Any, Dict, Iterator
+
+KINDS = ("done", "failed", "doubt", "pending", "untouched", "open")
+NAMES = {"done": "done", "failed": "failed", "doubt": "in doubt",
+         "pending": "running or in doubt", "untouched": "untouched",
+         "open": "not started, or opened again"}
+
+
+def timeline(facts: Dict[str, Any]) -> Iterator[str]:
+    """Yields the timeline: a lane a worker, and a bar an attempt."""
+    found = facts["timeline"]
+    yield "<section id=\"timeline\"><h2>Timeline</h2>"
+    if not found["lanes"]:
+        yield "<p>No line was begun yet.</p></section>"
+        return
+    yield "<ul class=\"key\">" + "".join(
+        f"<li><i class=\"b-{it}\"></i> {NAMES[it]}</li>" for it in KINDS) + "</ul>"
+    if found["is_aggregated"]:
+        yield ("<p>Each bar stands for all attempts of its worker that began in its time, by their"
+               " shares.</p>")
+    for lane in found["lanes"]:
+        high = " high" if found["is_aggregated"] else ""
+        yield (f"<div class=\"lane\"><span>worker {lane['worker']}<span class=\"soft\">:"
+               f" {lane['attempts']} begun</span></span><div class=\"bars{high}\">")
+        for bar in lane["bars"]:
+            yield bar_of(bar, found)
+        yield "".join(mark_of(it, found) for it in found["marks"]) + "</div></div>"
+    yield f"<p class=\"scale soft\"><span>{clock(found['from'])}</span>"
+    yield f"<span>{clock(found['to'])}</span></p>"
+    if found["marks"]:
+        yield "<p>Dotted lines:</p><ul>" + "".join(
+            f"<li>{clock(it['time'])}: {it['what']}</li>" for it in found["marks"]) + "</ul>"
+    yield "</section>"
+
+
+def clock(seconds: int) -> str:
+    """Returns a time of this machine's time zone."""
+    return time.strftime("%Y-%m-%d %H:%M:%S", time.localtime(seconds))
+
+
+def place(seconds: float, found: Dict[str, Any]) -> float:
+    """Returns where a time stands in the lane, in percent."""
+    first, last = float(found["from"]), float(found["to"])
+    return round(100 * (seconds - first) / (last - first), 2)
+
+
+def bar_of(bar: Dict[str, Any], found: Dict[str, Any]) -> str:
+    """Returns a bar; one of many attempts has a part for each kind."""
+    left, right = place(bar["from"], found), place(bar["to"], found)
+    width = max(right - left, 0) + (0 if bar["attempt"] else 0.02)  # no seam between two
+    style = f"left:{min(left, 99.8):g}%;width:{width:.4g}%"
+    if bar["attempt"]:
+        kind = next(iter(bar["counts"]))
+        title = f"line {bar['line']}, attempt {bar['attempt']}: {NAMES[kind]}"
+        return f"<i class=\"b-{kind}\" style=\"{style}\" title=\"{title}\"></i>"
+    total = sum(bar["counts"].values())
+    shares = {it: 100 * bar["counts"][it] / total for it in KINDS if it in bar["counts"]}
+    parts = "".join(f"<i class=\"b-{it}\" style=\"height:{share:g}%\"></i>"
+                    for it, share in shares.items())
+    title = ", ".join(f"{count} {NAMES[it]}" for it, count in bar["counts"].items())
+    return f"<i style=\"{style}\" title=\"{title}\">{parts}</i>"
+
+
+def mark_of(mark: Dict[str, Any], found: Dict[str, Any]) -> str:
+    """Returns a dotted line at the time of a mark."""
+    return f"<b style=\"left:{place(mark['time'], found):g}%\" title=\"{mark['what']}\"></b>"
+
+
+def histogram(facts: Dict[str, Any]) -> Iterator[str]:
+    """Yields how many attempts took how long."""
+    yield "<section id=\"histogram\"><h2>Durations</h2>"
+    rows = facts["histogram"]
+    if not rows:
+        yield "<p>No attempt has ended.</p></section>"
+        return
+    yield ("<p>Records have whole seconds, so each duration is right to a second.</p><table><thead>"
+           "<tr><th scope=\"col\">Seconds</th><th scope=\"col\">Attempts</th><th scope=\"col\">"
+           "Share</th></tr></thead><tbody>")
+    most = max(it["count"] for it in rows)
+    for it in rows:
+        last = it["below"] - 1
+        span = "below 1" if not last else "1" if last == 1 else f"{it['from']} to {last}"
+        width = 100 * it["count"] / most if most else 0
+        yield (f"<tr><td data-name=\"Seconds\">{span}</td><td data-name=\"Attempts\">{it['count']}"
+               f"</td><td class=\"wide\" data-name=\"Share\"><span class=\"bar\""
+               f" style=\"width:{width:.1f}%\"></span></td></tr>")
+    yield "</tbody></table></section>"

@@ -1,0 +1,57 @@
+"""What the command line has of this package: its commands, their options and their help."""
+
+from __future__ import annotations
+
+from typing import Any, Callable, Collection, Dict, List, Tuple
+
+from amo_jobs.settings import Settings
+from amo_jobs.worker import Program
+
+# Each call imports its modules itself: a runner is started often, and needs none of them.
+
+
+def report(settings: Settings, program: Program) -> int:
+    """Prints the report of a run, and returns the exit status."""
+    from amo_watch.report import report as call
+    return call(settings, program)
+
+
+def watch(settings: Settings, program: Program) -> int:
+    """Shows a run while it goes on, and returns the exit status."""
+    from amo_watch.live import watch as call
+    return call(settings, program)
+
+
+def told(settings: Settings, program: Program, crew: Callable[[], int]) -> int:
+    """Runs a crew, and tells others of it if that is asked for. Returns the crew's status."""
+    if not (settings.metrics or settings.events or settings.notify):
+        return crew()
+    from amo_watch.teller import told as call
+    return call(settings, program, crew)
+
+
+CALLS: Dict[str, Callable[[Settings, Program], int]] = {"report": report, "watch": watch}
+OPTIONS: List[Tuple[Collection[str], str, Dict[str, Any]]] = [
+    (["crew"], "--metrics",
+     dict(metavar="FILE",
+          help="keep FILE up to date with numbers for Prometheus, every 5 seconds (default:"
+               " none)")),
+    (["crew"], "--events",
+     dict(metavar="FILE",
+          help="append a JSON object to FILE for each thing that happens, as"
+               " docs/events.schema.json says (default: none)")),
+    (["crew"], "--notify",
+     dict(metavar="COMMAND",
+          help="have a shell run COMMAND when the crew ends or stops, or when a line comes into"
+               " doubt (default: none)")),
+    (["report"], "--json",
+     dict(action="store_true",
+          help="print the same as one JSON object, as docs/report.schema.json says (default: an"
+               " HTML page)")),
+]
+ABOUT = {
+    "report": ("Prints a page that shows the whole run: counts, doubts, failures, timeline.",
+               "report tonight.txt > report.html", "report --json tonight.txt"),
+    "watch": ("Shows a run while it goes on. Keys: q ends the view, d shows doubts, s stops the"
+              " crew.", "watch tonight.txt", "watch --run tonight.txt.run"),
+}

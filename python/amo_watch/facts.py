@@ -1,0 +1,143 @@
+"""The facts of a report, as data: what `amo_jobs report --json` prints, and the page shows.
+
+Begin with `facts_of`. docs/report.schema.json describes the data.
+"""
+
+from __future__ import annotations
+
+import collections
+import heapq
+import os
+from typing import Any, Dict, Iterable, List, NamedTuple, Optional
+
+from amo_jobs.files import content
+from amo_jobs.settings import Settings
+from amo_jobs.worker import HERE, TEST_BOOT_ID, Program
+from amo_watch.rates import rates_of
+from amo_watch.snapshot import Attempt, Snapshot, snapshot_of
+from amo_watch.texts import outputs_of, quoted, texts_of
+from amo_watch.timeline import timeline_of
+
+FORMAT = 1  # of the data
+MOST_ROWS, MOST_SLOW = 1000, 20  # rows of a list
+MOST_TEXT = 3_000_000  # characters of all texts together; each stands in up to four places
+SHORT = 500  # characters of a text that is cut
+# The lists of a report: the state of their attempts, and the words by which `status` prints more.
+LISTS = {"doubts": "doubt", "pending": "pending", "failures": "failed", "untouched": "untouched"}
+
+
+class Run(NamedTuple):
+    """The run that a report is about: its names for commands, and what it was given."""
+
+    settings: Settings
+    worker: str  # the path of amo_worker
+    version: str
+    given: Optional[Dict[str, Any]]
+
+    def command(self, what: str, *words: str) -> str:
+        """Returns a command for bash that does this with the run, from any folder."""
+        it = self.settings
+        named = ["--run", it.run] if it.has_folder or not it.jobs else [it.jobs]
+        more = ["--file-system", it.file_system] if it.file_system else []
+        more += ["--worker-program", self.worker] if it.worker_program else []
+        return " ".join(map(quoted, [f"{HERE}/amo_jobs", what, *more, *named, *words]))
+
+    def folders(self) -> List[str]:
+        """Returns the folders that may hold what commands have printed."""
+        return list(dict.fromkeys([self.settings.run, (self.given or {}).get(
+            "results", self.settings.run)]))
+
+
+class Budget:
+    """How many characters of texts a report still takes."""
+
+    def __init__(self, most: int = MOST_TEXT):
+        self.left, self.cut = most, 0
+
+    def take(self, text: str) -> str:
+        """Returns the text, or its front if there is no room."""
+        shown = text if len(text) <= max(self.left, SHORT) else text[:SHORT]
+        self.left -= len(shown)
+        self.cut += shown != text
+        return shown
+
+
+def facts_of(settings: Settings, program: Program, version: str) -> Dict[str, Any]:
+    """Returns all that a report says of a run."""
+    found = snapshot_of(program, settings.run)
+    run = Run(settings, program.path, version, content(f"{settings.run}/command", True))
+    budget = Budget()
+    lists = {name: found.of(state) for name, state in LISTS.items()}
+    shown = {name: rows[:MOST_ROWS] for name, rows in lists.items()}
+    timed = [(it.seconds or 0, it) for it in found.attempts.values() if it.seconds is not None]
+    slow = [it for _, it in heapq.nsmallest(MOST_SLOW, timed, lambda row: (-row[0], row[1].line))]
+    texts = texts_of(settings.run, {it.line for rows in [*shown.values(), slow] for it in rows})
+    facts = {**head_of(run, found), "rates": rates_of(found),
+             **{name: [row_of(run, found.time, it, texts, budget) for it in rows]
+                for name, rows in shown.items()},
+             "slowest": [row_of(run, found.time, it, texts, budget, False) for it in slow],
+             "again": run.command("again"), "histogram": histogram_of([it for it, _ in timed]),
+             "timeline": timeline_of(found, settings.run)}
+    facts["left_out"] = left_out(facts, lists, budget, run)
+    return facts
+
+
+def head_of(run: Run, found: Snapshot) -> Dict[str, Any]:
+    """Returns which run it is, what it was given, and how many lines stand how."""
+    settings, given = run.settings, run.given or {}
+    return {"format": FORMAT, "made": found.time, "program": run.version,
+            "list": settings.jobs or None, "folder": settings.run, "id": found.id,
+            "round": found.round, "workers": found.workers,
+            "command": given.get("command"), "results": given.get("results"),
+            "options": given.get("options"), "version": given.get("version"),
+            "test": os.environ.get(TEST_BOOT_ID) is not None,
+            "lines": found.lines, "counts": dict(found.counts), "attempts": len(found.attempts)}
+
+
+def row_of(run: Run, now: int, it: Attempt, texts: Dict[int, str], budget: Budget,
+           is_whole: bool = True) -> Dict[str, Any]:
+    """Returns what is known of an attempt; if that is wanted, also its outputs and the commands
+    that an operator may give."""
+    text = texts.get(it.line, "")
+    shown = budget.take(text)
+    age = None if it.ended is None or it.ended > now else now - it.ended
+    outputs = outputs_of(run.folders(), it.name) if is_whole else []
+    return {"attempt": it.name, "line": it.line, "text": shown, "cut": len(text) - len(shown),
+            "begun": it.begun, "ended": it.ended, "age": age, "seconds": it.seconds,
+            "code": it.code, "state": it.state, "outputs": [row._asdict() for row in outputs],
+            "commands": commands_of(run, it, text) if is_whole and shown == text else []}
+
+
+def commands_of(run: Run, it: Attempt, text: str) -> List[str]:
+    """Returns the commands by which an operator answers, or looks whether an attempt is over."""
+    if it.state == "pending":
+        return [run.command("doubts")]
+    return [run.command("answer", "--", it.name, str(it.line), text, verdict)
+            for verdict in ("done", "not-done")]
+
+
+def histogram_of(seconds: Iterable[int]) -> List[Dict[str, Any]]:
+    """Returns how many attempts took how long: below 1 s, and from each power of two to the
+    next."""
+    counts = collections.Counter(it.bit_length() for it in seconds)
+    return [{"from": (1 << k) >> 1, "below": 1 << k, "count": counts[k]}
+            for k in range(max(counts, default=-1) + 1)]
+
+
+def left_out(facts: Dict[str, Any], lists: Dict[str, List[Attempt]], budget: Budget,
+             run: Run) -> List[str]:
+    """Returns a sentence for each thing that the report doesn't show."""
+    said = []
+    for name, rows in lists.items():
+        if len(rows) > MOST_ROWS:
+            kind = "running" if name == "pending" else LISTS[name]
+            more = run.command("status", "--lines", kind)
+            said.append(f"{len(rows) - MOST_ROWS} more {name}, after the first {MOST_ROWS}; to"
+                        f" list them all: {more}")
+    if facts["timeline"]["is_aggregated"]:
+        said.append(f"single attempts in the timeline, since there are {facts['attempts']}: each"
+                    " bar stands for all attempts that began in its time")
+    if budget.cut:
+        said.append(f"the ends of {budget.cut} texts, and the commands with these texts; to have"
+                    f" them: {run.command('doubts')}")
+    return said

@@ -1,0 +1,170 @@
+"""The command `watch`: a live view of a run, on a terminal by curses, else as lines.
+
+Begin with `watch`. `picture` in `view` decides what is shown; this module draws it and takes keys.
+"""
+
+from __future__ import annotations
+
+import curses
+import locale
+import os
+import select
+import signal
+import sys
+import time
+from typing import Any, Dict, List, Optional
+
+from amo_jobs import calls
+from amo_jobs.files import content
+from amo_jobs.messages import End
+from amo_jobs.processes import signer
+from amo_jobs.run_folder import name_run
+from amo_jobs.settings import Settings
+from amo_jobs.statuses import Status
+from amo_jobs.worker import Program
+from amo_watch.snapshot import Follower, said_in, Snapshot
+from amo_watch.texts import output_of, texts_of
+from amo_watch.view import Answer, Facts, picture, summary, View
+
+PART, WAIT, SELDOM = 1 << 20, 0.5, 30.0  # bytes of one read, seconds, seconds between two lines
+MOST_OUTPUTS, MOST_TEXTS = 32, 200  # commands whose last output is read, lines with a text
+
+
+class Live:
+    """A run that is watched."""
+
+    def __init__(self, settings: Settings, program: Program):
+        """Begins to follow the run. Raises OSError."""
+        self.settings, self.program = settings, program
+        self.found, self.texts = Snapshot(), {}  # type: Snapshot, Dict[int, str]
+        self.follower, self.rest = Follower(program, settings.run), b""
+        used = content(f"{settings.run}/command", True) or {}
+        self.view, self.results = View(), used.get("results", settings.run)
+
+    def read(self, seconds: float, *others: Any) -> bool:
+        """Waits for so many seconds for a line or a key; returns whether a line came. Raises an end
+        if the run can't be followed."""
+        ready = select.select([self.follower.file, *others], [], [], seconds)[0]
+        if self.follower.file not in ready:
+            return False
+        part = os.read(self.follower.file, PART)
+        if not part:
+            self.begin_again()
+            return False
+        *lines, self.rest = (self.rest + part).split(b"\n")
+        for line in lines:
+            self.found.take(said_in(line, self.program))
+        self.read_texts()
+        return bool(lines)
+
+    def begin_again(self) -> None:
+        """Follows the run anew if a file was replaced meanwhile. Else raises the worker's end."""
+        status = self.follower.close()
+        if status != Status.LATER:
+            raise End(status if status > 0 else Status.MEMORY, None)
+        time.sleep(WAIT)
+        self.follower, self.rest = Follower(self.program, self.settings.run), b""
+        self.found = Snapshot()
+
+    def read_texts(self) -> None:
+        """Reads the texts of the lines that the view may show."""
+        wanted = {it.line for state in ("pending", "doubt")
+                  for it in self.found.of(state)[:MOST_TEXTS]}
+        missing = wanted - set(self.texts)
+        if missing:
+            self.texts.update(texts_of(self.settings.run, missing))
+
+    def facts(self) -> Facts:
+        """Returns what is shown now."""
+        outputs: Dict[str, str] = {}
+        for it in self.found.of("pending")[:MOST_OUTPUTS]:
+            ends = [output_of(f"{self.results}/{kind}.{it.name}").end for kind in ("out", "err")]
+            outputs[it.name] = next((end[-1] for end in reversed(ends) if end), "")
+        return Facts(self.found, self.texts, outputs, self.alive())
+
+    def alive(self) -> List[int]:
+        """Returns the workers whose runner lives, by its number in a file that it has open."""
+        run = os.path.realpath(self.settings.run)
+        return [it for it in range(1, (self.found.workers or 0) + 1)
+                if signer(f"{run}/runner.{it}")]
+
+    def crew(self) -> int:
+        """Returns the process of the crew's supervisor; 0 if none is at work. It has signed the
+        file `crew`, and has that file open, which it locks as long as it lives."""
+        return signer(f"{os.path.realpath(self.settings.run)}/crew")
+
+    def stop(self) -> str:
+        """Ends the crew in order; returns what came of that."""
+        process = self.crew()
+        if not process:
+            return "no crew is at work in this folder"
+        start = calls.start_of(process)
+        handle = os.pidfd_open(process) if hasattr(os, "pidfd_open") else None
+        if start is None or calls.start_of(process) != start or self.crew() != process:
+            return "the crew has ended meanwhile"
+        if handle is None:
+            os.kill(process, signal.SIGTERM)
+        else:
+            signal.pidfd_send_signal(handle, signal.SIGTERM)
+            os.close(handle)
+        return f"process {process} got TERM; it waits for the commands that run"
+
+
+def watch(settings: Settings, program: Program) -> int:
+    """Shows a run until it is over, or until the operator ends it; returns the exit status."""
+    name_run(settings, program)
+    live = Live(settings, program)
+    try:
+        if sys.stdout.isatty() and sys.stdin.isatty() and os.environ.get("TERM", "dumb") != "dumb":
+            locale.setlocale(locale.LC_ALL, "")
+            curses.wrapper(lambda screen: on_screen(live, screen))
+        else:
+            as_lines(live)
+    except KeyboardInterrupt:
+        pass
+    finally:
+        live.follower.close()
+    return Status.DONE
+
+
+def as_lines(live: Live) -> None:
+    """Prints a line at first, every half a minute, and when all lines are closed."""
+    due = 0.0
+    while True:
+        live.read(WAIT)
+        if not live.found.time:
+            continue
+        is_over = not (live.found.counts["open"] or live.found.counts["pending"])
+        if time.monotonic() >= due or is_over:
+            due = time.monotonic() + SELDOM
+            print(summary(live.found), flush=True)
+        if is_over:
+            return
+
+
+def on_screen(live: Live, screen: Any) -> None:
+    """Draws the view, and takes keys, until `q`."""
+    curses.curs_set(0)
+    screen.nodelay(True)
+    while live.view.answer is not Answer.QUIT:
+        live.read(WAIT, sys.stdin)
+        key: Optional[int] = screen.getch()
+        while key is not None and key != -1:
+            live.view.take(chr(key) if 0 < key < 128 else "")
+            key = screen.getch()
+        if live.view.answer is Answer.STOP:
+            live.view.answer, live.view.note = Answer.NONE, live.stop()
+        draw(screen, live)
+
+
+def draw(screen: Any, live: Live) -> None:
+    """Draws the view as large as the terminal is."""
+    height, width = screen.getmaxyx()
+    screen.erase()
+    rows = picture(live.facts(), live.view, width - 1, height)
+    for place, (text, is_strong) in enumerate(rows[:height]):
+        try:
+            screen.addstr(place, 0, text, curses.A_BOLD if is_strong else curses.A_NORMAL)
+        except curses.error:
+            pass  # the terminal became smaller meanwhile
+    screen.refresh()

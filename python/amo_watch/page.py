@@ -1,0 +1,209 @@
+"""The page of a report: one HTML file that needs nothing else. Begin with `page_of`.
+
+Whatever a list holds is shown as text. A character that can't be seen is written as its escape.
+"""
+
+from __future__ import annotations
+
+import html
+import shlex
+import time
+from typing import Any, Dict, Iterator, Optional
+
+from amo_jobs.messages import visible
+from amo_jobs.status import lasting
+from amo_watch.assets import policy, SCRIPT, STYLE
+from amo_watch.charts import histogram, timeline
+
+LONG = 600  # characters of a text that are shown at once
+WORDS = {"done": "done", "failed": "failed", "doubt": "in doubt",
+         "pending": "running or in doubt", "untouched": "untouched", "open": "open"}
+
+
+def shown(text: Any) -> str:
+    """Returns a text as it may stand in the page."""
+    return html.escape(visible(str(text)))
+
+
+def folded(text: str) -> str:
+    """Returns a text, and of a long one the rest behind a word that opens it."""
+    if len(text) <= LONG:
+        return shown(text)
+    return (f"{shown(text[:LONG])}<details><summary>{len(text) - LONG} more characters</summary>"
+            f"{shown(text[LONG:])}</details>")
+
+
+def dated(seconds: Optional[int]) -> str:
+    """Returns a time as a date of this machine's time zone."""
+    return ("at a time that is not known" if seconds is None
+            else time.strftime("%Y-%m-%d %H:%M:%S", time.localtime(seconds)))
+
+
+def page_of(facts: Dict[str, Any]) -> Iterator[str]:
+    """Yields the page, part by part."""
+    name = facts["list"] or facts["folder"]
+    yield ("<!DOCTYPE html>\n<html lang=\"en\"><head><meta charset=\"utf-8\">"
+           "<meta name=\"viewport\" content=\"width=device-width,initial-scale=1\">"
+           f"<meta http-equiv=\"Content-Security-Policy\" content=\"{html.escape(policy())}\">"
+           f"<title>{shown(name)}: report of amo</title><style>{STYLE}</style></head><body>")
+    yield from head(facts, name)
+    yield from doubts(facts)
+    yield from rows(facts, "failures", "Failed", "Each command ended with the status that is shown."
+                    " It may have done something.")
+    yield from rows(facts, "untouched", "Untouched", "Each command reported that it did nothing."
+                    " The last command here opens all of these lines once more.")
+    yield from timeline(facts)
+    yield from slowest(facts)
+    yield from histogram(facts)
+    yield from given(facts)
+    yield f"<script>{SCRIPT}</script></body></html>\n"
+
+
+def head(facts: Dict[str, Any], name: str) -> Iterator[str]:
+    """Yields the title, the counts, the rates, and links to the parts."""
+    yield (f"<header><h1>Report of {shown(name)}</h1><p>{facts['lines']} lines, as they stood at"
+           f" <time>{dated(facts['made'])}</time>.</p>")
+    yield "<dl class=\"counts\">"
+    for kind, count in facts["counts"].items():
+        yield f"<div><dt class=\"{kind}\">{WORDS[kind]}</dt><dd>{count}</dd></div>"
+    yield f"</dl><p>{shown(pace_text(facts))}</p>"
+    parts = [("doubts", "In doubt"), ("failures", "Failed"), ("untouched", "Untouched"),
+             ("timeline", "Timeline"), ("slowest", "Slowest lines"), ("histogram", "Durations"),
+             ("given", "Settings of the run")]
+    links = "".join(f"<li><a href=\"#{it}\">{text}</a></li>" for it, text in parts)
+    yield f"<nav aria-label=\"Parts\"><ul>{links}</ul></nav><p class=\"tools\" id=\"tools\"></p>"
+    yield f"{left_out(facts)}</header>"
+
+
+def left_out(facts: Dict[str, Any]) -> str:
+    """Returns what the page leaves out."""
+    items = "".join(f"<li>{shown(it)}</li>" for it in facts["left_out"])
+    return f"<div id=\"left_out\"><p>Left out here:</p><ul>{items}</ul></div>" if items else ""
+
+
+def pace_text(facts: Dict[str, Any]) -> str:
+    """Returns how fast the run was, and when it will be over."""
+    rates, counts = facts["rates"], facts["counts"]
+    if rates["begun"] is None:
+        return "No line was begun yet."
+    text = f"The first line was begun {dated(rates['begun'])}"
+    if rates["ended"] is not None:
+        span = lasting(rates["ended"] - rates["begun"])
+        text += f", the last one ended {dated(rates['ended'])}, {span} later"
+    text += f". {rates['ends']} attempts have ended: {rates['a_second']:g} a second"
+    text += f", and {rates['last_minute']:g} a second in the last minute."
+    if rates["over_at"] is not None:
+        return f"{text} At that pace all lines are closed at {dated(rates['over_at'])}."
+    if counts["open"] or counts["pending"]:
+        return f"{text} No attempt ended in the last minute, so no end can be expected."
+    return f"{text} All lines are closed."
+
+
+def doubts(facts: Dict[str, Any]) -> Iterator[str]:
+    """Yields the lines in doubt, and those that are running or in doubt."""
+    yield "<section id=\"doubts\"><h2>In doubt</h2>"
+    if not facts["doubts"] and not facts["pending"]:
+        yield "<p>No line is in doubt, and none is running.</p>"
+    if facts["doubts"]:
+        yield ("<p>Each of these lines may have been performed, and nothing of its command runs on"
+               " this machine any more. Find out at the receiver whether it happened. Then give one"
+               " of the two commands. <strong>Don't answer not-done while a request may still be on"
+               " its way</strong>: the line would be performed twice.</p>")
+    yield from map(article, facts["doubts"])
+    if facts["pending"]:
+        yield ("<p>The next lines were begun, and no end is recorded. They are running, or they are"
+               " in doubt: nobody has looked whether something of them still runs.</p>"
+               + command(facts["pending"][0]["commands"][0], "To look:"))
+    yield from map(article, facts["pending"])
+    yield "</section>"
+
+
+def rows(facts: Dict[str, Any], name: str, title: str, about: str) -> Iterator[str]:
+    """Yields the lines of one list."""
+    yield f"<section id=\"{name}\"><h2>{title}</h2>"
+    yield f"<p>{about}</p>" if facts[name] else "<p>None.</p>"
+    yield from map(article, facts[name])
+    yield command(facts["again"], "To open all untouched lines once more:") if (
+        name == "untouched" and facts[name]) else ""
+    yield "</section>"
+
+
+def article(row: Dict[str, Any]) -> str:
+    """Returns a line with all that is known of its attempt."""
+    more = f" <span class=\"soft\">.. {row['cut']} more characters</span>" if row["cut"] else ""
+    return (f"<article class=\"{row['state']}\"><h3>Line {row['line']}: <span class=\"text\">"
+            f"{folded(row['text'])}</span>{more}</h3><p><span class=\"{row['state']}\">"
+            f"{WORDS[row['state']]}</span>, attempt {row['attempt']}, begun {dated(row['begun'])},"
+            f" {end_of(row)}</p>{outputs(row)}{answers(row)}</article>")
+
+
+def end_of(row: Dict[str, Any]) -> str:
+    """Returns how an attempt ended, and how long ago."""
+    code = f" with status {row['code']}" if row["code"] is not None else ""
+    age = f", {lasting(row['age'])} ago" if row["age"] is not None else ""
+    if row["ended"] is not None:
+        return f"ended{code} {dated(row['ended'])}{age}"
+    pending = row["state"] == "pending"
+    return "no end is recorded" if pending else f"ended{code} {dated(None)}"
+
+
+def answers(row: Dict[str, Any]) -> str:
+    """Returns the commands by which an operator answers, each with what it says."""
+    if row["state"] == "pending" or not row["commands"]:
+        return ""
+    done, not_done = row["commands"]
+    return command(done, "If it happened:") + command(not_done, "If it surely didn't happen:")
+
+
+def outputs(row: Dict[str, Any]) -> str:
+    """Returns the ends of what the command has printed."""
+    if not row["outputs"]:
+        return "<p class=\"soft\">It has printed nothing that was kept.</p>"
+    return "".join(f"<p class=\"soft\">{shown(it['path'])}, {it['size']} bytes, its end:</p><pre>"
+                   + "\n".join(map(shown, it["end"])) + "</pre>" for it in row["outputs"])
+
+
+def command(text: str, label: str) -> str:
+    """Returns a command that can be copied, below what it is for."""
+    return (f"<p class=\"label\">{label}</p><code class=\"command\" tabindex=\"0\">"
+            f"{html.escape(text)}</code>")
+
+
+def slowest(facts: Dict[str, Any]) -> Iterator[str]:
+    """Yields the table of the slowest lines."""
+    yield "<section id=\"slowest\"><h2>Slowest lines</h2>"
+    if not facts["slowest"]:
+        yield "<p>No attempt has ended.</p></section>"
+        return
+    heads = ("Line", "Text", "Attempt", "Seconds", "Begun", "How it stands")
+    yield ("<table class=\"sorted\"><thead><tr>"
+           + "".join(f"<th scope=\"col\">{it}</th>" for it in heads) + "</tr></thead><tbody>")
+    for row in facts["slowest"]:
+        cells = [(row["line"], row["line"]), (None, row["text"]), (None, row["attempt"]),
+                 (row["seconds"], row["seconds"]), (row["begun"], dated(row["begun"])),
+                 (None, WORDS[row["state"]])]
+        yield "<tr>" + "".join(cell(name, *it) for name, it in zip(heads, cells)) + "</tr>"
+    yield "</tbody></table></section>"
+
+
+def cell(name: str, key: Optional[int], text: Any) -> str:
+    """Returns a cell of a table, with the number by which it is sorted, if it has one."""
+    more = "" if key is None else f" data-key=\"{key}\""
+    return f"<td data-name=\"{name}\"{more}><span class=\"text\">{shown(text)}</span></td>"
+
+
+def given(facts: Dict[str, Any]) -> Iterator[str]:
+    """Yields what the run was given."""
+    yield ("<section id=\"given\"><h2>Settings of the run</h2><table><thead><tr>"
+           "<th scope=\"col\">What</th><th scope=\"col\">Value</th></tr></thead><tbody>")
+    options, words = facts["options"], facts["command"]
+    values = [("List", facts["list"]), ("Folder", facts["folder"]), ("Id", facts["id"]),
+              ("Command", shlex.join(words) if words else None),
+              ("Options", shlex.join(options) if options else None),
+              ("Results", facts["results"]), ("Workers", facts["workers"]),
+              ("Round", facts["round"]), ("Attempts", facts["attempts"]),
+              ("Version of the crew", facts["version"]), ("Version of this", facts["program"])]
+    for name, value in values:
+        text = "not known" if value is None else value
+        yield f"<tr>{cell('What', None, name)}{cell('Value', None, text)}</tr>"
+    yield "</tbody></table></section>"

@@ -1,0 +1,29 @@
+"""How fast lines are done, and when the run will be over."""
+
+from __future__ import annotations
+
+from typing import Any, Dict, Optional
+
+from amo_watch.snapshot import Snapshot
+
+MINUTE = 60  # seconds
+
+
+def rates_of(found: Snapshot) -> Dict[str, Any]:
+    """Returns when the run began, when an attempt ended last, how many ended in a second, over all
+    and in the last minute, and when all lines will be closed. That time is None if no attempt
+    ended in the last minute: then nobody may be at work."""
+    begun, ended = found.begun, max(found.ends, default=None)
+    count = sum(found.ends.values())
+    span = max(ended - begun, 1) if begun is not None and ended is not None else 0
+    recent = sum(found.ends[found.time - it] for it in range(MINUTE))
+    minute = recent / max(min(MINUTE, found.time - begun), 1) if begun is not None else 0.0
+    left = found.counts["open"] + found.counts["pending"]
+    return {"begun": begun, "ended": ended, "ends": count,
+            "a_second": round(count / span, 3) if span else 0.0,
+            "last_minute": round(minute, 3), "over_at": over_at(found.time, left, minute)}
+
+
+def over_at(now: int, left: int, a_second: float) -> Optional[int]:
+    """Returns when so many lines will be over; None if that can't be expected."""
+    return int(now + left / a_second) if left and a_second > 0 else None

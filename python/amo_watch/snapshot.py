@@ -1,0 +1,138 @@
+"""A run as `amo_worker status --follow` prints it: one JSON object a line.
+
+The first line has all attempts, each further one those that are new or have changed.
+docs/follow.schema.json describes a line.
+"""
+
+from __future__ import annotations
+
+import json
+import subprocess
+from typing import Any, Counter, Dict, List, NamedTuple, Optional, Set, Tuple
+
+from amo_jobs.messages import End, visible
+from amo_jobs.statuses import Status
+from amo_jobs.worker import Program
+
+FORMAT = 1  # of the lines
+# How many lines stand how. A line is pending if nobody has looked whether its attempt is over: it
+# is running or in doubt.
+COUNTS = ("done", "failed", "doubt", "pending", "untouched", "open")
+
+
+class Attempt(NamedTuple):
+    """One attempt, as its records say. Times are in seconds since 1970; None is not known."""
+
+    worker: int
+    serial: int
+    line: int
+    begun: Optional[int]
+    outcome: str  # pending, done, doubt, unbegun or untouched
+    code: Optional[int]
+    ended: Optional[int]
+    state: str  # one of COUNTS; an answer of an operator may have changed it
+
+    @property
+    def name(self) -> str:
+        """The name by which an operator answers, P.S."""
+        return f"{self.worker}.{self.serial}"
+
+    @property
+    def seconds(self) -> Optional[int]:
+        """How long it took; None if that isn't known."""
+        if self.begun is None or self.ended is None:
+            return None
+        return max(self.ended - self.begun, 0)
+
+
+class Snapshot:
+    """All that the lines have said so far. What a view asks each second is counted as lines come,
+    since a run may have 100,000 attempts."""
+
+    def __init__(self) -> None:
+        self.time, self.id = 0, ""
+        self.round: Optional[int] = None
+        self.workers: Optional[int] = None
+        self.lines = 0
+        self.counts: Dict[str, int] = dict.fromkeys(COUNTS, 0)
+        self.attempts: Dict[Tuple[int, int], Attempt] = {}
+        self.states: Dict[str, Set[Tuple[int, int]]] = {it: set() for it in COUNTS}
+        self.ends: Counter[int] = Counter()  # how many attempts have ended in each second
+        self.begun: Optional[int] = None  # when the first one was begun
+
+    def take(self, said: Dict[str, Any]) -> List[Attempt]:
+        """Takes a line; returns the attempts that are new or have changed."""
+        self.time, self.id = said["time"], said["id"]
+        self.round, self.workers, self.lines = said["round"], said["workers"], said["lines"]
+        self.counts = {it: said[it] for it in COUNTS}
+        fresh = [Attempt._make(row) for row in said["attempts"]]
+        for it in fresh:
+            self.put(it)
+        return fresh
+
+    def put(self, it: Attempt) -> None:
+        """Puts an attempt at its place."""
+        key = (it.worker, it.serial)
+        old = self.attempts.get(key)
+        if old:
+            self.states[old.state].discard(key)
+        if it.ended is not None and (old is None or old.ended is None):
+            self.ends[it.ended] += 1
+        if it.begun is not None:
+            self.begun = it.begun if self.begun is None else min(self.begun, it.begun)
+        self.attempts[key] = it
+        self.states[it.state].add(key)
+
+    def of(self, state: str) -> List[Attempt]:
+        """Returns the attempts that stand so, by line."""
+        found = [self.attempts[key] for key in self.states[state]]
+        return sorted(found, key=lambda it: (it.line, it.worker, it.serial))
+
+
+def said_in(line: bytes, program: Program) -> Dict[str, Any]:
+    """Returns what a line says. Raises an end if it is no line of this version's worker."""
+    try:
+        said = json.loads(line)
+        if said["format"] == FORMAT:
+            return dict(said)
+    except (ValueError, KeyError, TypeError):
+        pass
+    raise End(Status.BUILD, f"`{visible(program.path)}`: it isn't the amo_worker of this version;"
+                            " give that one by --worker-program, or leave out the option")
+
+
+def words_of(program: Program, run: str, *more: str) -> List[str]:
+    """Returns the command that follows a run."""
+    return [program.path, "status", run, "--follow", *more, *program.more]
+
+
+def snapshot_of(program: Program, run: str) -> Snapshot:
+    """Returns how a run stands now."""
+    found = Snapshot()
+    found.take(said_in(program.call("status", run, "--follow", "--once"), program))
+    return found
+
+
+class Follower:
+    """The process of `amo_worker` that follows a run."""
+
+    def __init__(self, program: Program, run: str):
+        """Starts it. Raises OSError."""
+        self.process = subprocess.Popen(words_of(program, run), stdin=subprocess.DEVNULL,
+                                        stdout=subprocess.PIPE, start_new_session=True)
+
+    @property
+    def file(self) -> int:
+        """The descriptor by which its lines come."""
+        assert self.process.stdout
+        return self.process.stdout.fileno()
+
+    def close(self) -> int:
+        """Ends the process, and returns its status; 0 if this call has ended it."""
+        status = self.process.poll()
+        if status is None:
+            self.process.terminate()
+        self.process.wait()
+        if self.process.stdout:
+            self.process.stdout.close()
+        return status or 0

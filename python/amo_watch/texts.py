@@ -1,0 +1,66 @@
+"""The lines of a run's list, by number, and the ends of what commands have printed."""
+
+from __future__ import annotations
+
+import os
+import shlex
+from contextlib import suppress
+from typing import Collection, Dict, List, NamedTuple
+
+LAST, MOST = 5, 1000  # of an output: so many lines at its end, of so many bytes together
+
+
+def texts_of(run: str, numbers: Collection[int]) -> Dict[int, str]:
+    """Returns the texts of these lines, by the copy of the list in the run's folder. That file only
+    grows, so a line that an attempt names is there."""
+    wanted, found = set(numbers), {}  # type: set[int], Dict[int, str]
+    if not wanted:
+        return found
+    last = max(wanted)
+    with open(f"{run}/jobs", "rb") as file:
+        for number, line in enumerate(file, 1):
+            if number in wanted:
+                found[number] = line.rstrip(b"\n").decode("utf-8", "replace")
+            if number >= last:
+                break
+    return found
+
+
+class Output(NamedTuple):
+    """A file that a command has written, and the lines at its end."""
+
+    path: str
+    size: int
+    end: List[str]
+
+
+def outputs_of(folders: Collection[str], name: str) -> List[Output]:
+    """Returns what the command of an attempt has printed, without empty files."""
+    paths = [f"{folder}/{kind}.{name}" for kind in ("out", "err") for folder in folders]
+    return [it for it in map(output_of, paths) if it.size]
+
+
+def output_of(path: str) -> Output:
+    """Returns the end of a file; of one that can't be read it is empty."""
+    with suppress(OSError), open(path, "rb") as file:
+        size = file.seek(0, os.SEEK_END)
+        file.seek(max(size - MOST, 0))
+        return Output(path, size, file.read().decode("utf-8", "replace").splitlines()[-LAST:])
+    return Output(path, 0, [])
+
+
+def quoted(word: str) -> str:
+    """Returns a word as bash reads it, without characters that can't be seen."""
+    if word.isprintable():
+        return shlex.quote(word)
+    parts = []
+    for it in word:
+        code = ord(it)
+        if it in "\\'":
+            parts.append(f"\\{it}")
+        elif it.isprintable():
+            parts.append(it)
+        else:
+            parts.append(f"\\U{code:08x}" if code > 0xffff
+                         else f"\\u{code:04x}" if code > 0x7f else f"\\x{code:02x}")
+    return f"$'{''.join(parts)}'"

@@ -1,0 +1,215 @@
+"""The live view, the numbers for a monitor, and what a crew tells others."""
+
+import json
+import os
+import re
+import shutil
+import subprocess
+import sys
+import tempfile
+import unittest
+
+import package
+
+from amo_jobs.messages import Screen
+from amo_jobs.settings import Settings
+from amo_watch import commands, live, metrics, news, snapshot, view
+from test_report import NOW, Program
+
+sys.path.insert(0, f"{package.ROOT}/tools/modules")
+
+import schemas
+
+ROWS = [[1, 1, 1, NOW - 90, "done", 0, NOW - 50, "done"],
+        [1, 2, 2, NOW - 49, "doubt", None, NOW - 20, "doubt"],
+        [1, 3, 3, NOW - 19, "pending", None, None, "pending"],
+        [2, 1, 4, NOW - 90, "done", 7, NOW - 10, "failed"]]
+SAMPLE = re.compile(r'([a-z_]+)\{run="((?:[^"\\\n]|\\["\\n])*)"(?:,(\w+)="(\w+)")?\}'
+                    r' (-?\d+(?:\.\d+)?)')
+
+
+def found_of(rows, lines):
+    found = snapshot.Snapshot()
+    found.take(Program(rows, lines).said)
+    return found
+
+
+class Views(unittest.TestCase):
+    def rows(self, width, height, shown=None, texts=None):
+        facts = view.Facts(found_of(ROWS, 9), texts or {2: "rent", 3: "t\u00e4glich \x1b[2J"},
+                           {"1.3": "sent"}, [1])
+        return view.picture(facts, shown or view.View(), width, height)
+
+    def test_each_row_fits_and_the_keys_are_in_the_last_one(self):
+        for width, height in ((79, 24), (39, 10), (199, 50), (39, 4), (10, 1), (200, 2)):
+            for shown in (view.View(), view.View(has_doubts=True)):
+                rows = self.rows(width, height, shown, {3: "\u6f22" * 400})
+                self.assertLessEqual(len(rows), height)
+                for text, _ in rows:
+                    self.assertLessEqual(sum(map(view.columns_of, text)), width, (text, width))
+                    self.assertTrue(text.isprintable() or not text)
+                self.assertEqual(rows[-1][0], view.KEYS[:width])
+
+    def test_a_worker_has_its_line_its_age_and_its_last_output(self):
+        texts = [it for it, _ in self.rows(100, 24)]
+        self.assertIn(" 1 19 s, line 3: t\u00e4glich \\x1b[2J | sent", texts)
+        self.assertIn(" 2 (no runner)", texts)
+        self.assertIn("9 lines: 1 done 1 failed 1 in doubt 1 running or in doubt 5 open", texts)
+
+    def test_the_bar_has_a_place_for_each_state(self):
+        bar = view.bar(found_of(ROWS, 1000), 42)
+        self.assertEqual(bar, "[#x?>" + "." * 36 + "]")
+        self.assertEqual(view.bar(found_of([], 0), 6), "[    ]")
+
+    def test_keys(self):
+        shown = view.View()
+        shown.take("d")
+        self.assertTrue(shown.has_doubts)
+        texts = [it for it, _ in self.rows(80, 24, shown)]
+        self.assertIn("1.2, line 2, ended 20 s ago: rent", texts)
+        shown.take("s")
+        self.assertEqual(self.rows(80, 24, shown)[-1], (view.ASKED, True))
+        shown.take("q")  # any key but y
+        self.assertEqual((shown.answer, shown.is_asking), (view.Answer.NONE, False))
+        shown.take("s")
+        shown.take("y")
+        self.assertEqual(shown.answer, view.Answer.STOP)
+        shown.take("q")
+        self.assertEqual(shown.answer, view.Answer.QUIT)
+
+    def test_nobody_is_stopped_who_only_has_the_number(self):
+        with tempfile.TemporaryDirectory() as run:
+            with open(f"{run}/crew", "w", encoding="ascii") as file:
+                file.write(f"{os.getpid()}\n")
+            watched = live.Live.__new__(live.Live)
+            watched.settings = Settings(run=run)
+            self.assertEqual(watched.crew(), 0)  # this process has not the file open
+            self.assertEqual(watched.stop(), "no crew is at work in this folder")
+            with open(f"{run}/crew", encoding="ascii"):
+                self.assertEqual(watched.crew(), os.getpid())
+
+
+class Numbers(unittest.TestCase):
+    def samples(self, text):
+        """Returns the numbers of a text, each by its name and its further label. The text has to be
+        in the form that Prometheus describes."""
+        found, kinds = {}, {}
+        self.assertTrue(text.endswith("\n"))
+        for line in text.splitlines():
+            if line.startswith("# "):
+                _, what, name, rest = line.split(" ", 3)
+                self.assertNotIn((what, name), kinds)
+                kinds[what, name] = rest
+                continue
+            parts = SAMPLE.fullmatch(line)
+            self.assertTrue(parts, line)
+            self.assertIn(kinds.get(("TYPE", parts[1])), ("gauge", "counter"), line)
+            self.assertIn(("HELP", parts[1]), kinds)
+            self.assertNotIn((parts[1], parts[4]), found)
+            found[parts[1], parts[4]] = float(parts[5])
+        return found
+
+    def test_numbers_are_those_of_the_run(self):
+        text = metrics.text_of(found_of(ROWS, 9), metrics.Crew(3, True, None), '/a "b"\\\n')
+        self.assertIn('run="/a \\"b\\"\\\\\\n"', text)
+        found = self.samples(text)
+        for state, count in {"done": 1, "failed": 1, "doubt": 1, "pending": 1, "untouched": 0,
+                             "open": 5}.items():
+            self.assertEqual(found["amo_lines", state], count)
+        self.assertEqual(found["amo_attempts", "done"], 2)
+        self.assertEqual(found["amo_oldest_pending_seconds", None], 19)
+        self.assertEqual(found["amo_oldest_doubt_seconds", None], 20)
+        self.assertEqual(found["amo_runners_alive", None], 3)
+        self.assertEqual(found["amo_crew_running", None], 1)
+        self.assertNotIn(("amo_last_error_timestamp_seconds", None), found)
+
+    @unittest.skipUnless(shutil.which("promtool"), "promtool isn't installed: prometheus has it")
+    def test_promtool_accepts_numbers_and_rules(self):
+        text = metrics.text_of(found_of(ROWS, 9), metrics.Crew(3, True, 5.5), "/a")
+        subprocess.run(["promtool", "check", "metrics"], input=text.encode(), check=True,
+                       capture_output=True)
+        subprocess.run(["promtool", "check", "rules",
+                        f"{package.ROOT}/examples/prometheus/alerts.yml"], check=True,
+                       capture_output=True)
+
+    def test_the_form_is_checked(self):
+        for wrong in ("amo_lines 1\n", 'amo_lines{run="a"} 1\n',
+                      "# TYPE a gauge\n# TYPE a gauge\n"):
+            with self.assertRaises(AssertionError):
+                self.samples(wrong)
+
+    def test_a_file_is_replaced_as_a_whole_or_stays(self):
+        with tempfile.TemporaryDirectory() as room:
+            metrics.put(f"{room}/a", "one\n")
+            inode = os.stat(f"{room}/a").st_ino
+            metrics.put(f"{room}/a", "two\n")
+            self.assertNotEqual(os.stat(f"{room}/a").st_ino, inode)
+            self.assertEqual(os.listdir(room), ["a"])
+            os.mkdir(f"{room}/folder")
+            with self.assertRaises(OSError):
+                metrics.put(f"{room}/folder", "three\n")
+            self.assertEqual(sorted(os.listdir(room)), ["a", "folder"])
+
+
+class Tellers(unittest.TestCase):
+    def setUp(self):
+        self.room = tempfile.TemporaryDirectory()
+        self.said = []
+
+    def tearDown(self):
+        self.room.cleanup()
+
+    def news(self, **more):
+        settings = Settings(run=self.room.name, jobs="/list", workers=2, **more)
+        return news.News(settings, Program(ROWS, 9), self.said.append)
+
+    def events(self):
+        schema = schemas.read(f"{package.ROOT}/docs/events.schema.json")
+        with open(f"{self.room.name}/events", encoding="utf-8") as file:
+            found = [json.loads(it) for it in file]
+        for it in found:
+            self.assertEqual(list(schemas.faults(schema, it)), [])
+        return found
+
+    def test_what_was_there_before_is_no_news(self):
+        it = self.news(events=f"{self.room.name}/events")
+        it.began = NOW - 30
+        it.take(Program(ROWS[:2], 9).said)
+        it.take(Program([ROWS[2], ROWS[3]], 9).said)
+        it.hear("message", "line 4: attempt 2.1 failed with status 7")
+        it.hear("end", 2)
+        it.end()
+        found = self.events()
+        self.assertEqual([(it["event"], it.get("attempt")) for it in found], [
+            ("attempt", "1.3"), ("attempt", "2.1"), ("message", None), ("end", None)])
+        self.assertEqual((found[-1]["status"], found[-1]["counts"]["failed"]), (2, 1))
+
+    def test_a_line_that_comes_into_doubt_is_told_once(self):
+        it = self.news(notify=f'echo "$AMO_EVENT $AMO_LINE $AMO_ATTEMPT" >> {self.room.name}/told')
+        it.began = NOW
+        it.take(Program(ROWS[:2], 9).said)
+        it.take(Program([[2, 2, 5, NOW, "doubt", None, NOW, "doubt"]], 9).said)
+        it.take(Program([[2, 3, 5, NOW, "doubt", None, NOW, "doubt"]], 9).said)
+        it.hear("message", "crew: it got SIGTERM, so no further job is started")
+        it.end()
+        with open(f"{self.room.name}/told", encoding="ascii") as file:
+            self.assertEqual(sorted(file), ["doubt 5 2.2\n", "end  \n", "stop  \n"])
+
+    def test_a_failure_is_reported_once(self):
+        missing = f"{self.room.name}/missing/file"
+        it = self.news(events=missing, metrics=missing, notify="exit 3")
+        it.hear("message", "one")
+        it.hear("message", "two")
+        it.end()
+        self.assertEqual(sorted(re.sub(r"`.*`", "X", text) for text in self.said), [
+            "--events: X: no such file or directory; check the path; the crew goes on",
+            "--metrics: X: no such file or directory; check the path; the crew goes on",
+            "--notify: X: it has ended with 3; correct it (the crew goes on)"])
+
+    def test_a_crew_that_wants_nothing_told_has_no_teller(self):
+        self.assertEqual(commands.told(Settings(), Program([], 0), lambda: 7), 7)
+        self.assertIsNone(Screen.also)
+
+
+if __name__ == "__main__":
+    unittest.main()
