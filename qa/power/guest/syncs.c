@@ -1,0 +1,58 @@
+/* Controls: stands before the C library's calls in a worker, and has some syncs do nothing.
+
+   AMO_SYNCS  `none`: no sync does anything
+              `unacknowledged`: the sync after a write of one byte does nothing, so an append is
+              acknowledged after the write of its commit byte alone
+              `folders`: the sync of a folder does nothing
+              `record`: the sync of a new `record` does nothing */
+#define _GNU_SOURCE
+#include <dlfcn.h>
+#include <limits.h>
+#include <stdio.h>
+#include <stdlib.h>
+#include <string.h>
+#include <sys/stat.h>
+#include <sys/types.h>
+#include <unistd.h>
+
+static int short_write = -1; /* the descriptor of the last write, if it was of one byte */
+
+static int is_record(int file) {
+  char link[64], path[PATH_MAX] = "";
+  snprintf(link, sizeof link, "/proc/self/fd/%d", file);
+  return readlink(link, path, sizeof path - 1) > 0 && strstr(path, "/record.new");
+}
+
+static int is_left_out(int file) {
+  const char *which = getenv("AMO_SYNCS");
+  struct stat found;
+  if (!which || !strcmp(which, "all"))
+    return 0;
+  if (!strcmp(which, "unacknowledged"))
+    return file == short_write;
+  if (!strcmp(which, "folders"))
+    return fstat(file, &found) == 0 && S_ISDIR(found.st_mode);
+  return strcmp(which, "record") || is_record(file);
+}
+
+static int sync_by(const char *name, int file) {
+  int (*call)(int) = (int (*)(int))dlsym(RTLD_NEXT, name);
+  int is_out = is_left_out(file);
+  short_write = -1;
+  return is_out ? 0 : call(file);
+}
+
+int fsync(int file) { return sync_by("fsync", file); }
+int fdatasync(int file) { return sync_by("fdatasync", file); }
+
+/* The worker writes each byte of its journals by this call. */
+ssize_t pwrite(int file, const void *data, size_t size, off_t place) {
+  ssize_t (*call)(int, const void *, size_t, off_t) =
+      (ssize_t(*)(int, const void *, size_t, off_t))dlsym(RTLD_NEXT, "pwrite");
+  short_write = size == 1 ? file : -1;
+  return call(file, data, size, place);
+}
+
+ssize_t pwrite64(int file, const void *data, size_t size, off_t place) {
+  return pwrite(file, data, size, place);
+}
