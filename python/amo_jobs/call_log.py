@@ -38,11 +38,10 @@ def note(*words: object) -> None:
         return
     line = os.fsencode("\n" + " ".join(map(str, words)) + " .")
     try:
-        is_whole = os.write(LOG, line) == len(line)
+        if os.write(LOG, line) < len(line):
+            end("a line was cut off")
     except OSError as error:
         end(lowered(error))
-    if not is_whole:
-        end("a line was cut off")
 
 
 def line_text(line: bytes) -> str:

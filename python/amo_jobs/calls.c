@@ -50,7 +50,7 @@ int amo_lock(const char *path, int makes) {
 
 /* Returns 1 if nobody has the lock of a command, since a handle that is opened anew gets it.
    Removes its file then. If the caller has the runner's lock, a missing file means the same. */
-int amo_is_free(const char *path) {
+int amo_remove_if_free(const char *path) {
   int lock = amo_lock(path, 0);
   if (lock < 0)
     return lock == -ENOENT;

@@ -12,10 +12,11 @@ import os
 import select
 import signal
 from contextlib import suppress
-from typing import Dict, FrozenSet, List, Mapping, NamedTuple, Optional, Sequence, Tuple
+from typing import Any, Dict, FrozenSet, List, NamedTuple, Optional, Sequence, Tuple
 
 from amo_jobs.call_log import note
 from amo_jobs.library import library
+from amo_jobs.locks import close_all
 
 SET_CHILD_SUBREAPER = 36  # of prctl
 ABOVE = 100  # no process gets one of its files under so high a number
@@ -42,15 +43,12 @@ def checked(result: int) -> int:
 
 
 def become_subreaper() -> None:
-    """Has the kernel make every orphan below this process its child. Raises OSError."""
+    """Has the kernel make every orphan below this process its child. Raises OSError, also if this
+    system can't name a process by a descriptor."""
+    os.close(os.pidfd_open(os.getpid()))
     call = ctypes.CDLL(None, use_errno=True).prctl
     if call(SET_CHILD_SUBREAPER, 1, 0, 0, 0):
         raise OSError(ctypes.get_errno(), os.strerror(ctypes.get_errno()), "PR_SET_CHILD_SUBREAPER")
-
-
-def check_pidfd() -> None:
-    """Raises OSError if this system can't name a process by a descriptor."""
-    os.close(os.pidfd_open(os.getpid()))
 
 
 def open_children() -> int:
@@ -102,15 +100,13 @@ def words_of(number: int) -> List[str]:
     return []
 
 
-def files_of(number: int) -> Optional[List[str]]:
-    """Returns the paths of a process's open files; None if the system doesn't show them."""
+def files_of(number: int) -> List[str]:
+    """Returns the paths of a process's open files, as far as the system shows them."""
     found: List[str] = []
-    try:
+    with suppress(OSError):
         for file in os.listdir(f"/proc/{number}/fd"):
             with suppress(FileNotFoundError):
                 found.append(os.readlink(f"/proc/{number}/fd/{file}"))
-    except OSError:
-        return None
     return found
 
 
@@ -139,16 +135,25 @@ def reap() -> Tuple[Dict[int, int], bool]:
     return found, ENDED[2 * count] == 0
 
 
-def spawn(words: List[bytes], surroundings: Mapping[bytes, bytes], files: Dict[int, int]) -> int:
+def spawn(words: List[bytes], files: Dict[int, int]) -> int:
     """Starts a program in a session of its own, and returns its process. It gets these files alone:
-    each number has one of this process's descriptors, and no descriptor is one of the numbers.
+    each number has one of this process's descriptors. Standard input is empty if it isn't given.
 
     Raises OSError only if no process was made, or if the program could not be executed and the
     child was reaped.
     """
-    actions = [(os.POSIX_SPAWN_DUP2, file, number) for number, file in files.items()]
-    return os.posix_spawnp(words[0], words, surroundings, file_actions=actions, setsid=True,
-                           setsigdef=IGNORED_BY_PYTHON)
+    lifted: List[int] = []  # those whose number one of the child's files has
+    actions: List[Any] = [(os.POSIX_SPAWN_OPEN, 0, os.devnull, os.O_RDWR, 0)]
+    try:
+        for number, file in files.items():
+            if file in files:
+                file = fcntl.fcntl(file, fcntl.F_DUPFD_CLOEXEC, ABOVE)
+                lifted.append(file)
+            actions.append((os.POSIX_SPAWN_DUP2, file, number))
+        return os.posix_spawnp(words[0], words, os.environb, file_actions=actions, setsid=True,
+                               setsigdef=IGNORED_BY_PYTHON)
+    finally:
+        close_all(lifted)
 
 
 def sign(path: str) -> None:
@@ -162,11 +167,6 @@ def signed(path: str) -> int:
     with suppress(OSError, ValueError), open(path, encoding="ascii") as file:
         return int(file.read())
     return 0
-
-
-def lifted(file: int) -> int:
-    """Returns a second descriptor of an open file, with a number that is no child's."""
-    return fcntl.fcntl(file, fcntl.F_DUPFD_CLOEXEC, ABOVE)
 
 
 class PolledFile(ctypes.Structure):
@@ -206,7 +206,7 @@ class Bell:
         """Takes the files that are to be polled."""
         self.waits_for, self.files = (list(reads), list(writes)), [self.wake, *reads, *writes]
         events = [select.POLLIN] * (1 + len(reads)) + [select.POLLOUT] * len(writes)
-        self.polled = (PolledFile * len(self.files))(*zip(self.files, events))
+        self.polled = (PolledFile * len(self.files))(*map(PolledFile, self.files, events))
         self.count, self.ready = len(self.files), {}  # type: int, Dict[int, FrozenSet[int]]
 
     def taken(self) -> List[int]:

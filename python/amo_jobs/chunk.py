@@ -178,10 +178,9 @@ class Chunk:
         seconds, status = SHORTEST, int(Status.LATER)
         if os.path.exists(f"{self.folder}/over"):
             return Status.DONE
-        words = self.words_of_crew()
         # (the crew was killed, or one lives whose amo_share was killed)
         while status in (Status.LATER, Status.MEMORY) or status < 0:
-            status = self.run_crew(words)
+            status = self.run_crew()
             if status in (Status.LATER, Status.MEMORY) or status < 0:
                 seconds = pause(self.sharing, seconds)
         is_left = status == Status.DOUBTFUL and self.program.status(self.folder)["open"]
@@ -193,20 +192,17 @@ class Chunk:
             place(f"{self.folder}/over", "{}")
         return status
 
-    def words_of_crew(self) -> List[str]:
-        """Returns the words of the crew that runs the chunk."""
-        sharing = self.sharing
-        kind = ["--file-system", sharing.file_system] if sharing.file_system else []
-        return [sys.executable, f"{HERE}/amo_jobs", "crew", *sharing.crew, "--workers",
-                str(sharing.workers), "--run", self.folder, "--id", self.id(), *kind,
-                "--worker-program", self.program.path, f"{self.folder}/list", "--",
-                *sharing.command]
-
-    def run_crew(self, words: List[str]) -> int:
+    def run_crew(self) -> int:
         """Runs a crew, passes the signals on that come, and returns its status."""
-        crew, handed = subprocess.Popen(words, start_new_session=True), 0
+        sharing, handed = self.sharing, 0
+        kind = ["--file-system", sharing.file_system] if sharing.file_system else []
+        words = [sys.executable, f"{HERE}/amo_jobs", "crew", *sharing.crew, "--workers",
+                 str(sharing.workers), "--run", self.folder, "--id", self.id(), *kind,
+                 "--worker-program", self.program.path, f"{self.folder}/list", "--",
+                 *sharing.command]
+        crew = subprocess.Popen(words, start_new_session=True)
         while crew.poll() is None:
-            for handed, number in enumerate(self.sharing.signals[handed:], handed + 1):
+            for handed, number in enumerate(sharing.signals[handed:], handed + 1):
                 crew.send_signal(number)
             time.sleep(0.05)
         return crew.returncode

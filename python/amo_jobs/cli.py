@@ -14,6 +14,10 @@
                   opens each untouched line once more
   amo_jobs forget [--run DIR] [--force] JOBS
                   puts a run away, with its list; deletes nothing
+  amo_jobs report [--run DIR | JOBS] [--json] > report.html
+                  prints a page that shows the whole run
+  amo_jobs watch  [--run DIR | JOBS]
+                  shows a run while it goes on
 
 Two examples:
   ./amo_jobs crew --workers 4 tonight.txt -- ./send-payment {}
@@ -49,12 +53,13 @@ from amo_jobs import crew
 from amo_jobs.forget import Forgetting
 from amo_jobs.library import library
 from amo_jobs.mark import FIRST_VERSION, ID
-from amo_jobs.messages import End, Screen, give_up_output, reason, visible
+from amo_jobs.messages import End, end_of, Screen, visible
 from amo_jobs.run_folder import check_list, enter, joined, note_command
 from amo_jobs.settings import Settings
 from amo_jobs.status import again, answer, doubts, status
 from amo_jobs.statuses import Status
 from amo_jobs.worker import HERE, Program, boot_id_warning
+from amo_watch import commands as watching
 
 RUNS = ("crew", "work")
 
@@ -73,12 +78,13 @@ def work(settings: Settings, program: Program) -> int:
            else joined(settings, program))
     settings.id = run
     program.more += ["--id", run]
-    note_command(settings)
+    note_command(settings, version())
     if settings.results != settings.run:  # since the door alone makes the run's folder
         os.makedirs(settings.results, 0o700, exist_ok=True)
     if settings.what == "work":
         return crew.work(settings, program)
-    return crew.Crew(settings, program, version()).run()
+    return watching.told(settings, program,
+                         lambda: crew.Crew(settings, program, version()).run())
 
 
 def runner(settings: Settings, program: Program) -> int:
@@ -99,15 +105,10 @@ def keep_from_commands() -> None:
             os.set_inheritable(file, file < 3)
 
 
-def forget(settings: Settings, program: Program) -> int:
-    """Puts a run away, with its list."""
-    Forgetting(settings, program).take()
-    return Status.DONE
-
-
 CALLS: Dict[str, Callable[[Settings, Program], int]] = {
     "crew": work, "work": work, "status": status, "doubts": doubts, "answer": answer,
-    "again": again, "forget": forget
+    "again": again, "forget": lambda settings, program: Forgetting(settings, program).take(),
+    **watching.CALLS
 }
 
 
@@ -231,6 +232,7 @@ OPTIONS: List[Tuple[Collection[str], str, Dict[str, Any]]] = [
      dict(action="store_true",
           help="take not-done at once, whenever the attempt ended (default: wait as --quiet"
                " says)")),
+    *watching.OPTIONS,
 ]
 # The description of each command, and two examples.
 ABOUT = {
@@ -251,6 +253,7 @@ ABOUT = {
               "again tonight.txt", "again --run tonight.txt.run"),
     "forget": ("Puts a run away, with its list. Deletes nothing.",
                "forget tonight.txt", "forget --force tonight.txt"),
+    **watching.ABOUT,
 }
 
 
@@ -337,7 +340,7 @@ def settings_of(words: List[str]) -> Settings:
     """Returns the settings that the words ask for."""
     is_run = words[:1] in (["crew"], ["work"])
     cut = words.index("--") if is_run and "--" in words else len(words)
-    settings = Settings(command=words[cut + 1:])
+    settings = Settings(command=words[cut + 1:], options=words[:cut])
     parser_of(words[:cut]).parse_args(words[:cut], settings)
     most = 4 if settings.what == "answer" and not settings.source else 0
     settings.jobs = settings.words.pop(0) if len(settings.words) > most else ""
@@ -351,38 +354,19 @@ def settings_of(words: List[str]) -> Settings:
 # ---- the program
 
 def main(words: List[str]) -> int:
-    """Does what the words ask for, and returns the exit status."""
+    """Does what the words ask for, prints the last message, and returns the exit status."""
     signal.signal(signal.SIGCHLD, signal.SIG_DFL)  # if it is ignored, no end of a child is reported
     while os.open(os.devnull, os.O_RDWR) < 3:  # no file of a run gets a closed stream's number
         pass
-    sys.stdout = sys.stdout or open(os.devnull, "w")  # Python has none if it was closed
-    code, text = end_of(words)
+    code, text = end_of(lambda: called(words), f"how all lines stand: {sys.argv[0]} status")
     if text:
         Screen.tell(text)
     return code
 
 
-def end_of(words: List[str]) -> Tuple[int, Optional[str]]:
-    """Does what the words ask for, and returns the exit status and the last message."""
-    try:
-        settings = settings_of(words)
-        if not settings.caller and (warning := boot_id_warning()):
-            Screen.tell(warning)
-        code = CALLS[settings.what](settings, Program(settings.worker_program,
-                                                      settings.file_system))
-        sys.stdout.flush()
-        return code, None
-    except SystemExit as end:  # of the parser; its status 2 means lines in doubt here
-        return Status.WORDS if end.code else Status.DONE, None
-    except End as end:
-        return end.status, end.text
-    except KeyboardInterrupt:
-        return 128 + signal.SIGINT, None
-    except OSError as error:
-        message = reason(error)
-        give_up_output()
-        return (Status.READ if isinstance(error, FileNotFoundError) else Status.WRITE), message
-    except Exception:
-        sys.excepthook(*sys.exc_info())
-        return Status.BUILD, ("internal error, in the lines above; report them, and check how all"
-                              f" lines stand: {sys.argv[0]} status")
+def called(words: List[str]) -> int:
+    """Does what the words ask for, and returns the exit status."""
+    settings = settings_of(words)
+    if not settings.caller and (warning := boot_id_warning()):
+        Screen.tell(warning)
+    return CALLS[settings.what](settings, Program(settings.worker_program, settings.file_system))

@@ -11,15 +11,13 @@ from contextlib import suppress
 from typing import Collection, FrozenSet, List, Optional
 
 from amo_jobs.call_log import note
-from amo_jobs.calls import Process
-from amo_jobs.locks import close_all, is_free, locked
+from amo_jobs.calls import files_of, Process
+from amo_jobs.locks import close_all, locked, remove_if_free
 from amo_jobs.messages import lowered, reason
-from amo_jobs.processes import Family, holds
-from amo_jobs.runner_events import Rest
-from amo_jobs.settings import Settings
-from amo_jobs.starter import Starter
+from amo_jobs.processes import Family
+from amo_jobs.runner_state import Rest
+from amo_jobs.starter import LOCK, OUTPUTS, Starter
 
-OUTPUTS = ("out", "err")
 NOTHING_LOST = "(no line was lost)"
 
 
@@ -28,33 +26,13 @@ class NotStarted(Exception):
     left."""
 
 
-class Commands:
-    """What all commands of one runner have in common."""
-
-    def __init__(self, settings: Settings, worker: int, family: Family):
-        self.settings, self.worker, self.family = settings, worker, family
-        self.run = os.path.realpath(settings.run)  # as /proc shows it
-        self.starts = [f"{self.run}/command.{worker}.",
-                       *(f"{settings.results}/{it}.{worker}." for it in OUTPUTS)]
-        timer = settings.timeout + settings.grace + 1 if settings.timeout else 0.0
-        words = [os.fsencode(it) for it in settings.command]
-        self.starter = Starter(words, self.starts, timer)
-
-    def lock_path(self, serial: int) -> str:
-        """Returns the path of an attempt's lock."""
-        return f"{self.starts[0]}{serial}"
-
-    def output_paths(self, serial: int) -> List[str]:
-        """Returns the paths of the files for what a command prints."""
-        return [f"{it}{serial}" for it in self.starts[1:]]
-
-
 class Command:
     """The command of one attempt."""
 
-    def __init__(self, commands: Commands, serial: int, line: int):
-        self.commands, self.serial, self.line = commands, serial, line
-        self.path, self.locks = commands.lock_path(serial), []  # type: str, List[int]
+    def __init__(self, starter: Starter, family: Family, serial: int, line: int):
+        self.starter, self.family, self.serial, self.line = starter, family, serial, line
+        self.name = f"{starter.worker}.{serial}"
+        self.path, self.locks = starter.path(LOCK, serial), []  # type: str, List[int]
         self.process, self.before = 0, frozenset()  # type: int, FrozenSet[Process]
         self.until: Optional[FrozenSet[Process]] = None  # what was there as the next one began
         self.uses_outputs = True
@@ -68,38 +46,30 @@ class Command:
         and was reaped. Whatever fails after that, the command counts as begun: the line of a
         command that was not begun is open again.
         """
-        starter = self.commands.starter
-        note("starts", self.name(), self.line)
+        note("starts", self.name, self.line)
         try:
-            self.before = self.commands.family.snapshot(known)
-            process = starter.start(text, self.line, self.serial)
+            self.before = self.family.snapshot(known)
+            self.process = self.starter.start(text, self.line, self.serial)
         except OSError as error:
-            self.locks = starter.take_lock()
             raise self.not_started(f"{reason(error)} {NOTHING_LOST}") from None
-        self.locks = starter.take_lock()
-        if process == 0:
-            raise self.not_started(f"{lowered(starter.error())} {NOTHING_LOST}; correct the"
+        if self.process == 0:
+            raise self.not_started(f"{lowered(self.starter.error())} {NOTHING_LOST}; correct the"
                                    " command, and start again with --command-changed")
-        self.process = process
-        note("started", self.name(), process)
-
-    def name(self) -> str:
-        """Returns the name of the attempt."""
-        return f"{self.commands.worker}.{self.serial}"
+        self.locks = self.starter.take_lock()
+        note("started", self.name, self.process)
 
     def not_started(self, why: str) -> NotStarted:
         """Gives the lock and the outputs up, and returns the reason. If the lock's file stays, it
         counts as a missing one: nobody holds its lock."""
-        self.commands.starter.remove()
+        self.starter.remove()
+        self.locks = self.starter.take_lock()
         if self.locks:
-            with suppress(OSError):
-                os.unlink(self.path)
-        close_all(self.locks)
+            self.remove_lock()
         return NotStarted(why)
 
     def ended(self) -> None:
         """Closes the runner's handle of the lock, once the process of the command has ended."""
-        note("ended", self.name())
+        note("ended", self.name)
         self.process = 0
         close_all(self.locks)
 
@@ -108,7 +78,7 @@ class Command:
         parent once the next command was begun may belong to either: it counts for both, but if
         `is_shared` is true, it isn't returned. Raises OSError."""
         among = self.until if is_shared else None
-        return self.commands.family.rest(self.before, known, self.process, among)
+        return self.family.rest(self.before, known, self.process, among)
 
     def rest(self, known: Collection[int]) -> Rest:
         """Looks what is left of this attempt, once the process of its command has ended. If nothing
@@ -117,7 +87,7 @@ class Command:
         try:
             left = self.left(known)
             if not left:
-                is_over = self.is_free()
+                is_over = self.remove_lock()
                 self.release_outputs(is_over)
                 return Rest.NOTHING if is_over else Rest.SEEN
             self.release_outputs(False)
@@ -125,24 +95,26 @@ class Command:
             self.locks += [] if again is None else [again]
         except OSError:
             return Rest.UNSEEN
-        is_seen = not self.locks and all(holds(it, self.path) for it in left)
+        is_seen = not self.locks and all(self.path in files_of(it.number) for it in left)
         return Rest.SEEN if is_seen else Rest.UNSEEN
 
     def release_outputs(self, is_over: bool) -> None:
         """Leaves the outputs to this attempt, or to the next one. Removes empty ones at the end."""
         if self.uses_outputs:
             self.uses_outputs = False
-            self.outputs = [] if is_over else self.commands.output_paths(self.serial)
-            self.commands.starter.keep(is_over)
+            self.outputs = [] if is_over else [self.starter.path(it, self.serial)
+                                               for it in OUTPUTS.values()]
+            self.starter.keep(is_over)
         for path in self.outputs if is_over else ():
             with suppress(OSError):
                 if os.path.getsize(path) == 0:
                     os.unlink(path)
 
-    def is_free(self) -> bool:
-        """Returns whether a handle that is opened anew gets the lock. Removes its file then."""
+    def remove_lock(self) -> bool:
+        """Removes the lock's file, unless a handle that is opened anew doesn't get the lock.
+        Returns whether that is so."""
         if not self.locks:
-            return is_free(self.path)
+            return remove_if_free(self.path)
         with suppress(OSError):
             os.unlink(self.path)
         close_all(self.locks)

@@ -10,16 +10,17 @@ import os
 import random
 import sys
 from time import monotonic, sleep
-from typing import Any, Callable, Collection, Dict, List, Optional
+from typing import Dict, FrozenSet, List, Optional
 
 from amo_jobs import calls, crew_rules, reports
 from amo_jobs.crew_rules import (
-    Action, End, Event, LetGo, Locked, Number, Occupied, Order, Orphans, Pause, PauseOver, Phase,
-    Reported, RunnerEnded, Say, SignalOrphans, Signalled, Start, StartFailed, State
+    End, Event, LetGo, Locked, Number, Occupied, Order, Orphans, Pause, PauseOver, Phase,
+    Reported, RunnerEnded, Say, SignalOrphans, Signalled, Start, State
 )
-from amo_jobs.desk import OwnDesk, SupervisedDesk
+from amo_jobs.desk import Desk, event_of, SupervisedDesk
 from amo_jobs.locks import close_all, locked, locked_soon, PATIENCE
 from amo_jobs.messages import End as Refusal, reason, Screen, visible
+from amo_jobs.pipes import Child
 from amo_jobs.processes import described, Family, has_open, Signals
 from amo_jobs.progress import Progress
 from amo_jobs.runner import Runner, SIGNALS
@@ -30,13 +31,7 @@ from amo_jobs.worker import HERE, Program
 # Seconds until a lock is tried or an order is sent again, and until a lock is after some seconds.
 SOON, LATER = 0.05, 0.5
 TOGETHER = 0.005  # seconds; reports that come meanwhile wake the supervisor once
-LOCK, REPORTS, ORDERS, PART = 3, 4, 5, 1 << 16  # a runner's files, and bytes of one read
-
-
-def state_of(settings: Settings, numbers: List[int]) -> State:
-    """Returns what is known before anything has happened."""
-    return State(settings.command[0], settings.results, next_command(settings, "status"),
-                 {it: Number() for it in numbers}, settings.halt)
+LOCK, REPORTS, ORDERS = 3, 4, 5  # a runner's files
 
 
 def words_of(settings: Settings, program: str) -> List[str]:
@@ -54,7 +49,7 @@ def words_of(settings: Settings, program: str) -> List[str]:
 def work(settings: Settings, program: Program) -> int:
     """Runs one worker in this process, and returns the status."""
     worker = settings.worker
-    state = state_of(settings, [worker])
+    state = State(settings, next_command(settings, "status"), {worker: Number()})
     progress = Progress(settings, program, state)
     lock = locked_soon(f"{settings.run}/runner.{worker}", True)
     if lock is None:
@@ -72,67 +67,38 @@ def work(settings: Settings, program: Program) -> int:
 def supervised(settings: Settings, program: Program) -> int:
     """Runs one worker of a crew in this process, and returns the status. The lock of its number
     came with the process."""
-    os.set_inheritable(LOCK, False)
+    for file in (LOCK, REPORTS, ORDERS):
+        os.set_inheritable(file, False)
     desk = SupervisedDesk(settings.worker, REPORTS, ORDERS)
     return max(Runner(settings, program, settings.worker, desk).run(), Status.DONE)
 
 
-class Post:
-    """The process of a runner, and the pipes from and to it."""
+class OwnDesk(Desk):
+    """The desk of a runner without a supervisor: the rules of a crew of one number."""
 
-    def __init__(self, words: List[str], lock: int):
-        """Starts it. Raises OSError."""
-        self.rest, self.is_open, self.unsent = b"", True, b""
-        self.files: List[int] = []
-        handed: List[int] = []
-        try:
-            reads, writes = os.pipe(), os.pipe()
-            self.files = [reads[0], writes[1]]
-            handed = [reads[1], writes[0], os.open(os.devnull, os.O_RDWR)]
-            lifted = [calls.lifted(it) for it in (handed[2], lock, *handed[:2])]
-            handed += lifted
-            self.process = calls.spawn([os.fsencode(it) for it in words], dict(os.environb),
-                                       dict(zip((0, LOCK, REPORTS, ORDERS), lifted)))
-        except OSError:
-            self.close()
-            raise
-        finally:
-            close_all(handed)
-        for file in self.files:
-            os.set_blocking(file, False)
+    def __init__(self, worker: int, state: State, progress: Progress):
+        super().__init__()
+        self.worker, self.state, self.progress = worker, state, progress
+        self.status: Optional[int] = None
 
-    def read(self) -> List[reports.Report]:
-        """Returns the reports that there are. Those of a pipe that is at its end are all."""
-        data, size = b"", PART
-        try:
-            while size == PART:
-                part = os.read(self.files[0], PART)
-                data, size = data + part, len(part)
-            self.is_open = size > 0
-        except OSError:
-            pass
-        *lines, self.rest = (self.rest + data).split(b"\n")
-        return [reports.report_of(it) for it in lines]
+    def show(self) -> float:
+        return self.progress.show()
 
-    def order(self, text: str) -> None:
-        """Gives an order. A runner that is gone needs none."""
-        self.unsent += f"{text}\n".encode()
-        self.send()
+    def report(self, report: reports.Report) -> None:
+        self.take(Reported(self.worker, report))
 
-    def send(self) -> None:
-        """Sends as much as the pipe takes. A runner that waits needs each order, so the rest is
-        sent later."""
-        try:
-            while self.unsent:
-                self.unsent = self.unsent[os.write(self.files[1], self.unsent):]
-        except BrokenPipeError:
-            self.unsent = b""
-        except OSError:
-            pass
+    def signalled(self, number: int) -> None:
+        self.take(Signalled(number))
 
-    def close(self) -> None:
-        """Closes the pipes."""
-        close_all(self.files)
+    def take(self, event: Event) -> None:
+        """Has the rules take an event, and does what they ask for."""
+        for action in crew_rules.take(self.state, event):
+            if isinstance(action, Say):
+                Screen.tell(action.text)
+            if isinstance(action, Order):
+                self.events.append(event_of(action.text))
+            if isinstance(action, End):
+                self.status = action.status
 
 
 class Crew:
@@ -142,16 +108,14 @@ class Crew:
         """Raises OSError, and an end if another crew works in the folder."""
         self.settings, self.program, self.version = settings, program, version
         self.folder = os.path.realpath(settings.run)
-        self.numbers = list(range(1, settings.workers + 1))
-        self.state = state_of(settings, self.numbers)
+        self.state = State(settings, next_command(settings, "status"),
+                           {it: Number() for it in range(1, settings.workers + 1)})
         self.lock = self.take_crew()
-        calls.check_pidfd()
-        calls.become_subreaper()
         self.family, self.signals = Family(settings.may_leave), Signals(Screen.tell)
         self.bell = calls.Bell(SIGNALS)
         self.progress = Progress(settings, program, self.state)
         self.locks: Dict[int, int] = {}
-        self.posts: Dict[int, Post] = {}
+        self.posts: Dict[int, Child] = {}  # the runners that live
         self.pauses: Dict[int, float] = {}
         self.patience, self.try_at, self.look_at = monotonic() + PATIENCE, 0.0, 0.0
         self.is_over, self.status = False, None  # type: bool, Optional[int]
@@ -178,15 +142,13 @@ class Crew:
     def turn(self) -> None:
         """Takes what has happened, and waits until something does."""
         self.try_locks()
-        self.progress.show()
         ready = self.poll()
         if self.bell.wake in ready:
             for number in self.bell.taken():
                 self.feed(Signalled(number))
         for worker, post in list(self.posts.items()):
-            if post.unsent:
-                post.send()
-            if post.files[0] in ready:
+            post.input.send()
+            if not ready.isdisjoint(post.outputs[0].files):
                 self.take_reports(worker, post)
         self.take_ended(self.bell.wake in ready)
         if ready:
@@ -196,15 +158,15 @@ class Crew:
                 del self.pauses[worker]
                 self.feed(PauseOver(worker))
 
-    def poll(self) -> Collection[int]:
+    def poll(self) -> FrozenSet[int]:
         """Waits for reports, signals, ends of children, and times."""
         if self.is_over:
-            return ()
-        dues = [self.progress.due, *self.pauses.values()]
+            return frozenset()
+        dues = [self.progress.show(), *self.pauses.values()]
         dues += [self.try_at] if self.untaken() else []
         dues += [self.look_at] if self.state.has_orphans else []
-        dues += [monotonic() + SOON for it in self.posts.values() if it.unsent]
-        reads = [it.files[0] for it in self.posts.values() if it.is_open]
+        dues += [monotonic() + SOON for it in self.posts.values() if it.input.unsent]
+        reads = [file for it in self.posts.values() for file in it.outputs[0].files]
         return self.bell.wait(reads, [], min(dues) - monotonic())
 
     def untaken(self) -> List[int]:
@@ -226,10 +188,10 @@ class Crew:
             elif is_late:
                 self.feed(Occupied(worker, calls.signed(path)))
 
-    def take_reports(self, worker: int, post: Post) -> None:
-        """Takes the reports that there are."""
-        for report in post.read():
-            self.feed(Reported(worker, report))
+    def take_reports(self, worker: int, post: Child) -> None:
+        """Takes the reports that there are. Those of a runner that has ended are all."""
+        for line in post.outputs[0].lines():
+            self.feed(Reported(worker, reports.report_of(line)))
 
     def take_ended(self, has_rung: bool) -> None:
         """Reaps the children that have ended. What a runner has reported comes before its end."""
@@ -261,43 +223,29 @@ class Crew:
     def feed(self, event: Event) -> None:
         """Has the rules take an event, and does what they ask for."""
         for action in crew_rules.take(self.state, event):
-            ACTIONS[type(action)](self, action)
+            if isinstance(action, Say):
+                Screen.tell(action.text)
+            elif isinstance(action, Order) and action.worker in self.posts:
+                self.posts[action.worker].input.send(f"{action.text}\n".encode())
+            elif isinstance(action, Start):
+                self.start(action.worker)
+            elif isinstance(action, Pause):  # which differs each time
+                seconds = random.uniform(action.seconds / 2, action.seconds)
+                self.pauses[action.worker] = monotonic() + seconds
+            elif isinstance(action, LetGo) and action.worker in self.locks:
+                close_all([self.locks.pop(action.worker)])
+            elif isinstance(action, SignalOrphans):
+                self.signals.send(action.number, self.orphans_below)
+            elif isinstance(action, End):
+                self.is_over, self.status = True, action.status
 
-    def start(self, action: Start) -> None:
+    def start(self, worker: int) -> None:
         """Starts a runner."""
         words = [sys.executable, "-I", "-S", f"{HERE}/amo_jobs", "work", f"--as={self.version}",
-                 f"--worker={action.worker}", *words_of(self.settings, self.program.path)]
+                 f"--worker={worker}", *words_of(self.settings, self.program.path)]
         try:
-            self.posts[action.worker] = Post(words, self.locks[action.worker])
+            self.posts[worker] = Child(words, ORDERS, [REPORTS], {LOCK: self.locks[worker]})
         except OSError as error:
-            self.feed(StartFailed(action.worker, reason(error)))
-
-    def order(self, action: Order) -> None:
-        """Gives a runner an order."""
-        if action.worker in self.posts:
-            self.posts[action.worker].order(action.text)
-
-    def pause(self, action: Pause) -> None:
-        """Has a pause begin, which differs each time."""
-        seconds = random.uniform(action.seconds / 2, action.seconds)
-        self.pauses[action.worker] = monotonic() + seconds
-
-    def let_go(self, action: LetGo) -> None:
-        """Closes a number's lock."""
-        if action.worker in self.locks:
-            close_all([self.locks.pop(action.worker)])
-
-    def signal_orphans(self, action: SignalOrphans) -> None:
-        """Sends a signal to what runners have left behind."""
-        self.signals.send(action.number, self.orphans_below)
-
-    def end(self, action: End) -> None:
-        """Ends."""
-        self.is_over, self.status = True, action.status
-
-
-ACTIONS: Dict[type, Callable[[Crew, Any], None]] = {
-    Start: Crew.start, Order: Crew.order, Pause: Crew.pause, LetGo: Crew.let_go,
-    SignalOrphans: Crew.signal_orphans, End: Crew.end,
-    Say: lambda _, action: Screen.tell(action.text),
-}
+            over = reports.Report(reports.OVER, code=Status.READ, text=reason(error))
+            self.feed(Reported(worker, over))
+            self.feed(RunnerEnded(worker, Status.READ))

@@ -16,11 +16,25 @@ from amo_jobs import reports
 from amo_jobs.messages import visible
 from amo_jobs.reports import Report
 from amo_jobs.runner_state import LONGEST, SHORTEST
+from amo_jobs.settings import Settings
 from amo_jobs.statuses import Status
 
 MOST_FIRST_FAILURES, MOST_TAKEN = 10, 10
-IN_ORDER = (Status.DONE, Status.LEFT, Status.LATER)  # of a worker that needn't be looked at
 NO_END = 1 << 60
+# The messages of reports that change little.
+TEXTS = {
+    reports.LOST: "line {line}: attempt {worker}.{serial} is in doubt, since its runner was gone"
+                  " before the end was recorded; find out whether it took effect",
+    reports.LEFT_BEHIND: "line {line}: attempt {worker}.{serial} has ended, and something that it"
+                         " started still runs; wait for it, or end it ({status} names the process)",
+    reports.WAITS: "worker {worker}: it has ended, and its runner waits for {text}, since nobody"
+                   " else can see that something of a command is left; to send TERM: send two"
+                   " signals to the crew",
+    reports.TRIES: "worker {worker}: {text}. It goes on trying, since {code} ends are not recorded"
+                   " yet",
+    reports.SHORT: "worker {worker}: {text}. It goes on trying, until you stop it",
+    reports.SAYS: "{text}",
+}
 
 
 class Phase(Enum):
@@ -41,8 +55,6 @@ Occupied = NamedTuple("Occupied", [("worker", int), ("process", int)])
 Reported = NamedTuple("Reported", [("worker", int), ("report", Report)])
 # A runner has ended. A code below 0 is the negative of a signal.
 RunnerEnded = NamedTuple("RunnerEnded", [("worker", int), ("code", int)])
-# A runner could not be started.
-StartFailed = NamedTuple("StartFailed", [("worker", int), ("why", str)])
 # A pause is over.
 PauseOver = NamedTuple("PauseOver", [("worker", int)])
 # The supervisor has looked at its children that are no runners. `unseen` names those of them that
@@ -50,7 +62,7 @@ PauseOver = NamedTuple("PauseOver", [("worker", int)])
 Orphans = NamedTuple("Orphans", [("are_there", bool), ("unseen", str)])
 # The supervisor got a signal.
 Signalled = NamedTuple("Signalled", [("number", int)])
-Event = Union[Locked, Occupied, Reported, RunnerEnded, StartFailed, PauseOver, Orphans, Signalled]
+Event = Union[Locked, Occupied, Reported, RunnerEnded, PauseOver, Orphans, Signalled]
 
 # Start the runner of a number.
 Start = NamedTuple("Start", [("worker", int)])
@@ -88,11 +100,9 @@ class Number:
 class State:
     """What a supervisor knows."""
 
-    command: str  # the name of the program that is run for each line
-    results: str  # the folder of the outputs
-    status_command: str
+    settings: Settings = field(repr=False)
+    status_command: str  # of this run, for the operator
     numbers: Dict[int, Number]
-    halt: Optional[int] = None
     is_stopping: bool = False
     asked: int = 0  # signals
     ended: int = 0
@@ -136,7 +146,7 @@ def occupied(state: State, it: Occupied) -> Actions:
 
 def reported(state: State, it: Reported) -> Actions:
     """Takes a report."""
-    return REPORTS[it.report.kind](state, it.worker, it.report)
+    return REPORTS.get(it.report.kind, noted)(state, it.worker, it.report)
 
 
 def command_ended(state: State, worker: int, report: Report) -> Actions:
@@ -157,12 +167,12 @@ def command_ended(state: State, worker: int, report: Report) -> Actions:
 
 def after_failure(state: State, worker: int, report: Report) -> Actions:
     """Stops the crew after too many failures in a row, or lets the runner go on that waits."""
-    most = state.halt if state.good or state.halt == 0 else min(
-        state.halt or NO_END, MOST_FIRST_FAILURES)
+    halt = state.settings.halt
+    most = halt if state.good or halt == 0 else min(halt or NO_END, MOST_FIRST_FAILURES)
     if most and state.row >= most:
         return stop(state, f"crew: {state.row} failures in a row"
                     + ("" if state.good else ", and no line was done before"),
-                    f"; see the files err.P.S in `{visible(state.results)}` for the cause")
+                    f"; see the files err.P.S in `{visible(state.settings.results)}` for the cause")
     return go(state, worker) if report.is_failure() else []
 
 
@@ -176,50 +186,28 @@ def unbegun(state: State, worker: int, report: Report) -> Actions:
     is_known = state.is_stopping
     more = stop(state, "crew: a line cannot be started")
     return more if is_known else [
-        Say(f"line {report.line}: cannot start `{visible(state.command)}`: {report.text}"), *more]
+        Say(f"line {report.line}: cannot start `{visible(state.settings.command[0])}`:"
+            f" {report.text}"), *more]
 
 
-def lost(state: State, worker: int, report: Report) -> Actions:
-    """Prints that nobody saw the end of an attempt."""
-    name = f"{worker}.{report.serial}"
-    return [*go(state, worker),
-            Say(f"line {report.line}: attempt {name} is in doubt, since its runner was gone before"
-                " the end was recorded; find out whether it took effect")]
-
-
-def runs(state: State, worker: int, report: Report) -> Actions:
-    """Notes that a command runs."""
-    state.numbers[worker].running = report.serial
-    return []
-
-
-def left_behind(state: State, worker: int, report: Report) -> Actions:
-    """Prints that something of a command still runs."""
-    state.numbers[worker].running = 0
-    name = f"{worker}.{report.serial}"
-    return [Say(f"line {report.line}: attempt {name} has ended, and something that it started still"
-                f" runs; wait for it, or end it ({state.status_command} names the process)")]
-
-
-def waits(state: State, worker: int, report: Report) -> Actions:
-    """Prints for whom a runner waits at last."""
-    state.numbers[worker].waits = True
-    return [Say(f"worker {worker}: it has ended, and its runner waits for {report.text}, since"
-                " nobody else can see that something of a command is left; to send TERM: send two"
-                " signals to the crew")]
+def noted(state: State, worker: int, report: Report) -> Actions:
+    """Notes how far a runner is, and prints it. What was lost is a failure, which the runner waits
+    to be known."""
+    number, kind = state.numbers[worker], report.kind
+    if kind in (reports.RUNS, reports.LEFT_BEHIND):
+        number.running = report.serial if kind == reports.RUNS else 0
+    number.waits |= kind == reports.WAITS
+    text = TEXTS.get(kind, "").format(worker=worker, status=state.status_command,
+                                      **report._asdict())
+    orders = go(state, worker) if kind == reports.LOST else []
+    return [*orders, Say(text)] if text else orders
 
 
 def was_taken(state: State, worker: int, report: Report) -> Actions:
     """Prints that a line was not started, since another attempt stands against it. Of many such
     messages the first are enough; the end has the count of the others."""
-    state.taken += report.code or 1
-    return [Say(report.text)] if report.text and state.taken <= MOST_TAKEN else []
-
-
-def tries(state: State, worker: int, report: Report) -> Actions:
-    """Prints that ends wait to be recorded."""
-    return [Say(f"worker {worker}: {report.text}. It goes on trying, since {report.code} ends are"
-                " not recorded yet")]
+    state.taken += 1
+    return [Say(report.text)] if state.taken <= MOST_TAKEN else []
 
 
 def asked(state: State, worker: int, report: Report) -> Actions:
@@ -227,17 +215,12 @@ def asked(state: State, worker: int, report: Report) -> Actions:
     return stop(state, f"worker {worker}: its runner got {signal.Signals(report.code).name}")
 
 
-def says(state: State, worker: int, report: Report) -> Actions:
-    """Prints what a runner says."""
-    return [Say(report.text)]
-
-
 def over(state: State, worker: int, report: Report) -> Actions:
     """Takes a worker's last status. If it isn't started again, the crew stops, and the operator has
     to look."""
     number = state.numbers[worker]
     number.status, number.running, number.waits = report.code, 0, False
-    if report.code in IN_ORDER or report.code < 0:
+    if report.is_end_in_order() or report.code < 0:
         return []
     number.is_refused = report.code != Status.MEMORY
     return [Say(f"worker {worker}: {report.text} (status {report.code})"),
@@ -283,14 +266,6 @@ def runner_ended(state: State, it: RunnerEnded) -> Actions:
 def orders(state: State, text: str) -> Actions:
     """Gives all living runners an order."""
     return [Order(worker, text) for worker, it in state.numbers.items() if it.phase is Phase.RUNS]
-
-
-def start_failed(state: State, it: StartFailed) -> Actions:
-    """Stops the crew, since a runner can't be started."""
-    number = state.numbers[it.worker]
-    number.phase, number.status, number.is_refused = Phase.ENDED, Status.READ, True
-    return [Say(f"worker {it.worker}: {it.why} (status {Status.READ:d})"), LetGo(it.worker),
-            *stop(state, f"worker {it.worker}: it isn't started again"), *settle(state)]
 
 
 def pause_over(state: State, it: PauseOver) -> Actions:
@@ -366,11 +341,10 @@ def signalled(state: State, it: Signalled) -> Actions:
 
 
 REPORTS: Dict[str, Callable[[State, int, Report], Actions]] = {
-    reports.ENDED: command_ended, reports.UNBEGUN: unbegun, reports.LOST: lost, reports.RUNS: runs,
-    reports.LEFT_BEHIND: left_behind, reports.WAITS: waits, reports.TAKEN: was_taken,
-    reports.TRIES: tries, reports.ASKED: asked, reports.SAYS: says, reports.OVER: over,
+    reports.ENDED: command_ended, reports.UNBEGUN: unbegun, reports.TAKEN: was_taken,
+    reports.ASKED: asked, reports.OVER: over,
 }
 HANDLERS: Dict[type, Callable[[State, Any], Actions]] = {
     Locked: locked, Occupied: occupied, Reported: reported, RunnerEnded: runner_ended,
-    StartFailed: start_failed, PauseOver: pause_over, Orphans: orphans, Signalled: signalled,
+    PauseOver: pause_over, Orphans: orphans, Signalled: signalled,
 }

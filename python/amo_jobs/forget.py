@@ -44,11 +44,10 @@ class Forgetting:
         self.moved = f"{self.folder}.forgotten-{self.run}"
         self.list, self.old_mark = f"{self.away}/{name}", f"{self.away}/{name}.run-is"
 
-    def take(self) -> None:
-        """Does the steps that are left, and prints where everything is."""
+    def take(self) -> int:
+        """Does the steps that are left, prints where everything is, and returns the exit status."""
         if self.run is None:
-            self.take_nothing()
-            return
+            return self.take_nothing()
         if os.path.lexists(self.settings.jobs):
             self.lock(self.settings.jobs)
         if id_of(self.folder) == self.run:
@@ -65,8 +64,9 @@ class Forgetting:
         print(f"run {self.run} is put away, and nothing of it is deleted")
         print("".join(f"  {it}: {visible(path)}\n" for it, path in names.items()
                       if os.path.lexists(path)), end="")
+        return Status.DONE
 
-    def take_nothing(self) -> None:
+    def take_nothing(self) -> int:
         """Prints what was put away before. If nothing was, the list has no run."""
         above, name = os.path.split(self.settings.jobs)
         found = [it for it in sorted(os.listdir(above)) if it.startswith(f"{name}.forgotten-")]
@@ -75,6 +75,7 @@ class Forgetting:
                           " the folder of a run, so nothing is put away; check the path, or name"
                           " the folder: --run DIR")
         print("".join(f"put away before: {visible(above)}/{visible(it)}\n" for it in found), end="")
+        return Status.DONE
 
     def lock(self, path: str, makes: bool = False, end: Optional[float] = None) -> None:
         """Takes a lock and keeps it; ends if another process has it."""

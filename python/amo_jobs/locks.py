@@ -36,9 +36,9 @@ def locked(path: str, makes: bool) -> Optional[int]:
     return None
 
 
-def is_free(path: str) -> bool:
+def remove_if_free(path: str) -> bool:
     """Returns whether nobody has the lock of a command, and removes its file then (`calls.c`)."""
-    return bool(library().amo_is_free(path.encode(*ENCODING)))
+    return bool(library().amo_remove_if_free(path.encode(*ENCODING)))
 
 
 def locked_soon(path: str, makes: bool = False, end: Optional[float] = None) -> Optional[int]:

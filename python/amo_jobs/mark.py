@@ -139,36 +139,25 @@ def is_gone(path: str) -> bool:
 
 def refusal(row: Row, mark: Mark, settings: Settings) -> End:
     """Returns the end of a crew that finds this row, with what to do about it."""
-    anew = f"To give that run up and run every line again: --new-run {mark.id}"
+    anew = f". To give that run up and run every line again: --new-run {mark.id}"
     if settings.new_run and settings.new_run != mark.id:
         anew += f" (it is --new-run {settings.new_run} now, which names another run)"
+    folder, run = shlex.quote(mark.folder), settings.run
     if row is Row.NO_RUN:
         text = (f"its mark `{settings.mark}` names no run, so no crew takes this list; leave the"
                 " list of a chunk to amo_share, and restore a mark that was damaged")
     elif row is Row.OLD_MARK:
-        text = f"{of_old_mark(mark, settings)}. {anew}"
+        text = (f"`{settings.mark}` is a mark of amo 0.1.0, and this version can't go on in its"
+                f" folder `{mark.folder}`; make a list of the lines that {sys.argv[0]} status"
+                f" --lines open --run {folder} prints, and run that list in a new folder{anew}")
     elif row is Row.COPY:
-        text = of_copy(mark, settings)
+        text = (f"its run {mark.id} is in `{mark.folder}`, and `{run}` has the same id, so one of"
+                " them may be a copy, which would run lines again; go on in the other: --run"
+                f" {folder}. If you are sure that `{run}` is the one that ran last: --new-run"
+                f" {mark.id}")
     else:
-        text = f"{of_other_folder(row, mark, settings)}. {anew}"
+        text = f"{of_other_folder(row, mark, settings)}{anew}"
     return refused(f"list `{settings.asked}`: {text}")
-
-
-def of_old_mark(mark: Mark, settings: Settings) -> str:
-    """Returns why a list with a mark of amo 0.1.0 is refused."""
-    folder = shlex.quote(mark.folder)
-    return (f"`{settings.mark}` is a mark of amo 0.1.0, and this version can't go on in its folder"
-            f" `{mark.folder}`; make a list of the lines that {sys.argv[0]} status --lines open"
-            f" --run {folder} prints, and run that list in a new folder")
-
-
-def of_copy(mark: Mark, settings: Settings) -> str:
-    """Returns why a folder is refused that has the id of a run which is in another folder."""
-    run = settings.run
-    return (f"its run {mark.id} is in `{mark.folder}`, and `{run}` has the same id, so one of them"
-            f" may be a copy, which would run lines again; go on in the other: --run"
-            f" {shlex.quote(mark.folder)}. If you are sure that `{run}` is the one that ran last:"
-            f" --new-run {mark.id}")
 
 
 def of_other_folder(row: Row, mark: Mark, settings: Settings) -> str:

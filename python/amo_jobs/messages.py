@@ -7,8 +7,10 @@ from __future__ import annotations
 
 import errno
 import os
+import signal
+import sys
 from contextlib import suppress
-from typing import Optional
+from typing import Callable, Optional, Tuple
 
 from amo_jobs.statuses import Status
 
@@ -41,10 +43,18 @@ class Screen:
     is gone, the program goes on."""
 
     clear, shown = "\r\033[K" if os.isatty(2) else "", ""
+    also: Optional[Callable[[str], None]] = None  # what takes each message too
 
     @classmethod
-    def tell(cls, text: str, end: str = "\n") -> None:
+    def tell(cls, text: str) -> None:
         """Prints a message."""
+        if cls.also:
+            cls.also(text)
+        cls.write(text, "\n")
+
+    @classmethod
+    def write(cls, text: str, end: str) -> None:
+        """Writes a text in place of the last line."""
         cls.shown = ""
         with suppress(OSError):
             os.write(2, f"{cls.clear}amo_jobs: {text}{end}".encode("utf-8", "replace"))
@@ -53,7 +63,7 @@ class Screen:
     def show(cls, text: str) -> None:
         """Shows how far the run is, unless that is shown already."""
         if text != cls.shown:
-            cls.tell(text[:69] if cls.clear else text, "" if cls.clear else "\n")
+            cls.write(text[:69] if cls.clear else text, "" if cls.clear else "\n")
             cls.shown = text
 
 
@@ -86,7 +96,25 @@ def refused(text: str) -> End:
     return End(Status.REFUSED, visible(text))
 
 
-def give_up_output() -> None:
-    """Discards what standard output has not taken; else Python reports it at its end."""
-    with suppress(OSError):
-        os.dup2(os.open(os.devnull, os.O_WRONLY), 1)
+def end_of(call: Callable[[], int], looks: str) -> Tuple[int, Optional[str]]:
+    """Calls a program. Returns its exit status, and its last message. `looks` says how the operator
+    finds out how far it is."""
+    sys.stdout = sys.stdout or open(os.devnull, "w")  # Python has none if it was closed
+    try:
+        code = call()
+        sys.stdout.flush()
+        return code, None
+    except SystemExit as end:  # of the parser; its status 2 means lines in doubt here
+        return Status.WORDS if end.code else Status.DONE, None
+    except End as end:
+        return end.status, end.text
+    except KeyboardInterrupt:
+        return 128 + signal.SIGINT, None
+    except OSError as error:
+        message = reason(error)
+        with suppress(OSError):  # what standard output has not taken; else Python reports it
+            os.dup2(os.open(os.devnull, os.O_WRONLY), 1)
+        return (Status.READ if isinstance(error, FileNotFoundError) else Status.WRITE), message
+    except Exception:
+        sys.excepthook(*sys.exc_info())
+        return Status.BUILD, f"internal error, in the lines above; report them, and check {looks}"

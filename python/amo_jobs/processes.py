@@ -24,7 +24,9 @@ class Family:
     """The children of this process, and all below them."""
 
     def __init__(self, may_leave: Collection[str] = ()):
-        """Takes the names of programs that a command may leave behind. Raises OSError."""
+        """Takes the names of programs that a command may leave behind, and has this process become
+        a subreaper. Raises OSError if the system can't show or name processes."""
+        calls.become_subreaper()
         self.may_leave, self.file = frozenset(may_leave), calls.open_children()
 
     def others(self, known: Collection[int]) -> List[int]:
@@ -47,11 +49,8 @@ class Family:
             return []
         roots = [it for it in named_children(numbers) if it not in before]
         roots = [it for it in roots if among is None or it in among]
-        return below(roots, lambda it: it.number != own and self.is_named(it))
-
-    def is_named(self, process: Process) -> bool:
-        """Returns whether a command may leave this process behind."""
-        return bool(self.may_leave) and calls.program_of(process.number) in self.may_leave
+        return below(roots, lambda it: bool(self.may_leave) and it.number != own
+                     and calls.program_of(it.number) in self.may_leave)
 
 
 def named(numbers: Iterable[int]) -> List[Process]:
@@ -88,7 +87,7 @@ def holders(run: str, names: Sequence[str]) -> Dict[str, List[str]]:
     run = os.path.realpath(run)
     found: Dict[str, List[Process]] = {f"{run}/command.{name}": [] for name in names}
     for process in named(map(int, filter(str.isdecimal, os.listdir("/proc") if found else []))):
-        files = calls.files_of(process.number) or ()
+        files = calls.files_of(process.number)
         if not any(it.startswith(f"{run}/runner.") for it in files):
             for path in set(files) & set(found):
                 found[path].append(process)
@@ -110,17 +109,12 @@ def unseen_of(run: str, worker: str) -> List[Process]:
 def signer(path: str) -> int:
     """Returns the number of the process that has signed a file and has it open; 0 if none has."""
     number = calls.signed(path)
-    return number if path in (calls.files_of(number) or ()) else 0
-
-
-def holds(process: Process, path: str) -> bool:
-    """Returns whether the system shows that a process has this file open."""
-    return path in (calls.files_of(process.number) or ())
+    return number if path in calls.files_of(number) else 0
 
 
 def has_open(process: Process, starts: Tuple[str, ...]) -> bool:
     """Returns whether the system shows that a process has a file open whose path begins so."""
-    return any(it.startswith(starts) for it in calls.files_of(process.number) or ())
+    return any(it.startswith(starts) for it in calls.files_of(process.number))
 
 
 def described(processes: Iterable[Process]) -> str:
@@ -163,17 +157,9 @@ class Signals:
         """Sends a signal to a process that has not refused one."""
         if process in self.refused:
             return
-        error = attempt(number, process)
-        if error:
+        try:
+            calls.send(process, number)
+        except OSError as error:
             self.refused.add(process)
             self.tell(f"{described([process])}: it can't be sent a signal: {lowered(error)}; wait"
                       " for its end, or end it as its user")
-
-
-def attempt(number: int, process: Process) -> Optional[OSError]:
-    """Sends a signal. Returns the error, if there is one."""
-    try:
-        calls.send(process, number)
-    except OSError as error:
-        return error
-    return None

@@ -26,16 +26,17 @@ class Progress:
         with open(settings.jobs, "rb") as file:
             self.lines = sum(1 for _ in file)
 
-    def show(self) -> None:
-        """Shows how far the crew is, once that is due."""
+    def show(self) -> float:
+        """Shows how far the crew is, once that is due, and returns when it is due again."""
         if monotonic() < self.due:
-            return
+            return self.due
         self.due = monotonic() + (OFTEN if Screen.clear else SELDOM)
         ended = self.state.ended
         closed = min(sum(self.before[it] for it in KINDS[:5]) + ended, self.lines)
         pace = ended / max(monotonic() - self.begun, 1)
         Screen.show(f"{closed} of {self.lines} lines, {len(self.state.running())} running"
                     f"{outlook(pace, self.lines - closed)}")
+        return self.due
 
     def conclude(self, status: Optional[int]) -> int:
         """Prints how all lines stand. Returns this status, or the one by the counts."""

@@ -9,6 +9,8 @@ from __future__ import annotations
 import json
 from typing import NamedTuple
 
+from amo_jobs.statuses import Status
+
 GO, STOP, PASS, NEWS = "go", "stop", "pass", "news"
 # The kinds of reports.
 ENDED = "ended"  # a command has ended, and nothing of it is left
@@ -17,8 +19,9 @@ LOST = "lost"  # nobody saw the end of an attempt of an earlier runner: it is in
 RUNS = "runs"  # a command has run for a moment
 LEFT_BEHIND = "left"  # a command has ended, and something of it still runs
 WAITS = "waits"  # the runner would end, and waits for these processes; the text names them
-TAKEN = "taken"  # another attempt stands against a line, or against so many (the code)
-TRIES = "tries"  # the worker has failed, and is started again since ends aren't recorded yet
+TAKEN = "taken"  # another attempt stands against a line, which the text names
+TRIES = "tries"  # the worker fails, and is started again since ends aren't recorded yet
+SHORT = "short"  # the worker has too little memory, and is started again
 ASKED = "asked"  # the runner itself got a signal (the code)
 SAYS = "says"  # a text for the operator
 OVER = "over"  # the last report, with the worker's status (the code) and its message
@@ -38,6 +41,10 @@ class Report(NamedTuple):
         """Returns whether no command may be started before the supervisor says `go`."""
         is_bad_end = self.word == "doubt" or self.word == "done" and self.code != 0
         return self.kind in (UNBEGUN, LOST) or self.kind == ENDED and is_bad_end
+
+    def is_end_in_order(self) -> bool:
+        """Returns whether a worker has ended, and needn't be looked at."""
+        return self.kind == OVER and self.code in (Status.DONE, Status.LEFT, Status.LATER)
 
 
 def line_of(report: Report) -> bytes:

@@ -20,7 +20,6 @@ from amo_jobs.statuses import Status
 from amo_jobs.worker import Program
 
 FORGOTTEN = "forgotten"  # the file of a run that was put away
-OUTPUTS = ("out", "err")  # the files `out.P.S` and `err.P.S` of an attempt
 
 
 def joined(settings: Settings, program: Program) -> str:
@@ -153,12 +152,13 @@ def refuse_other_command(settings: Settings) -> None:
                       " stay performed; to go on with the new command: --command-changed")
 
 
-def note_command(settings: Settings) -> None:
-    """Records the command before a line is performed. Of two crews that start together the later
-    one is refused."""
+def note_command(settings: Settings, version: str) -> None:
+    """Records the command before a line is performed, and for a report also the options and the
+    version. Of two crews that start together the later one is refused."""
     with open(settings.jobs, "rb") as file:
         with suppress(OSError):  # a file system over a network may have no locks
             fcntl.flock(file, fcntl.LOCK_EX)
         refuse_other_command(settings)
         place(f"{settings.run}/command",
-              json.dumps({"command": settings.command, "results": settings.results}))
+              json.dumps({"command": settings.command, "results": settings.results,
+                          "options": settings.options, "version": version}))

@@ -13,21 +13,21 @@ import signal
 from contextlib import suppress
 from math import inf
 from time import monotonic, time
-from typing import Any, Callable, Dict, FrozenSet, List, Optional, Tuple
+from typing import Dict, FrozenSet, List, Optional, Tuple
 
 from amo_jobs import calls, reports, runner_rules
-from amo_jobs.command import Command, Commands, NotStarted
+from amo_jobs.command import Command, NotStarted
 from amo_jobs.desk import Desk
-from amo_jobs.locks import is_free
+from amo_jobs.locks import remove_if_free
 from amo_jobs.messages import reason
 from amo_jobs.processes import described, Family, Signals
 from amo_jobs.reports import Report
-from amo_jobs.runner_events import (
-    Action, Answer, Begin, CommandEnded, Elapsed, End, Event, Look, Looked, PAUSE, Plain, Rest,
-    Send, StartFailed, StartWorker, Tell, Wait, WorkerEnded
+from amo_jobs.runner_state import (
+    Action, Answer, Begin, CommandEnded, Elapsed, Event, Look, Looked, PAUSE, Plain,
+    Rest, Send, StartFailed, StartWorker, State, Tell, Wait, WorkerEnded
 )
-from amo_jobs.runner_state import Options, State
 from amo_jobs.settings import Settings
+from amo_jobs.starter import LOCK, Starter
 from amo_jobs.statuses import Status
 from amo_jobs.worker import Program
 from amo_jobs.worker_process import said_by, WorkerProcess
@@ -35,7 +35,6 @@ from amo_jobs.worker_process import said_by, WorkerProcess
 SIGNALS = (signal.SIGINT, signal.SIGTERM, signal.SIGHUP)
 SOON, LATER = 0.02, 1.0  # seconds until a runner looks again what is left, if no child ends
 PACE = 1.0  # seconds between two notes of the pace
-MOST_TAKEN = 10  # messages that a runner hands on
 
 
 class Runner:
@@ -44,30 +43,26 @@ class Runner:
     def __init__(self, settings: Settings, program: Program, worker: int, desk: Desk):
         """Raises OSError if the system can't show a process's children, or can't name a process."""
         self.settings, self.program, self.worker, self.desk = settings, program, worker, desk
-        self.surroundings: Dict[bytes, bytes] = dict(os.environb)
-        calls.check_pidfd()
-        calls.become_subreaper()
         calls.sign(f"{settings.run}/runner.{worker}")
         self.family = Family(settings.may_leave)
         self.signals = Signals(lambda text: self.desk.report(Report(reports.SAYS, text=text)))
         self.bell = calls.Bell(SIGNALS)
-        self.commands = Commands(settings, worker, self.family)  # after the signals are handled
-        self.state = State(worker, Options(settings.timeout, settings.grace, settings.linger,
-                                           frozenset(settings.untouched)))
+        self.starter = Starter(settings, worker)  # after the signals are handled
+        self.state = State(settings)
         self.process: Optional[WorkerProcess] = None
         self.attempts: Dict[int, Command] = {}  # those of which something may be left
         self.timers: Dict[Tuple[str, int], float] = {}
         self.look_at = 0.0  # when to look again what is left
         self.due = inf  # when the first time is over
-        self.taken, self.ends, self.begun, self.paced = 0, 0, time(), 0.0
+        self.ends, self.begun, self.paced = 0, time(), 0.0
         self.status: Optional[int] = None
 
     def run(self) -> int:
         """Runs to the end, and returns the worker's last status."""
-        self.act(runner_rules.begin(self.state))
+        self.act(runner_rules.start_worker(self.state))
         while self.status is None:
             self.turn()
-        self.commands.starter.remove()
+        self.starter.remove()
         self.desk.close()
         return self.status
 
@@ -77,7 +72,6 @@ class Runner:
             self.feed(self.desk.events.pop(0))
         if self.status is not None:
             return
-        self.desk.show()
         ready, process = self.wait_for(), self.process
         has_rung = self.bell.wake in ready
         if has_rung:
@@ -98,7 +92,7 @@ class Runner:
         reads, writes = self.desk.files()
         if self.process:
             reads = reads + self.process.files
-        dues = [*self.timers.values(), *self.desk.due()]
+        dues = [*self.timers.values(), self.desk.show()]
         if self.attempts and self.waits_for():
             dues.append(self.look_at)
         self.due = min(dues, default=inf)
@@ -108,23 +102,21 @@ class Runner:
         """Returns the attempts whose commands have ended, and of which something is left."""
         return [serial for serial, it in self.attempts.items() if not it.process]
 
-    def worker_number(self) -> List[int]:
-        """Returns the worker's process, if it isn't reaped."""
-        return [self.process.process] if self.process and self.process.status is None else []
-
-    def known(self, serial: int) -> List[int]:
-        """Returns the children that surely don't belong to an attempt: the worker, and the command
-        of a later one."""
-        return self.worker_number() + [it.process for it in self.attempts.values()
-                                       if it.process and it.serial != serial]
+    def known(self, serial: int = 0) -> List[int]:
+        """Returns the children that surely don't belong to an attempt: the worker, if it isn't
+        reaped, and the command of another one."""
+        worker = [self.process.process] if self.process and self.process.status is None else []
+        return worker + [it.process for it in self.attempts.values()
+                         if it.process and it.serial != serial]
 
     def take_ended(self) -> None:
         """Reaps the children that have ended, and takes the end of the command."""
         ended, has_more = calls.reap()
         found: Dict[int, Optional[int]] = dict(ended)
         current = self.attempts.get(self.state.current or 0)
-        if not has_more:
-            self.add_unreported(found, current)
+        if not has_more:  # those that are gone, and of whose end the system doesn't report
+            there = self.family.others(())
+            found.update((it, None) for it in self.known() if it not in [*there, *found])
         if self.process and self.process.process in found:
             status = found[self.process.process]
             self.process.status = -1 if status is None else status
@@ -132,14 +124,6 @@ class Runner:
             status = found[current.process]
             current.ended()
             self.feed(CommandEnded(status))
-
-    def add_unreported(self, found: Dict[int, Optional[int]], current: Optional[Command]) -> None:
-        """Adds the children that are gone, and of whose end the system doesn't report."""
-        there = self.family.others(())
-        mine = [*self.worker_number(), *([current.process] if current and current.process else [])]
-        for number in mine:
-            if number not in there:
-                found.setdefault(number, None)
 
     def take_left(self, has_rung: bool) -> None:
         """Looks what is left of attempts, if a child has ended, or after a while."""
@@ -159,7 +143,7 @@ class Runner:
         if process.has_ended():
             self.take_left(True)
             self.process = None
-            self.feed(WorkerEnded(process.status or 0, process.close()))
+            self.feed(WorkerEnded(process.status or 0, process.message()))
 
     def take_times(self) -> None:
         """Takes the times that are over."""
@@ -176,43 +160,48 @@ class Runner:
     def act(self, actions: List[Action]) -> None:
         """Carries actions out, in their order."""
         for action in actions:
-            ACTIONS[type(action)](self, action)
+            if isinstance(action, Answer):
+                if self.process and not self.process.answer(action.text):
+                    self.feed(Plain.UNANSWERED)
+            elif isinstance(action, Begin):
+                self.begin(action)
+            elif isinstance(action, Look):
+                self.look(action.serial)
+            elif isinstance(action, Wait):
+                self.wait(action)
+            elif isinstance(action, Send):
+                self.send(action)
+            elif isinstance(action, Tell):
+                self.tell(action.report)
+            elif isinstance(action, StartWorker):
+                self.start_worker()
+            else:
+                self.status = action.status
 
-    def start_worker(self, _: StartWorker) -> None:
+    def start_worker(self) -> None:
         """Starts the worker."""
         settings = self.settings
         words = [self.program.path, "work", settings.run, str(self.worker), "--workers",
                  str(settings.workers), "--beta", str(settings.beta), settings.jobs]
         try:
-            self.process = WorkerProcess([*words, *self.program.more], self.surroundings,
-                                         self.was_taken)
+            self.process = WorkerProcess([*words, *self.program.more], lambda text: self.tell(
+                Report(reports.TAKEN, text=text)))
         except OSError as error:
             is_short = error.errno in (errno.EAGAIN, errno.ENOMEM)
             self.feed(WorkerEnded(Status.MEMORY if is_short else Status.READ, reason(error)))
 
-    def was_taken(self, text: str) -> None:
-        """Hands on that a line was not started. Of many texts the first ones are enough."""
-        self.taken += 1
-        text = text if self.taken <= MOST_TAKEN else ""
-        self.desk.report(Report(reports.TAKEN, code=1, text=text))
-
-    def answer(self, action: Answer) -> None:
-        """Answers the worker."""
-        if self.process and not self.process.answer(action.text):
-            self.feed(Plain.UNANSWERED)
-
     def begin(self, action: Begin) -> None:
         """Starts the command of a line."""
-        command = self.attempts[action.serial] = Command(self.commands, action.serial, action.line)
+        command = Command(self.starter, self.family, action.serial, action.line)
+        self.attempts[action.serial] = command
         try:
-            command.start(action.text, self.worker_number())
+            command.start(action.text, self.known(action.serial))
         except NotStarted as why:
             del self.attempts[action.serial]
             self.feed(StartFailed(str(why)))
-        else:
-            for it in self.attempts.values() if len(self.attempts) > 1 else ():
-                it.until = command.before if it.until is None and it is not command else it.until
-            self.feed(Plain.STARTED)
+            return
+        for it in self.attempts.values() if len(self.attempts) > 1 else ():
+            it.until = command.before if it.until is None and it is not command else it.until
 
     def look(self, serial: int) -> None:
         """Looks what is left of an attempt. Of one that an earlier runner has begun its lock
@@ -221,7 +210,7 @@ class Runner:
         if command:
             rest = command.rest(self.known(serial))
         else:
-            rest = Rest.NOTHING if is_free(self.commands.lock_path(serial)) else Rest.SEEN
+            rest = Rest.NOTHING if remove_if_free(self.starter.path(LOCK, serial)) else Rest.SEEN
         if rest is Rest.NOTHING and command:
             del self.attempts[serial]
             self.timers = {it: due for it, due in self.timers.items() if it[1] != serial}
@@ -252,9 +241,8 @@ class Runner:
             with suppress(OSError):
                 self.signals.send(action.number, lambda: left(known, is_shared))
 
-    def tell(self, action: Tell) -> None:
+    def tell(self, report: Report) -> None:
         """Reports. If the runner waits at last, the report names the processes."""
-        report = action.report
         if report.kind == reports.WAITS:
             report = report._replace(text=described(self.unseen()))
         self.desk.report(report)
@@ -267,14 +255,3 @@ class Runner:
                 with suppress(OSError):
                     found += self.attempts[serial].left(self.known(serial))
         return list(dict.fromkeys(found))
-
-    def end(self, action: End) -> None:
-        """Ends."""
-        self.status = action.status
-
-
-ACTIONS: Dict[type, Callable[[Runner, Any], None]] = {
-    StartWorker: Runner.start_worker, Answer: Runner.answer, Begin: Runner.begin,
-    Look: lambda runner, action: runner.look(action.serial), Wait: Runner.wait, Send: Runner.send,
-    Tell: Runner.tell, End: Runner.end,
-}

@@ -8,28 +8,21 @@ Read `State` and `take` first; docs/PROCESSES.md has the lines between worker an
 from __future__ import annotations
 
 import signal
-from typing import Any, Callable, Dict, List, Optional
+from typing import Any, Callable, Dict, List
 
 from amo_jobs import reports
 from amo_jobs.reports import Report
-from amo_jobs.runner_events import (
-    Action, Answer, Begin, CommandEnded, Elapsed, End, Event, GRACE, LINGER, Look, Looked, MOMENT,
-    PassOn, PAUSE, PERFORM, Plain, Rest, Said, Send, StartFailed, StartWorker, STAY, Tell, TIMEOUT,
-    Wait, WAS, WorkerEnded
+from amo_jobs.runner_state import (
+    Action, Answer, Attempt, Begin, CommandEnded, Elapsed, End, Event, GRACE, LINGER, LONGEST, Look,
+    Looked, MOMENT, PassOn, PAUSE, PERFORM, Plain, Rest, Said, Send, SHORTEST, StartFailed,
+    StartWorker, State, STAY, Tell, TIMEOUT, Wait, WAS, WorkerEnded
 )
-from amo_jobs.runner_state import Attempt, LONGEST, SHORTEST, State
 from amo_jobs.statuses import Status
 
 KILL_AGAIN = 0.5  # seconds after which KILL is sent once more to what is still there
 A_MOMENT = 0.2  # seconds after which a command is reported as running
 
-
 Actions = List[Action]
-
-
-def begin(state: State) -> Actions:
-    """Returns what a runner does first."""
-    return start_worker(state)
 
 
 def take(state: State, event: Event) -> Actions:
@@ -40,7 +33,7 @@ def take(state: State, event: Event) -> Actions:
 
 
 def start_worker(state: State) -> Actions:
-    """Starts the worker."""
+    """Starts the worker. A runner does that first."""
     state.is_pausing, state.has_worker, state.last = False, True, None
     return [StartWorker()]
 
@@ -74,11 +67,6 @@ def note(state: State, is_past: bool) -> None:
     state.last = None
 
 
-def is_waiting(state: State) -> bool:
-    """Returns whether the worker waits for the next round."""
-    return state.asks is not None and state.asks.kind == STAY
-
-
 def way(state: State, word: str) -> Actions:
     """Has the worker go on with the next round, or leave."""
     state.asks = None
@@ -107,46 +95,29 @@ def go_on(state: State) -> Actions:
     if state.is_held or state.is_unacknowledged:
         return []
     state.current, state.attempts[it.serial] = it.serial, Attempt(it.line)
-    return [Begin(it.serial, it.line, it.text)]
+    timeout = state.settings.timeout
+    return [Begin(it.serial, it.line, it.text), Wait(MOMENT, it.serial, A_MOMENT),
+            *([Wait(TIMEOUT, it.serial, timeout)] if timeout else [])]
 
 
 def answer(state: State, serial: int) -> Actions:
     """Answers with an end that was seen, and reports it after that."""
-    return reply(state, serial, state.seen[serial]) + tell(state, state.untold.pop(serial, None))
+    actions, report = reply(state, serial, state.seen[serial]), state.untold.pop(serial, None)
+    if report is None:
+        return actions
+    state.is_unacknowledged |= report.is_failure()
+    return [*actions, Tell(report)]
 
 
 def reply(state: State, serial: int, text: str) -> Actions:
-    """Answers the worker's question about this attempt."""
-    is_was = state.asks is not None and state.asks.kind == WAS
-    way = "leave" if leaves(state, serial, is_was) else "go"
+    """Answers the worker's question about this attempt. One that asks goes on as long as it may ask
+    for another end. One that performs leaves if there is an end that the next one asks for."""
+    if state.asks_for(serial, WAS):
+        leaves = state.is_stopping and not state.found and not set(state.seen) - {serial}
+    else:
+        leaves = state.is_stopping or bool(state.found)
     state.asks, state.last = None, serial
-    return [Answer(f"{text} {way}")]
-
-
-def leaves(state: State, serial: int, is_was: bool) -> bool:
-    """Returns whether the worker is to leave after this answer. One that asks goes on as long as it
-    may ask for another end. One that performs leaves if there is an end that the next one asks
-    for."""
-    if is_was:
-        return state.is_stopping and not state.found and not set(state.seen) - {serial}
-    return state.is_stopping or bool(state.found)
-
-
-def tell(state: State, report: Optional[Report]) -> Actions:
-    """Reports something, if there is anything."""
-    if report is None:
-        return []
-    state.is_unacknowledged |= report.is_failure()
-    return [Tell(report)]
-
-
-def started(state: State, _: Plain) -> Actions:
-    """Begins the times of a command."""
-    serial = state.current
-    if serial is None:
-        return []
-    more = [] if not state.options.timeout else [Wait(TIMEOUT, serial, state.options.timeout)]
-    return [Wait(MOMENT, serial, A_MOMENT), *more]
+    return [Answer(f"{text} {'leave' if leaves else 'go'}")]
 
 
 def start_failed(state: State, it: StartFailed) -> Actions:
@@ -157,7 +128,7 @@ def start_failed(state: State, it: StartFailed) -> Actions:
     line, state.current = state.attempts.pop(serial).line, None
     state.is_stopping, state.seen[serial] = True, f"unbegun {serial}"
     state.untold[serial] = Report(reports.UNBEGUN, serial, line, text=it.why)
-    return answer(state, serial) if is_asked(state, serial, PERFORM) else what_next(state)
+    return answer(state, serial) if state.asks_for(serial, PERFORM) else what_next(state)
 
 
 def command_ended(state: State, it: CommandEnded) -> Actions:
@@ -165,28 +136,25 @@ def command_ended(state: State, it: CommandEnded) -> Actions:
     serial = state.current
     if serial is None:
         return []
-    state.attempts[serial].has_ended, state.attempts[serial].status = True, it.status
+    state.attempts[serial].status = it.status
     return [Look(serial)]
 
 
 def looked(state: State, it: Looked) -> Actions:
-    """Takes what was found of an attempt."""
+    """Takes what was found of an attempt. What its command has left behind is waited for."""
     if it.rest is Rest.NOTHING:
         return gone(state, it.serial)
     attempt = state.attempts.get(it.serial)
     if attempt:
         attempt.rest = it.rest
     if attempt and it.serial == state.current:
-        return linger(state, it.serial, attempt)
-    if is_asked(state, it.serial):
+        if attempt.has_lingered is not None:
+            return []
+        attempt.has_lingered = False
+        return [Wait(LINGER, it.serial, state.settings.linger)]
+    if state.asks_for(it.serial, WAS):
         return reply(state, it.serial, f"running {it.serial}")
     return what_next(state)
-
-
-def is_asked(state: State, serial: int, kind: str = WAS) -> bool:
-    """Returns whether the worker waits for an answer about this attempt: one of an earlier worker,
-    or its own."""
-    return state.asks is not None and state.asks.kind == kind and state.asks.serial == serial
 
 
 def gone(state: State, serial: int) -> Actions:
@@ -194,13 +162,13 @@ def gone(state: State, serial: int) -> Actions:
     attempt = state.attempts.pop(serial, None)
     if attempt is None:
         return lost(state, serial)
-    word, code = attempt.outcome(state.options.untouched)
+    word, code = attempt.outcome(state.settings.untouched)
     text = f"{word} {serial}" + ("" if word == "doubt" else f" {code}")
     state.untold[serial] = Report(reports.ENDED, serial, attempt.line, word, code, attempt.is_late)
     if serial == state.current:
         state.current, state.seen[serial] = None, text
-        return answer(state, serial) if is_asked(state, serial, PERFORM) else what_next(state)
-    if is_asked(state, serial):
+        return answer(state, serial) if state.asks_for(serial, PERFORM) else what_next(state)
+    if state.asks_for(serial, WAS):
         state.seen[serial] = text
         return answer(state, serial)
     state.found[serial] = text
@@ -211,21 +179,13 @@ def lost(state: State, serial: int) -> Actions:
     """Answers what became of an attempt of which this runner knows nothing, and nothing is left. If
     its intent is younger than one that a worker of this runner has said, all lines of the worker
     that made it were read, and none was to perform it. Else it is in doubt."""
-    if state.asks is None or not is_asked(state, serial):
+    if state.asks is None or not state.asks_for(serial, WAS):
         return []
     is_unsaid = state.top is not None and serial > state.top
     state.has_said, state.seen[serial] = True, f"{'unbegun' if is_unsaid else 'doubt'} {serial}"
     if not is_unsaid:
         state.untold[serial] = Report(reports.LOST, serial, state.asks.line)
     return answer(state, serial)
-
-
-def linger(state: State, serial: int, attempt: Attempt) -> Actions:
-    """Waits for a while for what a command has left behind."""
-    if attempt.has_lingered is None:
-        attempt.has_lingered = False
-        return [Wait(LINGER, serial, state.options.linger)]
-    return []
 
 
 def elapsed(state: State, it: Elapsed) -> Actions:
@@ -240,7 +200,7 @@ def elapsed(state: State, it: Elapsed) -> Actions:
 
 def end_pause(state: State, _: Any = None) -> Actions:
     """Has the worker go on, or starts it."""
-    if is_waiting(state):
+    if state.asks_for(0, STAY):
         return way(state, "leave" if state.found else "go")
     return start_worker(state) if state.is_pausing else []
 
@@ -254,13 +214,13 @@ def moment_over(state: State, serial: int, attempt: Attempt) -> Actions:
 def timeout_over(state: State, serial: int, attempt: Attempt) -> Actions:
     """Ends an attempt whose time is over, with all that it has started."""
     attempt.is_late = True
-    return [Send(serial, signal.SIGTERM), Wait(GRACE, serial, state.options.grace)]
+    return [Send(serial, signal.SIGTERM), Wait(GRACE, serial, state.settings.grace)]
 
 
 def grace_over(state: State, serial: int, attempt: Attempt) -> Actions:
     """Kills what is left of it, and does so again until nothing is."""
     is_first, attempt.is_killed = not attempt.is_killed, True
-    more = [Wait(LINGER, serial, state.options.linger)] if (
+    more = [Wait(LINGER, serial, state.settings.linger)] if (
         is_first and attempt.has_lingered and serial == state.current) else []
     return [Send(serial, signal.SIGKILL), Wait(GRACE, serial, KILL_AGAIN), *more]
 
@@ -273,7 +233,7 @@ def linger_over(state: State, serial: int, attempt: Attempt) -> Actions:
         return []
     state.current = None
     report = Tell(Report(reports.LEFT_BEHIND, serial, attempt.line))
-    if is_asked(state, serial, PERFORM):
+    if state.asks_for(serial, PERFORM):
         return [*reply(state, serial, f"running {serial}"), report]
     return [report, *what_next(state)]
 
@@ -318,17 +278,19 @@ def may_end(state: State) -> bool:
 
 
 def restart(state: State) -> Actions:
-    """Starts the worker again after a pause."""
+    """Starts the worker again after a pause. Reports, once for each status, that it goes on trying:
+    if ends aren't recorded yet, or if the worker has too little memory."""
     state.is_last_wait = False
     if state.is_pausing:
         return []
     state.is_pausing = True
     count = len(state.seen) + len(state.found)
-    is_fault = state.status not in (Status.DONE, Status.LEFT, Status.LATER, state.warned)
-    if not count or not is_fault or state.status < 0:
+    is_fault = state.status > 0 and state.status not in (Status.LEFT, Status.LATER, state.warned)
+    if not is_fault or not count and state.status != Status.MEMORY:
         return [pause(state)]
     state.warned = state.status
-    return [Tell(Report(reports.TRIES, code=count, text=state.message)), pause(state)]
+    kind = reports.TRIES if count else reports.SHORT
+    return [Tell(Report(kind, code=count, text=state.message)), pause(state)]
 
 
 def pause(state: State) -> Wait:
@@ -346,7 +308,7 @@ def stop(state: State, _: Any = None) -> Actions:
     if state.is_pausing:
         state.is_pausing = False
         return what_next(state) if may_end(state) else start_worker(state)
-    return way(state, "leave") if is_waiting(state) else go_on(state)
+    return way(state, "leave") if state.asks_for(0, STAY) else go_on(state)
 
 
 def deserted(state: State, _: Plain) -> Actions:
@@ -364,21 +326,13 @@ def pass_on(state: State, it: PassOn) -> Actions:
     return stop(state) + found
 
 
-def acknowledged(state: State, _: Plain) -> Actions:
-    """Goes on after a failure."""
-    state.is_unacknowledged = False
-    return go_on(state)
-
-
-def held(state: State, _: Plain) -> Actions:
-    """Starts no further command while a report isn't sent."""
-    state.is_held = True
-    return []
-
-
-def sent(state: State, _: Plain) -> Actions:
-    """Goes on, since all reports are sent."""
-    state.is_held = False
+def supervisor(state: State, event: Plain) -> Actions:
+    """Starts no further command while a report isn't sent, and goes on once all are sent, or once
+    the supervisor knows of a failure."""
+    if event is Plain.ACKNOWLEDGED:
+        state.is_unacknowledged = False
+    else:
+        state.is_held = event is Plain.HELD
     return go_on(state)
 
 
@@ -388,6 +342,6 @@ TIMERS: Dict[str, Callable[[State, int, Attempt], Actions]] = {
 HANDLERS: Dict[Any, Callable[[State, Any], Actions]] = {
     Said: said, WorkerEnded: worker_ended, StartFailed: start_failed, CommandEnded: command_ended,
     Looked: looked, Elapsed: elapsed, PassOn: pass_on, Plain.UNANSWERED: unanswered,
-    Plain.STARTED: started, Plain.STOP: stop, Plain.ACKNOWLEDGED: acknowledged, Plain.HELD: held,
-    Plain.SENT: sent, Plain.DESERTED: deserted, Plain.NEWS: end_pause,
+    Plain.STOP: stop, Plain.DESERTED: deserted, Plain.NEWS: end_pause,
+    Plain.ACKNOWLEDGED: supervisor, Plain.HELD: supervisor, Plain.SENT: supervisor,
 }

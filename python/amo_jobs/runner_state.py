@@ -1,38 +1,95 @@
-"""What a runner knows. `runner_rules` changes it."""
+"""What a runner knows, the events that it takes, and the actions by which it acts. `runner_rules`
+has the rules between them."""
 
 from __future__ import annotations
 
 from dataclasses import dataclass, field
-from typing import Dict, FrozenSet, NamedTuple, Optional, Tuple
+from enum import Enum
+from typing import Collection, Dict, NamedTuple, Optional, Tuple, Union
 
 from amo_jobs.reports import Report
-from amo_jobs.runner_events import Rest, Said
+from amo_jobs.settings import Settings
 from amo_jobs.statuses import Status
 
 SHORTEST, LONGEST = 0.1, 4.0  # seconds of a pause
+PERFORM, WAS, STAY = "perform", "was", "over"  # what a worker says
+PAUSE, TIMEOUT, GRACE, LINGER, MOMENT = "pause", "timeout", "grace", "linger", "moment"  # timers
 
 
-class Options(NamedTuple):
-    """What the operator has asked for. Times are in seconds."""
+class Rest(Enum):
+    """How much of an attempt is left."""
 
-    timeout: Optional[float] = None
-    grace: float = 10.0
-    linger: float = 5.0
-    untouched: FrozenSet[int] = frozenset()
+    NOTHING = 0  # its lock was got by a handle opened anew, and it has no descendant
+    SEEN = 1  # whoever is left holds its lock, so everybody sees that it runs
+    UNSEEN = 2  # a descendant is left that only its runner sees
+
+
+class Plain(Enum):
+    """An event of which there is no more to say."""
+
+    UNANSWERED = 0  # the last answer didn't reach the worker
+    STOP = 1  # no further command may be started
+    ACKNOWLEDGED = 2  # the supervisor knows of a failure, and lets the runner go on
+    HELD = 3  # a report isn't sent yet: the supervisor's pipe is full
+    SENT = 4  # all reports are sent
+    DESERTED = 5  # the supervisor is gone
+    NEWS = 6  # another runner has ended
+
+
+class Said(NamedTuple):
+    """The event that the worker has said a whole line."""
+
+    kind: str
+    serial: int = 0
+    line: int = 0
+    text: bytes = b""
+    is_alive: bool = True  # whether the worker still lived when the line was read
+
+
+# The worker has ended and all that it said was read, or it could not be started.
+WorkerEnded = NamedTuple("WorkerEnded", [("status", int), ("message", str)])
+# A command was not started: no process of it was made, or none is left.
+StartFailed = NamedTuple("StartFailed", [("why", str)])
+# The process of the command has ended. None: the system doesn't report how.
+CommandEnded = NamedTuple("CommandEnded", [("status", Optional[int])])
+# The runner has looked what is left of an attempt of its number.
+Looked = NamedTuple("Looked", [("serial", int), ("rest", Rest)])
+# A time is over.
+Elapsed = NamedTuple("Elapsed", [("timer", str), ("serial", int)])
+# A further signal has come, which is for the commands.
+PassOn = NamedTuple("PassOn", [("number", int)])
+Event = Union[Plain, Said, WorkerEnded, StartFailed, CommandEnded, Looked, Elapsed, PassOn]
+
+# Start the worker.
+StartWorker = NamedTuple("StartWorker", [])
+# Answer the worker.
+Answer = NamedTuple("Answer", [("text", str)])
+# Start the command of a line. If that fails, the next event is StartFailed.
+Begin = NamedTuple("Begin", [("serial", int), ("line", int), ("text", bytes)])
+# Look what is left of an attempt. The next event is Looked.
+Look = NamedTuple("Look", [("serial", int)])
+# Have an Elapsed come after so many seconds, and a pause after a random part of them.
+Wait = NamedTuple("Wait", [("timer", str), ("serial", int), ("seconds", float)])
+# Send a signal to all that is left of an attempt.
+Send = NamedTuple("Send", [("serial", int), ("number", int)])
+# Report to the supervisor.
+Tell = NamedTuple("Tell", [("report", Report)])
+# End, with the worker's last status.
+End = NamedTuple("End", [("status", int)])
+Action = Union[StartWorker, Answer, Begin, Look, Wait, Send, Tell, End]
 
 
 @dataclass
 class Attempt:
     """An attempt of this runner, until nothing of it is left."""
     line: int
-    has_ended: bool = False  # the process of the command
-    status: Optional[int] = None
+    status: Optional[int] = None  # of the command's process, once it has ended
     is_late: bool = False  # TERM was sent, since its time was over
     is_killed: bool = False  # KILL was sent
     has_lingered: Optional[bool] = None  # None: it isn't waited for yet
     rest: Rest = Rest.UNSEEN
 
-    def outcome(self, untouched: FrozenSet[int]) -> Tuple[str, int]:
+    def outcome(self, untouched: Collection[int]) -> Tuple[str, int]:
         """Returns what came of it. Any status counts as performed. An end by a signal is a doubt,
         and so is an end by the timeout, and one that the system doesn't report."""
         if self.is_late or self.status is None or self.status < 0:
@@ -43,8 +100,7 @@ class Attempt:
 @dataclass
 class State:
     """What a runner knows."""
-    worker: int
-    options: Options = Options()
+    settings: Settings = field(default_factory=Settings, repr=False)
     has_worker: bool = False
     is_pausing: bool = False  # before the worker is started again
     asks: Optional[Said] = None  # the line of the worker that has no answer yet
@@ -67,3 +123,7 @@ class State:
     message: str = ""
     warned: Optional[int] = None
     is_over: bool = False
+
+    def asks_for(self, serial: int, kind: str) -> bool:
+        """Returns whether the worker waits for an answer of this kind about this attempt."""
+        return self.asks is not None and (self.asks.kind, self.asks.serial) == (kind, serial)

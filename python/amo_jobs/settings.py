@@ -19,6 +19,7 @@ class Settings:
     what: str = ""  # the command: crew, work, status and so on
     words: List[str] = field(default_factory=list)  # the words that remain after the list
     command: List[str] = field(default_factory=list)  # the words after --
+    options: List[str] = field(default_factory=list)  # those before it, as they were given
     asked: str = ""  # the list, as it was given
     jobs: str = ""  # the list, resolved
     mark: str = ""  # the list's mark
@@ -48,6 +49,9 @@ class Settings:
     source: str = ""  # a file of answers
     quiet: int = 60  # seconds
     now: bool = False
+    metrics: str = ""  # a file of numbers
+    events: str = ""  # a file of events
+    notify: str = ""  # a command for the shell
 
     def find(self) -> None:
         """Makes the paths absolute, and finds those that follow from the list."""

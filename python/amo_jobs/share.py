@@ -35,13 +35,13 @@ import re
 import shlex
 import signal
 import sys
-from typing import Any, Dict, List, Optional, Tuple
+from typing import Any, Dict, List, Tuple
 
+from amo_jobs import cli
 from amo_jobs.chunk import Chunk, Sharing, pause, tell
-from amo_jobs.cli import within
 from amo_jobs.files import content, place
 from amo_jobs.locks import locked
-from amo_jobs.messages import End, give_up_output, reason, refused, visible
+from amo_jobs.messages import End, end_of, refused, visible
 from amo_jobs.statuses import Status
 from amo_jobs.worker import Program, boot_id_warning
 
@@ -65,9 +65,9 @@ OPTIONS: List[Tuple[str, Dict[str, Any]]] = [
           help="the list's name in the store, up to 64 of A-Z a-z 0-9 . _ - (required)")),
     ("--claim", dict(required=True, type=words_of, metavar="CMD",
                      help="the claim program, with its arguments (required)")),
-    ("--chunk", dict(required=True, type=within(int, 1, 10**9), metavar="N",
+    ("--chunk", dict(required=True, type=cli.within(int, 1, 10**9), metavar="N",
                      help="the number of lines of a chunk (required)")),
-    ("--workers", dict(required=True, type=within(int, 1, 16), metavar="M",
+    ("--workers", dict(required=True, type=cli.within(int, 1, 16), metavar="M",
                        help="the number of workers on this machine, 1 to 16 (required)")),
     ("--crew", dict(type=words_of, metavar="WORDS",
                     help="more options for amo_jobs, such as --crew='--timeout 60' (default:"
@@ -82,13 +82,7 @@ OPTIONS: List[Tuple[str, Dict[str, Any]]] = [
     ("jobs", dict(type=os.path.abspath, metavar="JOBS", help="the list, a job a line")),
     ("--run", dict(required=True, type=os.path.abspath, metavar="DIR",
                    help="the folder of this machine (required)")),
-    ("--worker-program",
-     dict(metavar="FILE",
-          help="the program amo_worker (default: the one in this program's folder)")),
-    ("--file-system",
-     dict(metavar="TYPE",
-          help="also accept a file system of this type (default: ext2, ext3, ext4, xfs, btrfs, f2fs"
-               " and zfs alone)")),
+    *((name, how) for _, name, how in cli.OPTIONS if name in ("--worker-program", "--file-system")),
 ]
 
 
@@ -221,6 +215,9 @@ def sharing_of(words: List[str]) -> Sharing:
     is_status, cut = words[:1] == ["status"], words.index("--") if "--" in words else len(words)
     top = argparse.ArgumentParser("amo_share", None, __doc__, argument_default=argparse.SUPPRESS,
                                   formatter_class=argparse.RawDescriptionHelpFormatter)
+    if not is_status:
+        shown = f"amo_share {cli.version()}" if words[:1] == ["--version"] else ""
+        top.add_argument("--version", action="version", version=shown)
     for name, how in OPTIONS[8:] if is_status else OPTIONS:
         top.add_argument(name, **how)
     sharing = Sharing(is_status=is_status, command=words[cut + 1:])
@@ -236,27 +233,15 @@ def sharing_of(words: List[str]) -> Sharing:
 
 def main(words: List[str]) -> int:
     """Does what the words ask for, and returns the exit status."""
-    code, text = end_of(words)
+    code, text = end_of(lambda: called(words),
+                        "how all chunks stand: amo_share status --run DIR")
     tell(text or "")
     return code
 
 
-def end_of(words: List[str]) -> Tuple[int, Optional[str]]:
-    """Does what the words ask for, and returns the exit status and the last message."""
-    try:
-        sharing = sharing_of(words)
-        program = Program(sharing.worker_program, sharing.file_system)
-        tell(boot_id_warning())
-        return (status if sharing.is_status else share)(sharing, program), None
-    except SystemExit as end:
-        return Status.WORDS if end.code else Status.DONE, None
-    except End as end:
-        return end.status, end.text
-    except OSError as error:
-        message = reason(error)
-        give_up_output()
-        return (Status.READ if isinstance(error, FileNotFoundError) else Status.WRITE), message
-    except Exception:
-        sys.excepthook(*sys.exc_info())
-        return Status.BUILD, ("internal error, in the lines above; report them, and check how all"
-                              " chunks stand: amo_share status --run DIR")
+def called(words: List[str]) -> int:
+    """Does what the words ask for, and returns the exit status."""
+    sharing = sharing_of(words)
+    program = Program(sharing.worker_program, sharing.file_system)
+    tell(boot_id_warning())
+    return (status if sharing.is_status else share)(sharing, program)

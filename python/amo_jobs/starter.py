@@ -7,16 +7,18 @@ import errno
 import os
 import signal
 from contextlib import suppress
-from typing import Any, List, Mapping, Sequence
+from typing import Any, List, Sequence
 
 from amo_jobs.calls import IGNORED_BY_PYTHON
 from amo_jobs.library import library
 from amo_jobs.locks import NOT_GOT
+from amo_jobs.settings import Settings
 
 HOLE = b"{}"  # the word that stands for the text
 VARIABLES = (b"AMO_JOB", b"AMO_LINE")  # each command has its own
 LONGEST_START = 4000  # bytes; `calls.c` adds a number, and has room for PATH_MAX
-LOCK, OUTPUTS, NO_FILE = 0, (1, 2), 3  # the places of the files in `struct start`, and none
+LOCK, NO_FILE = 0, 3  # places of files in `struct start`: the lock's, the outputs', and none
+OUTPUTS = {"out": 1, "err": 2}
 
 Texts = ctypes.POINTER(ctypes.c_char_p)
 Numbers = ctypes.POINTER(ctypes.c_int)
@@ -37,34 +39,32 @@ def texts(found: Sequence[bytes]) -> Any:
     return (ctypes.c_char_p * (len(found) + 1))(*found, None)
 
 
-def numbers(found: Sequence[int]) -> Any:
-    """Returns these numbers as a list for C."""
-    return (ctypes.c_int * (len(found) + 1))(*found, 0)
-
-
 class Starter:
     """Starts the commands of one runner, one after the other."""
 
-    def __init__(self, words: List[bytes], starts: Sequence[str], timer: float):
-        """Takes how the names of the files begin: of its lock, its output and its errors. A number
-        ends each. Takes the seconds after which the kernel ends a command, too; 0: it doesn't.
-        Signals must be handled as they are while commands are started."""
-        for it in starts:
+    def __init__(self, settings: Settings, worker: int):
+        """Signals must be handled as they are while commands are started. If a command has a time,
+        the kernel ends it too, a second later. Raises OSError."""
+        self.worker, run = worker, os.path.realpath(settings.run)  # as /proc shows it
+        self.starts = [f"{run}/command.{worker}.",
+                       *(f"{settings.results}/{it}.{worker}." for it in OUTPUTS)]
+        for it in self.starts:
             if len(os.fsencode(it)) > LONGEST_START:
                 raise OSError(errno.ENAMETOOLONG, os.strerror(errno.ENAMETOOLONG), it)
-        words = words if HOLE in words else [*words, HOLE]
+        timer = settings.timeout + settings.grace + 1 if settings.timeout else 0.0
+        words = [os.fsencode(it) for it in settings.command]
+        words += [] if HOLE in words else [HOLE]
         self.places = [place for place, it in enumerate(words) if it == HOLE]
         others = [b"%b=%b" % it for it in os.environb.items() if it[0] not in VARIABLES]
         folders = [b""] if b"/" in words[0] else [os.fsencode(it) for it in os.get_exec_path()]
         handled = [it for it in signal.valid_signals() if callable(signal.getsignal(it))]
-        timed = [signal.SIGALRM] if timer else []
+        defaults = [*handled, *IGNORED_BY_PYTHON, *([signal.SIGALRM] if timer else []), 0]
         self.words, self.surroundings = texts(words), texts([*others, b"", b""])
-        self.starts = starts
         self.job, self.line = len(others), len(others) + 1
         self.given = Start(texts([os.path.join(it, words[0]) for it in folders]), self.words,
-                           self.surroundings, numbers([*handled, *IGNORED_BY_PYTHON, *timed]),
+                           self.surroundings, (ctypes.c_int * len(defaults))(*defaults),
                            (0, 0, int(timer), int(timer % 1 * 1e6)),
-                           tuple(os.fsencode(it) for it in starts), files=(-1, -1, -1))
+                           tuple(os.fsencode(it) for it in self.starts), files=(-1, -1, -1))
         self.files, self.pointer = self.given.files, ctypes.byref(self.given)
         self.call, self.call_keep = library().amo_start, library().amo_keep
 
@@ -84,10 +84,14 @@ class Starter:
             raise self.failure(-process)
         return process
 
+    def path(self, place: int, serial: int) -> str:
+        """Returns the path of a file of an attempt: of its lock, or of one of its outputs."""
+        return f"{self.starts[place]}{serial}"
+
     def failure(self, number: int) -> OSError:
         """Returns why no process was made."""
         place = self.given.failed
-        path = None if place == NO_FILE else f"{self.starts[place]}{self.given.serial}"
+        path = None if place == NO_FILE else self.path(place, self.given.serial)
         if number == -NOT_GOT:
             return OSError(errno.EBUSY, "it is locked by another process", path)
         return OSError(number, os.strerror(number), path)
@@ -109,8 +113,8 @@ class Starter:
 
     def remove(self) -> None:
         """Removes the empty outputs that no command has any more."""
-        for place in OUTPUTS:
+        for place in OUTPUTS.values():
             if self.files[place] >= 0:
                 with suppress(OSError):
-                    os.unlink(f"{self.starts[place]}{self.given.former[place]}")
+                    os.unlink(self.path(place, self.given.former[place]))
         self.keep(False)

@@ -16,8 +16,9 @@ from typing import Any, Collection, Dict, Iterator, List
 from amo_jobs.files import content
 from amo_jobs.messages import visible
 from amo_jobs.processes import holders
-from amo_jobs.run_folder import OUTPUTS, name_run
+from amo_jobs.run_folder import name_run
 from amo_jobs.settings import Settings, next_command
+from amo_jobs.starter import OUTPUTS
 from amo_jobs.statuses import KINDS, Status
 from amo_jobs.worker import Program
 

@@ -1,37 +1,29 @@
 """The world around the rules of a crew, for their tests: two runners and what they leave behind.
 And a monitor that holds each step to the rules. It knows nothing of the rules' own state."""
 
-import copy
 import signal
 
-import package  # noqa: F401
-
+from worlds import Broken, want, World as AnyWorld
 from amo_jobs import crew_rules, reports
 from amo_jobs.crew_rules import (
     Locked, Number, Occupied, Orphans, PauseOver, Reported, RunnerEnded, Signalled, State
 )
 from amo_jobs.reports import Report
+from amo_jobs.settings import Settings
 
 HALT, KILLED = 2, -9
 GOOD, FAILED = Report(reports.ENDED, 1, 1, "done", 0), Report(reports.ENDED, 1, 1, "done", 3)
 UNBEGUN = Report(reports.UNBEGUN, 1, 1, text="why")
 
 
-class Broken(Exception):
-    """Which rule is broken."""
-
-
-def want(is_so, rule):
-    if not is_so:
-        raise Broken(rule)
-
-
-class World:
+class World(AnyWorld):
     """What is outside of the rules, the rules' state, and what the monitor remembers."""
 
+    parts = "numbers"
+
     def __init__(self, numbers=2, halt=HALT):
-        self.state = State("pay", "results", "status", {it + 1: Number() for it in range(numbers)},
-                           halt)
+        self.state = State(Settings(command=["pay"], halt=halt), "status",
+                           {it + 1: Number() for it in range(numbers)})
         self.numbers, self.halt = numbers, halt
         self.held = set()  # the locks
         self.living = {}  # of each runner that lives whether it waits for an order
@@ -43,18 +35,6 @@ class World:
         self.told_to_stop, self.has_ended = set(), set()
         self.idle = set()  # those that were told to stop and have no command any more
         self.status, self.trace = None, []
-
-    def copy(self):
-        new = copy.copy(self)
-        for name, value in vars(self).items():
-            if isinstance(value, (set, dict, list)):
-                setattr(new, name, value.copy())
-        new.state = copy.copy(self.state)
-        new.state.numbers = {k: copy.copy(it) for k, it in self.state.numbers.items()}
-        return new
-
-    def key(self):
-        return repr(sorted(it for it in vars(self).items() if it[0] != "trace"))
 
     def events(self):
         """Returns the events that may come next, with what is left of a runner that is killed."""
@@ -85,17 +65,22 @@ class World:
             found += [Reported(worker, Report(reports.OVER, code=it)) for it in codes]
         return found
 
+    def branches(self, event):
+        """Returns what a runner that ends may leave behind."""
+        lefts = ["", "seen", "unseen"] if isinstance(event, RunnerEnded) else [""]
+        return [dict(left=it) for it in lefts]
+
     def step(self, event, left=""):
         """Has the rules take an event. `left` is what a runner that ends leaves behind."""
         self.trace.append(event)
         try:
             self.before(event)
-            self.carry(event)
+            self.take(event)
             if isinstance(event, RunnerEnded):
                 self.orphans = max(self.orphans, left)
                 more = Orphans(bool(self.orphans), "x" if self.orphans == "unseen" else "")
                 self.trace.append(more)
-                self.carry(more)
+                self.take(more)
             self.check()
         except Broken as broken:
             raise Broken(f"{broken}: {self.trace}") from None
@@ -133,11 +118,9 @@ class World:
             self.row = 0
         self.is_stopped |= report == UNBEGUN
 
-    def carry(self, event):
-        actions = crew_rules.take(self.state, event)
-        self.trace += actions
-        for action in actions:
-            getattr(self, f"on_{type(action).__name__}")(action, event)
+    def take(self, event):
+        """Has the rules take an event, and carries their actions out."""
+        self.carry(crew_rules.take(self.state, event), event)
 
     def on_Start(self, action, event):
         worker = action.worker

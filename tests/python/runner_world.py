@@ -6,36 +6,28 @@ actions out, and raises Broken if a rule is broken. World and monitor know nothi
 state: they see events and actions alone.
 """
 
-import copy
 import signal
 
-import package  # noqa: F401
-
+from worlds import Broken, want, World as AnyWorld
 from amo_jobs import reports, runner_rules
-from amo_jobs.runner_events import (
-    Answer, Begin, CommandEnded, Elapsed, End, GRACE, LINGER, Look, Looked, PassOn, PAUSE, Plain,
-    Rest, Said, Send, StartFailed, StartWorker, Tell, TIMEOUT, Wait, WorkerEnded
+from amo_jobs.runner_state import (
+    Answer, Begin, CommandEnded, Elapsed, End, GRACE, LINGER, LONGEST, Look, Looked, PassOn, PAUSE,
+    PERFORM, Plain, Rest, Said, Send, SHORTEST, StartFailed, StartWorker, State, Tell, TIMEOUT,
+    Wait, WorkerEnded
 )
-from amo_jobs.runner_state import LONGEST, Options, SHORTEST, State
+from amo_jobs.settings import Settings
 
-OPTIONS = Options(timeout=60.0, untouched=frozenset({75}))
+SETTINGS = Settings(timeout=60.0, untouched=frozenset({75}))
 KILLED = -9
 
 
-class Broken(Exception):
-    """Which rule is broken."""
-
-
-def want(is_so, rule):
-    if not is_so:
-        raise Broken(rule)
-
-
-class World:
+class World(AnyWorld):
     """What is outside of the rules, the rules' state, and what the monitor remembers."""
 
+    parts = "attempts"
+
     def __init__(self, pending=(), lines=2, rests=None):
-        self.state = State(1, OPTIONS)
+        self.state = State(SETTINGS)
         # the worker: its journal has `serial` intents, of which these have no outcome yet
         self.pending, self.serial, self.lines = set(pending), max(pending, default=0), lines
         self.is_alive = False
@@ -53,24 +45,7 @@ class World:
         self.last_wait = False
         self.answers = {}  # the attempts about which it has answered, by their last word
         self.trace = []  # for messages alone
-        self.carry(runner_rules.begin(self.state), None)
-
-    def copy(self):
-        """Returns a copy that shares nothing that changes."""
-        new = copy.copy(self)
-        for name, value in vars(self).items():
-            if isinstance(value, (set, dict, list)):
-                setattr(new, name, value.copy())
-        new.state = copy.copy(self.state)
-        for name, value in vars(self.state).items():
-            if isinstance(value, dict):
-                setattr(new.state, name, value.copy())
-        new.state.attempts = {k: copy.copy(it) for k, it in self.state.attempts.items()}
-        return new
-
-    def key(self):
-        """Returns what two worlds have in common that need not be searched twice."""
-        return repr(sorted(it for it in vars(self).items() if it[0] != "trace"))
+        self.carry(runner_rules.start_worker(self.state), None)
 
     # ---- what may come
 
@@ -119,6 +94,14 @@ class World:
             if serial in self.begun and serial != self.command and rest is not Rest.NOTHING:
                 found += [Looked(serial, it) for it in Rest if it is not rest]
         return found
+
+    def branches(self, event):
+        """Returns what a command leaves behind, and whether one can be started."""
+        if isinstance(event, CommandEnded):
+            rests = Rest if event.status in (0, None) else (Rest.NOTHING, Rest.UNSEEN)
+            return [dict(rest=it) for it in rests]
+        may_start = isinstance(event, Said) and event.kind == PERFORM and event.is_alive
+        return [{}, dict(starts=False)] if may_start else [{}]
 
     # ---- a step
 
@@ -188,12 +171,6 @@ class World:
             self.pending.discard(self.answered[0])
         self.answered = None
 
-    def carry(self, actions, event):
-        """Carries actions out."""
-        self.trace += actions
-        for action in actions:
-            getattr(self, f"on_{type(action).__name__}")(action, event)
-
     def on_StartWorker(self, _, event):
         want(not self.is_alive and not self.is_ended, "a worker is started while one is there")
         want(self.command is None, "a worker is started while a command of the former one runs")
@@ -253,7 +230,6 @@ class World:
         if self.replies[1]:
             self.begun.add(action.serial)
             self.command = action.serial
-            self.carry(runner_rules.take(self.state, Plain.STARTED), Plain.STARTED)
         else:
             self.unbegun.add(action.serial)
             self.carry(runner_rules.take(self.state, StartFailed("why")), StartFailed("why"))

@@ -14,12 +14,13 @@ from unittest import mock
 
 import package  # noqa: F401
 
-from amo_jobs import calls, command, starter
-from amo_jobs.command import Command, Commands, NotStarted
-from amo_jobs.locks import is_free
+from amo_jobs import calls, starter
+from amo_jobs.command import Command, NotStarted
+from amo_jobs.locks import remove_if_free
 from amo_jobs.processes import Family
-from amo_jobs.runner_events import Rest
+from amo_jobs.runner_state import Rest
 from amo_jobs.settings import Settings
+from amo_jobs.starter import OUTPUTS, Starter
 from test_processes import until
 
 SHOWS = """
@@ -59,11 +60,11 @@ class Case(unittest.TestCase):
     def commands(self, *words, **more):
         settings = Settings(command=list(words), run=self.run, results=self.run,
                             timeout=self.timeout, **more)
-        return Commands(settings, 3, self.family)
+        return Starter(settings, 3)
 
     def start(self, commands, text=b"pay"):
         self.serial += 1
-        found = Command(commands, self.serial, 7)
+        found = Command(commands, self.family, self.serial, 7)
         found.start(text, ())
         return found
 
@@ -126,11 +127,11 @@ class Spawned(Case):
     def test_the_lock_is_held_by_the_command(self):
         found = self.start(self.commands("sh", "-c", SLEEPS))
         os.close(found.locks.pop())
-        self.assertFalse(is_free(found.path))
+        self.assertFalse(remove_if_free(found.path))
         os.kill(found.process, signal.SIGKILL)
         self.end(found)
-        self.assertTrue(is_free(found.path))
-        self.assertTrue(is_free(found.path))  # a missing file counts as free
+        self.assertTrue(remove_if_free(found.path))
+        self.assertTrue(remove_if_free(found.path))  # a missing file counts as free
 
     def test_what_holds_the_lock_is_seen(self):
         script = "sleep 60 & echo $! > left.txt"
@@ -153,7 +154,7 @@ class Spawned(Case):
         found, number = self.leave_unseen()
         for _ in range(2):
             self.assertIs(found.rest(()), Rest.UNSEEN)
-            self.assertFalse(is_free(found.path))
+            self.assertFalse(remove_if_free(found.path))
         os.kill(number, signal.SIGKILL)
         until(lambda: found.rest(calls.reap() and ()) is Rest.NOTHING)
         self.assertEqual(self.files(), [])
@@ -162,7 +163,7 @@ class Spawned(Case):
         found, _ = self.leave_unseen()
         os.unlink(found.path)
         self.assertIs(found.rest(()), Rest.UNSEEN)
-        self.assertFalse(is_free(found.path))
+        self.assertFalse(remove_if_free(found.path))
 
     def test_one_that_holds_the_lock_hides_nobody(self):
         script = ("import subprocess\n"
@@ -195,8 +196,8 @@ class Spawned(Case):
         self.assertEqual([it.number for it in second.left((), True)], [later])
 
     def test_the_workers_process_belongs_to_no_command(self):
-        worker = calls.spawn([b"sleep", b"60"], dict(os.environb), {})
-        found = Command(self.commands("true"), 1, 7)
+        worker = calls.spawn([b"sleep", b"60"], {})
+        found = Command(self.commands("true"), self.family, 1, 7)
         found.start(b"pay", [worker])
         self.end(found)
         self.assertIs(found.rest([worker]), Rest.NOTHING)
@@ -236,7 +237,7 @@ class Spawned(Case):
         self.assertEqual(numbers[0], numbers[2])
         self.assertNotEqual(numbers[2], numbers[3])
         self.assertEqual(self.text("out.3.3"), "loud\n")
-        commands.starter.remove()
+        commands.remove()
         self.assertEqual(self.files(), ["out.3.3"])
 
     def test_an_output_that_somebody_has_stays_with_its_attempt(self):
@@ -244,7 +245,7 @@ class Spawned(Case):
         first = self.start(commands)
         self.end(first)
         self.assertIs(first.rest(()), Rest.SEEN)
-        second = Command(commands, 2, 8)
+        second = Command(commands, self.family, 2, 8)
         second.start(b"pay", ())
         paths = [f"{self.run}/out.3.{it}" for it in (1, 2)]
         self.assertFalse(os.path.samefile(*paths))
@@ -293,7 +294,7 @@ class NotBegun(Case):
         self.assertTrue(os.path.exists(path))
 
     def test_files_that_cannot_be_made(self):
-        for kind in command.OUTPUTS:
+        for kind in OUTPUTS:
             self.serial = 0
             os.mkdir(f"{self.run}/{kind}.3.1")
             with self.assertRaises(NotStarted) as raised:
@@ -304,15 +305,15 @@ class NotBegun(Case):
 
     def test_a_system_without_processes(self):
         commands = self.commands("true")
-        begin = commands.starter.call
+        begin = commands.call
 
         def refuse(given):
             begin(given)  # which makes the lock and the outputs
             calls.reap()
-            commands.starter.given.failed = starter.NO_FILE
+            commands.given.failed = starter.NO_FILE
             return -errno.EAGAIN
 
-        commands.starter.call = refuse
+        commands.call = refuse
         with self.assertRaises(NotStarted) as raised:
             self.start(commands)
         self.assertIn("allow more processes", str(raised.exception))
@@ -336,7 +337,7 @@ class TimedCommand(Timed, Spawned):
 
     def test_the_kernel_ends_a_command_whose_runner_does_not(self):
         commands = self.commands("sh", "-c", SLEEPS, grace=0.0)
-        commands.starter.given.timer[:] = [0, 0, 0, 1000]
+        commands.given.timer[:] = [0, 0, 0, 1000]
         self.assertEqual(self.end(self.start(commands)), -signal.SIGALRM)
 
 

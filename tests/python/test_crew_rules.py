@@ -3,20 +3,21 @@ that the monitor has to notice."""
 
 import signal
 import unittest
-from unittest import mock
 
-from crew_world import Broken, FAILED, GOOD, KILLED, UNBEGUN, World
+from crew_world import FAILED, KILLED, World
+from worlds import after, Changes, EveryOrder
 from amo_jobs import crew_rules, reports
 from amo_jobs.crew_rules import (
     End, LetGo, Locked, Number, Occupied, Order, Orphans, Pause, PauseOver, Phase, Reported,
-    RunnerEnded, Say, Signalled, SignalOrphans, Start, StartFailed, State
+    RunnerEnded, Say, Signalled, SignalOrphans, Start, State
 )
 from amo_jobs.reports import Report
+from amo_jobs.settings import Settings
 
-DEPTH = 6
-ORIGINAL = dict(crew_rules.HANDLERS)
+CHANGES = Changes(crew_rules)
+ORIGINAL = CHANGES.original
 BOTH = [Locked(1), Locked(2)]
-DIES = (RunnerEnded(1, KILLED), "unseen")
+DIES = (RunnerEnded(1, KILLED), dict(left="unseen"))
 # The worlds from which the search begins, by what has happened in them.
 SCENES = {
     "a first start": [],
@@ -28,67 +29,6 @@ SCENES = {
     "another has a number": [Locked(1), Occupied(2, 4711)],
     "a refusal": [*BOTH, Reported(1, Report(reports.OVER, code=65))],
 }
-
-
-def branches(event):
-    """Returns what a runner that ends may leave behind."""
-    return ["", "seen", "unseen"] if isinstance(event, RunnerEnded) else [""]
-
-
-def search(events, depth):
-    """Takes every order of so many events after these. Returns how many steps that were."""
-    first, known, steps = World(), set(), 0
-    for event in events:
-        event, left = event if type(event) is tuple else (event, "")
-        first.step(event, left)
-    front = [first]
-    for _ in range(depth):
-        following = []
-        for world in front:
-            for event in world.events():
-                for left in branches(event):
-                    new = world.copy()
-                    new.step(event, left)
-                    steps += 1
-                    key = new.key()
-                    if key not in known:
-                        known.add(key)
-                        following.append(new)
-        front = following
-    return steps
-
-
-def broken_rules(depth):
-    """Yields which rules are broken, at most one for each of these worlds."""
-    for events in SCENES.values():
-        try:
-            search(events, depth)
-        except Broken as broken:
-            yield str(broken).partition(": [")[0]
-
-
-class EveryOrder(unittest.TestCase):
-    """Every order of up to six events, from each scene."""
-
-    def test_every_order_of_events_keeps_the_rules(self):
-        steps = {name: search(events, DEPTH if not events else DEPTH - 1)
-                 for name, events in SCENES.items()}
-        self.assertGreater(min(steps.values()), 300, steps)
-
-    def test_a_mistake_is_noticed(self):
-        for name, (change, rule) in MISTAKES.items():
-            with self.subTest(name), change():
-                found = []
-                is_noticed = any(found.append(it) or it == rule for it in broken_rules(4))
-                self.assertTrue(is_noticed, f"{name}: {found}")
-
-
-def with_handler(kind, function):
-    return lambda: mock.patch.dict(crew_rules.HANDLERS, {kind: function})
-
-
-def with_function(name, function):
-    return lambda: mock.patch.object(crew_rules, name, function)
 
 
 def restarts_beside_orphans(state, it):
@@ -126,36 +66,44 @@ def forgets_the_refusal(state):
 
 # The mistakes: how each is made, and the rule that it breaks.
 MISTAKES = {
-    "no acknowledgement": (with_function("after_failure", lambda *_: []),
+    "no acknowledgement": (CHANGES.function("after_failure", lambda *_: []),
                            "a runner waits for an order"),
-    "failures never stop": (with_function(
+    "failures never stop": (CHANGES.function(
         "after_failure", lambda state, worker, report: [Order(worker, reports.GO)]),
         "a runner goes on after too many failures"),
-    "a runner is started beside orphans": (with_handler(Orphans, restarts_beside_orphans),
+    "a runner is started beside orphans": (CHANGES.handler(Orphans, restarts_beside_orphans),
                                            "a pause beside orphans"),
-    "what is unseen is let go": (with_handler(Orphans, sees_all),
+    "what is unseen is let go": (CHANGES.handler(Orphans, sees_all),
                                  "a lock is let go while nobody else sees what is left"),
     "one runner is told to stop": (
-        with_function("stop", stops_the_first(crew_rules.stop)), "a runner isn't told to stop"),
-    "the first signal is passed on": (with_handler(Signalled, passes_the_first),
+        CHANGES.function("stop", stops_the_first(crew_rules.stop)), "a runner isn't told to stop"),
+    "the first signal is passed on": (CHANGES.handler(Signalled, passes_the_first),
                                       "the first signal is passed on"),
     "a killed runner counts as ended": (
-        with_handler(RunnerEnded, lets_go_at_once),
+        CHANGES.handler(RunnerEnded, lets_go_at_once),
         "a lock is let go while nobody else sees what is left"),
     "a runner is started after a stop": (
-        with_handler(Locked, lambda state, it: [Start(it.worker)]),
+        CHANGES.handler(Locked, lambda state, it: [Start(it.worker)]),
         "it ends while a runner lives"),
-    "a refusal is forgotten": (with_function("last_status", forgets_the_refusal),
+    "a refusal is forgotten": (CHANGES.function("last_status", forgets_the_refusal),
                                "a refusal isn't its status"),
 }
+
+
+class Orders(EveryOrder, unittest.TestCase):
+    """Every order of up to six events from the first scene, and of five from the others."""
+
+    scenes = {name: lambda events=events: after(World(), *events)
+              for name, events in SCENES.items()}
+    mistakes = MISTAKES
 
 
 class Steps(unittest.TestCase):
     """Each action, and each branch that the search doesn't tell apart."""
 
     def setUp(self, numbers=2, halt=None):
-        self.state = State("pay", "/results", "amo_jobs status x",
-                           {it + 1: Number() for it in range(numbers)}, halt)
+        self.state = State(Settings(command=["pay"], results="/results", halt=halt),
+                           "amo_jobs status x", {it + 1: Number() for it in range(numbers)})
         for worker in range(1, numbers + 1):
             self.assertEqual(self.take(Locked(worker)), [Start(worker)])
 
@@ -181,6 +129,8 @@ class Steps(unittest.TestCase):
                                          " status x names the process)",
             (reports.TRIES, 0, 0, "", 2, False, "full"): "worker 1: full. It goes on trying, since"
                                                          " 2 ends are not recorded yet",
+            (reports.SHORT, 0, 0, "", 0, False, "full"): "worker 1: full. It goes on trying, until"
+                                                         " you stop it",
             (reports.SAYS, 0, 0, "", 0, False, "text"): "text",
         }
         for given, text in lines.items():
@@ -238,10 +188,9 @@ class Steps(unittest.TestCase):
         self.assertEqual(said, "worker 1: its runner got SIGTERM, so no further job is started")
 
     def test_lines_that_were_taken(self):
-        shown = [self.report(reports.TAKEN, code=1, text=f"line {k}") for k in range(12)]
+        shown = [self.report(reports.TAKEN, text=f"line {k}") for k in range(12)]
         self.assertEqual(sum(map(bool, shown)), crew_rules.MOST_TAKEN)
-        self.assertEqual(self.report(reports.TAKEN, code=1, text=""), [])
-        self.assertEqual(self.state.taken, 13)
+        self.assertEqual(self.state.taken, 12)
 
     def test_ends_in_order(self):
         self.assertEqual(self.report(reports.OVER, code=0), [])
@@ -307,7 +256,7 @@ class Steps(unittest.TestCase):
         self.assertEqual(self.take(Orphans(False, "")), [End(None)])
 
     def test_another_crews_runner_has_a_number(self):
-        self.state = State("pay", "/results", "status", {1: Number(), 2: Number()}, None)
+        self.state = State(Settings(), "status", {1: Number(), 2: Number()})
         said, = self.take(Occupied(2, 4711))
         self.assertEqual(said.text, "worker 2: the runner of an earlier crew, process 4711, ends"
                          " its command; this worker begins after that")
@@ -317,7 +266,7 @@ class Steps(unittest.TestCase):
         self.assertEqual(self.take(RunnerEnded(1, 0)), [LetGo(1), End(None)])
 
     def test_no_number_at_all(self):
-        self.state = State("pay", "/results", "status", {1: Number()}, None)
+        self.state = State(Settings(), "status", {1: Number()})
         self.take(Occupied(1, 0))
         self.assertEqual(self.take(Signalled(signal.SIGINT))[-1], End(75))
 
@@ -327,9 +276,10 @@ class Steps(unittest.TestCase):
         self.assertEqual(self.take(Locked(2)), [LetGo(2)])
 
     def test_a_runner_that_cannot_be_started(self):
-        said, let_go, stop, order = self.take(StartFailed(1, "`x`: no such file"))
+        said, stop, *orders = self.report(reports.OVER, code=74, text="`x`: no such file")
         self.assertEqual(said.text, "worker 1: `x`: no such file (status 74)")
-        self.assertEqual((let_go, order), (LetGo(1), Order(2, "stop")))
+        self.assertEqual(orders, [Order(1, "stop"), Order(2, "stop")])
+        self.assertEqual(self.take(RunnerEnded(1, 74))[0], LetGo(1))
 
 
 if __name__ == "__main__":

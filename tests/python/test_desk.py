@@ -8,11 +8,12 @@ from unittest import mock
 import package  # noqa: F401
 from amo_jobs import crew_rules, reports
 from amo_jobs.cli import settings_of
-from amo_jobs.crew import words_of
-from amo_jobs.desk import OwnDesk, SupervisedDesk
+from amo_jobs.crew import OwnDesk, words_of
+from amo_jobs.desk import SupervisedDesk
 from amo_jobs.messages import Screen
 from amo_jobs.reports import line_of, Report, report_of
-from amo_jobs.runner_events import PassOn, Plain
+from amo_jobs.runner_state import PassOn, Plain
+from amo_jobs.settings import Settings
 
 GOOD = Report(reports.ENDED, 1, 7, "done", 0)
 SET_PIPE_SIZE, PAGE = 1031, 4096  # of fcntl
@@ -29,7 +30,7 @@ class Pipes(unittest.TestCase):
         self.open = [self.reports, self.orders]
 
     def tearDown(self):
-        for file in [*self.open, *self.desk.out, *self.desk.orders]:
+        for file in [*self.open, *self.desk.out.files, *self.desk.orders.files]:
             os.close(file)
 
     def close(self, file):
@@ -58,11 +59,11 @@ class Pipes(unittest.TestCase):
         for number in range(count):
             self.desk.report(GOOD._replace(serial=number))
         self.assertEqual(self.events(), [Plain.HELD])
-        self.assertEqual(self.desk.files()[1], self.desk.out)
+        self.assertEqual(self.desk.files()[1], self.desk.out.files)
         data = b""
-        while self.desk.unsent:
+        while self.desk.out.unsent:
             data += os.read(self.reports, 1 << 16)
-            self.desk.exchange(frozenset(self.desk.out))
+            self.desk.exchange(frozenset(self.desk.out.files))
         data += os.read(self.reports, 1 << 16)
         self.assertEqual(self.events(), [Plain.SENT])
         self.assertEqual(self.desk.files()[1], [])
@@ -70,15 +71,15 @@ class Pipes(unittest.TestCase):
 
     def test_orders_are_events(self):
         os.write(self.orders, b"go\nstop\nnews\npa")
-        self.desk.read()
+        self.desk.exchange(frozenset(self.desk.orders.files))
         os.write(self.orders, b"ss 15\n")
-        self.desk.read()
+        self.desk.exchange(frozenset(self.desk.orders.files))
         self.assertEqual(self.events(),
                          [Plain.ACKNOWLEDGED, Plain.STOP, Plain.NEWS, PassOn(15)])
 
     def test_the_end_of_the_orders_is_the_supervisors(self):
         self.close(self.orders)
-        self.desk.read()
+        self.desk.exchange(frozenset(self.desk.orders.files))
         self.assertEqual(self.events(), [Plain.DESERTED])
         self.assertEqual(self.desk.files(), ([], []))
         self.desk.report(GOOD)
@@ -101,7 +102,7 @@ class Own(unittest.TestCase):
 
     @mock.patch.object(Screen, "tell")
     def test_the_rules_of_a_crew_give_the_orders(self, tell):
-        state = crew_rules.State("pay", "/results", "status", {3: crew_rules.Number()}, 2)
+        state = crew_rules.State(Settings(halt=2), "status", {3: crew_rules.Number()})
         crew_rules.take(state, crew_rules.Locked(3))
         desk = OwnDesk(3, state, None)
         desk.report(GOOD)

@@ -13,7 +13,7 @@ import package  # noqa: F401
 from amo_jobs import calls
 from amo_jobs.calls import Process
 from amo_jobs.processes import (
-    below, described, Family, has_open, holders, holds, named, Signals
+    below, described, Family, has_open, holders, named, Signals
 )
 
 SLEEPS = "exec sleep 60"
@@ -51,7 +51,7 @@ class Processes(unittest.TestCase):
     def start(self, script, folder="sh"):
         """Starts a shell; returns its number."""
         words = [b"sh", b"-c", script.encode(), folder.encode()]
-        return calls.spawn(words, dict(os.environb), {})
+        return calls.spawn(words, {})
 
     def programs(self):
         return [calls.program_of(it.number) for it in self.family.rest((), ())]
@@ -96,8 +96,21 @@ class Processes(unittest.TestCase):
                   "it = threading.Thread(target=lambda: subprocess.run(['sleep', '60']))\n"
                   "it.start()\nit.join()\n")
         words = [os.fsencode(sys.executable), b"-c", script.encode()]
-        calls.spawn(words, dict(os.environb), {})
+        calls.spawn(words, {})
         until(lambda: "sleep" in self.programs())
+
+    def test_a_child_gets_each_file_under_its_number(self):
+        with tempfile.TemporaryDirectory() as room:
+            files = [os.open(f"{room}/{name}", os.O_RDWR | os.O_CREAT) for name in "ab"]
+            for file, name in zip(files, (b"a", b"b")):
+                os.write(file, name)
+                self.addCleanup(os.close, file)
+            one, two = files  # each has the other's number
+            shows = f"cat /proc/self/fd/{one} /proc/self/fd/{two} /proc/self/fd/0 > {room}/shown"
+            calls.spawn([b"sh", b"-c", shows.encode()], {one: two, two: one})
+            until(lambda: calls.reap()[0])
+            with open(f"{room}/shown", "rb") as file:
+                self.assertEqual(file.read(), b"ba")
 
     def test_a_snapshot_leaves_out_earlier_children(self):
         early = self.start(SLEEPS)
@@ -149,7 +162,7 @@ class Processes(unittest.TestCase):
         self.assertEqual(below([Process(0, 0)], lambda _: True), [])
         self.assertEqual(calls.children_of(0), [])
         self.assertEqual((calls.program_of(0), calls.words_of(0)), ("", []))
-        self.assertIsNone(calls.files_of(0))
+        self.assertEqual(calls.files_of(0), [])
 
     def test_who_holds_a_file(self):
         number = self.start("exec sleep 60 < /etc/passwd")
@@ -157,8 +170,7 @@ class Processes(unittest.TestCase):
         self.assertTrue(has_open(process_of(number), ("/etc/pass",)))
         self.assertFalse(has_open(process_of(number), ("/etc/group",)))
         self.assertFalse(has_open(Process(0, 0), ("/etc/passwd",)))
-        self.assertTrue(holds(process_of(number), "/etc/passwd"))
-        self.assertFalse(holds(process_of(number), "/etc/pass"))
+        self.assertIn("/etc/passwd", calls.files_of(number))
 
     def test_what_only_a_runner_sees_is_named(self):
         with tempfile.TemporaryDirectory() as run:

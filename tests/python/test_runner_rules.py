@@ -5,57 +5,19 @@ import signal
 import unittest
 from unittest import mock
 
-from runner_world import Broken, KILLED, OPTIONS, World
+from runner_world import KILLED, SETTINGS, World
+from worlds import after, Changes, EveryOrder
 from amo_jobs import reports, runner_rules
 from amo_jobs.reports import Report
-from amo_jobs.runner_events import (
-    Answer, Begin, CommandEnded, Elapsed, End, GRACE, LINGER, Look, Looked, MOMENT, PassOn, PAUSE,
-    PERFORM, Plain, Rest, Said, Send, StartFailed, StartWorker, Tell, TIMEOUT, Wait, WAS,
-    WorkerEnded
+from amo_jobs.runner_state import (
+    Answer, Attempt, Begin, CommandEnded, Elapsed, End, GRACE, LINGER, Look, Looked, MOMENT,
+    PassOn, PAUSE, PERFORM, Plain, Rest, Said, Send, StartFailed, StartWorker, State, Tell,
+    TIMEOUT, Wait, WAS, WorkerEnded
 )
-from amo_jobs.runner_state import Attempt, Options, State
+from amo_jobs.settings import Settings
 
-DEPTH = 6
-ORIGINAL = dict(runner_rules.HANDLERS)
-
-
-def branches(world, event):
-    """Yields how a step may go on: what a command leaves behind, and whether one can be started."""
-    if isinstance(event, CommandEnded):
-        rests = Rest if event.status in (0, None) else (Rest.NOTHING, Rest.UNSEEN)
-        yield from (dict(rest=it) for it in rests)
-    else:
-        yield {}
-        if isinstance(event, Said) and event.kind == PERFORM and event.is_alive:
-            yield dict(starts=False)
-
-
-def search(first, depth):
-    """Takes every order of so many events, from each of these worlds. Returns how many steps that
-    were. Worlds that are equal are searched once."""
-    front, known, steps = list(first), set(), 0
-    for left in range(depth, 0, -1):
-        following = []
-        for world in front:
-            for event in world.events():
-                for how in branches(world, event):
-                    new = world.copy()
-                    new.step(event, **how)
-                    steps += 1
-                    key = new.key()
-                    if key not in known:
-                        known.add(key)
-                        following.append(new)
-        front = following
-    return steps
-
-
-def after(world, *events):
-    """Returns the world after these events, each of which may be a pair with how it goes on."""
-    for event in events:
-        event, how = event if isinstance(event, tuple) and type(event) is tuple else (event, {})
-        world.step(event, **how)
-    return world
+CHANGES = Changes(runner_rules)
+ORIGINAL = CHANGES.original
 
 
 def said(kind, serial=0, is_alive=True):
@@ -85,52 +47,6 @@ SCENES = {
 }
 
 
-def search_from(name, depth):
-    """Searches from one of these worlds."""
-    given, events = SCENES[name]
-    return search([after(World(**given), *events)], depth)
-
-
-def broken_rules(depth):
-    """Yields which rules are broken, at most one for each of these worlds."""
-    for name in SCENES:
-        try:
-            search_from(name, depth)
-        except Broken as broken:
-            yield str(broken).partition(": [")[0]
-
-
-class EveryOrder(unittest.TestCase):
-    """Every order of up to six events, from each scene."""
-
-    def test_every_order_of_events_keeps_the_rules(self):
-        steps = {name: search_from(name, DEPTH if name == "a first start" else DEPTH - 2)
-                 for name in SCENES}
-        self.assertGreater(min(steps.values()), 300, steps)
-
-    def test_a_mistake_is_noticed(self):
-        for name, (change, rule) in MISTAKES.items():
-            with self.subTest(name), change():
-                found = []
-                is_noticed = any(found.append(it) or it == rule for it in broken_rules(4))
-                self.assertTrue(is_noticed, f"{name}: {found}")
-
-
-def with_handler(kind, function):
-    """Replaces what the rules do about an event."""
-    return lambda: mock.patch.dict(runner_rules.HANDLERS, {kind: function})
-
-
-def with_function(name, function):
-    """Replaces one of the rules' functions."""
-    return lambda: mock.patch.object(runner_rules, name, function)
-
-
-def changed(name, make):
-    """Replaces a function by one that is made of it."""
-    return with_function(name, make(getattr(runner_rules, name)))
-
-
 def goes_on_after_a_stop(original):
     def go_on(state):
         was, state.is_stopping = state.is_stopping, False
@@ -144,6 +60,14 @@ def reports_first(original):
     def answer(state, serial):
         *answers, last = original(state, serial)
         return [last, *answers]
+    return answer
+
+
+def needs_no_acknowledgement(original):
+    def answer(state, serial):
+        actions = original(state, serial)
+        state.is_unacknowledged = False
+        return actions
     return answer
 
 
@@ -196,67 +120,75 @@ def drops_the_line(state, it):
 # The mistakes: how each is made, and the rule that it breaks.
 MISTAKES = {
     "a command after a stop":
-        (changed("go_on", goes_on_after_a_stop), "a command is begun after a stop"),
+        (CHANGES.changed("go_on", goes_on_after_a_stop), "a command is begun after a stop"),
     "a dead worker's line is carried out":
-        (with_handler(Said, lambda state, it: ORIGINAL[Said](state, it._replace(is_alive=True))),
+        (CHANGES.handler(Said, lambda state, it: ORIGINAL[Said](state, it._replace(is_alive=True))),
          "a dead worker's line"),
     "done while something is left":
-        (with_handler(Looked, takes_seen_for_nothing), "done of what still runs"),
+        (CHANGES.handler(Looked, takes_seen_for_nothing), "done of what still runs"),
     "a report before the answer":
-        (changed("answer", reports_first), "a report before the answer"),
+        (CHANGES.changed("answer", reports_first), "a report before the answer"),
     "no acknowledgement is waited for":
-        (with_function("tell", lambda state, report: [] if report is None else [Tell(report)]),
+        (CHANGES.changed("answer", needs_no_acknowledgement),
          "a command before the supervisor knows of a failure"),
     "a full pipe holds nothing":
-        (with_handler(Plain.HELD, lambda state, it: []), "a command while a report isn't sent"),
+        (CHANGES.handler(Plain.HELD, lambda state, it: []), "a command while a report isn't sent"),
     "it ends before an end is recorded":
-        (with_function("may_end", lambda state: state.status >= 0),
+        (CHANGES.function("may_end", lambda state: state.status >= 0),
          "it ends before these ends are recorded"),
     "it ends while something is unseen":
-        (changed("what_next", ends_while_unseen),
+        (CHANGES.changed("what_next", ends_while_unseen),
          "it ends while nobody else sees what is left"),
     "an end is forgotten with its worker":
-        (with_handler(WorkerEnded, forgets_all(ORIGINAL[WorkerEnded])),
+        (CHANGES.handler(WorkerEnded, forgets_all(ORIGINAL[WorkerEnded])),
          "it ends before these ends are recorded"),
     "a worker is started while a command runs":
-        (changed("what_next", starts_in_between),
+        (CHANGES.changed("what_next", starts_in_between),
          "a worker is started while a command of the former one runs"),
     "no pause":
-        (with_function("restart", lambda state: runner_rules.start_worker(state)),
+        (CHANGES.function("restart", lambda state: runner_rules.start_worker(state)),
          "a worker is started again without a pause"),
     "unbegun without knowing":
-        (changed("lost", says_unbegun), "unbegun of what was begun, or of what nobody knows"),
+        (CHANGES.changed("lost", says_unbegun), "unbegun of what was begun, or of what nobody knows"),
     "the timeout is no doubt":
         (lambda: mock.patch.dict(runner_rules.TIMERS, {TIMEOUT: keeps_time}),
          "another end than the command's"),
     "a signal isn't passed on":
-        (with_handler(PassOn, lambda state, it: []), "a further signal isn't passed on"),
+        (CHANGES.handler(PassOn, lambda state, it: []), "a further signal isn't passed on"),
     "a stop doesn't end a wait":
-        (with_handler(Plain.STOP, lambda state, it: setattr(state, "is_stopping", True) or []),
+        (CHANGES.handler(Plain.STOP, lambda state, it: setattr(state, "is_stopping", True) or []),
          "a worker waits at over"),
     "a line is never performed":
-        (with_handler(Plain.ACKNOWLEDGED, lambda state, it: []), "a line waits for nothing"),
+        (CHANGES.handler(Plain.ACKNOWLEDGED, lambda state, it: []), "a line waits for nothing"),
     "a worker waits for ever":
-        (with_function("way", lambda state, word: []), "a worker waits at over"),
+        (CHANGES.function("way", lambda state, word: []), "a worker waits at over"),
     "what a killed worker asked for is a doubt":
-        (with_handler(WorkerEnded, drops_the_line), "it ends before these ends are recorded"),
+        (CHANGES.handler(WorkerEnded, drops_the_line), "it ends before these ends are recorded"),
 }
+
+
+class Orders(EveryOrder, unittest.TestCase):
+    """Every order of up to six events from the first scene, and of four from the others."""
+
+    scenes = {name: lambda given=given, events=events: after(World(**given), *events)
+              for name, (given, events) in SCENES.items()}
+    mistakes, depths = MISTAKES, (6, 4)
 
 
 class Steps(unittest.TestCase):
     """Each action, and each branch that the search doesn't tell apart."""
 
     def setUp(self):
-        self.state = State(1, OPTIONS)
-        self.assertEqual(runner_rules.begin(self.state), [StartWorker()])
+        self.state = State(SETTINGS)
+        self.assertEqual(runner_rules.start_worker(self.state), [StartWorker()])
 
     def take(self, event):
         return runner_rules.take(self.state, event)
 
     def begin(self, serial=1):
-        found = self.take(Said(PERFORM, serial, 7, b"pay"))
-        self.assertEqual(found, [Begin(serial, 7, b"pay")])
-        return self.take(Plain.STARTED)
+        begin, *times = self.take(Said(PERFORM, serial, 7, b"pay"))
+        self.assertEqual(begin, Begin(serial, 7, b"pay"))
+        return times
 
     def ended(self, status, serial=1):
         self.assertEqual(self.take(CommandEnded(status)), [Look(serial)])
@@ -278,7 +210,7 @@ class Steps(unittest.TestCase):
         self.assertEqual([it.timer for it in found], [MOMENT, TIMEOUT])
         runs = Tell(Report(reports.RUNS, 1, 7))
         self.assertEqual(self.take(Elapsed(MOMENT, 1)), [runs])
-        term = [Send(1, signal.SIGTERM), Wait(GRACE, 1, OPTIONS.grace)]
+        term = [Send(1, signal.SIGTERM), Wait(GRACE, 1, SETTINGS.grace)]
         self.assertEqual(self.take(Elapsed(TIMEOUT, 1)), term)
         for _ in range(2):
             kill, again = self.take(Elapsed(GRACE, 1))
@@ -289,13 +221,13 @@ class Steps(unittest.TestCase):
         self.assertTrue(told.report.is_late)
 
     def test_without_a_timeout_there_is_no_time(self):
-        self.state.options = Options()
+        self.state.settings = Settings()
         self.assertEqual([it.timer for it in self.begin()], [MOMENT])
 
     def test_what_is_left_is_waited_for_and_then_runs(self):
         self.begin()
         self.take(CommandEnded(0))
-        self.assertEqual(self.take(Looked(1, Rest.SEEN)), [Wait(LINGER, 1, OPTIONS.linger)])
+        self.assertEqual(self.take(Looked(1, Rest.SEEN)), [Wait(LINGER, 1, SETTINGS.linger)])
         self.assertEqual(self.take(Looked(1, Rest.UNSEEN)), [])
         left = Tell(Report(reports.LEFT_BEHIND, 1, 7))
         self.assertEqual(self.take(Elapsed(LINGER, 1)), [Answer("running 1 go"), left])
@@ -311,7 +243,7 @@ class Steps(unittest.TestCase):
         self.take(Elapsed(TIMEOUT, 1))
         self.assertEqual(self.take(Elapsed(LINGER, 1)), [])
         found = self.take(Elapsed(GRACE, 1))
-        self.assertEqual(found[-1], Wait(LINGER, 1, OPTIONS.linger))
+        self.assertEqual(found[-1], Wait(LINGER, 1, SETTINGS.linger))
         self.assertEqual(self.take(Elapsed(LINGER, 1))[0], Answer("running 1 go"))
 
     def test_the_timeout_holds_for_what_is_left(self):
@@ -385,7 +317,7 @@ class Steps(unittest.TestCase):
         self.assertEqual(self.take(Plain.NEWS), [])
 
     def test_a_worker_that_waits_leaves_if_an_end_was_found(self):
-        self.state.attempts[1] = Attempt(7, True, 0)
+        self.state.attempts[1] = Attempt(7, 0)
         self.take(Said("over"))
         self.take(Looked(1, Rest.NOTHING))
         self.assertEqual(self.take(Elapsed(PAUSE, 0)), [Answer("leave")])
@@ -404,8 +336,17 @@ class Steps(unittest.TestCase):
                 self.assertEqual(self.take(Plain.STOP), [])
         for status in (71, 75, -9):
             self.setUp()
-            self.assertEqual(self.take(WorkerEnded(status, ""))[0].timer, PAUSE)
+            self.assertEqual(self.take(WorkerEnded(status, ""))[-1].timer, PAUSE)
             self.assertEqual(self.take(Plain.STOP)[-1], End(status))
+
+    def test_a_worker_without_memory_is_told_once_and_tried_until_a_stop(self):
+        tries = Tell(Report(reports.SHORT, text="out of memory"))
+        for told in ([tries], [], []):
+            *found, wait = self.take(WorkerEnded(71, "out of memory"))
+            self.assertEqual((found, wait.timer), (told, PAUSE))
+            self.take(Elapsed(PAUSE, 0))
+        self.take(WorkerEnded(71, "out of memory"))
+        self.assertEqual(self.take(Plain.STOP)[-1], End(71))
 
     def test_an_end_that_is_not_recorded_is_told_once(self):
         self.begin()
@@ -444,7 +385,7 @@ class Steps(unittest.TestCase):
         self.assertEqual(self.take(Said(PERFORM, 2, 8)), [Answer("unbegun 2 leave")])
 
     def test_events_without_a_command_do_nothing(self):
-        for event in (Plain.STARTED, StartFailed("why"), CommandEnded(0), Elapsed(TIMEOUT, 3),
+        for event in (StartFailed("why"), CommandEnded(0), Elapsed(TIMEOUT, 3),
                       Looked(3, Rest.NOTHING), Looked(3, Rest.SEEN)):
             self.assertEqual(self.take(event), [], event)
 

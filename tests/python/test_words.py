@@ -134,7 +134,7 @@ class Parsed(unittest.TestCase):
         with mock.patch("os.path.realpath", lambda it: f"/real{it}"):
             found = cli.settings_of(words)
         wanted = Settings(
-            what="crew", command=["pay", "{}"], asked="/no/list", jobs="/real/no/list",
+            what="crew", command=["pay", "{}"], options=words[:6], asked="/no/list", jobs="/real/no/list",
             mark="/real/no/list.run-is", run="/real/no/list.run", results="/real/no/list.run",
             names=["/no/list"], workers=2, grace=1.5)
         self.assertEqual(found, wanted)
@@ -154,9 +154,8 @@ class Parsed(unittest.TestCase):
 
     def test_an_unknown_command_is_a_usage_error(self):
         with contextlib.redirect_stderr(io.StringIO()):
-            self.assertEqual(cli.end_of(["pay"]), (Status.WORDS, None))
-            self.assertEqual(cli.end_of(["crew", "--workers", "17", "l", "--", "pay"]),
-                             (Status.WORDS, None))
+            self.assertEqual(cli.main(["pay"]), Status.WORDS)
+            self.assertEqual(cli.main(["crew", "--workers", "17", "l", "--", "pay"]), Status.WORDS)
 
     def test_the_next_command_names_the_same_run(self):
         with mock.patch("sys.argv", ["./amo_jobs"]), \

@@ -27,9 +27,8 @@ SPOILED = [
 INPUT = ["if (dup2(files[kind], kind) < 0)",
          'if (dup2(kind ? files[kind] : open("/dev/null", O_RDONLY), kind) < 0)']
 FURTHER = ["return dup2(files[0], further);", "return 0;"]
-NO_SUBREAPER = ["        calls.become_subreaper()\n        calls.sign(", "        calls.sign(",
-                "        calls.become_subreaper()\n        self.family", "        self.family"]
-POST = "            self.posts[action.worker] = Post(words, self.locks[action.worker])\n"
+NO_SUBREAPER = ["        calls.become_subreaper()\n", ""]
+POST = "            self.posts[worker] = Child(words, ORDERS, [REPORTS], {LOCK: self.locks[worker]})\n"
 # Of amo_jobs: the mistake, what stands there and what in its place, by pairs, and the same two.
 OF_THE_RUNNER = [
     ("no_subreaper", NO_SUBREAPER, unseen.try_fed, TWICE),
@@ -37,7 +36,7 @@ OF_THE_RUNNER = [
         "    if any(it.rest is Rest.UNSEEN for", "    if False and any(it.rest is Rest.UNSEEN for",
         "    if state.unseen:\n", "    if False:\n"], unseen.try_fed, TWICE),
     ("runner_lock_by_a_handle_of_its_own", [
-        POST, f"{POST}            close_all([self.locks.pop(action.worker)])\n"],
+        POST, f"{POST}            close_all([self.locks.pop(worker)])\n"],
      unseen.try_runner_killed, TWICE),
     ("lock_is_probed_by_the_inherited_handle", [
         *NO_SUBREAPER, "        self.process = 0\n        close_all(self.locks)\n",
@@ -53,11 +52,13 @@ OF_THE_RUNNER = [
         'KILL_AGAIN = 0.5', 'LATE: List[Said] = []\nKILL_AGAIN = 0.5',
         '            state.seen[it.serial] = f"unbegun {it.serial}"\n        return []',
         '            LATE.append(it)\n        return []',
-        'return reply(state, serial, state.seen[serial]) + tell(state, state.untold.pop(serial, None))',
-        'late = [Begin(*LATE.pop()[1:4])] if LATE and serial > LATE[0].serial + 2 else []\n'
-        '    return reply(state, serial, state.seen[serial]) + tell(\n'
-        '        state, state.untold.pop(serial, None)) + late',
-    ], rules.try_late_line, TWICE),
+        '        return actions\n    state.is_unacknowledged |=',
+        '        return actions + (\n'
+        '            [Begin(*LATE.pop()[1:4])] if LATE and serial > LATE[0].serial + 2 else [])\n'
+        '    state.is_unacknowledged |=', '    return [*actions, Tell(report)]\n',
+        '    late = [Begin(*LATE.pop()[1:4])] if LATE and serial > LATE[0].serial + 2 else []\n'
+        '    return [*actions, Tell(report), *late]\n',
+    ], rules.try_late_line, TWICE + "|locks are left"),  # the latter if the person comes late
     ("end_is_forgotten", [
         '    if serial in state.seen:\n        state.has_said = True\n        return answer(state, serial)\n',
         ''], rules.try_kept, LISTED),
@@ -67,17 +68,17 @@ OF_THE_RUNNER = [
         '    state.current = None\n    report = Tell(', '    return gone(state, serial)\n    report = Tell('],
      rules.try_left_behind, TWICE + "|did nothing"),
     ("goes_on_after_a_stop", [
-        'return way(state, "leave") if is_waiting(state) else', 'return [] if is_waiting(state) else',
+        'return way(state, "leave") if state.asks_for(0, STAY) else',
+        'return [] if state.asks_for(0, STAY) else',
         'return way(state, "leave") if state.is_stopping or state.found else', 'return'],
      staying.try_stop, "after the stop: .*'go'|is told to leave"),
     ("starts_anew_after_a_round", [
-        'os.write(self.input[0], f"{text}\\n".encode())',
-        '_ = close_all(self.input) if text == "go" else os.write(self.input[0], f"{text}\\n".encode())'],
+        'self.input.send(f"{text}\\n".encode())',
+        '_ = self.input.close() if text == "go" else self.input.send(f"{text}\\n".encode())'],
      staying.try_stays, "has had 2 processes"),
 ]
 # Of amo_jobs: mistakes under limits, and about a supervisor that stands still, is gone, or was.
-UNSENT = ("        except BlockingIOError:\n            {}\n"
-          "        except OSError:\n            self.desert()")
+UNSENT = "        except OSError:  # it has no room now\n            {}\n"
 OF_FAULTS = [
     ("child_that_is_not_shown_is_gone", [
         "    return [Process(it, calls.start_of(it) or 0) for it in numbers]",
@@ -100,8 +101,8 @@ OF_FAULTS = [
         "        return Orphans(bool(left), described(unseen))", '        return Orphans(False, "")'],
      unseen.try_runner_killed, TWICE),
     ("runner_that_says_nothing_is_killed", [
-        "        self.progress.show()\n        ready = self.poll()\n",
-        "        self.progress.show()\n        before = monotonic()\n        ready = self.poll()\n"
+        "        self.try_locks()\n        ready = self.poll()\n",
+        "        self.try_locks()\n        before = monotonic()\n        ready = self.poll()\n"
         "        for post in self.posts.values() if monotonic() > before + 1.5 else ():\n"
         "            os.kill(post.process, 9)\n"], crews.try_suspended, LISTED),
 ]

@@ -114,13 +114,26 @@ read NAME.1 1              | EIO               | 73    | % | 0 | 3
 waitpid NAME 1             | EINTR             | 0     | 3 done | 0 | 0
 """
 
-# The runner and its worker. If a worker was begun and loses its runner, it may have put an intent:
-# then the line is in doubt, and was not performed.
-CREW = """
+# The pipe that wakes a supervisor or a runner, and the lock of a number, which both take.
+BELL = """
 pipe2 bell 1               | EMFILE            | 73    | % | 0 | 3
 fstat bell 1               | EIO               | 73    | % | 0 | 3
 fcntl bell 1               | EIO               | 73    | % | 0 | 3
 write bell 1               | -                 | a full pipe wakes as well, and there's no other
+"""
+LOCK = """
+open run/runner.N 1        | EIO EMFILE ENOSPC | 73    | % | 0 | 3
+flock run/runner.N 1       | ENOLCK            | 73    | % | 0 | 3
+flock run/runner.N 1       | EAGAIN EINTR      | 0     | 3 done | 0 | 0
+stat run/runner.N 1        | EIO               | 73    | % | 0 | 3
+stat run/runner.N 1        | ENOENT            | 0     | 3 done | 0 | 0
+fstat run/runner.N 1       | EIO               | 73    | % | 0 | 3
+close run/runner.N 1 2     | EIO               | 0     | 3 done | 0 | 0
+"""
+
+# The runner and its worker. If a worker was begun and loses its runner, it may have put an intent:
+# then the line is in doubt, and was not performed.
+RUNNER = BELL + """
 read bell 1                | EIO               | 73    | % | 1 | 2
 poll crew 1                | ENOMEM            | 73    | % | 0/1 | 3/3
 poll crew 2 3              | ENOMEM            | 73    | % | 1 | 2
@@ -128,16 +141,8 @@ poll crew 1 2 3            | EINTR             | 0     | 3 done | 0 | 0
 open /proc/self/children 1 | EMFILE ENOMEM     | 73    | % | 0 | 3
 pread /proc/self/children 1 2 | ENOMEM         | 69    | NOT *: % | 0 | 3
 pread /proc/self/children 3 4 | ENOMEM         | 0     | 3 done | 0 | 0
-open run/runner.N 1        | EIO EMFILE ENOSPC | 73    | % | 0 | 3
-open run/runner.N 2        | EIO EMFILE ENOSPC | 0     | 3 done | 0 | 0
-flock run/runner.N 1       | ENOLCK            | 73    | % | 0 | 3
-flock run/runner.N 1       | EAGAIN EINTR      | 0     | 3 done | 0 | 0
-stat run/runner.N 1        | EIO               | 73    | % | 0 | 3
-stat run/runner.N 1        | ENOENT            | 0     | 3 done | 0 | 0
-fstat run/runner.N 1       | EIO               | 73    | % | 0 | 3
 *lseek run/runner.N 1      | EIO               | 0     | 3 done | 0 | 0
 write run/runner.N 1       | EIO ENOSPC        | 0     | 3 done | 0 | 0
-close run/runner.N 1 2     | EIO               | 0     | 3 done | 0 | 0
 pipe2 worker.1 1           | EMFILE            | 74    | worker 1: *% | 0 | 3
 pipe2 worker.2 1           | EMFILE            | 74    | worker 1: *% | 0 | 3
 pipe2 worker.3 1           | EMFILE            | 74    | worker 1: *% | 0 | 3
@@ -146,15 +151,19 @@ spawn worker 1             | EACCES ENOENT     | 74    | worker 1: *% | 0 | 3
 close worker.1 1 2         | EIO               | 0     | 3 done | 0 | 0
 close worker.2 1 2         | EIO               | 0     | 3 done | 0 | 0
 close worker.3 1 2         | EIO               | 0     | 3 done | 0 | 0
+ioctl worker.1 1           | EIO               | 74    | worker 1: *% | 0 | 3
 ioctl worker.2 1           | EIO               | 74    | worker 1: *% | 0 | 3
 ioctl worker.3 1           | EIO               | 74    | worker 1: *% | 0 | 3
 read worker.2 1            | EIO               | 73    | % | 1 | 3
 read worker.2 1 2          | EINTR EAGAIN      | 0     | 3 done | 0 | 0
 read worker.2 2            | EIO               | 73    | % | 1 | 2
 read worker.3 1            | EIO               | 73    | % | 0 | 0
-write worker.1 1           | EPIPE             | 0     | 3 done | 0 | 0
+write worker.1 1           | EPIPE ENOMEM      | 0     | 3 done | 0 | 0
 waitpid children 1 2 3     | EINTR ECHILD      | 0     | 3 done | 0 | 0
 waitpid worker 1 2         | EINTR ECHILD      | 0     | 3 done | 0 | 0
+"""
+CREW = RUNNER + LOCK + """
+open run/runner.N 2        | EIO EMFILE ENOSPC | 0     | 3 done | 0 | 0
 write screen 1 2           | EIO EPIPE         | 0     |  | 0 | 0
 """
 
@@ -231,7 +240,7 @@ waitpid again 1            | -                 | amo_jobs began it, and nobody e
 # The supervisor of a crew, which does BEFORE and ASKED as well. If it fails while its runner works,
 # that runner ends in order: no line is in doubt. The kernel can't give ECHILD to a process that has
 # a child, and a pipe of which both ends are open gives no error but ENOMEM.
-SUPERVISOR = """
+SUPERVISOR = BELL + LOCK + """
 open run/crew 1            | EIO EMFILE ENOSPC | 73    | % | 0 | 3
 open run/crew 2            | EIO EMFILE ENOSPC | 0     | 3 done | 0 | 0
 flock run/crew 1           | ENOLCK            | 73    | % | 0 | 3
@@ -245,43 +254,30 @@ write run/crew 1           | EIO ENOSPC        | 0     | 3 done | 0 | 0
 close run/crew 1           | EIO               | 0     | 3 done | 0 | 0
 open /proc/self/children 1 | EMFILE ENOMEM     | 73    | % | 0 | 3
 pread /proc/self/children 1 2 | ENOMEM         | 0     | 3 done | 0 | 0
-pipe2 bell 1               | EMFILE            | 73    | % | 0 | 3
-fstat bell 1               | EIO               | 73    | % | 0 | 3
-fcntl bell 1               | EIO               | 73    | % | 0 | 3
-write bell 1               | -                 | a full pipe wakes as well, and there's no other
 read bell 1                | EIO               | 73    | % | 0 | *
 poll crew 1 2 3            | ENOMEM            | 73    | % | 0 | *
 poll crew 1 2 3            | EINTR             | 0     | 3 done | 0 | 0
-open run/runner.N 1        | EIO EMFILE ENOSPC | 73    | % | 0 | 3
-flock run/runner.N 1       | ENOLCK            | 73    | % | 0 | 3
-flock run/runner.N 1       | EAGAIN EINTR      | 0     | 3 done | 0 | 0
-stat run/runner.N 1        | EIO               | 73    | % | 0 | 3
-stat run/runner.N 1        | ENOENT            | 0     | 3 done | 0 | 0
-fstat run/runner.N 1       | EIO               | 73    | % | 0 | 3
-close run/runner.N 1 2     | EIO               | 0     | 3 done | 0 | 0
 pipe2 runner.1 1           | EMFILE            | 74    | worker 1: *% | 0 | 3
 pipe2 runner.2 1           | EMFILE            | 74    | worker 1: *% | 0 | 3
-fcntl run/runner.N 1       | EMFILE            | 74    | worker 1: *% | 0 | 3
-fcntl runner.1 1           | EMFILE            | 74    | worker 1: *% | 0 | 3
-fcntl runner.2 1           | EMFILE            | 74    | worker 1: *% | 0 | 3
 spawn runner 1             | EAGAIN ENOMEM EACCES ENOENT | 74 | worker 1: *% | 0 | 3
-close runner.1 1 2 3       | EIO               | 0     | 3 done | 0 | 0
-close runner.2 1 2 3       | EIO               | 0     | 3 done | 0 | 0
-ioctl runner.1 1           | EIO               | 74    | worker 1: *% | 0 | *
-ioctl runner.2 1           | EIO               | 74    | worker 1: *% | 0 | *
-read runner.1 1 2 3        | EIO EINTR EAGAIN  | 0     | 3 done | 0 | 0
+close runner.1 1 2         | EIO               | 0     | 3 done | 0 | 0
+close runner.2 1 2         | EIO               | 0     | 3 done | 0 | 0
+ioctl runner.1 1           | EIO               | 74    | worker 1: *% | 0 | 3
+ioctl runner.2 1           | EIO               | 74    | worker 1: *% | 0 | 3
+read runner.2 1 2 3        | EIO               | 73    | % | 0 | *
+read runner.2 1 2 3        | EINTR EAGAIN      | 0     | 3 done | 0 | 0
 waitpid children 1 2       | EINTR             | 0     | 3 done | 0 | 0
 write screen 1 2           | EIO EPIPE         | 0     |  | 0 | 0
 """
 
 # A supervisor that acknowledges a failure. It keeps what the pipe doesn't take.
 ACKNOWLEDGES = """
-write runner.2 1           | ENOMEM EAGAIN     | 1     | 2 done, 1 failed | 0 | 0
+write runner.1 1           | ENOMEM EAGAIN     | 1     | 2 done, 1 failed | 0 | 0
 """
 
 # A runner that has a supervisor. It does UNBEGUN and BEGUN too. If it fails, its crew starts no
 # other one, and the line that it was at is in doubt.
-SUPERVISED = """
+SUPERVISED = RUNNER + """
 lstat . 1 2                | EIO               | 0     | 3 done | 0 | 0
 lstat jobs 1               | EIO               | 0     | 3 done | 0 | 0
 lstat run 1                | EIO               | 0     | 3 done | 0 | 0
@@ -293,40 +289,10 @@ ioctl orders 1             | EIO               | 0     | 3 done | 0 | 0
 ioctl orders 2 3           | EIO               | 73    | its runner has failed (status 73) | 0 | 3
 open run/runner.N 1        | EIO EMFILE ENOSPC | 0     | 3 done | 0 | 0
 *fstat run/runner.N 1      | EIO               | 0     | 3 done | 0 | 0
-*lseek run/runner.N 1      | EIO               | 0     | 3 done | 0 | 0
-write run/runner.N 1       | EIO ENOSPC        | 0     | 3 done | 0 | 0
 close run/runner.N 1       | EIO               | 0     | 3 done | 0 | 0
-open /proc/self/children 1 | EMFILE ENOMEM     | 73    | % | 0 | 3
-pread /proc/self/children 1 2 | ENOMEM         | 69    | NOT *: % | 0 | 3
-pread /proc/self/children 3 4 | ENOMEM         | 0     | 3 done | 0 | 0
-pipe2 bell 1               | EMFILE            | 73    | % | 0 | 3
-fstat bell 1               | EIO               | 73    | % | 0 | 3
-fcntl bell 1               | EIO               | 73    | % | 0 | 3
-write bell 1               | -                 | a full pipe wakes as well, and there's no other
-read bell 1                | EIO               | 73    | % | 1 | 2
-poll crew 1                | ENOMEM            | 73    | % | 0/1 | 3/3
-poll crew 2 3              | ENOMEM            | 73    | % | 1 | 2
-poll crew 1 2 3            | EINTR             | 0     | 3 done | 0 | 0
-pipe2 worker.1 1           | EMFILE            | 74    | worker 1: *% | 0 | 3
-pipe2 worker.2 1           | EMFILE            | 74    | worker 1: *% | 0 | 3
-pipe2 worker.3 1           | EMFILE            | 74    | worker 1: *% | 0 | 3
-spawn worker 1             | EAGAIN ENOMEM     | 0     | 3 done | 0 | 0
-spawn worker 1             | EACCES ENOENT     | 74    | worker 1: *% | 0 | 3
-close worker.1 1 2         | EIO               | 0     | 3 done | 0 | 0
-close worker.2 1 2         | EIO               | 0     | 3 done | 0 | 0
-close worker.3 1 2         | EIO               | 0     | 3 done | 0 | 0
-ioctl worker.2 1           | EIO               | 74    | worker 1: *% | 0 | 3
-ioctl worker.3 1           | EIO               | 74    | worker 1: *% | 0 | 3
-read worker.2 1            | EIO               | 73    | % | 1 | 3
-read worker.2 1 2          | EINTR EAGAIN      | 0     | 3 done | 0 | 0
-read worker.2 2            | EIO               | 73    | % | 1 | 2
-read worker.3 1            | EIO               | 73    | % | 0 | 0
-write worker.1 1           | EPIPE             | 0     | 3 done | 0 | 0
-waitpid children 1 2 3     | EINTR ECHILD      | 0     | 3 done | 0 | 0
-waitpid worker 1 2         | EINTR ECHILD      | 0     | 3 done | 0 | 0
-write reports 1            | EINTR EAGAIN      | 0     | 3 done | 0 | 0
+write reports 1            | EINTR EAGAIN ENOMEM | 0   | 3 done | 0 | 0
 write reports 1            | SHORT             | 0     | 3 done | 0 | 0
-write reports 1            | ENOMEM EPIPE      | 69    | its runner has failed (status 69) | 0 | 2
+write reports 1            | EPIPE             | 69    | its runner has failed (status 69) | 0 | 2
 """
 
 # A runner that waits for an acknowledgement.
@@ -666,7 +632,7 @@ def try_runner_calls(bench) -> str:
 
 def try_raised(bench):
     """whatever is raised after the fork, the line isn't open again"""
-    place = "        self.process = process\n"
+    place = '        note("started", self.name, self.process)\n'
     program = bench.program
     bench.program = changed(program, f"{bench.room}/raises", [place, "        raise MemoryError\n"])
     scene = Failing(bench, WAYS["plain"])

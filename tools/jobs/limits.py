@@ -24,6 +24,7 @@ WHO = ("runner", "supervisor")
 OUT_OF_MEMORY = 71
 # The statuses of a crew that met a limit.
 STOPPED = (DOUBTFUL, LEFT, OUT_OF_MEMORY, WRITE, READ, BUILD)
+TRIES = "It goes on trying"
 # A user that has no other process. It may read all files, as root may.
 USER = 54_000 + os.getpid() % 1000
 AS_USER = ["setpriv", f"--reuid={USER}", f"--regid={USER}", "--clear-groups",
@@ -72,10 +73,12 @@ def scene_of(bench: Bench, limit: Limit) -> Scene | None:
     return OtherUser(bench, kinds, 2)
 
 
-def set_limit(scene: Scene, process: int, limit: Limit) -> None:
-    """Sets a limit of a process that runs, as its user."""
-    most, prefix = limit.most(process), AS_USER if isinstance(scene, OtherUser) else []
-    code = f"import resource; resource.prlimit({process}, {limit.number}, ({most}, {most}))"
+def set_limit(scene: Scene, process: int, limit: Limit, is_lifted: bool = False) -> None:
+    """Sets a limit of a process that runs, or lifts it again, as its user."""
+    prefix = AS_USER if isinstance(scene, OtherUser) else []
+    most = "hard" if is_lifted else str(limit.most(process))
+    code = (f"import resource; hard = resource.prlimit({process}, {limit.number})[1];"
+            f" resource.prlimit({process}, {limit.number}, ({most}, hard))")
     subprocess.run([*prefix, sys.executable, "-c", code], check=True)
 
 
@@ -94,18 +97,17 @@ def try_limit(bench: Bench, limit: Limit) -> None:
             os.kill(runner_of(scene), signal.SIGKILL)
         scene.let(*(f"go.{line}" for line in range(1, LINES + 1)))
         if limit is MEMORY and who == "runner":
-            stop_later(crew)
+            stop_trying(scene, crew)
         see_limited(scene, who, limit, status_of(crew))
         scene.see_out()
         scene.audit()
 
 
-def stop_later(crew: subprocess.Popen) -> None:
-    """Stops a crew that doesn't end soon: if a worker ends early and a runner has no memory for the
-    next one, the runner tries again until it is stopped."""
-    try:
-        crew.wait(30)
-    except subprocess.TimeoutExpired:
+def stop_trying(scene: Scene, crew: subprocess.Popen) -> None:
+    """Waits for the end of a crew. If a worker ends early and its runner has no memory for the next
+    one, the crew prints that, and the runner tries again until it is stopped."""
+    until(lambda: crew.poll() is not None or TRIES in scene.tale(), "the crew ends or tries again")
+    if crew.poll() is None:
         crew.send_signal(signal.SIGTERM)
 
 
@@ -138,6 +140,24 @@ def try_processes(bench: Bench) -> None:
 def try_memory(bench: Bench) -> None:
     """a limit on memory in the middle of a list: no line is performed twice or lost"""
     try_limit(bench, MEMORY)
+
+
+def try_worker_without_room(bench: Bench) -> None:
+    """a runner that can't start its worker prints that once, tries again, and goes on in the end"""
+    scene = scene_of(bench, PROCESSES)
+    if scene is None:
+        return
+    crew = scene.start(workers=1)
+    begun_by(scene, "1.1")
+    set_limit(scene, runner_of(scene), PROCESSES)
+    scene.kill(scene.worker_processes())
+    scene.let("go.1")
+    until(lambda: TRIES in scene.tale(), "it prints that it tries again")
+    set_limit(scene, runner_of(scene), PROCESSES, is_lifted=True)
+    scene.let(*(f"go.{line}" for line in range(2, LINES + 1)))
+    scene.ends(crew, DONE)
+    scene.audit()
+    want(scene.tale().count(TRIES) == 1 and not scene.listed, scene.tale())
 
 
 def few_files(scene: Scene, crew: subprocess.Popen, who: str, helper: int) -> None:
@@ -176,4 +196,6 @@ def try_few_files_and_a_helper(bench: Bench) -> None:
         want(is_alive, f"the {who} ended while the helper ran")
 
 
-PARTS = {"limits": [try_files, try_processes, try_memory, try_few_files_and_a_helper]}
+PARTS = {"limits": [
+    try_files, try_processes, try_memory, try_worker_without_room, try_few_files_and_a_helper
+]}

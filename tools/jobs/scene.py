@@ -343,6 +343,10 @@ class Scene:
         with open(f"{os.path.dirname(self.bench.program)}/VERSION") as file:
             return self.processes(f"--as={file.read().strip()}")
 
+    def tellers(self, crew):
+        """The process by which a crew reports to others: it has the crew's words."""
+        return sorted(set(self.processes("crew")) - {crew.pid})
+
     def worker_processes(self):
         """The processes of workers."""
         return sorted(set(self.processes("work")) - set(self.runners()))

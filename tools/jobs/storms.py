@@ -28,6 +28,7 @@ KINDS = (["quick"] * 8 + ["slow"] * 3
 EVENTS = ("worker worker command command runner runner supervisor all stop stop reboot grow"
           " term").split()
 DEADLY = "worker worker command command runner runner supervisor all".split()
+LOOKS = 0.4  # seconds between two looks at the doubts, while somebody is killed all the time
 SPOILS = ("earlier", "earlier", "zeroed", "exchanged", "drawn")
 VERSION = b"amo-run 2\n"
 
@@ -35,9 +36,11 @@ VERSION = b"amo-run 2\n"
 class Storm:
     """One run, and what befalls it."""
 
+    sizes = [3, 8, 20, 60]  # of the list
+
     def __init__(self, bench, draws):
         self.bench, self.draws, self.workers = bench, draws, draws.randint(1, 4)
-        kinds = [draws.choice(KINDS) for _ in range(draws.choice([3, 8, 20, 60]))]
+        kinds = [draws.choice(KINDS) for _ in range(draws.choice(self.sizes))]
         linger = draws.choice(["0.05", "0.3", "1"])
         options = ["--linger", linger, "--untouched", "75", "--halt", "0"]
         if draws.random() < 0.3:
@@ -142,16 +145,24 @@ class Storm:
 
 class Kills(Storm):
     """One run in which somebody is killed several times a second. Each process that is killed
-    counts."""
+    counts. The person looks at the doubts less often, since that takes longer than some kills."""
+
+    sizes = [8, 20, 60, 60]
 
     def __init__(self, bench, draws):
         super().__init__(bench, draws)
-        self.events, self.calm = DEADLY, draws.uniform(5, 20)
+        self.events, self.calm = DEADLY, draws.uniform(10, 40)
         self.scene.ends_of_crews.add(NO_MEMORY)
+        self.looks, self.scene.look_on, self.look_at = self.scene.look_on, self.look_on, 0.0
 
     def run(self):
-        self.scene.see_out(during=self.befall, workers_of=self.count, pause=0.02)
+        self.scene.see_out(during=self.befall, workers_of=self.count, pause=0.05)
         self.scene.audit()
+
+    def look_on(self):
+        if time.monotonic() >= self.look_at or self.scene.crews[-1].poll() is not None:
+            self.looks()
+            self.look_at = time.monotonic() + LOOKS
 
     def befall(self, crew):
         """Somebody is killed, as long as it isn't calm."""

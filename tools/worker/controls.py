@@ -103,6 +103,9 @@ MISTAKES = [
     ("any_answer_is_go", staying.try_ends, "after b'stay"),
     ("number_is_not_compared", staying.try_another_folder, "moved: it writes there"),
     ("owes_while_it_waits", staying.try_owes_nothing, "has not noted"),
+    ("ends_without_a_seat", staying.try_no_seat, "doesn't wait: status .*75"),
+    ("waits_in_the_round", staying.try_no_seat, "holds the lock of a round that is over"),
+    ("passes_by_each_round", staying.try_next_round, "does nothing in the next round"),
 ]
 CHEAPEST = 9
 

@@ -24,7 +24,8 @@ MISTAKES = ("intent_after_the_act pending_is_open guard_is_removed words_of_anot
             " doubts_are_not_recorded keeps_the_round_lock"
             " stays_in_the_former_round stays_with_the_former_words stays_on_the_former_boot"
             " stays_though_one_runs stays_though_told_to_leave any_answer_is_go"
-            " number_is_not_compared owes_while_it_waits").split()
+            " number_is_not_compared owes_while_it_waits ends_without_a_seat"
+            " waits_in_the_round passes_by_each_round").split()
 MISTAKE = os.environ.get("AMO_MISTAKE")
 MOST_JOBS, MOST_WORKERS, MOST_BYTES = 4096, 16, 100000
 VERSION, OLD_VERSION = b"amo-run 2", b"amo-run 1"

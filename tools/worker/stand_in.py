@@ -4,7 +4,7 @@
   stand_in.py door RUN --workers M [--beta B] [--into] JOBS
   stand_in.py work RUN P --workers M [--beta B] JOBS
   stand_in.py status RUN [--json] [--lines KIND]          stand_in.py doubts RUN [--json]
-  stand_in.py status RUN --damaged
+  stand_in.py status RUN --damaged                        stand_in.py status RUN --follow [--once]
   stand_in.py answer RUN P.S LINE TEXT done|not-done      stand_in.py answer RUN --from FILE      stand_in.py again RUN
   (answer: [--quiet SECONDS] [--now])
 
@@ -36,6 +36,7 @@ from stand_files import (
 from stand_folder import (
     check_mount, is_there, drawn, make_folder, make_beside, make_in_place, check_whole,
 )
+from stand_follow import follow
 from stand_header import check_version, header_of, read_appends, text_of
 from stand_journal import Journal
 from stand_waits import Sheet, age_of
@@ -386,8 +387,10 @@ class Hands:
         self.record, self.words, self.lines = None, None, []
 
     def take_part(self):
-        """Begins or joins a round, and works in it until its part of that is over."""
+        """Begins or joins a round, and works in it until its part of that is over, if it has one."""
         lock = self.join()
+        if lock is None:
+            return
         try:
             has_left = work_in(self.words, self.record.beta, self.perform)
         except End:
@@ -402,22 +405,34 @@ class Hands:
             os.close(lock)
 
     def join(self):
-        """Begins or joins a round; the handle that has its shared lock."""
+        """Begins or joins a round; the handle that has its shared lock, or None if it takes no part."""
         it = self.it
         record, lock = share_round(it)
+        if self.passes_by(record):
+            if MISTAKE != "waits_in_the_round":
+                os.close(lock)
+            return None
         self.lines = (content(f"{it.run}/jobs") or b"").split(b"\n")[:-1]
         if MISTAKE == "stays_in_the_former_round" and self.record:
             return lock
         seat = (it.worker - record.first) % record.workers + 1
-        if seat > record.shared or it.worker > record.workers:
-            raise refused_folder(it, LATER, "this worker has no seat in the current round; start"
-                                            " again when that round is over")
         is_late = MISTAKE == "stays_with_the_former_words" and self.words
         self.record, words = record, Words(it.run, record, seat)
         if is_late:
             words.file = self.words.file
         self.words = words
         return lock
+
+    def passes_by(self, record):
+        """Whether it takes no part in a round: it has no seat there, or has joined it before."""
+        it = self.it
+        place = (it.worker - record.first) % record.workers
+        has_seat = place < record.shared and it.worker <= record.workers
+        if MISTAKE == "ends_without_a_seat" and not has_seat:
+            raise refused_folder(it, LATER, "this worker has no seat in the current round")
+        is_same = self.record and (record.round == self.record.round
+                                   or MISTAKE == "passes_by_each_round")
+        return not has_seat or is_same and MISTAKE != "stays_in_the_former_round"
 
     def come_back(self):
         """What a worker looks at that has waited between two rounds."""
@@ -542,6 +557,9 @@ def status(it):
         tell_damage(it)
         return
     enter(it)
+    if it.follows:
+        follow(it, Ledger, it.is_once)
+        return
     _readers = readers_lock(it)
     living = list(alive(it))
     ledger, _ = final_ledger(it)
@@ -683,7 +701,7 @@ class Given:
         self.words, options = [], {}
         wants = {"--workers": 1, "--beta": 1, "--json": 0, "--lines": 1, "--from": 1,
                  "--file-system": 1, "--boot-id": 1, "--id": 1, "--into": 0, "--damaged": 0,
-                 "--quiet": 1, "--now": 0}
+                 "--quiet": 1, "--now": 0, "--follow": 0, "--once": 0}
         while words:
             word = words.pop(0)
             if word.startswith("--") and self.words[:1] != ["answer"] or word in wants:
@@ -695,7 +713,7 @@ class Given:
         shapes = {"door": (3, 3), "work": (4, 4), "status": (2, 2), "doubts": (2, 2), "again": (2, 2),
                   "answer": (2, 2) if "--from" in options else (6, 6)}
         taken = {"door": "--workers --beta --into", "work": "--workers --beta",
-                 "status": "--json --lines --damaged", "doubts": "--json",
+                 "status": "--json --lines --damaged --follow --once", "doubts": "--json",
                  "answer": "--from --quiet --now"}
         self.command = self.words[0] if self.words else None
         if self.command not in shapes or not shapes[self.command][0] <= len(self.words) <= shapes[self.command][1]:
@@ -708,6 +726,7 @@ class Given:
         self.id, self.is_into, self.is_old = options.get("--id"), "--into" in options, False
         self.has_made, self.run_id, self.is_of_now = False, None, False
         self.is_damaged = "--damaged" in options
+        self.follows, self.is_once = "--follow" in options, "--once" in options
         if self.id is not None and (len(self.id) != 32 or set(self.id) - set("0123456789abcdef")):
             raise End(64, "`--id`: it must be 32 hexadecimal digits, none of them a capital letter"
                           f"{HELP}")
@@ -716,6 +735,10 @@ class Given:
         if self.lines not in (None, *KINDS[1:]) or self.lines and self.is_json:
             raise End(64, "`--lines`: it must be failed, doubt, untouched, running or open"
                           f"{HELP}")
+        if self.follows and (self.is_json or self.lines or self.is_damaged):
+            raise End(64, f"`--follow`: it goes with no other option but --once{HELP}")
+        if self.is_once and not self.follows:
+            raise End(64, f"`--once`: it must be given with --follow{HELP}")
         if self.is_damaged and (self.is_json or self.lines):
             raise End(64, f"`--damaged`: it goes with no other option of status{HELP}")
         if self.jobs:

@@ -133,13 +133,65 @@ def try_next_round(bench: Bench) -> None:
 
 
 def try_no_seat(bench: Bench) -> None:
-    """another begins a round of few lines while a worker waits, which has no seat in it: it comes
-    back later"""
+    """another begins a round of few lines while a worker waits, which has no seat in it: it says
+    `over`, holds nothing but its number, and has a part in a later round"""
     scene = bench.scene(9, 2, beta=3)
     first, second = waiting(scene), hold(scene, 2)
     want(folder.record_of(scene.run)["m"] == 1, "the round has two seats")
-    status = ended(first)
-    want(status == LATER and "no seat" in first.said, f"status {status}: {first.said}")
+    passed_by(first)
+    go_on(second)
+    serve([second], until=lambda: second.overs)
+    want(folder.is_free(f"{scene.run}/lock.round"), "it holds the lock of a round that is over")
+    with open(scene.jobs, "a") as file:
+        file.write("".join(f"job {k}\n" for k in range(10, 31)))
+    before, overs = len(scene.effects()), first.overs
+    first.tell(b"go\n")
+    serve([first], until=lambda: first.overs > overs)
+    want(first.process and len(scene.effects()) > before,
+         f"it does nothing in a later round: status {first.statuses}, {first.said}")
+    finished(scene, first, second)
+
+
+def passed_by(runner: Held) -> None:
+    """A worker that waits is told to go on, and takes no part in the round that it finds: it says
+    `over` again, each time that it is told, and nothing else."""
+    lines, effects = list(runner.lines), len(runner.scene.effects())
+    for _ in range(3):
+        before = runner.overs
+        runner.tell(b"go\n")
+        serve([runner], until=lambda: runner.overs > before)
+        want(runner.process and runner.lines == lines,
+             f"it doesn't wait: status {runner.statuses}, {runner.said}, {runner.lines}")
+    want(len(runner.scene.effects()) == effects, "it has performed a line")
+
+
+def try_new_without_seat(bench: Bench) -> None:
+    """a new process that has no seat in the round of others waits too, and takes part in the next
+    round; so does one that has been told to go on"""
+    scene = bench.scene(3, 4)
+    second = hold(scene, 2)
+    first = waiting(scene)
+    passed_by(first)
+    second.leaves = True
+    go_on(second)
+    serve([second])
+    before = len(scene.effects())
+    first.tell(b"go\n")
+    serve([first], until=lambda: first.overs > 4)
+    want(first.process and len(scene.effects()) > before,
+         f"it does nothing in the next round: status {first.statuses}, {first.said}")
+    finished(scene, first, second)
+
+
+def try_same_round(bench: Bench) -> None:
+    """a worker is told to go on while another is still in the round: it says `over` again, and
+    begins no other round"""
+    scene = bench.scene(40, 2, beta=4)
+    second = hold(scene, 2)
+    first = waiting(scene)
+    record = folder.record_of(scene.run)
+    passed_by(first)
+    want(folder.record_of(scene.run) == record, "another round was begun")
     go_on(second)
     serve([second])
     finished(scene, first, second)
@@ -287,7 +339,8 @@ def try_killed_later(bench: Bench) -> str:
 
 
 PARTS = {"staying": [
-    try_one_process, try_ends, try_holds, try_next_round, try_no_seat, try_all_done, try_grown,
+    try_one_process, try_ends, try_holds, try_next_round, try_no_seat, try_new_without_seat,
+    try_same_round, try_all_done, try_grown,
     try_another_boot, try_another_folder, try_running, try_owes_nothing, try_killed_waiting,
     try_killed_later,
 ]}

@@ -296,10 +296,9 @@ def try_lines_of_lives(bench):
     want(live(first) == LEFT and first.said == left, f"{first.statuses}: {first.said}")
     others_at_work(scene)
     later = f"amo_worker: folder `{scene.run}`: "
-    no_seat = "this worker has no seat in the current round; start again when that round is over\n"
-    want(live(other) == LATER and other.said == later + no_seat, other.said)
-    first.leaves, first.perform = False, lambda *given: Runner.perform(first, *given)
     over = "this round is over for this worker; start again to join the next one\n"
+    want(live(other) == LATER and other.said == later + over, other.said)
+    first.leaves, first.perform = False, lambda *given: Runner.perform(first, *given)
     want(live(first) == LATER and first.said == later + over, first.said)
     for said, shown in ((b"done 9 0 go\n", "done 9 0 go"), (b"\xff 1 go\n", "(not UTF-8)"),
                         (b"\n", "")):
