@@ -1,4 +1,4 @@
--- What is told of a batch is what is told of its accesses.
+-- The reply for a batch repeats the replies for its accesses.
 use Rattle.std.proofs.Common.{◌≡◌, ℕ, zero, suc, Bool, true, false, refl, sym, ap, subst, arith, List, [], ◌∷◌, ◌++◌, Option, Some, None, Result, Ok, Err}
 use Rattle.std.specs.Prelude.{if◌then◌else◌, ◌==◌, map}
 use Rattle.std.specs.List.{All}
@@ -62,7 +62,7 @@ first_tells w (Going l fresh) = go (want l.state)
     go (StoreDone k j) = record { access = refl; word = refl; value = refl }
     go Nothing = tt
 
--- the access that is told where something is left
+-- the access of the reply if an item is left
 pub rest_told : (w : Worker) (heard more : List ℕ) (s t : Standing) (item : Item) (rest : List Item) → IsWorker w.givens w.number
     → standing_of w.givens w.number heard ≡ Some s → left_after_all (items_of w.givens w.number s) more ≡ Some (item ∷ rest)
     → standing_of w.givens w.number (heard ++ more) ≡ Some t → Tells (next_of w t) (item_told item)
@@ -77,7 +77,7 @@ no_load w (StoreClaim c j) h e = omega arith
 no_load w (StoreDone k j) h e = omega arith
 no_load w Nothing h e = omega arith
 
--- where nothing is left, no load is told
+-- if no item is left, the reply has no load
 pub end_told : (w : Worker) (heard more : List ℕ) (s t : Standing) → IsWorker w.givens w.number
     → standing_of w.givens w.number heard ≡ Some s → left_after_all (items_of w.givens w.number s) more ≡ Some []
     → standing_of w.givens w.number (heard ++ more) ≡ Some t → (next_of w t).access ≡ access_code ToLoad → ⊥

@@ -1,4 +1,4 @@
--- What is told is the next access, the leaving, the job in hand and the end.
+-- The reply is the next access, the leave, the job in hand and the end.
 use Rattle.std.proofs.Common.{◌≡◌, ℕ, ◌+◌, Bool, true, false, refl, sym, ap, ◌∙◌, arith, length, Some, Result, Ok, Err}
 use Rattle.std.specs.Prelude.{set, if◌then◌else◌}
 use Rattle.std.proofs.lemmas.Bool.{true≢false}
@@ -101,7 +101,7 @@ pub told_over : (w : Worker) (t : Standing) → (next_of w t).phase ≡ phase_co
 told_over w (Beginning word) e = absurd (let x : 0 ≡ 6 = e in omega arith)
 told_over w (Going l fresh) e = over_told l.state.phase e
 
--- what is told of a machine in this phase that has ended
+-- the reply for a machine in this phase that has ended
 abbrev TellsEnd : Worker → Record → Phase → Type 0
 TellsEnd w r phase = (phase_code (phase_of phase) ≡ phase_code IsOver) × (access_code (kind_of (access_for w.givens w.number (want_in r phase))) ≡ access_code ToNothing)
 

@@ -1,4 +1,4 @@
--- What comes of the shared words of the definitions where C carries out what it is told.
+-- The registers of the definitions after C has carried out an access.
 use Rattle.std.specs.Prelude.{ℕ, slice_index, set, ◌==◌, if◌then◌else◌}
 use Rattle.amo_process.specs.Shared.{Shared, with_heard}
 use Rattle.amo_c.specs.Codes.{access_code}

@@ -20,7 +20,7 @@ access_code ToLoad = 1
 access_code ToStore = 2
 access_code LoadRow = 3
 
--- the number of where a worker stands
+-- the number of a phase
 abbrev pub phase_code : PhaseCode → ℕ
 phase_code IsBeginning = 0
 phase_code IsAnnouncing = 1
@@ -49,7 +49,7 @@ kind_of (Load word) = ToLoad
 kind_of (Store word value) = ToStore
 kind_of Nothing = ToNothing
 
--- where a worker in this phase stands
+-- the code of a worker in this phase
 abbrev pub phase_of : Phase → PhaseCode
 phase_of (Announcing j) = IsAnnouncing
 phase_of (Trying j q) = IsTrying

@@ -1,4 +1,4 @@
--- What the calls answer, as functions of their arguments; want of memory aside.
+-- The replies of the calls, as functions of their arguments. Refused memory is left out.
 use Rattle.std.specs.Prelude.{ℕ, ◌+◌, Bool, List, Option, Some, None, Result, Ok, Err, if◌then◌else◌}
 use Rattle.std.specs.Result.{is_ok}
 use Rattle.amo_givens.specs.Givens.{givens_of, bound, is_within}
@@ -24,34 +24,34 @@ givens_or_fault (Err fault) = Err (fault_of fault)
 abbrev pub givens_in : AmoGivens → Result Givens FaultCode
 givens_in x = givens_or_fault (givens_of x.jobs x.workers x.beta)
 
--- worker p of these givens, where there are givens
+-- worker p of these givens, or the fault
 abbrev pub worker_in : Result Givens FaultCode → ℕ → Result Worker FaultCode
 worker_in (Ok g) p = if is_within g.workers p then Ok (record { givens = g; number = p }) else Err NoSuchWorker
 worker_in (Err fault) p = Err fault
 
--- what is there, or a number that can't come was heard
+-- the standing, or the fault of an impossible value
 abbrev pub standing_or_fault : Option Standing → Result Standing FaultCode
 standing_or_fault (Some s) = Ok s
 standing_or_fault None = Err NoSuchNumber
 
--- where a worker stands whose process has heard this
+-- the standing of a worker whose process has read these values
 abbrev pub standing_in : Worker → List ℕ → Result Standing FaultCode
 standing_in w heard = standing_or_fault (standing_of w.givens w.number heard)
 
--- what comes next of it, where there was no fault
+-- the next step, if there was no fault
 abbrev pub and_then : {X Y : Type 0} → Result X FaultCode → (X → Result Y FaultCode) → Result Y FaultCode
 and_then (Ok x) f = f x
 and_then (Err fault) f = Err fault
 
--- what is told of the worker of these numbers, by where it stands
+-- the reply for the worker of these numbers, by its standing
 abbrev pub reply : {X : Type 0} → (Worker → Standing → Result X FaultCode) → AmoGivens → ℕ → List ℕ → Result X FaultCode
 reply tell x p heard = and_then (worker_in (givens_in x) p) (λ w. and_then (standing_in w heard) (tell w))
 
--- what `amo_next` tells
+-- the reply of `amo_next`
 abbrev pub next_reply : AmoGivens → ℕ → List ℕ → Result AmoNext FaultCode
 next_reply x p heard = reply (λ w s. Ok (next_of w s)) x p heard
 
--- what `amo_leave` tells
+-- the reply of `amo_leave`
 abbrev pub leave_reply : AmoGivens → ℕ → List ℕ → Result AmoNext FaultCode
 leave_reply x p heard = reply leave_by x p heard
 
@@ -64,17 +64,17 @@ code_of (Err fault) = fault_code fault
 abbrev pub has_worker : AmoGivens → ℕ → Bool
 has_worker x p = is_ok (worker_in (givens_in x) p)
 
--- how many shared words there are; 0 where there are no givens
+-- the number of registers; 0 if the numbers are no givens
 abbrev pub words_in : Result Givens FaultCode → ℕ
 words_in (Ok g) = word_count g
 words_in (Err fault) = 0
 
--- the bound of the givens; 0 where there are none
+-- the bound of the givens; 0 if the numbers are no givens
 abbrev pub bound_in : Result Givens FaultCode → ℕ
 bound_in (Ok g) = bound g
 bound_in (Err fault) = 0
 
--- the place of a worker's announcement; 0, which is no worker's word, where there is no such worker
+-- the place of a worker's announcement; 0 for another number, since word 0 belongs to nobody
 abbrev pub announcement_in : Result Worker FaultCode → ℕ
 announcement_in (Ok w) = next_word w.number
 announcement_in (Err fault) = 0

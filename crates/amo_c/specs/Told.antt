@@ -1,4 +1,4 @@
--- What C is told of a worker, by where it stands.
+-- The reply for a worker, by its standing.
 use Rattle.std.specs.Prelude.{ℕ, length, Some, Result, Ok, Err, if◌then◌else◌}
 use Rattle.amo_kk.specs.Record.{can_leave}
 use Rattle.amo_kk.specs.Words.{next_word}
@@ -16,19 +16,19 @@ use Rattle.amo_c.specs.declared.codes.FaultCode.TheVariants.{MayNotLeave}
 use Rattle.amo_c.specs.declared.worker.Worker.{Worker}
 use Rattle.amo_c.specs.declared.told.AmoNext.{AmoNext}
 
--- the word of an access, or 0 where there is none
+-- the word of an access; 0 if there is no access
 abbrev pub word_of : Access → ℕ
 word_of (Load word) = word
 word_of (Store word value) = word
 word_of Nothing = 0
 
--- the value that is stored, or 0 where none is
+-- the value that is stored; 0 if the access isn't a store
 abbrev pub value_of : Access → ℕ
 value_of (Load word) = 0
 value_of (Store word value) = value
 value_of Nothing = 0
 
--- what is told of a worker in this phase that makes this access, with no job in its hand and none claimed
+-- the reply for a worker in this phase that makes this access, with no job in its hand and none claimed
 abbrev pub told_of : Access → PhaseCode → AmoNext
 told_of a phase =
     record {
@@ -42,8 +42,8 @@ told_of a phase =
       dones = 0;
     }
 
--- what is told of a worker that stands so: its next access, the job to be performed, the one in doubt, and how many it has
--- claimed and filed
+-- the reply for a worker in this standing: its next access, the job to be performed, the job in doubt, and how many jobs it
+-- has claimed and recorded as done
 abbrev pub next_of : Worker → Standing → AmoNext
 next_of w (Beginning word) = told_of (Load word) IsBeginning
 next_of w (Going l fresh) =

@@ -1,4 +1,4 @@
-//! The numbers that stand for kinds of access, phases and faults.
+//! The codes that C sees for kinds of access, phases and faults.
 ghost use Rattle.std.specs.Prelude.{◌≡◌};
 ghost use Rattle.amo_c.specs.Codes.{access_code, phase_code, fault_code, kind_of, phase_of, fault_of};
 
@@ -6,21 +6,21 @@ use amo_givens::GivensFault;
 use amo_kk::Phase;
 use amo_process::Access;
 
-/// What is to be done with a shared word.
+/// `AccessCode`: the kind of an access.
 #[derive(Clone, Copy, Debug, PartialEq, Eq)]
 pub enum AccessCode {
-    /// Nothing.
+    /// No access.
     Nothing = 0,
-    /// To load it.
+    /// Load the word.
     Load = 1,
-    /// To store a value to it.
+    /// Store the value to the word.
     Store = 2,
-    /// To load it and those above it, one after the other, up to the first that is 0.
+    /// Load the word and those after it, one after the other, up to the first that is 0.
     LoadRow = 3,
 }
 
 impl AccessCode {
-    /// What the access does.
+    /// Returns the kind of this access.
     pub(crate) fn of(access: Access) -> AccessCode
         ensures { result ≡ kind_of access }
     {
@@ -31,7 +31,7 @@ impl AccessCode {
         }
     }
 
-    /// Its number.
+    /// Returns the number that C sees.
     pub(crate) fn number(self) -> u32
         ensures { result ≡ access_code self }
     {
@@ -39,29 +39,29 @@ impl AccessCode {
     }
 }
 
-/// Where a worker stands.
+/// `PhaseCode`: what a worker is about to do.
 #[derive(Clone, Copy, Debug, PartialEq, Eq)]
 pub enum PhaseCode {
-    /// Its process is loading its own words.
+    /// Its process loads its own registers.
     Beginning = 0,
-    /// It is about to announce a job.
+    /// It announces a job next.
     Announcing = 1,
-    /// It is reading the announcements of the others.
+    /// It reads the announcements of the others.
     Trying = 2,
-    /// It is reading the rows of the others.
+    /// It reads the rows of the others.
     Reading = 3,
-    /// It is about to claim the job.
+    /// It claims the job next.
     Claiming = 4,
-    /// The job is claimed and in its hand, and is yet to be filed.
+    /// The job is claimed and in its hand. It records the job as done next.
     Holding = 5,
     /// It has ended by its own choice.
     Over = 6,
-    /// It leaves, or has left.
+    /// It has left: the store of `amo_leave` is its last access.
     Left = 7,
 }
 
 impl PhaseCode {
-    /// That of a worker in this phase.
+    /// Returns the code of a worker in this phase.
     pub(crate) fn of(phase: Phase) -> PhaseCode
         ensures { result ≡ phase_of phase }
     {
@@ -76,7 +76,7 @@ impl PhaseCode {
         }
     }
 
-    /// Its number.
+    /// Returns the number that C sees.
     pub(crate) fn number(self) -> u32
         ensures { result ≡ phase_code self }
     {
@@ -84,13 +84,13 @@ impl PhaseCode {
     }
 }
 
-/// Why a call tells nothing. Where it tells something it answers 0, which is the number of no
+/// `FaultCode`: the reason why a call fails. A call that succeeds returns 0, which stands for no
 /// fault.
 #[derive(Clone, Copy, Debug, PartialEq, Eq)]
 pub enum FaultCode {
     /// There are more than 4096 jobs.
     TooManyJobs = 1,
-    /// There is no worker.
+    /// There are 0 workers.
     NoWorkers = 2,
     /// There are more than 16 workers.
     TooManyWorkers = 3,
@@ -98,20 +98,20 @@ pub enum FaultCode {
     BetaLow = 4,
     /// The threshold is above 65535.
     BetaHigh = 5,
-    /// The givens have no worker of this number.
+    /// The number of the worker isn't within `1..=workers`.
     NoSuchWorker = 6,
-    /// A number was heard that can't come where the worker stands: the words or the list were
-    /// spoiled.
+    /// A value of the list is impossible in its place: the registers or the list are damaged. Stop
+    /// all processes.
     NoSuchNumber = 7,
-    /// No memory was to be had. The same call may be made again.
+    /// Memory was refused. Nothing has changed, and the call may be made again.
     NoMemory = 8,
-    /// The worker may not leave: its process is loading its own words, or it has a job in its hand,
+    /// The worker may not leave: its process loads its own registers, or it has a job in its hand,
     /// or it has ended.
     MayNotLeave = 9,
 }
 
 impl FaultCode {
-    /// That of the first limit that the givens break.
+    /// Returns the code of this fault of the givens.
     pub(crate) fn of(fault: GivensFault) -> FaultCode
         ensures { result ≡ fault_of fault }
     {
@@ -124,7 +124,7 @@ impl FaultCode {
         }
     }
 
-    /// Its number.
+    /// Returns the number that C sees.
     pub(crate) fn number(self) -> u32
         ensures { result ≡ fault_code self }
     {

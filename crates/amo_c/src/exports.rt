@@ -1,6 +1,11 @@
-//! What C calls. Pointers are aligned and not null, also that of an empty list, and what they point
-//! to is apart and isn't changed during the call. Calls that take memory ask `malloc` for it, and
-//! give it back before they end.
+//! The functions that C calls.
+//!
+//! Pointers are aligned and not null, that of an empty list included. The places to which they
+//! point are apart, and nobody else changes it during the call. `amo_next`, `amo_batch` and
+//! `amo_leave` take memory from `malloc`, and give it back before they return. The other functions
+//! take none. No call blocks.
+//!
+//! `examples/c/amo.h` declares these functions for C, with a loop for each way to call them.
 ghost use Rattle.std.specs.Prelude.{◌≡◌, ◌≢◌, ◌<◌, ◌≤◌, true, Ok, Err, IfOk, IfErr, IsOkAnd, map, take, drop, length};
 ghost use Rattle.std.specs.List.{All};
 ghost use Rattle.amo_c.specs.Batch.{items_reply, item_told, IsBelow};
@@ -15,10 +20,10 @@ use crate::worker::{givens_of, standing_after, worker_of};
 use amo_process::{Item, done_word, items_of};
 use std::alloc::Global;
 
-/// The code of a call that tells something.
+/// The code of a call that succeeds.
 const NO_FAULT: u32 = 0;
 
-/// What worker p does next whose process has heard these numbers.
+/// Returns the next access of worker p whose process has read these values.
 fn next_after(
     alloc: Global,
     numbers: &AmoGivens,
@@ -35,14 +40,14 @@ fn next_after(
     Ok(next_of(worker, &standing))
 }
 
-/// What a worker does next, and its batch.
+/// The next access of a worker, and its batch.
 #[derive(Drop)]
 struct Batch {
     next: AmoNext,
     items: Vec<Item>,
 }
 
-/// What worker p does next whose process has heard these numbers, and its batch.
+/// Returns the next access of worker p whose process has read these values, and its batch.
 fn batch_after(
     alloc: Global,
     numbers: &AmoGivens,
@@ -65,7 +70,7 @@ fn batch_after(
     Ok(Batch { next, items })
 }
 
-/// The store by which worker p leaves whose process has heard these numbers.
+/// Returns the store by which worker p leaves whose process has read these values.
 fn leaving_after(
     alloc: Global,
     numbers: &AmoGivens,
@@ -82,10 +87,14 @@ fn leaving_after(
     leave_by(worker, &standing)
 }
 
-/// What worker p does next whose process has heard these numbers since it began, in their order:
-/// what each load gave, and 0 of each store. The code is 0 where `next` was written, and else the
-/// number of a `FaultCode`. That no memory was to be had is never decided by the list: memory is
-/// asked for before it is looked at.
+/// Writes the next access of worker p to `next`. `heard` has the values that its process has read
+/// since it began: the value of each load and 0 for each store, in order. It takes time in
+/// proportion to the list.
+///
+/// # Errors
+///
+/// The result is 0 if `next` was written, and otherwise the number of a [`FaultCode`]. `NoMemory`
+/// doesn't depend on the list, since memory is taken before the list is read.
 #[unsafe(no_mangle)]
 pub extern "C" fn amo_next(
     alloc: Global,
@@ -109,11 +118,15 @@ pub extern "C" fn amo_next(
     }
 }
 
-/// What `amo_next` tells, and with it the worker's batch: all loads and stores that are known
-/// before anything more is heard, in their order. As many of its items are written as there are
-/// places, the first ones, and `count` says how many; the other places stay as they were. 2 *
-/// `workers` + 1 places are room for any batch. How much memory is asked for of a list that can
-/// come hangs on the givens alone here too.
+/// Writes the next access as `amo_next` does, and the worker's batch: all accesses that are known
+/// before another value is read, in order. It writes the first items, as many as there are places,
+/// and their number to `count`. Other places stay as they were. `2 * workers + 1` places are enough
+/// for any batch.
+///
+/// # Errors
+///
+/// The result is 0 if `next`, `count` and items were written, and otherwise the number of a
+/// [`FaultCode`].
 #[unsafe(no_mangle)]
 pub extern "C" fn amo_batch(
     alloc: Global,
@@ -144,9 +157,14 @@ pub extern "C" fn amo_batch(
     }
 }
 
-/// The store by which worker p leaves whose process has heard these numbers since it began, as in
-/// `amo_next`. It is the last access of this process, and nothing more is asked with its list;
-/// another process may begin as the worker later.
+/// Writes the store by which worker p leaves to `next`. `heard` is the list that `amo_next` takes.
+/// It is the last access of this process. Don't call with this list again. Another process may
+/// begin as the worker later.
+///
+/// # Errors
+///
+/// The result is 0 if `next` was written, and otherwise the number of a [`FaultCode`]:
+/// `MayNotLeave` among them.
 #[unsafe(no_mangle)]
 pub extern "C" fn amo_leave(
     alloc: Global,
@@ -170,8 +188,8 @@ pub extern "C" fn amo_leave(
     }
 }
 
-/// How many shared words there are, or 0 where the numbers break a limit. All are 0 at first, and
-/// that at place 0 always.
+/// Returns how many registers there are, or 0 if the numbers break a limit. All are 0 at first, and
+/// the word at place 0 always is.
 #[unsafe(no_mangle)]
 pub extern "C" fn amo_words(givens: &AmoGivens) -> u64
     ensures { result ≡ words_in (givens_in givens.now) }
@@ -182,7 +200,7 @@ pub extern "C" fn amo_words(givens: &AmoGivens) -> u64
     }
 }
 
-/// Wherever a worker has ended at least so many jobs are filed. 0 also where the numbers break a
+/// Returns how many jobs are done at least once a worker has ended, or 0 if the numbers break a
 /// limit.
 #[unsafe(no_mangle)]
 pub extern "C" fn amo_bound(givens: &AmoGivens) -> u64
@@ -194,7 +212,7 @@ pub extern "C" fn amo_bound(givens: &AmoGivens) -> u64
     }
 }
 
-/// The place of worker p's announcement, or 0 where there is no such worker.
+/// Returns the place of worker p's announcement, or 0 if p isn't a worker of these givens.
 #[unsafe(no_mangle)]
 pub extern "C" fn amo_announcement_word(givens: &AmoGivens, p: u64) -> u64
     ensures { result ≡ announcement_in (worker_in (givens_in givens.now) p) }
@@ -205,7 +223,7 @@ pub extern "C" fn amo_announcement_word(givens: &AmoGivens, p: u64) -> u64
     }
 }
 
-/// The place of worker p's count of claims, or 0 where there is no such worker.
+/// Returns the place of worker p's count of claims, or 0 if p isn't a worker of these givens.
 #[unsafe(no_mangle)]
 pub extern "C" fn amo_claims_word(givens: &AmoGivens, p: u64) -> u64
     ensures { result ≡ claims_in (worker_in (givens_in givens.now) p) }
@@ -216,8 +234,8 @@ pub extern "C" fn amo_claims_word(givens: &AmoGivens, p: u64) -> u64
     }
 }
 
-/// The place of the k-th entry of worker p's row, or 0 where there is none. They go from 1 to
-/// `jobs` + 1, and the last of them is always 0.
+/// Returns the place of the k-th entry of worker p's row, or 0 if the givens have no such place.
+/// Entries go from 1 to `jobs + 1`, and the last of them is always 0.
 #[unsafe(no_mangle)]
 pub extern "C" fn amo_entry_word(givens: &AmoGivens, p: u64, k: u64) -> u64
     ensures { result ≡ entry_in (worker_in (givens_in givens.now) p) k }

@@ -1,23 +1,25 @@
-//! What C is told in a batch.
+//! The items of a batch, as C sees them.
 ghost use Rattle.std.specs.Prelude.{◌≡◌, ◌≤◌, map, take, drop, length};
 ghost use Rattle.amo_c.specs.Batch.{item_told};
 
 use crate::codes::AccessCode;
 use amo_process::Item;
 
-/// One thing to do in a batch. Each number that is loaded is noted, and 0 for a store.
+/// `AmoItem`: one access of a batch, or the loads of a row. The process notes each loaded value,
+/// and 0 for a store.
 #[repr(C)]
 #[derive(Clone, Copy, Drop)]
 pub struct AmoItem {
-    /// What is to be done: the number of an `AccessCode`, never that of nothing.
+    /// The number of an `AccessCode`, never that of `Nothing`.
     pub access: u64,
-    /// The place of the shared word, from 0; of a row the place of the first word that is loaded.
+    /// The place of the word, from 0. For a row it is the place of the first word that is loaded.
     pub word: u64,
-    /// The value to store; of a row the place of its last word, where always 0 stands; else 0.
+    /// The value to store. For a row it is the place of its last word, which is always 0. Otherwise
+    /// 0.
     pub value: u64,
 }
 
-/// How C is told of an item.
+/// Returns an item as C sees it.
 fn item_told(item: Item) -> AmoItem
     ensures { result ≡ item_told item }
 {
@@ -33,8 +35,8 @@ fn item_told(item: Item) -> AmoItem
     }
 }
 
-/// Writes as many items of the batch as there are places, and says how many. The other places stay
-/// as they were.
+/// Writes the first items of the batch, as many as there are places, and returns their number.
+/// Other places stay as they were.
 pub(crate) fn write_items(places: &mut [AmoItem], batch: &[Item]) -> usize
     ensures count { result ≤ length places.new }
     ensures told { take result places.new ≡ take (length places.old) (map item_told batch.now) }

@@ -1,4 +1,4 @@
-//! What C is told and what the processes of the definitions do are the same. Nothing here runs.
+//! The theorems on what C sees: it is what the processes of the definitions do. Nothing here runs.
 ghost use Rattle.std.specs.Prelude.{◌≡◌, ◌≢◌, ◌+◌, ◌++◌, ◌∷◌, [], ℕ, true, Bool, List, Some, Ok, Err};
 ghost use Rattle.amo_givens.specs.Givens.{IsWorker};
 ghost use Rattle.amo_kk.specs.Record.{job_in_hand};
@@ -21,8 +21,8 @@ ghost use Rattle.amo_c.specs.declared.codes.PhaseCode.TheVariants.{Over};
 ghost use Rattle.amo_c.specs.declared.told.AmoNext.{AmoNext};
 ghost use Rattle.amo_c.specs.declared.worker.Worker.{Worker};
 
-/// To carry out what `amo_next` tells is the step of the worker's process; to carry out what
-/// `amo_leave` tells is its leaving, and where that may not be, leaving changes nothing.
+/// States that to carry out the access of `amo_next` is the step of the worker's process. To carry
+/// out the store of `amo_leave` is its leave. If it may not leave, a leave changes nothing.
 pub fn what_is_told_is_done()
     ensures steps { (w : Worker) (s : Shared) (t : Standing) → standing_at w.givens s w.number ≡ Some t
         → shared_after w.givens s (Steps w.number) ≡ carried_out s w.number (next_of w t) }
@@ -32,8 +32,8 @@ pub fn what_is_told_is_done()
         → shared_after w.givens s (Leaves w.number) ≡ s }
 {}
 
-/// The job that C is told to perform, and the one in doubt, are those of the definitions; what a
-/// worker has in its hand is told to be the one or the other.
+/// States that the job to perform and the job in doubt are those of the definitions. Exactly one of
+/// them is the job in a worker's hand.
 pub fn a_job_in_hand_is_told()
     ensures performs { (w : Worker) (t : Standing) → (next_of w t).perform ≡ to_perform t }
     ensures doubts { (w : Worker) (t : Standing) → (next_of w t).doubt ≡ in_doubt t }
@@ -41,17 +41,17 @@ pub fn a_job_in_hand_is_told()
         → (next_of w (Going l fresh)).perform + (next_of w (Going l fresh)).doubt ≡ job_in_hand l.state.phase }
 {}
 
-/// Where C is told that a worker is over it has ended by its own choice, and where it has, C is
-/// told so and has nothing to do.
+/// States that C sees the phase `Over` exactly if the worker has ended by its own choice. Then it
+/// has no access to make.
 pub fn an_end_is_told()
     ensures told { (w : Worker) (t : Standing) → (next_of w t).phase ≡ phase_code Over → has_ended (Some t) ≡ true }
     ensures ended { (w : Worker) (t : Standing) → has_ended (Some t) ≡ true
         → ((next_of w t).phase ≡ phase_code Over) × ((next_of w t).access ≡ access_code Nothing) }
 {}
 
-/// A process by batches makes the accesses that `amo_next` tells. Where a part of a batch was
-/// heard, whatever was heard of it, `amo_next` tells the first access of the first item that is
-/// left; where nothing is left, it tells no load.
+/// States that a process by batches makes the accesses of `amo_next`. Take a part of a batch, and
+/// any values for it. `amo_next` then returns the first access of the first item that is left. If
+/// nothing is left, it returns no load.
 pub fn a_batch_tells_what_next_tells()
     ensures rest { (w : Worker) (heard more : List ℕ) (s t : Standing) (item : Item) (rest : List Item) → IsWorker w.givens w.number
         → standing_of w.givens w.number heard ≡ Some s → left_after_all (items_of w.givens w.number s) more ≡ Some (item ∷ rest)

@@ -1,5 +1,8 @@
-//! Workers for programs in C: the load or store that a worker makes next, by what its process has
-//! heard since it began. No call keeps anything. The theorems stand in the module `laws`.
+//! Workers for programs in C, as a static library: the next load or store of a worker, by the list
+//! of values that its process has read.
+//!
+//! Start at `amo_next`, and at `examples/c/amo.h`, the header for C. No call keeps anything. The
+//! module `laws` has the theorems.
 #![tactic(auto)]
 
 mod codes;

@@ -1,6 +1,6 @@
-//! Worked values of what C is told. They stand here, since no crate can stand on a static library.
-//! Words of 3 jobs and 2 workers: the announcements are 1 and 2, the counts of claims 3 and 4, the
-//! rows 5 to 8 and 9 to 12.
+//! Tests with values that were worked out by hand. They stand here, since no crate can stand on a
+//! static library. With 3 jobs and 2 workers the announcements are words 1 and 2, the counts of
+//! claims 3 and 4, the rows 5 to 8 and 9 to 12.
 use crate::exports::{
     amo_announcement_word, amo_batch, amo_bound, amo_claims_word, amo_entry_word, amo_leave,
     amo_next, amo_words,
@@ -25,7 +25,7 @@ fn givens_of(jobs: u64, workers: u64, beta: u64) -> AmoGivens {
     }
 }
 
-/// What is there where nothing was written.
+/// The values of a reply that wasn't written.
 const UNTOLD: [u64; 8] = [9; 8];
 
 const UNTOLD_ITEM: AmoItem = AmoItem {
@@ -60,21 +60,21 @@ fn fields(next: AmoNext) -> [u64; 8] {
     ]
 }
 
-/// The code, and what is told, of `amo_next`.
+/// Calls `amo_next`, and returns its code and its reply.
 fn next(alloc: Global, givens: AmoGivens, p: u64, heard: &[u64]) -> (u32, [u64; 8]) {
     let mut next = untold();
     let code = amo_next(alloc, &givens, p, heard, &mut next);
     (code, fields(next))
 }
 
-/// The same of `amo_leave`.
+/// Calls `amo_leave`, and returns its code and its reply.
 fn leave(alloc: Global, givens: AmoGivens, p: u64, heard: &[u64]) -> (u32, [u64; 8]) {
     let mut next = untold();
     let code = amo_leave(alloc, &givens, p, heard, &mut next);
     (code, fields(next))
 }
 
-/// The code, the count and what is told of `amo_batch`, whose items go to these places.
+/// Calls `amo_batch` with these places for items, and returns its code, the count and its reply.
 fn batch_into(
     alloc: Global,
     givens: AmoGivens,
@@ -87,8 +87,7 @@ fn batch_into(
     (code, count, next)
 }
 
-/// Sees that `amo_batch` tells these items, as many of them as there are places, and answers what
-/// it tells beside them.
+/// Asserts that `amo_batch` writes these items, as many as there are places, and returns its reply.
 fn batch(
     rt: &impl Abort,
     alloc: Global,

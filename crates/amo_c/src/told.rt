@@ -1,4 +1,4 @@
-//! What C gives, and what it is told.
+//! The values that C gives and gets.
 ghost use Rattle.std.specs.Prelude.{◌≡◌, ◌<◌, ◌+◌, Ok, IfOk};
 ghost use Rattle.amo_givens.specs.Givens.{IsWorker};
 ghost use Rattle.amo_kk.specs.Record.{job_in_hand};
@@ -12,42 +12,41 @@ use crate::worker::Worker;
 use amo_kk::{Local, Phase};
 use amo_process::{Access, Standing, access_for};
 
-/// The three numbers of a run.
+/// `AmoGivens`: the three numbers of a run.
 #[repr(C)]
 #[derive(Clone, Copy, Drop)]
 pub struct AmoGivens {
-    /// How many jobs there are, 0 to 4096. They are numbered from 1.
+    /// The number of jobs, 0 to 4096. Jobs are numbered from 1.
     pub jobs: u64,
-    /// How many workers there are, 1 to 16. They are numbered from 1.
+    /// The number of workers, 1 to 16. Workers are numbered from 1.
     pub workers: u64,
     /// The threshold, at least `workers` and at most 65535.
     pub beta: u64,
 }
 
-/// What a worker does next, and where it stands.
+/// `AmoNext`: the next access of a worker, with the state of the worker.
 #[repr(C)]
 #[derive(Clone, Copy, Drop)]
 pub struct AmoNext {
-    /// What is to be done with the word: the number of an `AccessCode`, which is never that of a
-    /// row.
+    /// The kind of the access: the number of an `AccessCode`, never that of `LoadRow`.
     pub access: u32,
-    /// Where the worker stands: the number of a `PhaseCode`.
+    /// The state of the worker: the number of a `PhaseCode`.
     pub phase: u32,
-    /// The place of the shared word, from 0; 0 where there is none.
+    /// The place of the word, from 0; 0 if there is no access.
     pub word: u64,
-    /// The value to store; 0 where there is none.
+    /// The value to store; 0 if the access isn't a store.
     pub value: u64,
-    /// The job to be performed now, before the access; 0 where there is none.
+    /// The job that is performed now, before the access; 0 if there is no such job.
     pub perform: u32,
-    /// The job in doubt, which is never to be performed: the store files it. 0 where there is none.
+    /// The job in doubt, or 0. Never perform it: the store records it as done.
     pub doubt: u32,
-    /// How many jobs the worker has claimed; 0 while its process loads its own words.
+    /// How many jobs the worker has claimed; 0 while its process loads its own registers.
     pub claims: u64,
-    /// How many jobs it has filed; 0 while its process loads its own words.
+    /// How many jobs it has recorded as done; 0 while its process loads its own registers.
     pub dones: u64,
 }
 
-/// The job in hand, or 0.
+/// Returns the job in hand, or 0.
 fn job_in_hand(phase: Phase) -> u32
     ensures { result ≡ job_in_hand phase }
 {
@@ -62,7 +61,7 @@ fn job_in_hand(phase: Phase) -> u32
     }
 }
 
-/// What is told of a worker that makes this access, and has no job in its hand.
+/// Returns the reply for a worker that makes this access, and has no job in its hand.
 fn told_of(access: Access, phase: PhaseCode) -> AmoNext
     ensures { result ≡ told_of access phase }
 {
@@ -83,7 +82,8 @@ fn told_of(access: Access, phase: PhaseCode) -> AmoNext
     }
 }
 
-/// What is told of a worker that goes on. It is fresh where it has made no access since it began.
+/// Returns the reply for a worker that goes on. It is fresh if it has made no access since it
+/// began.
 fn going(worker: Worker, local: &Local, fresh: bool) -> AmoNext
     requires givens { local.now.givens ≡ worker.givens }
     requires number { local.now.number ≡ worker.number }
@@ -104,7 +104,7 @@ fn going(worker: Worker, local: &Local, fresh: bool) -> AmoNext
     }
 }
 
-/// What is told of the worker that stands so.
+/// Returns the reply for a worker in this standing.
 pub(crate) fn next_of(worker: Worker, standing: &Standing) -> AmoNext
     requires { IsOf worker.givens worker.number standing.now }
     ensures told { result ≡ next_of worker standing.now }
@@ -116,7 +116,7 @@ pub(crate) fn next_of(worker: Worker, standing: &Standing) -> AmoNext
     }
 }
 
-/// The store by which the worker leaves that stands so.
+/// Returns the store by which a worker in this standing leaves. The error is `MayNotLeave`.
 pub(crate) fn leave_by(worker: Worker, standing: &Standing) -> Result<AmoNext, FaultCode>
     requires { IsWorker worker.givens worker.number }
     ensures told { result ≡ leave_by worker standing.now }

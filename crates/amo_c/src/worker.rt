@@ -1,4 +1,4 @@
-//! The worker that a call is about.
+//! The worker to which a call belongs.
 ghost use Rattle.std.specs.Prelude.{◌≡◌, ◌≢◌, ◌+◌, ◌<◌, ◌≤◌, Ok, Err, IfOk, IfErr};
 ghost use Rattle.amo_givens.specs.Givens.{IsWorker};
 ghost use Rattle.amo_kk.specs.Choice.{first_record};
@@ -18,11 +18,11 @@ use std::alloc::Global;
 pub(crate) struct Worker {
     /// The givens.
     pub(crate) givens: Givens,
-    /// Its number, from 1.
+    /// The number, from 1.
     pub(crate) number: u32,
 }
 
-/// The givens of these three numbers, or the first limit that they break.
+/// Returns the givens of these three numbers, or the first limit that they break.
 pub(crate) fn givens_of(numbers: &AmoGivens) -> Result<Givens, FaultCode>
     ensures { result ≡ givens_in numbers.now }
 {
@@ -32,7 +32,7 @@ pub(crate) fn givens_of(numbers: &AmoGivens) -> Result<Givens, FaultCode>
     }
 }
 
-/// Worker p of these givens.
+/// Returns worker p of these givens, or the first fault.
 pub(crate) fn worker_of(numbers: &AmoGivens, p: u64) -> Result<Worker, FaultCode>
     ensures worker { result ≡ worker_in (givens_in numbers.now) p }
     ensures is { IfOk result (λ w. IsWorker w.givens w.number) }
@@ -47,8 +47,8 @@ pub(crate) fn worker_of(numbers: &AmoGivens, p: u64) -> Result<Worker, FaultCode
     })
 }
 
-/// Where the worker stands whose process has heard these numbers. Memory is asked for before they
-/// are looked at.
+/// Returns the standing of the worker whose process has read these values. It takes memory before
+/// it reads the list.
 pub(crate) fn standing_after(
     alloc: Global,
     worker: Worker,
@@ -65,11 +65,12 @@ pub(crate) fn standing_after(
     standing_of_new(worker, local, heard)
 }
 
-/// Returns how far the worker of this new machine has come after its process heard these numbers.
-/// It takes no memory. So a list that no process can hear is never reported as a want of memory.
+/// Returns the standing of the worker of this new machine, after its process has read these values.
+/// It takes no memory, so an impossible list is never reported as a want of memory.
 ///
 /// # Errors
-/// `NoSuchNumber`, if no process can hear these numbers.
+///
+/// `NoSuchNumber`, if no process can read these values.
 fn standing_of_new(worker: Worker, local: Local, heard: &[u64]) -> Result<Standing, FaultCode>
     requires new { local ≡ record { givens = worker.givens; number = worker.number; state = first_record worker.givens worker.number } }
     ensures standing { IfOk result (λ s. standing_in worker heard.now ≡ Ok s) }

@@ -1,5 +1,5 @@
--- What a worker's calls come to: each passes its table, its seat and all that the seat knows on, changed by one step or
--- not at all.
+-- The results of a worker's calls. Each call passes on the worker's table, its handle and the handle's knowledge, changed
+-- by one step or not at all.
 use Rattle.std.specs.Prelude.{◌≡◌, ℕ, ◌+◌, ◌-◌, ◌^◌, min, true, [], ◌∷◌, ◌++◌, if◌then◌else◌}
 use Rattle.amo_kk.specs.Record.{is_over, wants_nothing, jobs_in_hand}
 use Rattle.amo_kk.specs.Step.{shown}
@@ -16,7 +16,7 @@ use Rattle.amo_claims.specs.declared.states.After.{After}
 use Rattle.amo_claims.specs.declared.states.After.TheVariants.{More as StillMore, Over as NowOver}
 use Rattle.amo_claims.specs.States.{IsReady, Holds}
 
--- the state of a worker with nothing in its hand: over where it has ended or left
+-- the state of a worker with nothing in its hand: over if it has ended or left
 abbrev pub state_of : {P : Type 0} → Seated P → After P
 state_of w = if wants_nothing (machine w).state.phase then NowOver w else StillMore w
 

@@ -1,4 +1,4 @@
-//! The states of a worker. Each is spent by its call.
+//! The states of a worker. Each call takes the state that it is called on.
 ghost use Rattle.amo_words.specs.Faces.{Seated};
 ghost use Rattle.amo_claims.specs.States.{HeldView, PerformedView, IsReady, Holds, HoldsJob};
 
@@ -12,7 +12,7 @@ mod holding;
 
 pub use going::begin;
 
-/// A worker that may take its next step: it goes on, and nothing is in its hand.
+/// `Ready`: a worker that may take its next step, with nothing in its hand.
 #[derive(Drop)]
 pub struct Ready<P> {
     worker: Worker<P>,
@@ -26,8 +26,8 @@ impl<P> Model for Ready<P> {
     ghost invariant = { λ r. IsReady r.worker };
 }
 
-/// A worker with a job in its hand, and the payload of that job as it was put in. The job is yet to
-/// be performed.
+/// `Held`: a worker with a job in its hand, and that job's payload as it was put in. The job isn't
+/// performed yet.
 #[derive(Drop)]
 pub struct Held<P> {
     worker: Worker<P>,
@@ -43,8 +43,8 @@ impl<P> Model for Held<P> {
     ghost invariant = { λ h. Holds h.worker h.job h.payload };
 }
 
-/// A worker with a job in its hand that is performed, and the answer of that performance. It is yet
-/// to be filed.
+/// `Performed`: a worker with a job in its hand that was performed, and the answer. The job isn't
+/// recorded as done yet.
 #[derive(Drop)]
 pub struct Performed<P, Out> {
     worker: Worker<P>,
@@ -60,7 +60,7 @@ impl<P, Out> Model for Performed<P, Out> {
     ghost invariant = { λ h. HoldsJob h.worker h.job };
 }
 
-/// A worker that takes no step any more: it has ended or left, or was halted.
+/// `Gone`: a worker that takes no further step. It has ended or left, or was halted.
 #[derive(Drop)]
 pub struct Gone<P> {
     worker: Worker<P>,
@@ -72,22 +72,22 @@ impl<P> Model for Gone<P> {
     ghost view = { λ g. g.worker };
 }
 
-/// What a step of a ready worker comes to.
+/// `Go`: the result of a step of a ready worker.
 #[derive(Drop)]
 pub enum Go<P> {
     /// The worker goes on.
     More(Ready<P>),
-    /// It has claimed a job.
+    /// The step has claimed a job.
     Got(Held<P>),
-    /// With this step it has ended by its own choice.
+    /// With this step the worker has ended by its own choice.
     Over(Gone<P>),
 }
 
-/// A worker with nothing in its hand.
+/// `After`: a worker with nothing in its hand.
 #[derive(Drop)]
 pub enum After<P> {
     /// The worker goes on.
     More(Ready<P>),
-    /// It has ended by its own choice, or it has left.
+    /// The worker has ended by its own choice, or it has left.
     Over(Gone<P>),
 }

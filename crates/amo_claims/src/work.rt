@@ -1,16 +1,18 @@
-//! What is done with a payload.
+//! The work that is done with a payload.
 ghost use Rattle.std.specs.Prelude.{ℕ};
 
-/// The work that workers do, over payloads of type P.
+/// `Work`: the jobs' effect, over payloads of type `P`. `perform` is called at most once for a
+/// payload, since it takes the payload away.
 pub trait Work<P> {
-    /// What a performance gives.
+    /// The type of an answer.
     type Out;
 
-    /// Which answers belong to a worker, a job and the job's payload. Each implementation says so
-    /// of its own.
+    /// The relation between a worker, a job, the job's payload and the answer. Each implementation
+    /// states its own, and the answers of a run are promised exactly this.
     ghost related: { Self → ℕ → ℕ → P → Self.Out → Type 0 };
 
-    /// Performs a job for a worker. The numbers may be any.
+    /// Performs a job for a worker, and returns the answer. It must handle any numbers of workers
+    /// and jobs. It can't refuse: a work that may fail states the failure in its answer.
     fn perform(&self, worker: u32, job: u32, payload: P) -> Self::Out
         ensures related { related self.now worker job payload result };
 }

@@ -1,4 +1,4 @@
--- A hired worker goes back without a step, and all payloads are free where nothing was claimed.
+-- A hired worker goes back without a step, and all payloads are free if nothing was claimed.
 use Rattle.std.proofs.Common.{◌≡◌, ◌≢◌, inl, inr, ⊎_elim, ℕ, zero, suc, ◌+◌, ◌-◌, ◌<◌, ◌≤◌, false, List, All, [], ◌∷◌, ◌++◌, length, map, replicate, get_or, refl, sym, ap, ◌∙◌, subst, arith}
 use Rattle.std.specs.Prelude.{if◌then◌else◌, slice_set}
 use Rattle.std.proofs.lemmas.List.{length_push, length-replicate}
@@ -128,7 +128,7 @@ pub no_hands : (ss : List Spot) → ((p : ℕ) → IsBare (spot_of ss p)) → (i
 no_hands ss h zero = refl
 no_hands ss h (suc i) = λ k. no_hands ss h i k ++ map (λ j. (suc i, j)) ((h (suc i)).1 k)
 
--- where nobody has claimed, all payloads are free
+-- if nobody has claimed, all payloads are free
 pub all_free : {P : Type 0} (all : List Process) → ((j : ℕ) → is_claimed all j ≡ false) → (j : ℕ) (xs : List P) → map (λ (t : ℕ × P). t.1) (free_of all j xs) ≡ xs
 all_free all h j [] = refl
 all_free {P} all h j (x ∷ xs) = ap (λ b. map (λ (t : ℕ × P). t.1) (if b then free_of all (suc j) xs else (j, x) ∷ free_of all (suc j) xs)) (h j) ∙ (λ k. x ∷ all_free all h (suc j) xs k)
@@ -188,7 +188,7 @@ all_off queue table g payloads budgets b h p = ⊎_elim (λ t. t) (λ t. let low
 pub all_at_table : {P Out : Type 0} (queue : Queue Out) (table : TableId) (g : Givens) (payloads : List P) (budgets : List ℕ) (crew : List (Member P Out)) → IsCrew queue table g payloads budgets crew → All (AtTable table) crew
 all_at_table queue table g payloads budgets crew is = all_at (AtTable table) crew (λ k m at. (is k m at).table_is)
 
--- what is held where nothing was started
+-- the values that are kept if no thread was started
 pub has_not_begun : {P Out : Type 0} (g : Givens) (payloads : List P) (b : Seated P) (c : ClosedView P) (ends : List End) (outputs : List (Output Out)) (in_hand : List (ℕ × ℕ × P))
     → HasClosed b.view.givens b.view.payloads b.view.seen (spots b) c → b.view.givens ≡ g → b.view.payloads ≡ payloads → ((p : ℕ) → IsUntouched (spot_of (spots b) p))
     → ends ≡ replicate g.workers NotStarted → outputs ≡ [] → in_hand ≡ [] → HasNotBegun g payloads record { floor = c; ends = ends; outputs = outputs; in_hand = in_hand }

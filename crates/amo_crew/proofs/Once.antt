@@ -105,7 +105,7 @@ module _ {Out : Type 0} where
       go rest true e n = (x.worker, first_has x xs j e)
       go rest false e n = let found = rest n in (found.0, of_more x xs found.0 j found.1)
 
-  -- Where each worker has its jobs once and no two workers have one, all are different.
+  -- If each worker has its jobs once and no two workers have one, all are different.
   once : (xs : List (Output Out)) → ((p : ℕ) → AreDistinct (jobs_of (of p xs))) → ((p q j : ℕ) → q ≢ p → has (jobs_of (of p xs)) j ≡ true → has (jobs_of (of q xs)) j ≡ true → ⊥) → AreDistinct (jobs_of xs)
   once [] own apart = tt
   once (x ∷ xs) own apart =

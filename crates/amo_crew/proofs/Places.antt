@@ -88,7 +88,7 @@ came_back budget s (Ended n) h = inr (h.0, h.1)
 came_back budget s (Halted n) h = inr (h.0, h.1)
 came_back budget s NotStarted h = inl refl
 
--- where each was started there is none that was not
+-- if each was started, none was not
 none_left : (ends : List End) → AllStarted ends → (p : ℕ) → 1 ≤ p → p ≤ length ends → numbered NotStarted ends p ≡ NotStarted → ⊥
 none_left ends all zero low high e = absurd (omega arith)
 none_left ends all (suc k) low high e = All-get_or (λ (x : End). x ≢ NotStarted) ends k NotStarted (omega arith) all e

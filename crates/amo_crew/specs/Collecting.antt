@@ -79,7 +79,7 @@ pub record HasRoomFor {P Out : Type 0} (n : ℕ) (a : Collected P Out) : Type 0 
   pub ends_room : vec_len a.ends + n ≤ vec_capacity a.ends
   pub hand_room : vec_len a.in_hand + n ≤ vec_capacity a.in_hand
 
--- what is told of a worker of which this became
+-- the end of a worker whose thread finished so
 abbrev pub end_in : {P Out : Type 0} → Finish P Out → End
 end_in (HasRan r) = r.end
 end_in (WasNotStarted u) = NotStarted

@@ -53,7 +53,7 @@ pub record MayStart {P Out : Type 0} (queue : Queue Out) (table : TableId) (inle
   pub takes : IsInletOf queue inlet
   pub fits : length crew ≤ room
 
--- What became of it.
+-- The members' threads have ended so.
 pub record HasEnded {P Out : Type 0} (related : ℕ → ℕ → P → Out → Type 0) (queue : Queue Out) (table : TableId) (before inlet : Inlet Out) (crew : List (Member P Out)) (finishes : List (Finish P Out)) : Type 0 where
   pub each : AllZip (IsFinishOf related queue table) crew finishes
   pub takes : IsInletOf queue inlet

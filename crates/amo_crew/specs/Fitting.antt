@@ -1,4 +1,4 @@
--- What every outcome keeps, whatever was run.
+-- The facts that hold of every outcome.
 use Rattle.std.specs.Prelude.{◌≡◌, ℕ, List, length, All}
 use Rattle.std.proofs.Common.{Vec, Global}
 use Rattle.amo_givens.specs.Givens.{IsJob}

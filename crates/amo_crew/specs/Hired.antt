@@ -62,7 +62,7 @@ pub record HasNotBegun {P Out : Type 0} (g : Givens) (payloads : List P) (u : Un
   pub outputs : u.outputs ≡ []
   pub in_hand : u.in_hand ≡ []
 
--- what is refused where nothing was started: all payloads come back, or what is left can be settled
+-- the refusal of a run in which no thread was started: all payloads come back, or the final accounting can be done later
 abbrev pub IsCalledOff : {P Out : Type 0} → Givens → List P → ExecFault P Out → Type 0
 IsCalledOff g payloads (WrongCount v) = ⊥
 IsCalledOff g payloads (NoMemory v) = (v.items ≡ payloads) × (length payloads ≡ g.jobs)

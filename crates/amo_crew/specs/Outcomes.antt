@@ -1,4 +1,4 @@
--- What comes of a run.
+-- The outcome of a run.
 use Rattle.std.specs.Prelude.{◌≡◌, ◌≢◌, ◌⊎◌, true, ℕ, zero, suc, ◌+◌, ◌-◌, ◌≤◌, List, [], ◌++◌, length, map, All, Some, slice_get}
 use Rattle.amo_sets.specs.Lists.{numbered}
 use Rattle.amo_sets.specs.Sets.{has}
@@ -66,13 +66,13 @@ pub record AreOutputs {P Out : Type 0} (related : ℕ → ℕ → P → Out → 
   pub jobs : (p : ℕ) → jobs_of (of p outputs) ≡ dones_in (spot_of spots p)
   pub answers : All (IsRelated related payloads) outputs
 
--- What the threads leave, where the book has these spots.
+-- The results of the threads, if the registry has these slot states.
 pub record HaveRun {P Out : Type 0} (related : ℕ → ℕ → P → Out → Type 0) (g : Givens) (payloads : List P) (budgets : List ℕ) (spots : List Spot) (ends : List End) (outputs : List (Output Out)) (in_hand : List (ℕ × ℕ × P)) : Type 0 where
   pub ends_are : AreEnds budgets spots g.workers ends
   pub outputs_are : AreOutputs related payloads spots outputs
   pub hands_are : AreInHand payloads spots g.workers in_hand
 
--- What came of a run: the settlement is whole, and ends, outputs and jobs in hand are those of its records.
+-- The outcome of a run: the final accounting is whole, and ends, outputs and jobs in hand are those of its records.
 pub record IsOutcome {P Out : Type 0} (related : ℕ → ℕ → P → Out → Type 0) (g : Givens) (payloads : List P) (budgets : List ℕ) (o : Outcome P Out) : Type 0 where
   pub seen : List Move
   pub spots : List Spot

@@ -1,4 +1,4 @@
--- What is refused.
+-- The refusals of a run.
 use Rattle.std.specs.Prelude.{◌≡◌, ◌≢◌, ℕ, Bool, true, false, List, length}
 use Rattle.std.specs.List.{list_any}
 use Rattle.amo_givens.specs.declared.givens.Givens.{Givens}

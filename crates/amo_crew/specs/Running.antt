@@ -29,8 +29,8 @@ pub record IsFresh {P : Type 0} (w : Seated P) : Type 0 where
 abbrev pub IsRelated : {P Out : Type 0} → (ℕ → ℕ → P → Out → Type 0) → List P → Output Out → Type 0
 IsRelated {P} related payloads x = (y : P) × (slice_get payloads (x.job - 1) ≡ Some y) × related x.worker x.job y x.out
 
--- The worker p of this table, with these givens and payloads, has taken at most `budget` steps, and its outlet was
--- given just the answers of its dones, in their order.
+-- The worker p of this table, with these givens and payloads, has taken at most `budget` steps. Its outlet was given
+-- exactly the answers of its done jobs, in order.
 pub record HasFiled {P Out : Type 0} (related : ℕ → ℕ → P → Out → Type 0) (queue : Queue Out) (table : TableId) (g : Givens) (payloads : List P) (p budget : ℕ) (w : Seated P) (o : Outlet Out) : Type 0 where
   pub table_is : w.table_id ≡ table
   pub givens : w.view.givens ≡ g
@@ -43,8 +43,7 @@ pub record HasFiled {P Out : Type 0} (related : ℕ → ℕ → P → Out → Ty
   pub jobs : map (λ x. x.job) (given o) ≡ (machine w).state.dones
   pub answers : All (IsRelated related payloads) (given o)
 
--- what is told of the end of a worker with this record is so: it is over within its budget, or its budget is used up
--- and it still wants a step
+-- the end of a worker with this record: it is over within its budget, or its budget is used up and it still wants a step
 abbrev pub EndsSo : ℕ → Record → End → Type 0
 EndsSo budget r (Ended s) = (is_over r.phase ≡ true) × (r.steps ≡ s) × (s ≤ budget)
 EndsSo budget r (Halted s) = (wants_nothing r.phase ≡ false) × (r.steps ≡ s) × (s ≡ budget)
@@ -55,7 +54,7 @@ abbrev pub IsInHand : {P : Type 0} → List P → Phase → Option (ℕ × P) �
 IsInHand payloads phase None = jobs_in_hand phase ≡ []
 IsInHand payloads phase (Some h) = (jobs_in_hand phase ≡ h.0 ∷ []) × (slice_get payloads (h.0 - 1) ≡ Some h.1)
 
--- What comes back of the thread of worker p.
+-- The result of the thread of worker p.
 pub record HasRun {P Out : Type 0} (related : ℕ → ℕ → P → Out → Type 0) (queue : Queue Out) (table : TableId) (g : Givens) (payloads : List P) (p budget : ℕ) (r : Ran P Out) : Type 0 where
   pub filed : HasFiled related queue table g payloads p budget r.gone r.outlet
   pub ends : EndsSo budget (machine r.gone).state r.end

@@ -1,4 +1,4 @@
--- What is held while a run is not settled.
+-- The values that are kept until the final accounting of a run.
 use Rattle.std.specs.Prelude.{◌≡◌, ℕ, List}
 use Rattle.amo_givens.specs.declared.givens.Givens.{Givens}
 use Rattle.amo_givens.specs.declared.moves.Move.{Move}
@@ -16,7 +16,7 @@ pub record UnsettledView (P Out : Type 0) : Type 0 where
   pub outputs : List (Output Out)
   pub in_hand : List (ℕ × ℕ × P)
 
--- What is held is that of a run: the floor was closed when its book had seen these moves.
+-- A run left these values: the floor was closed when its registry had seen these moves.
 pub record IsUnsettled {P Out : Type 0} (related : ℕ → ℕ → P → Out → Type 0) (g : Givens) (payloads : List P) (budgets : List ℕ) (u : UnsettledView P Out) : Type 0 where
   pub seen : List Move
   pub closed : HasClosed g payloads seen u.floor.spots u.floor

@@ -92,15 +92,61 @@ where
     }
 }
 
-/// Executes the jobs in threads, one for each worker, until each has ended or its steps equal its
-/// budget. Payload j is the one at place j, from 1. A worker whose budget is used up with a job in
-/// its hand doesn't perform it. May wait.
+/// Executes the jobs in threads, one for each worker, until each worker has ended or has used up
+/// its step budget. Job j gets the payload at place j of the list, counted from 1. A worker whose
+/// budget is used up with a job in its hand doesn't perform it. The plan must be for these givens.
+/// It blocks until all threads have ended. It takes memory before the first thread and at the final
+/// accounting, and none in between.
 ///
-/// The outcome says of each job what became of it. Refusals, in this order: WrongCount, where there
-/// are not as many payloads as jobs; NoMemory, before any thread was started; both give the
-/// payloads back in their order. ThreadRefused, where a thread could not be started: the outcome
-/// holds for the others. Unsettled, where memory was refused at the settling, whatever went before.
-/// The plan has to be for these givens.
+/// # Errors
+///
+/// - `WrongCount` if there aren't exactly as many payloads as jobs: they come back in their order;
+/// - `NoMemory` if memory is refused before the first thread: the payloads come back in their
+///   order;
+/// - `ThreadRefused` if a thread could not be started: the outcome holds for the others;
+/// - `Unsettled` if memory is refused at the final accounting: call `settle` on what comes back.
+///
+/// If several apply, the first of `WrongCount`, `NoMemory`, `Unsettled` and `ThreadRefused` is
+/// returned.
+///
+/// # Examples
+///
+/// ```
+/// use amo_crew::{ExecFault, StopPlan, Work, execute};
+/// use amo_givens::{Givens, MAX_STEPS};
+///
+/// #[derive(Drop)]
+/// struct Letter(u32); // to a house; it has no Clone, so it is sent at most once
+///
+/// struct Post;
+///
+/// impl Work<Letter> for Post {
+///     ghost use Rattle.std.specs.Prelude.{◌≡◌};
+///
+///     type Out = u32;
+///
+///     ghost related = { λ _ _ _ letter house. house ≡ letter.0 };
+///
+///     fn perform(&self, _worker: u32, _job: u32, letter: Letter) -> u32 {
+///         letter.0 // the effect on the world comes here
+///     }
+/// }
+///
+/// let givens = Givens::try_new(4, 2, 2)?;
+/// let plan = StopPlan::try_new(rt.alloc(), givens, &[MAX_STEPS; 2])?;
+/// let letters = (11..=14).map(|house| Letter(house)).collect(rt.alloc())?;
+/// let outcome = match execute(&rt, rt.alloc(), givens, letters, &Post, &plan) {
+///     Ok(outcome) => outcome,
+///     Err(ExecFault::ThreadRefused(outcome)) => outcome,
+///     Err(ExecFault::Unsettled(rest)) => rest.settle(rt.alloc())?,
+///     Err(fault) => return Err(Fail::from(fault)),
+/// };
+/// for output in outcome.outputs.iter() {
+///     assert_eq!(rt; output.out, output.job + 10);
+/// }
+/// assert!(rt; outcome.in_hand.is_empty());
+/// assert_eq!(rt; outcome.outputs.len() + outcome.settlement.free.len(), 4);
+/// ```
 pub fn execute<P: Send + Drop, W: Work<P> + Sync, R: Threads + Wait + Sync>(
     rt: &R,
     alloc: Global,

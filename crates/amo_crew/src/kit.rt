@@ -1,4 +1,4 @@
-//! What is made before floor and threads.
+//! All that is made before the shared state and the threads.
 ghost use Rattle.std.specs.Prelude.{◌≡◌, [], IfOk};
 ghost use Rattle.amo_crew.specs.Kits.{IsKit};
 
@@ -8,20 +8,20 @@ use amo_givens::Givens;
 use amo_mailbox::{Inlet, Outlet, Queue, outlets};
 use std::alloc::{AllocError, Global};
 
-/// What a run needs beside floor and book: the mailbox, and lists with room for all that comes, so
-/// that once a thread was started nothing wants memory before the settling.
+/// The needs of a run beside the shared state and the registry: the queue, and lists with enough
+/// room. Once a thread was started, nothing takes memory before the final accounting.
 #[derive(Drop)]
 pub(crate) struct Kit<P, Out> {
     pub queue: Queue<Out>,
     pub inlet: Inlet<Out>,
-    /// Those of the workers that are still to be hired, from worker 1 on. Those that ran come back
-    /// into this list.
+    /// The outlets of the workers that are still to be hired, from worker 1 on. The outlets of
+    /// workers that ran come back into this list.
     pub outlets: Vec<Outlet<Out>>,
     pub crew: Vec<Member<P, Out>>,
     pub finishes: Vec<Finish<P, Out>>,
     pub ends: Vec<End>,
     pub in_hand: Vec<(u32, u32, P)>,
-    /// Into this list the payloads go where nothing was started.
+    /// The payloads go into this list if no thread was started.
     pub spare: Vec<P>,
 }
 

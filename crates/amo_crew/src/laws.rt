@@ -1,4 +1,5 @@
-//! What callers may lean on. Nothing here runs: each function's contract is a law.
+//! The theorems for callers of `execute`. Nothing here runs: each function's contract is a theorem.
+//! Call one to use it in your own clauses.
 ghost use Rattle.std.specs.Prelude.{◌≡◌, ◌⊎◌, ℕ, true, false, List, All};
 ghost use Rattle.amo_sets.specs.Sets.{has, AreDistinct};
 ghost use Rattle.amo_givens.specs.Givens.{IsJob, IsWorker};
@@ -13,14 +14,14 @@ ghost use Rattle.amo_crew.specs.Unsettling.{UnsettledView, IsUnsettled, IsSettle
 
 use amo_claims::Work;
 
-/// Where what `execute` left is settled later, what comes of it is an outcome of that run.
+/// States that a later final accounting of what `execute` left is an outcome of that run.
 pub fn settled_later<P, W: Work<P>>(_work: &W)
     ensures { (g : Givens) (payloads : List P) (budgets : List ℕ) (u : UnsettledView P W.Out) (o : Outcome P W.Out)
         → IsUnsettled (W.related _work.now) g payloads budgets u → IsSettledOf u o → IsOutcome (W.related _work.now) g payloads budgets o }
 {}
 
-/// Each outcome has lists and ends for each worker, and its lists and outputs name jobs and workers
-/// alone.
+/// States that each outcome has lists and ends for each worker, and that its lists and outputs name
+/// only jobs and workers of the givens.
 pub fn outcome_fits<P, W: Work<P>>(_work: &W)
     ensures fits { (g : Givens) (payloads : List P) (budgets : List ℕ) (o : Outcome P W.Out)
         → IsOutcome (W.related _work.now) g payloads budgets o → FitsGivens g o }
@@ -28,8 +29,8 @@ pub fn outcome_fits<P, W: Work<P>>(_work: &W)
         → IsOutcome (W.related _work.now) g payloads budgets o → All (λ (x : Output W.Out). IsWorker g x.worker) o.outputs.items }
 {}
 
-/// In each outcome no job has two answers, none that has an answer is in a hand, and none of these
-/// is free.
+/// States that in each outcome no job has two answers. No job with an answer is in a hand or free,
+/// and no job in a hand is free.
 pub fn each_job_is_answered_once<P, W: Work<P>>(_work: &W)
     ensures once { (g : Givens) (payloads : List P) (budgets : List ℕ) (o : Outcome P W.Out)
         → IsOutcome (W.related _work.now) g payloads budgets o → AreDistinct (answered o) }
@@ -41,10 +42,10 @@ pub fn each_job_is_answered_once<P, W: Work<P>>(_work: &W)
         → IsOutcome (W.related _work.now) g payloads budgets o → has (in_hand o) j ≡ true → has (free_jobs o) j ≡ false }
 {}
 
-/// Nothing vanishes: each job is answered, in a hand, free, or was claimed by a worker whose thread
-/// could not be started; so where each thread was started it is one of the first three. In each
-/// outcome no job is in two hands, none is free twice, and the jobs of the outputs of a worker
-/// whose thread was started are the dones that the settlement has of it, in their order.
+/// States that no job vanishes: each one is answered, in a hand, free, or was claimed by a worker
+/// whose thread could not be started. If each thread was started, it is one of the first three. In
+/// each outcome no job is in two hands, and none is free twice. The jobs of a started worker's
+/// outputs are its done jobs in the final accounting, in order.
 pub fn each_job_has_a_place<P, W: Work<P>>(_work: &W)
     ensures place { (g : Givens) (payloads : List P) (budgets : List ℕ) (o : Outcome P W.Out) (j : ℕ)
         → IsOutcome (W.related _work.now) g payloads budgets o → AllStarted o.ends.items → IsJob g j → HasAPlace o j }

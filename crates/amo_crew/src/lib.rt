@@ -1,9 +1,10 @@
 //! Jobs executed in threads, each at most once.
 //!
-//! `execute` hires a worker for each thread, runs each through the typed states of `amo_claims` on
-//! one floor until it has ended or its budget of steps is used up, and settles: the outcome says of
-//! every job what became of it. The outputs come through a mailbox (`amo_mailbox`). Only `execute`
-//! may wait.
+//! Start at [`execute`]. It starts a thread for each worker, runs each worker through the typed
+//! states of `amo_claims` until it has ended or its step budget is used up, and does the final
+//! accounting. The [`Outcome`] has a place for each job: done with its answer, in doubt, or free.
+//! The outputs come through the queue of `amo_mailbox`. Only `execute` may wait. The module `laws`
+//! has the theorems for your own clauses.
 #![tactic(auto)]
 
 mod executing;

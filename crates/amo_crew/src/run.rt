@@ -1,4 +1,4 @@
-//! One worker's run: it is hired, runs in a thread of its own, and tells how it finished.
+//! One worker's run: it is hired, runs in a thread of its own, and comes back with its end.
 mod hiring;
 mod member;
 mod running;

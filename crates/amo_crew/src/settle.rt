@@ -1,5 +1,4 @@
-//! What workers leave: it is collected after their threads, or called off before these, and then
-//! settled.
+//! The final accounting: workers are collected after their threads, or called off before them.
 mod calling_off;
 mod collecting;
 mod unsettled;

@@ -1,4 +1,4 @@
--- Three numbers are givens just where they break no limit.
+-- Three numbers are givens exactly if they break no limit.
 use Rattle.std.proofs.Common.{◌≡◌, ℕ, refl, ap, arith, ◌≤◌, Bool, false}
 use Rattle.std.specs.Prelude.{Option, Some, None, Ok, nat_lt, ◌==◌, if◌then◌else◌}
 use Rattle.std.proofs.Math.Bridge.{le_prop}

@@ -1,17 +1,17 @@
-//! The givens of a run: how many jobs, how many workers, and the threshold.
+//! The givens of a run: the number of jobs, the number of workers, and the threshold.
 ghost use Rattle.std.specs.Prelude.{◌≡◌};
 ghost use Rattle.amo_givens.specs.Limits.{AreWithinLimits};
 
 use crate::limits::{MAX_BETA, MAX_JOBS, MAX_WORKERS};
 use thiserror::Error;
 
-/// Why three numbers are no givens: the first limit, in this order, that they break.
+/// `GivensFault`: the first limit, in the order of the variants, that three numbers break.
 #[derive(Clone, Copy, Debug, PartialEq, Eq, Error)]
 pub enum GivensFault {
     /// There are more than 4096 jobs.
     #[error("there are more than 4096 jobs")]
     TooManyJobs,
-    /// There is no worker.
+    /// There are 0 workers.
     #[error("there is no worker")]
     NoWorkers,
     /// There are more than 16 workers.
@@ -25,13 +25,25 @@ pub enum GivensFault {
     BetaHigh,
 }
 
-/// The three numbers of a run, within their limits: jobs are 1..=jobs, workers 1..=workers, and a
-/// worker ends once it sees fewer than `beta` jobs that it could take.
+/// `Givens`: the parameters of a run, within their limits. Jobs are `1..=jobs` and workers
+/// `1..=workers`. A worker ends once fewer than `beta` jobs are open to it.
+///
+/// # Examples
+///
+/// ```
+/// use amo_givens::{Givens, GivensFault};
+///
+/// let givens = Givens::try_new(10, 3, 3)?;
+/// assert_eq!(rt; (givens.jobs(), givens.workers(), givens.beta()), (10, 3, 3));
+/// assert_eq!(rt; givens.bound(), 6);
+/// assert_eq!(rt; givens.lone_bound(), 28);
+/// assert!(rt; Givens::try_new(10, 3, 2) == Err(GivensFault::BetaLow));
+/// ```
 #[derive(Clone, Copy, Debug, PartialEq, Eq)]
 pub struct Givens {
-    /// How many jobs there are, 0 to 4096.
+    /// The number of jobs, 0 to 4096.
     pub jobs: u32,
-    /// How many workers there are, 1 to 16.
+    /// The number of workers, 1 to 16.
     pub workers: u32,
     /// The threshold, at least `workers` and at most 65535.
     pub beta: u32,
@@ -41,7 +53,11 @@ pub struct Givens {
 impl Givens {
     ghost use Rattle.amo_givens.specs.Givens.{bound, givens_of, lone_bound};
 
-    /// The givens of these three numbers, or the first limit that they break.
+    /// Returns the givens of these three numbers.
+    ///
+    /// # Errors
+    ///
+    /// The first limit that they break, in the order of the variants of [`GivensFault`].
     pub fn try_new(jobs: u64, workers: u64, beta: u64) -> Result<Givens, GivensFault>
         ensures { result ≡ givens_of jobs workers beta }
     {
@@ -67,37 +83,37 @@ impl Givens {
         })
     }
 
-    /// How many jobs there are.
+    /// Returns the number of jobs.
     pub fn jobs(&self) -> u32
         ensures { result ≡ self.now.jobs }
     {
         self.jobs
     }
 
-    /// How many workers there are.
+    /// Returns the number of workers.
     pub fn workers(&self) -> u32
         ensures { result ≡ self.now.workers }
     {
         self.workers
     }
 
-    /// The threshold.
+    /// Returns the threshold.
     pub fn beta(&self) -> u32
         ensures { result ≡ self.now.beta }
     {
         self.beta
     }
 
-    /// At least so many jobs are performed wherever a worker has ended: jobs - (beta + workers -
-    /// 2), or 0 where that is negative.
+    /// Returns how many jobs are done at least once a worker has ended: `jobs - (beta + workers -
+    /// 2)`, or 0 if that is negative.
     pub fn bound(&self) -> u32
         ensures { result ≡ bound self.now }
     {
         self.jobs.saturating_sub(self.beta + self.workers - 2)
     }
 
-    /// A worker that isn't gone claims a job or ends within so many turns of its own, with no other
-    /// move between them: 6 * workers + jobs.
+    /// Returns the number of turns within which a worker alone claims a job or ends: `6 * workers +
+    /// jobs`. The worker isn't gone, and nobody else moves between its turns.
     pub fn lone_bound(&self) -> u32
         ensures { result ≡ lone_bound self.now }
     {

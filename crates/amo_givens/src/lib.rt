@@ -1,5 +1,7 @@
-//! What a run is given: how many jobs and workers there are, the threshold, their limits, and the
-//! moves of a schedule.
+//! The parameters of a run, within their limits.
+//!
+//! Start at [`Givens`]: how many jobs and workers there are, and the threshold. [`Move`] is one
+//! choice of a schedule, and the constants are the limits.
 #![tactic(auto)]
 
 mod givens;

@@ -1,21 +1,31 @@
 //! The moves of a schedule.
 ghost use Rattle.std.specs.Prelude.{◌≡◌};
 
-/// One choice of a schedule. The number is the worker's.
+/// `Move`: one choice of a schedule. The number is that of the worker, from 1.
+///
+/// # Examples
+///
+/// ```
+/// use amo_givens::Move;
+///
+/// for one in [Move::Turn(3), Move::Halt(3), Move::Leave(3)] {
+///     assert_eq!(rt; one.worker(), 3);
+/// }
+/// ```
 #[derive(Clone, Copy, Debug, PartialEq, Eq)]
 pub enum Move {
-    /// The worker takes its next step, if it isn't gone.
+    /// The worker takes its next step. If it is gone, nothing happens.
     Turn(u32),
-    /// The worker is stopped, if it isn't gone.
+    /// The worker crashes: it takes no further step. If it is gone, nothing happens.
     Halt(u32),
-    /// The worker leaves, if it isn't gone and has nothing in its hand.
+    /// The worker leaves. If it is gone, or has a job in its hand, nothing happens.
     Leave(u32),
 }
 
 impl Move {
     ghost use Rattle.amo_givens.specs.Moves.{worker_of};
 
-    /// The worker of the move.
+    /// Returns the number of the worker that moves.
     pub fn worker(self) -> u32
         ensures { result ≡ worker_of self }
     {

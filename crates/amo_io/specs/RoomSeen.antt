@@ -1,6 +1,7 @@
 -- A sink over memory, as contracts see it.
 use Rattle.std.specs.Prelude.{ℕ, ◌≡◌, ◌<◌, List, Bool, length}
 
+-- a sink over memory as contracts see it: its bytes, its room, and whether a write has failed
 pub record RoomSeen : Type 0 where
   -- what it holds
   pub bytes : List ℕ

@@ -1,4 +1,4 @@
--- What reading and writing all says of a source and a sink.
+-- The bytes that calls on a source and a sink move.
 use Rattle.std.specs.Prelude.{ℕ, ◌≤◌, List, length, take, Option}
 use Rattle.std.specs.Io.KnownBytes.{Appends}
 

@@ -6,7 +6,7 @@ ghost use Rattle.std.specs.Io.KnownBytes.{ReadConsumes};
 use crate::streams::{Failed, Source};
 use std::marker::Model;
 
-/// A source over memory, which never fails. Contracts see it as the bytes that are left.
+/// `Bytes`: a source over memory, which never fails. Contracts see it as the bytes that are left.
 #[derive(Drop)]
 pub struct Bytes<'a> {
     rest: &'a [u8],
@@ -21,7 +21,7 @@ impl<'a> Model for Bytes<'a> {
 }
 
 impl<'a> Bytes<'a> {
-    /// The source that gives just these bytes.
+    /// Returns the source that gives exactly these bytes.
     pub fn new(bytes: &'a [u8]) -> Bytes<'a>
         ensures { result ≡ bytes.entry.now }
     {

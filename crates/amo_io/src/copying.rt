@@ -7,7 +7,7 @@ ghost use Rattle.amo_io.specs.ReadFaults.{is_failure};
 use crate::streams::{Failed, Sink, Source};
 use std::alloc::{AllocError, Global};
 
-/// Why a source can't be read.
+/// `ReadFault`: the reason why a source wasn't read.
 #[derive(Clone, Copy, Debug, PartialEq, Eq)]
 pub enum ReadFault {
     /// The source failed.

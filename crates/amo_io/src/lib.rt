@@ -1,5 +1,7 @@
-//! Sources and sinks: what gives bytes and what takes them, over memory and over the readers and
-//! writers of std, with what is known of their bytes where one fails.
+//! Sources and sinks of bytes, in memory and over the readers and writers of std.
+//!
+//! Start at [`Source`] and [`Sink`]. Contracts state their bytes, also after a failure, as far as
+//! these are known.
 #![tactic(auto)]
 
 mod bytes;

@@ -8,8 +8,8 @@ use crate::streams::{Failed, Sink};
 use std::alloc::{AllocError, Global};
 use std::marker::Model;
 
-/// A sink over a vector of fixed room, which fails just where it is full. Contracts see what it
-/// holds, its room, and whether a write has failed.
+/// `Room`: a sink over a vector of fixed room, which fails exactly if it is full. Contracts see its
+/// bytes, its room, and whether a write has failed.
 #[derive(Drop)]
 pub struct Room {
     bytes: Vec<u8>,
@@ -29,7 +29,11 @@ impl Model for Room {
 }
 
 impl Room {
-    /// An empty sink with room for so many bytes. `AllocError` where memory for them is refused.
+    /// Returns an empty sink with room for so many bytes.
+    ///
+    /// # Errors
+    ///
+    /// `AllocError` if memory for them is refused.
     pub fn new(alloc: Global, room: usize) -> Result<Room, AllocError>
         ensures { IfOk result (λ r. r ≡ record { bytes = []; room = room; failed = false }) }
     {
@@ -41,7 +45,7 @@ impl Room {
         })
     }
 
-    /// What it holds.
+    /// Returns the bytes that were written.
     pub fn as_slice(&self) -> &[u8]
         ensures { result.now ≡ self.now.bytes }
     {
@@ -67,7 +71,7 @@ impl Sink for Room {
 
     ghost failed = { λ s. s.failed };
 
-    /// Takes as many bytes as there is room for. It takes no memory, and fails just where it is
+    /// Takes as many bytes as there is room for. It takes no memory, and fails exactly if it is
     /// full and is given some bytes.
     fn write(&mut self, buf: &[u8]) -> Result<usize, Failed>
         ensures bound { WritesAtMost result buf.now }

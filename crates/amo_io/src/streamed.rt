@@ -8,9 +8,9 @@ use std::io;
 use std::io::{Read, Write};
 use std::marker::Model;
 
-/// A reader or a writer of std, with a mark whether bytes that were written wait for a flush, and
-/// one whether it has failed: any of its errors is a failure, as is a write that takes none of some
-/// bytes. Contracts see the reader or the writer, and the marks.
+/// `Streamed`: a reader or a writer of std, with two marks. One is set while written bytes wait for
+/// a flush. The other is set once it has failed: any of its errors is a failure, as is a write that
+/// takes none of some bytes. Contracts see the reader or the writer, and the marks.
 #[derive(Drop)]
 pub struct Streamed<S> {
     inner: S,
@@ -27,7 +27,7 @@ impl<S> Model for Streamed<S> {
 }
 
 impl<S> Streamed<S> {
-    /// The source or sink over this reader or writer. Nothing waits, and it has not failed.
+    /// Returns the source or sink over this reader or writer. Nothing waits, and it has not failed.
     pub fn new(inner: S) -> Streamed<S>
         ensures { result ≡ record { inner = inner; waiting = false; failed = false } }
     {
@@ -38,7 +38,7 @@ impl<S> Streamed<S> {
         }
     }
 
-    /// The reader or the writer.
+    /// Returns the reader or the writer.
     pub fn into_inner(self) -> S
         ensures { result ≡ self.inner }
     {
@@ -50,8 +50,8 @@ impl<S> Streamed<S> {
         inner
     }
 
-    /// What the reader or the writer answered, as a source or sink tells it: it has failed just
-    /// where that is an error.
+    /// Returns the result of a call on the reader or the writer as that of a source or sink. It has
+    /// failed exactly if that result is an error.
     fn answered<T>(&mut self, answer: io::Result<T>) -> Result<T, Failed>
         ensures value { IfOk result (λ x. answer ≡ Ok x) }
         ensures fails { is_err result ≡ is_err answer }
@@ -72,7 +72,7 @@ impl<S: Read> Source for Streamed<S> {
 
     ghost failed = { λ s. s.failed };
 
-    /// What waits for a flush still does.
+    /// Reads, and leaves the bytes that wait for a flush.
     fn read(&mut self, buf: &mut [u8]) -> Result<usize, Failed>
         ensures bound { ReadsAtMost result buf.new }
         ensures bytes { ReadConsumes (S.remaining self.old.inner) (S.remaining self.new.inner) result buf.new }

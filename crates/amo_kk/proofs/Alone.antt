@@ -67,7 +67,7 @@ module _ (g : Givens) (ok : AreGivens g) (p : ℕ) (o : IsWorker g p) (at : ℕ 
   abbrev Leads : (Record → ℕ → ℕ → Type 0) → ℕ → Type 0
   Leads Holds k = (n : ℕ) (w : World) → IsLone g p at w → Holds (process w p).local k n → ClaimsOrEndsWithin g p k n w
 
-  -- so it does where each turn leads on
+  -- so it does if each turn leads on
   by_turns : (Holds : Record → ℕ → ℕ → Type 0) → ((r : Record) (n : ℕ) → Holds r 0 n → ⊥) → ((k : ℕ) → Leads Holds k → Leads Holds (suc k)) → (k : ℕ) → Leads Holds k
   by_turns Holds none step zero n w lone l = absurd (none (process w p).local n l)
   by_turns Holds none step (suc k) n w lone l = step k (by_turns Holds none step k) n w lone l
@@ -307,7 +307,7 @@ module _ (g : Givens) (ok : AreGivens g) (p : ℕ) (o : IsWorker g p) (at : ℕ 
   few_turns phase = let s = ok.some in omega arith
 
 -- From every lawful world, a worker that isn't gone claims a job or ends within lone_bound turns of its own, and
--- begins at most three attempts, or two where it is in one.
+-- begins at most three attempts, or two if it is in one.
 pub stores_few : (g : Givens) (w : World) (p : ℕ) → AreGivens g → IsLawful g w → (process w p).gone ≡ false
     → (i : ℕ) × (i < lone_bound g) × IsFirstToClaimOrEnd g w p i × (stored_within g w p i ≤ to_begin (process w p).local.phase + 2)
 stores_few g w p ok law here =

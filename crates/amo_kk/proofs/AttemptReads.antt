@@ -1,4 +1,4 @@
--- What an attempt has still to read, and how a turn of its worker takes from it.
+-- The reads that an attempt still has to make, and how a turn of its worker takes from them.
 use Rattle.std.proofs.Common.{◌≡◌, ◌≢◌, ⊎_elim, ℕ, ◌+◌, ◌-◌, ◌≤◌, Bool, true, false, not, ◌&&◌, List, [], ◌∷◌, ◌++◌, refl, sym, ap, ◌∙◌, subst, arith}
 use Rattle.std.specs.Prelude.{if◌then◌else◌, ◌==◌, nat_le}
 use Rattle.std.proofs.lemmas.Bool.Decides.{nat_tests}
@@ -42,7 +42,7 @@ no_entry true true = refl
 no_entry true false = refl
 no_entry false b = refl
 
--- P holds of what r may become where no other worker is left to be asked
+-- P holds of what r may become if no other worker is left to be asked
 record HoldsThrough (P : Record → Type 0) (r : Record) : Type 0 where
   over : P (record r { phase = Over })
   announcing : (j : ℕ) → P (record r { phase = Announcing j; tried = [] })
@@ -90,7 +90,7 @@ module _ (g : Givens) (p : ℕ) where
   to_read (Reading j q) = left_from g p q
   to_read phase = 0
 
-  -- where a turn takes no more than n from what the next phase has left, whatever that is
+  -- if a turn takes no more than n from what the next phase has left, whatever that is
   abbrev Pays : ℕ → (Phase → ℕ) → ℕ → Record → Type 0
   Pays spent left n y = spent + left y.phase ≤ n
 
@@ -138,7 +138,7 @@ module _ (g : Givens) (p : ℕ) where
       v : ℕ
       v = loaded_value w (want r)
 
-      -- no less is unread where the fronts are those of r
+      -- no less is unread if the fronts are those of r
       AsBefore : Record → Type 0
       AsBefore y = 0 + unread_in q e y.fronts ≤ unread_in q e r.fronts
 

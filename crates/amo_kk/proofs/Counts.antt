@@ -1,4 +1,4 @@
--- What the state of the object has unclaimed and performed, told from the events that lead to it.
+-- The unclaimed and performed jobs of the object's state, counted from the events that lead to it.
 use Rattle.std.proofs.Common.{◌≡◌, ℕ, ◌+◌, ◌<◌, ◌^◌, Bool, true, false, not, ◌&&◌, ◌||◌, List, [], ◌∷◌, length, refl, sym, ap, ◌∙◌, arith}
 use Rattle.std.specs.Prelude.{◌==◌}
 use Rattle.std.proofs.lemmas.List.{length_push}

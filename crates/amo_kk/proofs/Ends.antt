@@ -19,7 +19,7 @@ use Rattle.amo_kk.specs.declared.model.Process.{Process}
 use Rattle.amo_kk.specs.declared.model.World.{World}
 use Rattle.amo_kk.proofs.Steps.{enough_known}
 
--- where a worker is over, few jobs are open
+-- if a worker is over, few jobs are open
 pub over_few : (g : Givens) (p : ℕ) (r : Record) (phase : Phase) → is_over phase ≡ true → FitsPhase g p r phase → count g.jobs (is_open r) < g.beta
 over_few g p r Over h st = st
 over_few g p r phase h st = absurd (true≢false (sym h))

@@ -1,4 +1,4 @@
--- What the choice finds, and the first choices of the workers.
+-- The job that the choice finds, and the first choices of the workers.
 use Rattle.std.proofs.Common.{◌≡◌, ap, sym, ◌∙◌, ℕ, ◌+◌, ◌-◌, ◌*◌, ◌/◌, ◌<◌, ◌≤◌, Bool, true, false, [], length, refl, arith}
 use Rattle.std.specs.Prelude.{nat_le, if◌then◌else◌}
 use Rattle.std.proofs.lemmas.Bool.{and_from, eq-eqb, leb-true, le-ltb, lt-ltb}
@@ -24,7 +24,7 @@ choice_finds g p r worker few many =
     let clear = open_parts (has r.known (chosen_job g p r)) (has r.tried (chosen_job g p r)) found.passes in
     (record { low = found.low; high = found.high }, and_from _ _ found.passes (eq-eqb _ _ found.rank), clear.0, clear.1)
 
--- where all pass, the i-th is i
+-- if all pass, the i-th is i
 number_of_rank_all : (n i : ℕ) → 1 ≤ i → i ≤ n → number_of_rank n (λ _. true) i ≡ i
 number_of_rank_all n i low high =
     let all = count_true n in

@@ -22,7 +22,7 @@ use Rattle.amo_kk.specs.declared.model.Process.{Process}
 use Rattle.amo_sets.proofs.Numbers.{numbered-put_same, numbered-put_other, length-put, has-get_or, get_or-has, has-append, length_distinct, count_le_all, length-with_number, has_with_same, has_with_kept, has_with_cases, has_with_none, has_push, has_push_kept, has_push_cases, has_push_none, distinct_push}
 use Rattle.amo_kk.proofs.Choice.{chosen_is_job, choice_cases, check_cases, to_row_cases, to_announcement_cases, next_other_differs, next_other_above, next_other_next}
 
--- what a step of p keeps, where a is p after it
+-- the facts that a step of p keeps, a being p after it
 pub record IsKept (g : Givens) (at : ℕ → Process) (p : ℕ) (a : Process) : Type 0 where
   pub sound : IsSoundProcess g p a
   pub mine : (q : ℕ) → IsOther g p q → IsSoundTowards p a.local q (at q).local
@@ -38,7 +38,7 @@ abbrev pub quiet_process : Process → Phase → List ℕ → List ℕ → List 
 quiet_process a phase known tried fronts steps next =
     record { local = quiet_record a.local phase known tried fronts steps; next = next; claim = a.claim; row = a.row; gone = wants_nothing phase }
 
--- What holds of the sets and fronts of such a record, and of the announcement, whatever the phase.
+-- The facts about the sets and fronts of such a record, and about the announcement, in each phase.
 pub record HasSeen (g : Givens) (at : ℕ → Process) (p : ℕ) (known tried fronts : List ℕ) (word : ℕ) : Type 0 where
   pub next : word ≤ g.jobs
   pub kept : (j : ℕ) → has (at p).local.known j ≡ true → has known j ≡ true
@@ -50,13 +50,13 @@ pub record HasSeen (g : Givens) (at : ℕ → Process) (p : ℕ) (known tried fr
   pub front : (q : ℕ) → IsOther g p q → numbered 0 fronts q ≤ length (at q).local.dones
   pub read : (q k : ℕ) → IsOther g p q → k < numbered 0 fronts q → has known (get_or (at q).local.dones k 0) ≡ true
 
--- What the phase of such a record r, which was old, wants.
+-- The needs of the phase of such a record r, which was old.
 pub record IsPlaced (g : Givens) (p : ℕ) (r : Record) (word : ℕ) : Type 0 where
   pub announces : Announces r.phase word
   pub empty : jobs_in_hand r.phase ≡ []
   pub stands : FitsPhase g p r r.phase
 
--- What it owes to worker q, with record s, on job j.
+-- The duty of such a record towards worker q, with record s, on job j.
 abbrev pub Owes : ℕ → Record → Record → ℕ → Record → ℕ → Type 0
 Owes p old r q s j = IsClear r q j → (IsDoneByOther r q j s ⊎ IsUnclaimedByOther p j s) × (IsClear s p j → IsClear old q j)
 
@@ -580,7 +580,7 @@ module _ (g : Givens) (at : ℕ → Process) (before : AreLawful g at) (p : ℕ)
       go Over is h = not_both _ ((before.sound p w).gone (ap wants_nothing is)) here
       go Left is h = not_both _ ((before.sound p w).gone (ap wants_nothing is)) here
 
--- What a step keeps, when its worker is put in place of the old one.
+-- The facts that a step keeps, when its worker is put in place of the old one.
 pub lawful_put : (g : Givens) (at : ℕ → Process) (p : ℕ) (a : Process) (now : ℕ → Process) → AreLawful g at → IsWorker g p → IsKept g at p a
     → now p ≡ a → ((q : ℕ) → q ≢ p → now q ≡ at q) → AreLawful g now
 lawful_put g at p a now before w kept here there =

@@ -26,7 +26,7 @@ pub mod Again
 -- a worker alone:
 pub mod Alone
 pub mod Attempts
--- These serve this crate alone.
+-- Only this crate uses these files.
 mod AttemptReads
 mod LoneTurns
 mod OpenJobs

@@ -1,4 +1,4 @@
--- What a load gives in a lawful world: a job or 0, and 0 in the last place of a row.
+-- The value of a load in a lawful world: a job or 0, and 0 in the last place of a row.
 use Rattle.std.proofs.Common.{◌≡◌, ⊎_elim, ℕ, zero, suc, ◌+◌, ◌<◌, ◌≤◌, true, false, ◌||◌, length, get_or, sym, ap, ◌∙◌, subst, refl, arith}
 use Rattle.std.proofs.lemmas.Bool.{true≢false, cases_lt}
 use Rattle.std.proofs.lemmas.List.{get_or_past}
@@ -18,7 +18,7 @@ use Rattle.amo_kk.specs.declared.model.World.{World}
 use Rattle.amo_kk.proofs.Kept.{row_room}
 use Rattle.amo_kk.proofs.Wants.{want_fits}
 
--- where no load is wanted, 0 stands for its value
+-- if no load is wanted, 0 stands for its value
 pub store_zero : (w : World) (x : Want) → is_load x ≡ false → loaded_value w x ≡ 0
 store_zero w (LoadNext q) h = absurd (true≢false h)
 store_zero w (LoadDone q k) h = absurd (true≢false h)

@@ -123,7 +123,7 @@ module _ (g : Givens) (ok : AreGivens g) (p : ℕ) (o : IsWorker g p) (at : ℕ 
   pub hears_next : (w : World) → IsLone g p at w → (j q : ℕ) → (process w p).local.phase ≡ Trying j q → loaded_value w (want (process w p).local) ≡ (at q).next
   hears_next w lone j q is = ap (λ phase. loaded_value w (want_in (process w p).local phase)) is ∙ ap (λ (x : Process). x.next) (lone.same q (heard g w p j q lone.law o is).differs)
 
-  -- what is loaded from another's row: its entry after the front, or 0 where it has none
+  -- the value loaded from another's row: its entry after the front, or 0 if the row has no more
   hears_done : (w : World) → IsLone g p at w → (j q : ℕ) → (process w p).local.phase ≡ Reading j q
       → loaded_value w (want (process w p).local) ≡ get_or (at q).local.dones (numbered 0 (process w p).local.fronts q) 0
   hears_done w lone j q is =
@@ -131,7 +131,7 @@ module _ (g : Givens) (ok : AreGivens g) (p : ℕ) (o : IsWorker g p) (at : ℕ 
       ap (λ phase. loaded_value w (want_in (process w p).local phase)) is ∙ numbered_next 0 (process w q).row (numbered 0 (process w p).local.fronts q)
       ∙ (lone.law.lawful.sound q other.worker).row (numbered 0 (process w p).local.fronts q) ∙ ap (λ (x : Process). get_or x.local.dones (numbered 0 (process w p).local.fronts q) 0) (lone.same q other.differs)
 
-  -- a zero tells that the whole row is read
+  -- a zero shows that the whole row is read
   whole_row : (w : World) → IsLone g p at w → (q front : ℕ) → IsOther g p q → get_or (at q).local.dones front 0 ≡ 0 → length (at q).local.dones ≤ front
   whole_row w lone q front other z = ⊎_elim
       (λ (l : front < length (at q).local.dones).
@@ -140,7 +140,7 @@ module _ (g : Givens) (ok : AreGivens g) (p : ℕ) (o : IsWorker g p) (at : ℕ 
       (λ l. l)
       (cases_lt front (length (at q).local.dones))
 
-  -- the row of q is read: its zero, where all its entries were read, or else its next entry
+  -- the row of q is read: its zero, if all its entries were read, or else its next entry
   pub reads : (k n i q : ℕ) (w : World) → (process w p).local.phase ≡ Reading i q → IsLone g p at w
       → (let r = (process w p).local in
       let after = record r { known = with_number (loaded_value w (want r)) r.known; fronts = put r.fronts q (numbered 0 r.fronts q + 1) } in

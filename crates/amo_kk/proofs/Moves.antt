@@ -1,5 +1,4 @@
--- What moves do to a world: to the worker of the move, to the others, to how many steps a worker has had, and to who
--- is gone.
+-- The changes of a world by moves: of the worker that moves, of the others, of the counts of steps, and of who is gone.
 use Rattle.std.proofs.Common.{◌≡◌, ◌≢◌, ⊎_elim, ℕ, zero, suc, ◌+◌, ◌<◌, ◌≤◌, Bool, true, false, List, [], ◌∷◌, ◌++◌, length, refl, sym, ap, ◌∙◌, subst, arith}
 use Rattle.std.specs.Prelude.{if◌then◌else◌}
 use Rattle.std.proofs.lemmas.Bool.{true≢false, cases_eq, cases_lt, or_parts}
@@ -64,10 +63,10 @@ left_process g w p law here may = ap (λ l. numbered nobody l p) (left_processes
 
 -- a move in general
 
--- What holds of the process a that the move puts in place of its worker, which was the process b.
+-- The facts about the process a that the move puts in place of its worker, which was the process b.
 pub record IsMoved (m : Move) (b a : Process) : Type 0 where
   pub steps : a.local.steps ≤ b.local.steps + 1
-  -- unless it is stopped, it is gone just where it wants nothing
+  -- unless it is stopped, it is gone just if it wants nothing
   pub gone : is_halt m ≡ false → a.gone ≡ wants_nothing a.local.phase
 
 -- A move leaves the world as it is, or puts a process in place of its worker, which isn't gone. So what holds of both
@@ -150,7 +149,7 @@ opening_each g P none first (suc k) = ⊎_elim
 pub opening_steps : (g : Givens) (q : ℕ) → steps (opening_world g) q ≡ 0
 opening_steps g q = opening_each g (λ (a : Process). a.local.steps ≡ 0) refl (λ p. choice_cases g p (empty_record g) (λ r. r.steps ≡ 0) (λ _. refl) (λ _. refl)) q
 
--- who is gone where nobody is stopped
+-- the workers that are gone if nobody is stopped
 
 -- what holds of each process holds after one was put in place of another
 each_put : (P : Process → Type 0) (a : Process) (all : List Process) (p : ℕ) → P a → ((q : ℕ) → P (numbered nobody all q)) → (q : ℕ) → P (numbered nobody (put all p a) q)
@@ -168,7 +167,7 @@ each_put P a all p mine others q = ⊎_elim
         subst P (numbered_past nobody all (suc k) (omega arith) ∙ sym (numbered_past nobody (put all (suc k) a) (suc k) (omega arith))) (others (suc k)))
         (cases_lt k (length all))
 
--- each worker is gone just where it wants nothing
+-- each worker is gone just if it wants nothing
 abbrev pub AreGoneIfIdle : World → Type 0
 AreGoneIfIdle w = (p : ℕ) → (process w p).gone ≡ wants_nothing (process w p).local.phase
 

@@ -167,7 +167,7 @@ module _ (g : Givens) (ok : AreGivens g) (at : ℕ → Process) (law : AreLawful
           record { run = (step.0, tt); agrees = step.1 }
       go phase e d = record { run = tt; agrees = quiet d (ap job_in_hand e) }
 
--- the end of a worker, where it is over
+-- the end of a worker, if it is over
 pub ending_goes : (g : Givens) (at : ℕ → Process) (s : Object) (p : ℕ) (a : Process) (now : ℕ → Process) → AreGivens g → AreLawful g now → IsWorker g p
     → Agrees g at s → (at p).gone ≡ false → at p ≡ record a { gone = false } → a.gone ≡ is_over a.local.phase → now p ≡ a → ((q : ℕ) → q ≢ p → now q ≡ at q)
     → Goes g now s (ended_if_over p a.local.phase)

@@ -1,4 +1,4 @@
--- What the answers say of the history.
+-- The results of calls, as the history has them.
 use Rattle.std.proofs.Common.{◌≡◌, ℕ, Bool, true, false, [], ◌∷◌, ◌++◌, refl, sym, ap, ◌∙◌}
 use Rattle.std.specs.Prelude.{if◌then◌else◌}
 use Rattle.std.proofs.lemmas.Bool.{true≢false}
@@ -21,7 +21,7 @@ turn_history g w p here = ap (λ b. (if b then w else world_after_step g w p (pr
 pub idle : (g : Givens) (w : World) (p : ℕ) → (process w p).gone ≡ true → world_after_turn g w p ≡ w
 idle g w p gone = ap (λ b. if b then w else world_after_step g w p (process w p)) gone
 
--- the answers of leaving are told apart
+-- the results of leaving differ from one another
 abbrev is_left : Leaving → Bool
 is_left LeftNow = true
 is_left (InHand j) = false

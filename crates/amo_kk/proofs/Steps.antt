@@ -83,7 +83,7 @@ module _ (g : Givens) (at : ℕ → Process) (p : ℕ) (o : IsWorker g p) (a : P
   pub each : (P : ℕ → Process → Type 0) → P p a → ((q : ℕ) → q ≢ p → P q (at q)) → (q : ℕ) → P q (now q)
   each P mine theirs q = ⊎_elim (λ (e : q ≡ p). subst (λ x. P x (now x)) (sym e) (subst (λ x. P p x) (sym is_now) mine)) (λ n. subst (λ x. P q x) (sym (others q n)) (theirs q n)) (cases_eq q p)
 
-  -- where it has claimed what p had, the same jobs are unclaimed
+  -- if it has claimed what p had, the same jobs are unclaimed
   unclaimed_as_before : a.local.claimed ≡ (at p).local.claimed → (i : ℕ) → ((q : ℕ) → IsWorker g q → has (now q).local.claimed i ≡ false) → (q : ℕ) → IsWorker g q → has (at q).local.claimed i ≡ false
   unclaimed_as_before claims i all q w = ⊎_elim
       (λ (e : q ≡ p). subst (λ x. has (at x).local.claimed i ≡ false) (sym e) (sym (ap (λ (x : Process). has x.local.claimed i) is_now ∙ ap (λ l. has l i) claims) ∙ all p o))

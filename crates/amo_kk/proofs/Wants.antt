@@ -1,4 +1,4 @@
--- What a sound record wants fits, and what the wanted load or store tells of the phase.
+-- The wish of a sound record fits, and the phase follows from the wanted load or store.
 use Rattle.std.proofs.Common.{◌≡◌, ℕ, ◌+◌, ◌++◌, Bool, true, false, List, length, arith, refl, sym, ap, ◌∙◌}
 use Rattle.std.proofs.lemmas.Bool.{true≢false}
 use Rattle.std.proofs.lemmas.List.{length_push}

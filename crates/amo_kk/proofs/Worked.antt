@@ -136,7 +136,7 @@ in_hand = turns 1 4 ++ Halt 1 ∷ turns 2 15
 in_hand_comes : ComesTo five_jobs in_hand (Claimed 1 1 ∷ Halted 1 ∷ Claimed 2 3 ∷ Done 2 3 ∷ Claimed 2 4 ∷ Done 2 4 ∷ Claimed 2 5 ∷ Done 2 5 ∷ Ended 2 ∷ []) (2 ∷ []) 3 4 15
 in_hand_comes = (refl, refl, refl, refl, refl)
 
--- Whoever is stopped stays stopped.
+-- A worker that is stopped stays stopped.
 
 stopped_twice : history_of five_jobs (Halt 1 ∷ Halt 1 ∷ Turn 1 ∷ []) ≡ Halted 1 ∷ []
 stopped_twice = refl
@@ -166,7 +166,7 @@ leave_with_a_job_same = refl
 leave_with_a_job_next : turn_shown five_jobs (world_after_leave holding 1) 1 ≡ DoneShown 1
 leave_with_a_job_next = refl
 
--- Whoever is gone answers Gone, even with a job in its hand.
+-- A worker that is gone gets the result Gone, even with a job in its hand.
 
 leave_when_stopped : leave_answer (world_after_halt holding 1) 1 ≡ Gone
 leave_when_stopped = refl

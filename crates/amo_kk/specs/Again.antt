@@ -43,8 +43,8 @@ record_of_dones g dones = record (empty_record g) { known = set_of dones; claime
 abbrev pub doubt : (next claim : ℕ) (dones : List ℕ) → ℕ
 doubt next claim dones = if claim == length dones then 0 else next
 
--- the record that worker p begins again with: where the words show a job in doubt, that is in its hand, to be filed without
--- being performed; else there is a new choice
+-- The record with which worker p restarts. If its registers show a job in doubt, this job is in its hand, to be recorded as
+-- done without being performed. Otherwise there is a new choice.
 abbrev pub record_again : Givens → ℕ → (next claim : ℕ) (dones : List ℕ) → Record
 record_again g p next claim dones =
     if claim == length dones

@@ -35,7 +35,7 @@ pub record IsFirstToClaimOrEnd (g : Givens) (w : World) (p i : ℕ) : Type 0 whe
 abbrev pub want_at : Givens → World → ℕ → ℕ → Want
 want_at g w p k = want (process (world_after_turns g w p k) p).local
 
--- the value that this turn loads, or 0 where it loads none
+-- the value that this turn loads, or 0 if it makes no load
 abbrev pub value_at : Givens → World → ℕ → ℕ → ℕ
 value_at g w p k = loaded_value (world_after_turns g w p k) (want_at g w p k)
 
@@ -71,8 +71,9 @@ attempts_going_on (Reading j q) = 1
 attempts_going_on (Claiming j) = 1
 attempts_going_on phase = 0
 
--- The number of the attempt that the turn of p after k others is of: 1 where it goes on from w, or else is the first
--- that begins, and one more with each announcement that is stored. A turn with number 0 is of none.
+-- The number of the attempt to which the turn of p after k others belongs: 1 for the attempt that goes on from w, or else
+-- for the first that begins, and one more with each announcement that is stored. A turn with number 0 belongs to no
+-- attempt.
 abbrev pub attempt_at : Givens → World → ℕ → ℕ → ℕ
 attempt_at g w p k =
     attempts_going_on (process w p).local.phase + turns_that (λ l. stores_announcement (want_at g w p l)) k

@@ -1,4 +1,4 @@
--- What the calls answer, as functions of the record or the world before them.
+-- The results of the calls, as functions of the record or the world before them.
 use Rattle.std.specs.Prelude.{ℕ, if◌then◌else◌}
 use Rattle.amo_kk.specs.Step.{want, record_after, shown}
 use Rattle.amo_kk.specs.World.{process, loaded_value}

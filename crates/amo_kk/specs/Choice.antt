@@ -23,7 +23,7 @@ record_after_choice g p r =
     then record r { phase = Over }
     else record r { phase = Announcing (chosen_job g p r); tried = [] }
 
--- the record after the check of j: about to claim j where it is open, else after a new choice
+-- the record after the check of j: about to claim j if it is open, else after a new choice
 abbrev pub record_after_check : Givens → ℕ → ℕ → Record → Record
 record_after_check g p j r = if is_open r j then record r { phase = Claiming j } else record_after_choice g p r
 

@@ -1,4 +1,4 @@
--- What holds of the load or store that a worker wants.
+-- Facts about the load or store that a worker wants.
 use Rattle.std.specs.Prelude.{ℕ, ◌+◌, ◌≤◌, ⊤}
 use Rattle.amo_givens.specs.Givens.{IsJob, IsOther}
 use Rattle.amo_givens.specs.declared.givens.Givens.{Givens}

@@ -1,4 +1,4 @@
--- What holds of every world, and when the sequential object agrees with a world.
+-- The facts that hold in every world, and when the sequential object agrees with a world.
 use Rattle.std.specs.Prelude.{◌≡◌, ◌⊎◌, ℕ, ◌+◌, ◌<◌, ◌≤◌, true, false, List, [], ◌∷◌, ◌++◌, length, get_or, nat_eq, if◌then◌else◌, ⊤}
 use Rattle.amo_sets.specs.Lists.{numbered}
 use Rattle.amo_sets.specs.Sets.{has, AreDistinct}
@@ -35,7 +35,7 @@ FitsPhase g p r (Holding j) = IsJob g j × (has r.known j ≡ false) × (has r.t
 FitsPhase g p r Over = count g.jobs (is_open r) < g.beta
 FitsPhase g p r Left = ⊤
 
--- What holds of the record of worker p by itself.
+-- The facts about the record of worker p alone.
 pub record IsSoundRecord (g : Givens) (p : ℕ) (r : Record) : Type 0 where
   -- what it claimed is what it has done, and then what is in its hand
   pub claims : r.claimed ≡ r.dones ++ jobs_in_hand r.phase
@@ -51,7 +51,7 @@ pub record IsSoundRecord (g : Givens) (p : ℕ) (r : Record) : Type 0 where
   pub front : (q : ℕ) → numbered 0 r.fronts q ≤ g.jobs
   pub stands : FitsPhase g p r r.phase
 
--- What holds of worker p by itself, with the words that it writes.
+-- The facts about worker p alone, with the registers that it writes.
 pub record IsSoundProcess (g : Givens) (p : ℕ) (a : Process) : Type 0 where
   pub local : IsSoundRecord g p a.local
   -- its announcement, its count of claims, and its row: the dones and then 0
@@ -72,7 +72,7 @@ pub record IsUnclaimedByOther (p j : ℕ) (s : Record) : Type 0 where
   pub free : has s.claimed j ≡ false
   pub unclear : IsClear s p j → ⊥
 
--- What holds of worker p, with record r, towards another worker q, with record s.
+-- The facts about worker p, with record r, and another worker q, with record s.
 pub record IsSoundTowards (p : ℕ) (r : Record) (q : ℕ) (s : Record) : Type 0 where
   -- no job is claimed by both
   pub claims : (j : ℕ) → has r.claimed j ≡ true → has s.claimed j ≡ false
@@ -86,13 +86,13 @@ pub record IsSoundTowards (p : ℕ) (r : Record) (q : ℕ) (s : Record) : Type 0
 abbrev pub IsDone : Givens → (ℕ → Process) → ℕ → Type 0
 IsDone g at j = (q : ℕ) × IsWorker g q × (has (at q).local.dones j ≡ true)
 
--- What holds of all workers, `at p` being worker p: each by itself, each two, and whatever is known is done.
+-- The facts about all workers, `at p` being worker p: about each alone, about each two, and that a known job is done.
 pub record AreLawful (g : Givens) (at : ℕ → Process) : Type 0 where
   pub sound : (p : ℕ) → IsWorker g p → IsSoundProcess g p (at p)
   pub apart : (p q : ℕ) → IsWorker g p → IsOther g p q → IsSoundTowards p (at p).local q (at q).local
   pub known : (p j : ℕ) → IsWorker g p → has (at p).local.known j ≡ true → IsDone g at j
 
--- What holds of every world.
+-- The facts that hold in every world.
 pub record IsLawful (g : Givens) (w : World) : Type 0 where
   pub size : length w.processes ≡ g.workers
   pub lawful : AreLawful g (process w)
@@ -124,8 +124,8 @@ object_of g w = object_after_all (first_object g) w.history
 abbrev pub HasRun : Givens → World → Type 0
 HasRun g w = IsRun g (first_object g) w.history × Agrees g (process w) (object_of g w)
 
--- The world v goes on from the world w, which agrees with the state s: the events that v has more in its history are a
--- run from s, and the state that they leave agrees with v.
+-- The world v goes on from the world w, which agrees with the state s. The events that v adds to the history are a run from
+-- s, and the state that they leave agrees with v.
 pub record GoesOn (g : Givens) (s : Object) (w v : World) : Type 0 where
   pub events : List Event
   pub history : v.history ≡ w.history ++ events

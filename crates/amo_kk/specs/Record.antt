@@ -42,7 +42,7 @@ abbrev pub jobs_in_hand : Phase → List ℕ
 jobs_in_hand (Holding j) = j ∷ []
 jobs_in_hand phase = []
 
--- the same, or 0 where there is none
+-- the job in the hand of a worker in this phase, or 0
 abbrev pub job_in_hand : Phase → ℕ
 job_in_hand phase = numbered 0 (jobs_in_hand phase) 1
 

@@ -16,7 +16,7 @@ abbrev pub IsRun : Givens → Object → List Event → Type 0
 IsRun g s [] = ⊤
 IsRun g s (e ∷ es) = (is_step g s e ≡ true) × IsRun g (object_after s e) es
 
--- the place, from 1, of the first event that is no such step, or 0 where each is one
+-- the place, from 1, of the first event that is no such step, or 0 if each is one
 abbrev pub first_bad : Givens → Object → List Event → ℕ
 first_bad g s [] = 0
 first_bad g s (e ∷ es) =

@@ -47,11 +47,11 @@ is_store want = false
 abbrev pub with_announced : ℕ → List ℕ → List ℕ
 with_announced v tried = if v == 0 then tried else with_number v tried
 
--- the record about to read the row of q, or after the check where there is no worker q
+-- the record about to read the row of q, or after the check if there are only q - 1 workers
 abbrev pub record_at_row : Givens → ℕ → ℕ → ℕ → Record → Record
 record_at_row g p j q r = if nat_le q g.workers then record r { phase = Reading j q } else record_after_check g p j r
 
--- the record about to read the announcement of q, or at the first row where there is no worker q
+-- the record about to read the announcement of q, or at the first row if there are only q - 1 workers
 abbrev pub record_at_announcement : Givens → ℕ → ℕ → ℕ → Record → Record
 record_at_announcement g p j q r =
     if nat_le q g.workers then record r { phase = Trying j q } else record_at_row g p j (next_other p 0) r
@@ -94,7 +94,7 @@ events_of p (DoneEnded j) = DoneEvent p j ∷ EndedEvent p ∷ []
 events_of p Ended = EndedEvent p ∷ []
 events_of p LeftShown = LeftEvent p ∷ []
 
--- the end of worker p, where this phase is over
+-- the end of worker p, if this phase is over
 abbrev pub ended_if_over : ℕ → Phase → List Event
 ended_if_over p phase = if is_over phase then EndedEvent p ∷ [] else []
 

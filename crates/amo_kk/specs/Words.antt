@@ -26,7 +26,7 @@ claim_word g p = g.workers + p
 abbrev pub done_word : Givens → ℕ → ℕ → ℕ
 done_word g p k = 2 * g.workers + (p - 1) * (g.jobs + 1) + k
 
--- the place of the word that is loaded, or 0 where none is
+-- the place of the word that is loaded, or 0 if there is no load
 abbrev pub loaded_word : Givens → Want → ℕ
 loaded_word g (LoadNext q) = next_word q
 loaded_word g (LoadDone q k) = done_word g q k

@@ -17,7 +17,7 @@ use Rattle.amo_givens.specs.declared.moves.Move.{Move}
 use Rattle.amo_givens.specs.declared.moves.Move.TheVariants.{Turn, Halt, Leave}
 use Rattle.amo_kk.specs.declared.model.World.{World}
 
--- what stands where no worker has the number: it is gone, and has nothing
+-- the process for a number that no worker has: it is gone, and has nothing
 abbrev pub nobody : Process
 nobody =
     record {
@@ -42,7 +42,7 @@ loaded_value w (LoadNext q) = (process w q).next
 loaded_value w (LoadDone q k) = numbered 0 (process w q).row k
 loaded_value w want = 0
 
--- the process a after a step with this load or store, r being its record after it: it is gone where it wants nothing
+-- the process a after a step with this load or store, r being its record after it: it is gone if it wants nothing
 abbrev pub process_after : Want → Process → Record → Process
 process_after (StoreNext j) a r = record a { local = r; next = j; gone = wants_nothing r.phase }
 process_after (StoreClaim c j) a r = record a { local = r; claim = c; gone = wants_nothing r.phase }
@@ -87,7 +87,7 @@ abbrev pub world_after_moves : Givens → World → List Move → World
 world_after_moves g w [] = w
 world_after_moves g w (m ∷ ms) = world_after_moves g (world_after_move g w m) ms
 
--- worker p as it begins: its words are 0, and it is gone where it is over from birth
+-- worker p as it begins: its registers are 0, and it is gone if it is over from birth
 abbrev pub first_process : Givens → ℕ → Process
 first_process g p =
     let r = first_record g p in

@@ -1,45 +1,45 @@
-//! What happens: the events of a history, and what a worker's step shows.
+//! The events of a history, and what a step of a worker shows.
 
-/// An entry of a history: the worker, and the job where there is one. It is also a step of the
-/// sequential set of unclaimed jobs with which a history is compared.
+/// `Event`: one entry of a history, with its worker and its job. It is also a step of the
+/// sequential object, the set of unclaimed jobs, with which a history is compared.
 #[derive(Clone, Copy, Debug, PartialEq, Eq)]
 pub enum Event {
-    /// The worker has claimed the job.
+    /// The worker (first) has claimed the job (second).
     Claimed(u32, u32),
-    /// The worker has performed the job, and its performance is stored.
+    /// The worker (first) has recorded the job (second) as done.
     Done(u32, u32),
     /// The worker has ended by its own choice.
     Ended(u32),
-    /// The worker was stopped.
+    /// The worker has crashed.
     Halted(u32),
     /// The worker has left.
     Left(u32),
 }
 
-/// What a step of a worker shows to its caller.
+/// `Shown`: the visible result of one step of a worker.
 #[derive(Clone, Copy, Debug, PartialEq, Eq)]
 pub enum Shown {
-    /// Nothing that others are told.
+    /// A step that no history has: it announced or read.
     Quiet,
-    /// The job was claimed.
+    /// The step claimed this job: the caller performs it now.
     Claimed(u32),
-    /// The performance of the job was stored, and the worker goes on.
+    /// The step recorded this job as done, and the worker goes on.
     Done(u32),
-    /// The performance of the job was stored, and the worker has ended.
+    /// The step recorded this job as done, and the worker has ended.
     DoneEnded(u32),
-    /// The worker has ended.
+    /// The worker has ended: too few jobs are open to it.
     Ended,
     /// The worker has left.
     Left,
 }
 
-/// What becomes of a worker that is asked to leave.
+/// `Leaving`: the result of a request to leave.
 #[derive(Clone, Copy, Debug, PartialEq, Eq)]
 pub enum Leaving {
-    /// It has left.
+    /// The worker has left.
     Left,
-    /// It stays, since this job is in its hand.
+    /// The worker stays, since this job is in its hand.
     InHand(u32),
-    /// It was gone before, and nothing changes.
+    /// The worker was gone before, and nothing changes.
     Gone,
 }

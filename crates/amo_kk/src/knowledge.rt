@@ -1,4 +1,4 @@
-//! What a worker knows of the jobs, and the choice that it makes by it.
+//! The jobs that a worker knows, and the choice that follows from them.
 ghost use Rattle.std.specs.Prelude.{◌≡◌, ◌≤◌, ◌+◌, [], IfOk, length, if◌then◌else◌};
 ghost use Rattle.amo_sets.specs.Rank.{count};
 ghost use Rattle.amo_sets.specs.Bits.{is_without};
@@ -14,9 +14,9 @@ use amo_sets::JobSet;
 use std::alloc::{AllocError, Global};
 use std::marker::Model;
 
-/// What a worker knows of the jobs: which it knows to be performed, and which it has seen announced
-/// in this attempt. Jobs that aren't known are free, and free jobs that were not seen announced are
-/// open. How many are open is kept, so that the threshold is tested without a walk.
+/// `Knowledge`: the jobs that a worker knows to be done, and those that it saw announced in this
+/// attempt. A job that isn't known is free. A free job that wasn't seen announced is open. The
+/// number of open jobs is kept, so that the threshold is tested without a walk.
 #[derive(Drop)]
 pub(crate) struct Knowledge {
     free: JobSet,
@@ -38,8 +38,8 @@ impl Model for Knowledge {
     ghost invariant = { λ k. record { same_range : length k.tried ≡ length k.free; opens : k.open_count ≡ count (length k.free) (is_without k.free k.tried) } };
 }
 
-/// Which of the open jobs worker p wants where so many jobs are free: the workers are spread evenly
-/// over them, if there is room.
+/// Returns the rank, among the open jobs, of the job that worker p wants if so many jobs are free.
+/// The workers are spread evenly over the jobs if there is room.
 fn wanted_rank(givens: Givens, p: u32, free: u32) -> u32
     requires worker { IsWorker givens p }
     requires free { free ≤ givens.jobs }
@@ -53,7 +53,7 @@ fn wanted_rank(givens: Givens, p: u32, free: u32) -> u32
     }
 }
 
-/// How many jobs stay open where so many are and j is open no more.
+/// Returns how many jobs stay open once j is open no more.
 #[tactic(auto, using(crate::proofs::OpenJobs::some_open))]
 fn open_without(free: &JobSet, tried: &JobSet, open_count: u32, j: u32) -> u32
     requires low { 1 ≤ j }
@@ -70,7 +70,7 @@ fn open_without(free: &JobSet, tried: &JobSet, open_count: u32, j: u32) -> u32
 }
 
 impl Knowledge {
-    /// Nothing is known of so many jobs, and none was seen announced. The only error is out of
+    /// Returns the knowledge of a worker that has seen nothing yet. The only error is out of
     /// memory.
     pub(crate) fn new(alloc: Global, jobs: u32) -> Result<Knowledge, AllocError>
         ensures { IfOk result (λ k. k ≡ record { range = jobs; known = []; tried = [] }) }
@@ -102,7 +102,7 @@ impl Knowledge {
         self.tried.has(j)
     }
 
-    /// Notes what was announced, 0 being nothing.
+    /// Notes a loaded announcement; 0 announces no job.
     pub(crate) fn note(&mut self, announced: u32)
         requires { announced ≤ self.old.range }
         ensures { self.new ≡ record self.old { tried = with_announced announced self.old.tried } }
@@ -114,7 +114,7 @@ impl Knowledge {
         self.tried.add(announced);
     }
 
-    /// Learns that j is performed.
+    /// Notes that j is done.
     pub(crate) fn learn(&mut self, j: u32)
         requires low { 1 ≤ j }
         requires high { j ≤ self.old.range }
@@ -124,8 +124,9 @@ impl Knowledge {
         self.free.take_out(j);
     }
 
-    /// The choice of worker p: over where fewer than beta jobs are open, else an announcement of an
-    /// open job, and nothing counts as seen announced any more.
+    /// Makes the choice of worker p, and returns its next phase. The worker has ended if fewer than
+    /// `beta` jobs are open. Otherwise it announces an open job, and a new attempt begins: no job
+    /// counts as seen announced any more.
     pub(crate) fn choose(&mut self, givens: Givens, p: u32) -> Phase
         requires worker { IsWorker givens p }
         requires range { self.old.range ≡ givens.jobs }
@@ -143,8 +144,8 @@ impl Knowledge {
         Phase::Announcing(job)
     }
 
-    /// The check of j by worker p: it is to be claimed where it is open, else there is a new
-    /// choice.
+    /// Makes the check of j by worker p, and returns its next phase. If j is open, it is claimed
+    /// next. Otherwise there is a new choice.
     fn check(&mut self, givens: Givens, p: u32, j: u32) -> Phase
         requires worker { IsWorker givens p }
         requires job { IsJob givens j }
@@ -158,7 +159,8 @@ impl Knowledge {
         Phase::Claiming(j)
     }
 
-    /// In an attempt on j, on to the row of q, or to the check where there is no worker q.
+    /// Returns the phase in an attempt on j at the row of q, or that after the check if there are
+    /// only q - 1 workers.
     pub(crate) fn to_row(&mut self, givens: Givens, p: u32, j: u32, q: u32) -> Phase
         requires worker { IsWorker givens p }
         requires job { IsJob givens j }
@@ -172,8 +174,8 @@ impl Knowledge {
         Phase::Reading(j, q)
     }
 
-    /// In an attempt on j, on to the announcement of q, or to the first row where there is no
-    /// worker q.
+    /// Returns the phase in an attempt on j at the announcement of q, or that at the first row if
+    /// there are only q - 1 workers.
     pub(crate) fn to_announcement(&mut self, givens: Givens, p: u32, j: u32, q: u32) -> Phase
         requires worker { IsWorker givens p }
         requires job { IsJob givens j }

@@ -1,14 +1,17 @@
-//! The theorems over the definitions. Nothing here runs: each function's contract is a law, which
-//! the calls of the crates above stand on.
+//! The theorems over the definitions of `specs`. Nothing here runs: each function's contract is a
+//! theorem, on which the crates above stand.
 //!
-//! Proofs of those crates may also cite the lemmas of this one, in the files that `proofs/Lib.antt`
-//! makes public. Of worlds and runs speak `Worlds` and `Kept` (what stays lawful), `Runs` and
-//! `Steps` (a history is a run that agrees), `Claims`, `Counts` and `Room` (what a run says),
-//! `Shows` (what is answered), `Ends` (an end comes late) and `RowSums` (all rows together have at
-//! most as many entries as there are jobs). Of a step and a move speak `Choice` and `FirstChoice`,
-//! `Fit` and `Holding` (what holds of a record by itself), `Wants` and `Loads` (what is wanted and
-//! loaded), `Growth` (what is claimed), `Moves` (what a list of moves does), `OwnTurns`, `Words`
-//! and `Bits`. Of a worker alone speak `Alone` and `Attempts`.
+//! Start at `history_is_a_run`. Proofs of other crates may also cite the lemmas in these files,
+//! which `proofs/Lib.antt` makes public:
+//!
+//! - worlds and runs: `Worlds` and `Kept` (what stays lawful), `Runs` and `Steps` (a history is a
+//!   run that agrees), `Claims`, `Counts` and `Room` (consequences of a run), `Shows` (results of
+//!   calls), `Ends` (an end comes late), `RowSums` (all rows together have at most as many entries
+//!   as there are jobs);
+//! - a step or a move: `Choice` and `FirstChoice`, `Fit` and `Holding` (facts about one record),
+//!   `Wants` and `Loads` (the wanted register and its value), `Growth` (claimed jobs), `Moves`
+//!   (lists of moves), `OwnTurns`, `Words` and `Bits`;
+//! - a worker alone: `Alone` and `Attempts`.
 ghost use Rattle.std.specs.Prelude.{◌≡◌, ◌<◌, ◌≤◌, ◌↔◌, ◌+◌, ◌*◌, ℕ, suc, true, false, List, [], ◌∷◌, ◌++◌, length, slice_index, None};
 ghost use Rattle.amo_sets.specs.Sets.{has, AreDistinct};
 ghost use Rattle.amo_sets.specs.Rank.{count, has_rank};
@@ -36,9 +39,9 @@ ghost use Rattle.amo_kk.specs.declared.model.Object.{Object};
 ghost use Rattle.amo_kk.specs.declared.phase.Want.TheVariants.{StoreNext};
 ghost use Rattle.amo_kk.specs.declared.phase.Phase.TheVariants.{Announcing, Holding, Over};
 
-/// The headline. For all givens and every list of turns, stops and leavings: the world is lawful,
-/// its history is a run of the one sequential object, and the state that the run leaves agrees with
-/// the world.
+/// States the main theorem, for all givens and every list of turns, halts and leaves. The world is
+/// lawful. Its history is a run of the one sequential object, and the state that the run leaves
+/// agrees with the world.
 pub fn history_is_a_run()
     ensures lawful { (g : Givens) (moves : List Move) → IsLawful g (world_of g moves) }
     ensures run { (g : Givens) (moves : List Move)
@@ -47,9 +50,9 @@ pub fn history_is_a_run()
         → Agrees g (process (world_of g moves)) (object_of g (world_of g moves)) }
 {}
 
-/// The step of the headline. Each turn, stop and leaving leads from a lawful world to a lawful
-/// world. And the run goes on: from every state that agrees with the world before, the events that
-/// the move adds to the history are a run, and the state that they leave agrees with the world
+/// States one step of the main theorem. Each turn, halt and leave leads from a lawful world to a
+/// lawful world. And the run goes on: take any state that agrees with the world before. The events
+/// that the move adds are a run from that state, and the state after them agrees with the world
 /// after.
 pub fn moves_keep_worlds_lawful()
     ensures lawful { (g : Givens) (w : World) (m : Move) → IsLawful g w → IsLawful g (world_after_move g w m) }
@@ -57,9 +60,9 @@ pub fn moves_keep_worlds_lawful()
         → GoesOn g s w (world_after_move g w m) }
 {}
 
-/// What a run says in plain words: no job is claimed twice, none is performed twice, each
-/// performance comes after the same worker's claim, and an end comes after at least `bound`
-/// performances.
+/// States the consequences of a run in plain words. No job is claimed twice, and none is done
+/// twice. Each job is done after a claim of the same worker. A worker ends only after at least
+/// `bound` jobs are done.
 pub fn runs_claim_once()
     ensures claims { (g : Givens) (events : List Event) → IsRun g (first_object g) events → AreDistinct (claimed_jobs events) }
     ensures dones { (g : Givens) (events : List Event) → IsRun g (first_object g) events → AreDistinct (done_jobs events) }
@@ -69,42 +72,43 @@ pub fn runs_claim_once()
         → IsRun g (first_object g) (before ++ Ended p ∷ after) → bound g ≤ length (done_jobs before) }
 {}
 
-/// The same of every lawful world, whatever led to it: where a worker has ended by its own choice,
-/// all workers together have done at least `bound` jobs.
+/// States that in a lawful world in which a worker has ended by its own choice, all workers
+/// together have done at least `bound` jobs.
 pub fn ends_come_late()
     ensures { (g : Givens) (w : World) (p : ℕ) → IsLawful g w → IsWorker g p → is_over (process w p).local.phase ≡ true
         → bound g ≤ done_count w }
 {}
 
-/// A run has at most two events for each job and one for each worker.
+/// States that a run has at most two events for each job and one for each worker.
 pub fn runs_are_short()
     ensures { (g : Givens) (events : List Event) → IsRun g (first_object g) events → length events ≤ 2 * g.jobs + g.workers }
 {}
 
-/// `first_bad` is 0 just at runs, and else names the first event that is no step.
+/// States that `first_bad` is 0 exactly for runs, and otherwise the number of the first event that
+/// is no step of the object.
 pub fn first_bad_is_the_first()
     ensures run { (g : Givens) (s : Object) (events : List Event) → first_bad g s events ≡ 0 ↔ IsRun g s events }
     ensures bad { (g : Givens) (s : Object) (events : List Event) (i : ℕ)
         → first_bad g s events ≡ suc i → IsFirstBad g s events (suc i) }
 {}
 
-/// From every lawful world a worker that isn't gone, alone, claims a job or ends within
-/// `lone_bound` turns, which is 6 * workers + jobs.
+/// States that in every lawful world a worker that isn't gone, and moves alone, claims a job or
+/// ends within `lone_bound` turns: `6 * workers + jobs`.
 pub fn alone_claims_or_ends_soon()
     ensures { (g : Givens) (w : World) (p : ℕ) → IsLawful g w → (process w p).gone ≡ false
         → (i : ℕ) × (i < lone_bound g) × IsFirstToClaimOrEnd g w p i }
 {}
 
-/// What these turns store and read, up to the one that claims or ends: at most three attempts go on
-/// or begin; in each attempt at most one announcement is stored, at most `workers - 1`
-/// announcements are read, and at most `workers - 1` zeros; no entry of a row is read twice.
+/// States which registers a worker alone stores and reads in those turns. At most three attempts go
+/// on or begin. Each attempt stores at most one announcement, and reads at most `workers - 1`
+/// announcements and at most `workers - 1` zeros. No entry of a row is read twice.
 pub fn alone_takes_three_attempts()
     ensures { (g : Givens) (w : World) (p i : ℕ) → IsLawful g w → (process w p).gone ≡ false
         → IsFirstToClaimOrEnd g w p i → FitsThreeAttempts g w p i }
 {}
 
-/// In one list of words: a turn loads the word that is wanted, and makes just its one store;
-/// leaving stores 0 to the announcement.
+/// States that the registers behave as one list of words. A turn loads the wanted word, and makes
+/// exactly its one store. A leave stores 0 to the announcement.
 pub fn words_are_laid_out()
     ensures loads { (g : Givens) (w : World) (p : ℕ) → IsLawful g w → IsWorker g p
         → loaded_value w (want (process w p).local) ≡ slice_index (words_of w.processes) (loaded_word g (want (process w p).local)) }
@@ -114,8 +118,8 @@ pub fn words_are_laid_out()
         → words_of (world_after_leave w p).processes ≡ words_after g p (StoreNext 0) (words_of w.processes) }
 {}
 
-/// What a turn or a leaving answers is what it adds to the history; whoever does not leave changes
-/// nothing.
+/// States that the result of a turn or a leave is what the move adds to the history. A worker that
+/// doesn't leave changes nothing by the request.
 pub fn answers_are_history()
     ensures turn { (g : Givens) (w : World) (p : ℕ) → (process w p).gone ≡ false
         → (world_after_turn g w p).history ≡ w.history ++ events_of p (turn_shown g w p) }
@@ -126,13 +130,13 @@ pub fn answers_are_history()
     ensures gone { (w : World) (p : ℕ) → leave_answer w p ≡ Gone → world_after_leave w p ≡ w }
 {}
 
-/// Three numbers are within the limits just where they break none.
+/// States that three numbers are within the limits exactly if they break no limit.
 pub fn faults_are_limits()
     ensures { (jobs workers beta : ℕ) → first_fault jobs workers beta ≡ None ↔ AreWithinLimits jobs workers beta }
 {}
 
-/// Wherever the choice is made and goes on, a job of the wanted rank exists, and it is neither
-/// known nor tried.
+/// States that if the choice goes on, a job of the wanted rank exists, and it is neither known nor
+/// tried.
 pub fn choice_finds_a_job()
     ensures { (g : Givens) (p : ℕ) (r : Record) → IsWorker g p → length r.tried < g.workers → g.beta ≤ count g.jobs (is_open r)
         → IsJob g (chosen_job g p r)
@@ -140,30 +144,30 @@ pub fn choice_finds_a_job()
         × (has r.known (chosen_job g p r) ≡ false) × (has r.tried (chosen_job g p r) ≡ false) }
 {}
 
-/// Where there are at least `beta` jobs, the first choice of worker p is the job whose number is
-/// the rank that p wants among all, and these rise strictly with p. Where there are fewer, p has
-/// ended from birth.
+/// States that if there are at least `beta` jobs, the first choice of worker p is the job whose
+/// number is the rank that p wants among all. These jobs rise strictly with p. If there are fewer
+/// jobs, p has ended from birth.
 pub fn first_choices_differ()
     ensures first { (g : Givens) (p : ℕ) → IsWorker g p → g.beta ≤ g.jobs → (first_record g p).phase ≡ Announcing (chosen_rank g p g.jobs) }
     ensures rise { (g : Givens) (p q : ℕ) → IsWorker g p → IsWorker g q → p < q → chosen_rank g p g.jobs < chosen_rank g q g.jobs }
     ensures none { (g : Givens) (p : ℕ) → g.jobs < g.beta → (first_record g p).phase ≡ Over }
 {}
 
-/// In every lawful world what a worker has claimed is what it has done and then what is in its
-/// hand, each once.
+/// States that in every lawful world the claimed jobs of a worker are its done jobs and then the
+/// job in its hand, each once.
 pub fn claims_are_dones_and_in_hand()
     ensures list { (g : Givens) (w : World) (p : ℕ) → IsLawful g w → IsWorker g p
         → (process w p).local.claimed ≡ (process w p).local.dones ++ jobs_in_hand (process w p).local.phase }
     ensures distinct { (g : Givens) (w : World) (p : ℕ) → IsLawful g w → IsWorker g p → AreDistinct (process w p).local.claimed }
 {}
 
-/// In every lawful world no job is claimed by two workers.
+/// States that in every lawful world no job is claimed by two workers.
 pub fn claims_are_apart()
     ensures { (g : Givens) (w : World) (p q j : ℕ) → IsLawful g w → IsWorker g p → IsOther g p q
         → has (process w p).local.claimed j ≡ true → has (process w q).local.claimed j ≡ false }
 {}
 
-/// Where nobody was stopped, gone are just the workers that want nothing any more: those that have
+/// States that after moves without a halt the workers that are gone are exactly those that have
 /// ended or left.
 pub fn gone_without_stops()
     ensures { (g : Givens) (moves : List Move) (p : ℕ) → has_halt moves ≡ false

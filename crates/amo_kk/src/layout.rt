@@ -1,27 +1,42 @@
-//! Where each shared word stands, wherever the words are kept. Word 0 is the book word, which no
-//! worker touches: in threads a split and a join of seats load it.
+//! The places of the registers in one list of words.
+//!
+//! This layout holds in memory, in a file and in a store. Word 0 belongs to no worker. In
+//! threads the registry loads it when a worker is hired or collected.
 ghost use Rattle.std.specs.Prelude.{◌≡◌, ◌≤◌, ◌+◌};
 ghost use Rattle.amo_givens.specs.Givens.{IsWorker};
 ghost use Rattle.amo_kk.specs.Words.{word_count, next_word, claim_word, done_word};
 
 use amo_givens::Givens;
 
-/// How many words there are: the book word, and for each worker its announcement, its count of
-/// claims and its row.
+/// Returns how many words there are: word 0, and for each worker its announcement, its count of
+/// claims and its row of `jobs + 1` entries.
+///
+/// # Examples
+///
+/// ```
+/// use amo_kk::Givens;
+/// use amo_kk::layout::{claim_word, done_word, next_word, word_count};
+///
+/// let givens = Givens::try_new(5, 2, 2)?;
+/// assert_eq!(rt; next_word(2), 2);
+/// assert_eq!(rt; claim_word(givens, 2), 4);
+/// assert_eq!(rt; done_word(givens, 2, 1), 11);
+/// assert_eq!(rt; word_count(givens), 17);
+/// ```
 pub fn word_count(givens: Givens) -> usize
     ensures { result ≡ word_count givens }
 {
     (givens.workers * (givens.jobs + 3) + 1) as usize
 }
 
-/// The place of the announcement of p.
+/// Returns the place of the announcement of worker p.
 pub fn next_word(p: u32) -> usize
     ensures { result ≡ next_word p }
 {
     p as usize
 }
 
-/// The place of the count of p's claims.
+/// Returns the place of the count of claims of worker p.
 pub fn claim_word(givens: Givens, p: u32) -> usize
     requires { IsWorker givens p }
     ensures { result ≡ claim_word givens p }
@@ -29,7 +44,8 @@ pub fn claim_word(givens: Givens, p: u32) -> usize
     (givens.workers + p) as usize
 }
 
-/// The place of the k-th entry of p's row, k from 1 to one more than the jobs.
+/// Returns the place of the k-th entry of the row of worker p, for k from 1 to `jobs + 1`. The last
+/// entry is always 0.
 pub fn done_word(givens: Givens, p: u32, k: u32) -> usize
     requires worker { IsWorker givens p }
     requires place { k ≤ givens.jobs + 1 }

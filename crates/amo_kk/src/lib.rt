@@ -1,7 +1,16 @@
-//! The algorithm KK-beta of Kentros and Kiayias: the local machine of a worker, and the definitions
-//! of what all workers together do. The headline is proved over those definitions in the module
-//! `laws`; `layout` has the places of the shared words. What a run is given stands in `amo_givens`,
-//! and is handed on.
+//! The algorithm KK-beta of Kentros and Kiayias, as a worker's state machine.
+//!
+//! Start at [`Local`], the state machine of one worker: it says which register to load or store
+//! next, and takes the value of each load. [`layout`] has the places of the registers. The module
+//! `laws` has the theorems over all orders of steps. The types of `model` are for contracts alone.
+//! The parameters of a run come from `amo_givens`, and are exported again here.
+//!
+//! | here | in the article on KK-beta |
+//! |---|---|
+//! | `jobs`, `workers`, `beta` | n, m and beta |
+//! | `p`, `q`, `j` | a process, another process, a job |
+//! | `known`, `tried`, free | DONE, TRY and FREE |
+//! | announcement, row | the shared `next` and `done` of a process |
 #![tactic(auto)]
 
 mod event;

@@ -1,4 +1,4 @@
-//! The local machine of a worker.
+//! The state machine of a worker.
 ghost use Rattle.std.specs.Prelude.{◌≡◌, ◌≤◌, ◌<◌, ◌+◌, ◌↔◌, ◌++◌, ◌∷◌, [], true, IfOk, length};
 ghost use Rattle.std.specs.Vec.{vec_capacity};
 ghost use Rattle.amo_kk.specs.declared.phase.Phase.{Phase};
@@ -25,7 +25,36 @@ use amo_sets::filled;
 use std::alloc::{AllocError, Global};
 use std::marker::Model;
 
-/// What a worker has for itself.
+/// `Local`: the state machine of one worker. It does no load or store itself.
+///
+/// `want` returns the one load or store that the worker makes next. The caller makes it, and calls
+/// `told` with the value of a load, or `stored` after a store. A register must be loaded and stored
+/// atomically, in an order that is the same for all workers (sequentially consistent).
+///
+/// Only `new` takes memory. No call blocks. A call takes constant time; a choice takes time in
+/// proportion to `jobs / 64`.
+///
+/// # Examples
+///
+/// ```
+/// use amo_kk::{Givens, Local, Shown, Want};
+///
+/// let givens = Givens::try_new(5, 2, 2)?;
+/// let mut local = Local::new(rt.alloc(), givens, 2)?;
+/// assert!(rt; local.want() == Want::StoreNext(3));
+/// assert!(rt; local.stored() == Shown::Quiet);
+/// assert!(rt; local.want() == Want::LoadNext(1));
+/// assert!(rt; local.told(1) == Shown::Quiet); // worker 1 has announced job 1
+/// assert!(rt; local.want() == Want::LoadDone(1, 1));
+/// local.told(0); // and has done none
+/// assert!(rt; local.want() == Want::StoreClaim(1, 3));
+/// assert!(rt; local.stored() == Shown::Claimed(3));
+/// assert!(rt; local.in_hand() == Some(3)); // perform job 3 now, and then:
+/// assert!(rt; local.want() == Want::StoreDone(1, 3));
+/// assert!(rt; local.stored() == Shown::Done(3));
+/// assert_eq!(rt; local.dones(), [3].as_slice());
+/// assert_eq!(rt; local.steps(), 5);
+/// ```
 #[derive(Drop)]
 pub struct Local {
     givens: Givens,
@@ -55,7 +84,25 @@ impl Model for Local {
 }
 
 impl Local {
-    /// The machine of worker p before its first step. Its room is made here.
+    /// Returns the machine of worker p before its first step. It takes all memory that the machine
+    /// ever needs.
+    ///
+    /// # Errors
+    ///
+    /// `AllocError` if memory is refused.
+    ///
+    /// # Examples
+    ///
+    /// ```
+    /// use amo_kk::{Givens, Local, Phase};
+    ///
+    /// let givens = Givens::try_new(5, 2, 2)?;
+    /// let local = Local::new(rt.alloc(), givens, 1)?;
+    /// assert!(rt; local.givens() == givens && local.number() == 1);
+    /// assert!(rt; local.phase() == Phase::Announcing(1));
+    /// assert!(rt; local.claims().is_empty());
+    /// assert!(rt; !local.knows(5) && !local.tried(5) && local.read_of(2) == 0);
+    /// ```
     pub fn new(alloc: Global, givens: Givens, p: u32) -> Result<Local, AllocError>
         requires worker { IsWorker givens p }
         ensures { IfOk result (λ l. l ≡ record { givens = givens; number = p; state = first_record givens p }) }
@@ -67,14 +114,14 @@ impl Local {
         Ok(Local::rested(givens, p, knowledge, fronts, claims, dones))
     }
 
-    /// The givens that it was made with.
+    /// Returns the givens with which the machine was made.
     pub fn givens(&self) -> Givens
         ensures { result ≡ self.now.givens }
     {
         self.givens
     }
 
-    /// The worker's number, from 1.
+    /// Returns the worker's number, from 1.
     pub fn number(&self) -> u32
         ensures number { result ≡ self.now.number }
         ensures worker { IsWorker self.now.givens result }
@@ -82,7 +129,7 @@ impl Local {
         self.number
     }
 
-    /// The one load or store that is wanted next.
+    /// Returns the one load or store that the worker makes next.
     pub fn want(&self) -> Want
         ensures want { result ≡ want self.now.state }
         ensures fits { WantFits self.now.givens self.now.number result }
@@ -97,7 +144,7 @@ impl Local {
         }
     }
 
-    /// The announcement of j was stored.
+    /// Takes the step after the store of the announcement of j.
     fn announced(&mut self, j: u32)
         requires phase { self.old.state.phase ≡ Phase.Announcing j }
         ensures { self.new ≡ record self.old { state = record_after self.old.givens self.old.number 0 self.old.state } }
@@ -109,7 +156,7 @@ impl Local {
         self.steps = self.steps.saturating_add(1);
     }
 
-    /// The announcement of q was loaded, in an attempt on j.
+    /// Takes the step after a load of the announcement of q, in an attempt on j.
     fn heard_next(&mut self, j: u32, q: u32, v: u32)
         requires phase { self.old.state.phase ≡ Phase.Trying j q }
         requires value { v ≤ self.old.givens.jobs }
@@ -123,7 +170,7 @@ impl Local {
         self.steps = self.steps.saturating_add(1);
     }
 
-    /// A zero was loaded from the row of q, in an attempt on j.
+    /// Takes the step after a load of 0 from the row of q, in an attempt on j.
     fn heard_zero(&mut self, j: u32, q: u32)
         requires phase { self.old.state.phase ≡ Phase.Reading j q }
         ensures { self.new ≡ record self.old { state = record_after self.old.givens self.old.number 0 self.old.state } }
@@ -133,7 +180,7 @@ impl Local {
         self.steps = self.steps.saturating_add(1);
     }
 
-    /// An entry of the row of q was loaded, in an attempt on j.
+    /// Takes the step after a load of an entry from the row of q, in an attempt on j.
     fn heard_entry(&mut self, j: u32, q: u32, v: u32)
         requires phase { self.old.state.phase ≡ Phase.Reading j q }
         requires some { 1 ≤ v }
@@ -145,7 +192,7 @@ impl Local {
         self.steps = self.steps.saturating_add(1);
     }
 
-    /// The claim of j was stored.
+    /// Takes the step after the store of the claim of j.
     fn claimed(&mut self, j: u32)
         requires phase { self.old.state.phase ≡ Phase.Claiming j }
         ensures { self.new ≡ record self.old { state = record_after self.old.givens self.old.number 0 self.old.state } }
@@ -155,7 +202,7 @@ impl Local {
         self.steps = self.steps.saturating_add(1);
     }
 
-    /// The performance of j was stored.
+    /// Takes the step after j was recorded as done.
     fn done(&mut self, j: u32)
         requires phase { self.old.state.phase ≡ Phase.Holding j }
         ensures { self.new ≡ record self.old { state = record_after self.old.givens self.old.number 0 self.old.state } }
@@ -166,7 +213,8 @@ impl Local {
         self.steps = self.steps.saturating_add(1);
     }
 
-    /// The step of a load that gave v.
+    /// `told`: gives the machine the value v of the load that it wanted, and returns what the step
+    /// shows.
     pub fn told(&mut self, v: u64) -> Shown
         requires load { is_load (want self.old.state) ≡ true }
         requires hears { MayLoad self.old.givens v (want self.old.state) }
@@ -192,7 +240,8 @@ impl Local {
         shown(before, self.phase)
     }
 
-    /// The step of a store.
+    /// `stored`: notes that the store that it wanted was made, and returns what the
+    /// step shows.
     pub fn stored(&mut self) -> Shown
         requires { is_store (want self.old.state) ≡ true }
         ensures shows { result ≡ shown self.old.state.phase self.new.state.phase }
@@ -208,7 +257,21 @@ impl Local {
         shown(before, self.phase)
     }
 
-    /// Returns true if the worker may leave: it goes on, and has nothing in its hand.
+    /// Returns true if the worker may leave: it isn't gone, and has nothing in its hand.
+    ///
+    /// # Examples
+    ///
+    /// ```
+    /// use amo_kk::{Givens, Local, Shown, Want};
+    ///
+    /// let givens = Givens::try_new(3, 1, 1)?;
+    /// let mut local = Local::new(rt.alloc(), givens, 1)?;
+    /// local.stored(); // it has announced job 1
+    /// assert!(rt; local.can_leave());
+    /// assert!(rt; local.leave() == Shown::Left); // after a store of 0 to its announcement
+    /// assert!(rt; local.has_left() && !local.ended());
+    /// assert!(rt; local.want() == Want::Nothing);
+    /// ```
     pub fn can_leave(&self) -> bool
         ensures { result ≡ can_leave self.now.state.phase }
     {
@@ -221,7 +284,7 @@ impl Local {
         }
     }
 
-    /// The worker leaves: 0 was stored to its announcement.
+    /// Takes the last step of the worker: it leaves. The caller has stored 0 to its announcement.
     pub fn leave(&mut self) -> Shown
         requires { can_leave self.old.state.phase ≡ true }
         ensures shows { result ≡ Shown.Left }
@@ -262,7 +325,7 @@ impl Local {
         self.knowledge.tried(j)
     }
 
-    /// How many entries of the row of q were read.
+    /// Returns how many entries of the row of q the worker has read. Zeros aren't counted.
     pub fn read_of(&self, q: u32) -> u32
         requires { IsOther self.now.givens self.now.number q }
         ensures { result ≡ numbered 0 self.now.state.fronts q }
@@ -270,21 +333,21 @@ impl Local {
         self.fronts[q as usize - 1]
     }
 
-    /// The claimed jobs, in their order.
+    /// Returns the claimed jobs, in the order of their claims.
     pub fn claims(&self) -> &[u32]
         ensures { result.now ≡ self.now.state.claimed }
     {
         &self.claims
     }
 
-    /// The done jobs, in their order.
+    /// Returns the done jobs, in the order in which they were recorded.
     pub fn dones(&self) -> &[u32]
         ensures { result.now ≡ self.now.state.dones }
     {
         &self.dones
     }
 
-    /// The job in its hand.
+    /// Returns the job in the worker's hand: claimed, and not recorded as done.
     pub fn in_hand(&self) -> Option<u32>
         ensures { option_to_list result ≡ jobs_in_hand self.now.state.phase }
     {
@@ -299,14 +362,15 @@ impl Local {
         }
     }
 
-    /// How many steps it has taken, its leaving among them.
+    /// Returns how many steps the worker has taken, a leave included. The count stops at
+    /// 18446744073709551615.
     pub fn steps(&self) -> u64
         ensures { result ≡ self.now.state.steps }
     {
         self.steps
     }
 
-    /// Where the worker stands.
+    /// Returns the phase: what the worker is about to do.
     pub fn phase(&self) -> Phase
         ensures { result ≡ self.now.state.phase }
     {
@@ -314,7 +378,7 @@ impl Local {
     }
 }
 
-/// Adds a job where there is room, and takes no more.
+/// Adds a job to a list that has room, and takes no memory.
 fn add_within(list: &mut Vec<u32>, job: u32)
     requires { length list.old.items < vec_capacity list.old }
     ensures items { list.new.items ≡ list.old.items ++ job ∷ [] }
@@ -323,7 +387,7 @@ fn add_within(list: &mut Vec<u32>, job: u32)
     list.push_reserved(job);
 }
 
-/// What a step shows, by the phases before and after it.
+/// Returns what a step shows, by the phases before and after it.
 fn shown(before: Phase, after: Phase) -> Shown
     ensures { result ≡ shown before after }
 {

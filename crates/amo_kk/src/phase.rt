@@ -1,21 +1,22 @@
-//! Where a worker stands, and what it wants next.
+//! The phases of a worker, and the accesses that it makes.
 ghost use Rattle.std.specs.Prelude.{◌≡◌, ◌<◌, ◌^◌};
 ghost use Rattle.amo_givens.specs.Givens.{next_other};
 
 use crate::event::Leaving;
 
-/// Where a worker stands. The first number is the job of its attempt, the second another worker.
+/// `Phase`: what a worker is about to do. The first number is the job of its attempt, the second
+/// another worker.
 #[derive(Clone, Copy, Debug, PartialEq, Eq)]
 pub enum Phase {
-    /// It is about to announce the job.
+    /// It announces the job next.
     Announcing(u32),
-    /// It is about to read the announcement of the other worker.
+    /// It reads the announcement of the other worker next.
     Trying(u32, u32),
-    /// It is about to read the next entry of the other worker's row.
+    /// It reads the next entry of the other worker's row next.
     Reading(u32, u32),
-    /// It is about to claim the job.
+    /// It claims the job next.
     Claiming(u32),
-    /// The job is claimed and in its hand; its performance is yet to be stored.
+    /// The job is claimed and in its hand. It records the job as done next.
     Holding(u32),
     /// It has ended by its own choice.
     Over,
@@ -28,13 +29,25 @@ impl Phase {
     ghost use Rattle.amo_kk.specs.Answer.{leaving};
 
     /// Returns true if a worker in this phase has ended by its own choice.
+    ///
+    /// # Examples
+    ///
+    /// ```
+    /// use amo_kk::{Leaving, Phase};
+    ///
+    /// assert!(rt; Phase::Over.is_over() && Phase::Over.wants_nothing());
+    /// assert!(rt; !Phase::Left.is_over() && Phase::Left.wants_nothing());
+    /// assert!(rt; Phase::Announcing(3).leaving() == Leaving::Left);
+    /// assert!(rt; Phase::Holding(3).leaving() == Leaving::InHand(3));
+    /// assert!(rt; Phase::Over.leaving() == Leaving::Gone);
+    /// ```
     pub fn is_over(self) -> bool
         ensures { result ≡ is_over self }
     {
         matches!(self, Phase::Over)
     }
 
-    /// Returns true if a worker in this phase takes no step of its own any more: it has ended, or
+    /// Returns true if a worker in this phase takes no step of its own any more: it has ended or
     /// left.
     pub fn wants_nothing(self) -> bool
         ensures { result ≡ wants_nothing self }
@@ -42,7 +55,7 @@ impl Phase {
         matches!(self, Phase::Over | Phase::Left)
     }
 
-    /// What becomes of a worker in this phase, which isn't gone, if it is asked to leave.
+    /// Returns the result of a request to leave, for a worker in this phase that hasn't crashed.
     pub fn leaving(self) -> Leaving
         ensures { result ≡ leaving self }
     {
@@ -57,24 +70,25 @@ impl Phase {
     }
 }
 
-/// The one load or store of a shared word that a worker wants next.
+/// `Want`: the one load or store of a register that a worker makes next.
 #[derive(Clone, Copy, Debug, PartialEq, Eq)]
 pub enum Want {
-    /// To store this job to its announcement.
+    /// Store this job to the worker's announcement.
     StoreNext(u32),
-    /// To load the announcement of this worker.
+    /// Load the announcement of this worker.
     LoadNext(u32),
-    /// To load, of this worker's row, the entry at this place, from 1.
+    /// Load the entry at this place (second, from 1) of this worker's row (first).
     LoadDone(u32, u32),
-    /// To store this count of its claims, the last of which is of this job.
+    /// Store this count (first) to the worker's count of claims. The last claim is of the job
+    /// (second).
     StoreClaim(u32, u32),
-    /// To store, at this place of its row, this job.
+    /// Store the job (second) at this place (first, from 1) of the worker's row.
     StoreDone(u32, u32),
-    /// Nothing: it has ended or left.
+    /// Nothing, since it has ended or left.
     Nothing,
 }
 
-/// The worker after q, leaving out p; the first other of p is the one after 0.
+/// Returns the worker after q, leaving out p. The first other of p is the one after 0.
 pub(crate) fn next_other(p: u32, q: u32) -> u32
     requires { q < 2 ^ 31 }
     ensures { result ≡ next_other p q }

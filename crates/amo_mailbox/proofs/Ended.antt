@@ -1,4 +1,4 @@
--- What is gathered is, for each outlet, what it was given.
+-- The collected outputs are, for each outlet, those that it was given.
 use Rattle.std.proofs.Common.{◌≡◌, ℕ, zero, suc, ◌+◌, List, [], ◌∷◌, ◌++◌, length, map, flat_map, sum_by, All, get_or, eqb, true, sym, refl, ap, ◌∙◌, subst, arith, length-append}
 use Rattle.std.proofs.Math.ListN.{get_or-map}
 use Rattle.std.proofs.lemmas.List.{length-map}

@@ -1,4 +1,4 @@
--- What is kept of the outputs that were taken.
+-- The outputs that are kept of those that were taken.
 use Rattle.std.proofs.Common.{◌≡◌, ◌≢◌, ℕ, zero, suc, ◌+◌, ◌<◌, ◌≤◌, Bool, ◌||◌, List, [], ◌∷◌, ◌++◌, length, filter, map, flat_map, sum_by, All, get_or, eqb, cond, true, false, true≢false, sym, refl, ap, ◌∙◌, subst, append-nil, length-append, eq-eqb, ne_eqb, eqb-true, arith}
 use Rattle.std.specs.List.{list_any}
 use Rattle.std.proofs.lemmas.List.Elements.{filter-append, All-append}

@@ -1,4 +1,4 @@
--- What a clause says of an inlet and of an outlet.
+-- An inlet and an outlet as clauses see them.
 use Rattle.std.specs.List.{list_any}
 use Rattle.std.specs.List.Sorted.{IsPermutation, IsNonDecreasingBy}
 use Rattle.std.specs.Prelude.{Bool, ◌==◌, flat_map, ◌≡◌, ℕ, ◌≤◌, List, [], ◌++◌, length}

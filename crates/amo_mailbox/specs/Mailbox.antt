@@ -1,4 +1,4 @@
--- What stands in the queue, beside what each pass knows.
+-- The outputs in the queue, beside the knowledge of each pass.
 use Rattle.std.specs.Prelude.{◌≡◌, ◌≢◌, ℕ, ◌+◌, ◌<◌, ◌≤◌, ◌==◌, List, [], ◌∷◌, ◌++◌, filter, length, All, AllPairs}
 use mathlib.Core.Option.{some}
 use lib.ListN.{get_elem?}
@@ -23,7 +23,8 @@ module _ {Out : Type 0} where
   abbrev pub AreWhole : List (Output Out) → List (ℕ × List (Output Out)) → Type 0
   AreWhole xs back = All (λ e. of e.0 xs ≡ e.1) back
 
-  -- what a pass knows is so: seat p is 0 where no outlet of p is out, and else one more than the number of its pass. All outputs that were ever put are all
+  -- The knowledge of a pass is right. Seat p is 0 if no outlet of p is out, and else one more than the number of its pass.
+  -- The first list has all outputs that were ever put.
   abbrev pub Fits : ℕ → (ℕ → ℕ) → List (Output Out) → List (Output Out) → ℕ → PassState Out → Type 0
   Fits reader seat got all pass (Sends p put) = (seat p ≡ pass + 1) × (put ≡ of p all)
   Fits reader seat got all pass (Gets taken made back) =

@@ -1,4 +1,4 @@
-//! What is left is taken once all outlets came back.
+//! How all outputs are collected once the outlets have come back.
 ghost use Rattle.std.specs.Prelude.{true, ◌≡◌, ◌+◌, ◌<◌, ◌≤◌, ◌==◌, [], ◌∷◌, ◌++◌, length, map, filter, flat_map, sum_by, All, vec_len, vec_capacity};
 ghost use Rattle.std.specs.List.{list_any};
 ghost use Rattle.crossbeam_queue.specs.Passes.{view, IsPassOf};
@@ -12,7 +12,7 @@ use crate::output::Output;
 use crate::queue::{Passes, Port, Queue, Takes};
 use std::sync::Wait;
 
-/// Takes in what an outlet's pass knows.
+/// Takes in the knowledge of an outlet's pass.
 fn bring<Out: Drop>(queue: &Queue<Out>, pass: &mut Port<Out>, outlet: &mut Outlet<Out>)
     requires pass { IsPassOf queue.now.ring pass.old }
     requires view { IsGets (view pass.old) }
@@ -25,7 +25,7 @@ fn bring<Out: Drop>(queue: &Queue<Out>, pass: &mut Port<Out>, outlet: &mut Outle
     queue.ring.absorb::<Passes>(pass, whole);
 }
 
-/// Takes in what the outlets' passes know.
+/// Takes in the knowledge of the outlets' passes.
 fn bring_back<Out: Drop>(queue: &Queue<Out>, pass: &mut Port<Out>, outlets: &mut [Outlet<Out>])
     requires pass { IsPassOf queue.now.ring pass.old }
     requires view { view pass.old ≡ Gets (taken_of (view pass.old)) (made_of (view pass.old)) [] }
@@ -39,7 +39,7 @@ fn bring_back<Out: Drop>(queue: &Queue<Out>, pass: &mut Port<Out>, outlets: &mut
     }
 }
 
-/// One of the outlets is of this worker.
+/// Returns true if one of the outlets is of this worker.
 fn is_among<Out>(outlets: &[Outlet<Out>], worker: u32) -> bool
     ensures { result ≡ has_worker outlets.now worker }
 {
@@ -58,7 +58,7 @@ fn keep_only<Out: Drop>(taken: &mut Vec<Output<Out>>, outlets: &[Outlet<Out>])
     );
 }
 
-/// Adds what the outlets kept.
+/// Adds the outputs that the outlets kept.
 fn append_kept<Out: Drop>(into: &mut Vec<Output<Out>>, outlets: &mut [Outlet<Out>])
     requires { vec_len into.old + sum_by (λ o. length o.kept) outlets.old ≤ vec_capacity into.old }
     ensures { into.new.items ≡ into.old.items ++ flat_map (λ o. o.kept) outlets.old }
@@ -68,7 +68,7 @@ fn append_kept<Out: Drop>(into: &mut Vec<Output<Out>>, outlets: &mut [Outlet<Out
     }
 }
 
-/// Takes what stands in the queue, and keeps the outputs of the outlets' workers.
+/// Takes the outputs that stand in the queue, and keeps those of the outlets' workers.
 fn take_rest<Out: Drop, R: Wait>(
     rt: &R,
     queue: &Queue<Out>,
@@ -99,10 +99,11 @@ fn take_rest<Out: Drop, R: Wait>(
 }
 
 impl<Out: Drop> Inlet<Out> {
-    /// Takes the rest, drops what is of no outlet handed in, and adds what the outlets kept, by
-    /// rising worker: of each of these outlets just what it was given, in order, and nothing else.
-    /// The queue and the outlets have to be the inlet's own, and to have been given together no
-    /// more outputs than there are jobs. Takes no memory; may wait.
+    /// Returns all outputs of these outlets, each outlet's in order. First come those that were
+    /// taken and the rest of the queue, then those that the outlets kept, by rising worker. Outputs
+    /// of other outlets are dropped. Queue and outlets must be the inlet's own. The outlets must
+    /// have been given together at most as many outputs as there are jobs. It takes no memory, and
+    /// may wait.
     pub fn gather<R: Wait>(
         self,
         rt: &R,

@@ -1,4 +1,4 @@
-//! The end of the queue at which outputs are taken.
+//! The end of the queue from which outputs are taken.
 ghost use Rattle.std.specs.Prelude.{◌≡◌, vec_capacity};
 ghost use Rattle.amo_mailbox.specs.Ports.{InletView};
 
@@ -7,7 +7,7 @@ use crate::queue::{Port, Queue, Takes};
 use std::marker::Model;
 use std::sync::Wait;
 
-/// Takes outputs out of a queue, and keeps them in a list with a fixed room.
+/// `Inlet`: takes outputs out of a queue, and keeps them in a list with room for one a job.
 #[derive(Drop)]
 pub struct Inlet<Out> {
     pub(crate) pass: Port<Out>,
@@ -28,9 +28,9 @@ impl<Out> Inlet<Out> {
     ghost use Rattle.amo_mailbox.specs.Endpoints.{IsInletOf};
     ghost use Rattle.amo_mailbox.specs.declared.output.Output.{Output};
 
-    /// Takes the front of the queue, which has to be the inlet's own. False where as many were
-    /// taken as there are jobs, or the queue was found empty. Takes no memory; may wait while
-    /// another thread is in the queue.
+    /// Takes the first output of the queue, which must be the inlet's own. It returns false if the
+    /// queue was found empty, or if as many were taken as there are jobs. It takes no memory, and
+    /// may wait while another thread is inside the queue.
     pub fn take<R: Wait>(&mut self, rt: &R, queue: &Queue<Out>) -> bool
         requires belong { IsInletOf queue.now self.old }
         ensures belong { IsInletOf queue.now self.new }
@@ -49,14 +49,14 @@ impl<Out> Inlet<Out> {
         }
     }
 
-    /// For how many outputs it has room.
+    /// Returns for how many outputs the inlet has room in all: the number of jobs.
     pub fn room(&self) -> u32
         ensures room { result ≡ self.now.room }
     {
         self.room
     }
 
-    /// What was taken, in order.
+    /// Returns the outputs that were taken, in order.
     pub fn taken(&self) -> &[Output<Out>]
         ensures { result.now ≡ self.now.taken }
     {

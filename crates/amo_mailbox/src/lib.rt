@@ -1,7 +1,28 @@
-//! A mailbox of 64 places: what workers answer, by a queue from an outlet of each to one inlet.
+//! A queue of outputs, from one outlet for each worker to one inlet.
 //!
-//! Each outlet's outputs come in their order, and what the queue gives back its outlet keeps:
-//! `gather` has all of them. `put`, `take` and `gather` may wait, and take no memory.
+//! Start at [`outlets`]. The outputs of one outlet come in their order. The queue has 64 places. If
+//! it is full, an outlet keeps the output, and `gather` returns all of them at the end. `put`,
+//! `take` and `gather` may wait for another thread that is inside the queue. They take no memory.
+//!
+//! # Examples
+//!
+//! ```
+//! use amo_givens::Givens;
+//! use amo_mailbox::{Output, outlets};
+//!
+//! let givens = Givens::try_new(3, 2, 2)?;
+//! let (queue, mut inlet, mut ends) = outlets(rt.alloc(), givens)?;
+//! assert!(rt; ends.len() == 2 && ends[1].worker() == 2 && inlet.room() == 3);
+//! for (job, out) in [(3, 'c'), (2, 'b')] {
+//!     assert!(rt; ends[1].has_room());
+//!     ends[1].put(&rt, &queue, Output { worker: 2, job, out });
+//! }
+//! assert!(rt; ends[1].put_count() == 2 && ends[1].kept().is_empty());
+//! assert!(rt; inlet.take(&rt, &queue));
+//! assert_eq!(rt; inlet.taken()[0].out, 'c');
+//! let all = inlet.gather(&rt, queue, ends);
+//! assert!(rt; all.len() == 2 && all[1].job == 2);
+//! ```
 #![tactic(auto)]
 
 mod gather;

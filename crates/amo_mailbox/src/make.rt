@@ -10,7 +10,8 @@ use crate::queue::{PLACES, Passes, Queue, Ring};
 use amo_givens::Givens;
 use std::alloc::{AllocError, Global};
 
-/// A queue, its inlet and its outlets, for so many jobs and workers.
+/// Returns a queue, its inlet and its outlets, for so many jobs and workers. The only error is out
+/// of memory.
 fn outlets_for<Out: Drop>(
     alloc: Global,
     jobs: u32,
@@ -38,8 +39,12 @@ fn outlets_for<Out: Drop>(
     Ok((queue, inlet, outlets))
 }
 
-/// A queue of 64 places, an inlet, and an outlet for each worker in the order of their numbers,
-/// each with room for as many outputs as there are jobs. The one error is want of memory.
+/// Returns a queue of 64 places, its inlet, and an outlet for each worker in the order of their
+/// numbers. Inlet and outlets have room for as many outputs as there are jobs.
+///
+/// # Errors
+///
+/// `AllocError` if memory is refused.
 pub fn outlets<Out: Drop>(
     alloc: Global,
     givens: Givens,

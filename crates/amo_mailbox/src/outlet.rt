@@ -1,4 +1,4 @@
-//! The end of the queue at which a worker's outputs are put.
+//! The end of the queue to which a worker's outputs are put.
 ghost use Rattle.std.specs.Prelude.{◌≡◌, vec_capacity};
 ghost use Rattle.amo_mailbox.specs.Ports.{OutletView};
 
@@ -7,7 +7,8 @@ use crate::queue::{Port, Puts, Queue};
 use std::marker::Model;
 use std::sync::Wait;
 
-/// Puts the outputs of one worker into a queue, and keeps those that do not go in.
+/// `Outlet`: puts the outputs of one worker into a queue, and keeps those for which the queue has
+/// no place.
 #[derive(Drop)]
 pub struct Outlet<Out> {
     pub(crate) pass: Port<Out>,
@@ -33,7 +34,7 @@ impl<Out: Drop> Outlet<Out> {
     ghost use Rattle.crossbeam_queue.specs.Passes.{view};
     ghost use Rattle.amo_mailbox.specs.Endpoints.{IsOutletOf, given, sent_by};
 
-    /// An outlet that was given nothing yet. Of the queue only proofs hear.
+    /// Returns an outlet that was given nothing yet. The queue is for the contract alone.
     pub(crate) fn new(
         _queue: &Queue<Out>,
         pass: Port<Out>,
@@ -56,10 +57,9 @@ impl<Out: Drop> Outlet<Out> {
         }
     }
 
-    /// Puts an output of the outlet's worker into the queue, which has to be the outlet's own. The
-    /// outlet has to have been given fewer outputs than there are jobs. From the first that the
-    /// queue gives back on, it and all later ones are kept. Takes no memory; may wait while another
-    /// thread is in the queue.
+    /// Puts an output of the outlet's worker into the queue, which must be the outlet's own. Check
+    /// `has_room` first. Once the queue was full, the outlet keeps that output and all later ones.
+    /// It takes no memory, and may wait while another thread is inside the queue.
     pub fn put<R: Wait>(&mut self, rt: &R, queue: &Queue<Out>, output: Output<Out>)
         requires belong { IsOutletOf queue.now self.old }
         requires worker { output.worker ≡ self.old.worker }
@@ -80,28 +80,29 @@ impl<Out: Drop> Outlet<Out> {
         }
     }
 
-    /// The worker whose outputs it takes.
+    /// Returns the worker whose outputs it takes, from 1.
     pub fn worker(&self) -> u32
         ensures worker { result ≡ self.now.worker }
     {
         self.worker
     }
 
-    /// Returns true if it may be given one more: fewer than the number of jobs were put.
+    /// Returns true if it may be given one more output: it was given fewer than there are jobs.
     pub fn has_room(&self) -> bool
         ensures room { result ≡ nat_lt self.now.put_count self.now.room }
     {
         self.put_count < self.room
     }
 
-    /// What the queue gave back, and all that came later.
+    /// Returns the outputs that it keeps: the first for which the queue was full, and all later
+    /// ones.
     pub fn kept(&self) -> &[Output<Out>]
         ensures { result.now ≡ self.now.kept }
     {
         self.kept.as_slice()
     }
 
-    /// How many outputs it was given, at most the number of jobs.
+    /// Returns how many outputs it was given, at most the number of jobs.
     pub fn put_count(&self) -> u32
         ensures { result ≡ self.now.put_count }
     {

@@ -1,6 +1,6 @@
-//! What goes through the queue.
+//! The outputs that go through the queue.
 
-/// The answer of a job, with the worker that performed it.
+/// `Output`: the answer of a job, with the worker that performed it.
 #[derive(Drop)]
 pub struct Output<Out> {
     /// The worker, from 1.

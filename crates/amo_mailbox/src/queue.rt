@@ -4,8 +4,8 @@ use crate::pass_state::PassState;
 use crossbeam_queue::protocol::{Join, Lesson, Outcome, Protocol, Split};
 use crossbeam_queue::{Pass, RuledArrayQueue};
 
-/// What the inlet took, and then what stands in the queue, is for each worker what its outlet sent,
-/// in order.
+/// The rule: for each worker, the outputs that the inlet took and then those that stand in the
+/// queue are the ones that its outlet sent, in order.
 pub(crate) struct InOrder;
 
 impl<Out> Protocol<Output<Out>, PassState<Out>> for InOrder {
@@ -39,7 +39,7 @@ impl<Out> Join<PassState<Out>> for Passes {
     ghost spent = { Spent };
 }
 
-/// What an outlet's put does to its pass. From a full queue it learns nothing.
+/// The change of an outlet's pass by a put. From a full queue it learns nothing.
 pub(crate) struct Puts;
 
 impl<Out> Outcome<Output<Out>, PassState<Out>> for Puts {
@@ -52,7 +52,7 @@ impl<Out> Lesson<Output<Out>, PassState<Out>> for Puts {
     ghost fact = { λ v items. Unit {0} };
 }
 
-/// What the inlet's take does to its pass, and what it learns from an empty queue.
+/// The change of the inlet's pass by a take, and the fact that it learns from an empty queue.
 pub(crate) struct Takes;
 
 impl<Out> Outcome<Output<Out>, PassState<Out>> for Takes {
@@ -70,13 +70,14 @@ impl<Out> Lesson<Output<Out>, PassState<Out>> for Takes {
 /// The queue of the library, under the rule.
 pub(crate) type Ring<Out> = RuledArrayQueue<Output<Out>, PassState<Out>, InOrder>;
 
-/// An end's leave to use it.
+/// The right of an inlet or an outlet to use the queue.
 pub(crate) type Port<Out> = Pass<Output<Out>, PassState<Out>>;
 
-/// The places of a queue.
+/// The number of places of a queue.
 pub(crate) const PLACES: usize = 64;
 
-/// A queue of outputs, with 64 places. It has an inlet and outlets of its own, made with it.
+/// `Queue`: outputs on their way, in 64 places. It has an inlet and outlets of its own, which are
+/// made with it.
 #[derive(Drop)]
 pub struct Queue<Out> {
     pub(crate) ring: Ring<Out>,

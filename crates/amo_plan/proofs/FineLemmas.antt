@@ -1,4 +1,4 @@
--- What the tests of the jobs leave.
+-- The facts that hold after the tests of the jobs.
 use Rattle.std.proofs.Common.{◌≡◌, ℕ, ◌+◌, Bool, true, false, ◌∙◌, List, [], ◌∷◌, map, Ok, refl}
 use Rattle.std.specs.Prelude.{not}
 use Rattle.std.proofs.lemmas.Bool.{not-true, or_parts}
@@ -37,7 +37,7 @@ jobs_fit earlier j (job ∷ jobs) x e =
     let (first, here, more) = bind_ok (fine_job (is_known earlier job.name) (capped j) job) (λ _. fine_jobs (job.name ∷ earlier) (j + 1) jobs) x e in
     rw (job_fits (is_known earlier job.name) (capped j) job first here, jobs_fit (job.name ∷ earlier) (j + 1) jobs x more) refl
 
--- names that are none of these and none of those
+-- names that are in neither list
 apart : (name : Key) (earlier : List Key) (names : List Key) → AllByRecursion (λ n. is_known (name ∷ earlier) n ≡ false) names → AllByRecursion (λ n. bytes_eq name n ≡ false) names × AllByRecursion (λ n. is_known earlier n ≡ false) names
 apart name earlier [] all = (tt, tt)
 apart name earlier (n ∷ names) all =

@@ -60,7 +60,7 @@ form_known doc form e =
     let same : record { version = v; block = b } ≡ form = ok_is _ form last in
     ap (λ (f : Form). is_form f.version f.block) (sym same) ∙ fits
 
--- budgets, where they are named, are as many as the workers
+-- budgets, if they are named, are as many as the workers
 budgets_many : (m : ℕ) (xs : Option (List ℕ)) (bs : Option (List ℕ)) → option_and_then (so_many m) xs ≡ Some bs → IfSome bs (λ ys. length ys ≡ m)
 budgets_many m None bs e = absurd cc
 budgets_many m (Some xs) bs e =

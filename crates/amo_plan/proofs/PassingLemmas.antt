@@ -37,7 +37,7 @@ pub unless_ok : {A : Type 0} (b : Bool) (f : PlanFault) (r : Result A PlanFault)
 unless_ok true f r x e = (refl, e)
 unless_ok false f r x e = absurd cc
 
--- what stands where a test holds
+-- the result if a test holds
 pub taken : {A : Type 0} (b : Bool) (o : Option A) (x : A) → cond b o None ≡ Some x → (b ≡ true) × (o ≡ Some x)
 taken true o x e = (refl, e)
 taken false o x e = absurd cc

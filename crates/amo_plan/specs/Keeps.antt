@@ -1,4 +1,4 @@
--- What each plan keeps.
+-- The rules of each plan.
 use Rattle.std.specs.Prelude.{◌≡◌, ◌≢◌, ◌≤◌, ℕ, List, length, Bool, true, ◌&&◌, ◌||◌, ◌==◌}
 use Rattle.std.specs.Int.{div_ceil}
 use Rattle.std.specs.List.{list_all, AllPairs}

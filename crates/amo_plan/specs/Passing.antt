@@ -9,12 +9,12 @@ abbrev pub ◌>>=◌ : {A B : Type 0} → Result A PlanFault → (A → Result B
 (Ok x) >>= f = f x
 (Err e) >>= f = Err e
 
--- the value, or the fault where there is none
+-- the value, or the fault if there is no value
 abbrev pub or_fault : {A : Type 0} → Option A → PlanFault → Result A PlanFault
 or_fault (Some x) e = Ok x
 or_fault None e = Err e
 
--- goes on where the test holds
+-- goes on if the test holds
 abbrev pub unless : {A : Type 0} → Bool → PlanFault → Result A PlanFault → Result A PlanFault
 unless true e more = more
 unless false e more = Err e
@@ -32,7 +32,7 @@ each f i (x ∷ xs) = f (capped i) x >>= λ y. each f (i + 1) xs >>= λ ys. Ok (
 abbrev pub is_between : ℕ → ℕ → ℕ → Bool
 is_between low high n = nat_le low n && nat_le n high
 
--- What a call answers is what the definition gives, but for being out of memory: its value, seen by view, only where
--- the definition gives that value, and a fault only where the definition gives that fault.
+-- The result of a call is that of the definition, apart from out of memory. A value, as `view` shows it, comes only if the
+-- definition gives that value. A fault comes only if the definition gives that fault.
 abbrev pub Gives : {X Y : Type 0} → (X → Y) → Result X PlanFault → Result Y PlanFault → Type 0
 Gives view result read = MatchResult result (λ x. read ≡ Ok (view x)) (λ e. e ≢ NoMemory → read ≡ Err e)

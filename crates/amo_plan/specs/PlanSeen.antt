@@ -1,7 +1,8 @@
--- What a plan says, without where it lies in memory.
+-- The contents of a plan, without their places in memory.
 use Rattle.amo_plan.specs.declared.plan.Plan.{Plan}
 use Rattle.amo_plan.specs.Plan.{PlanSeen}
 
+-- a plan as contracts see it
 abbrev pub plan_seen : Plan → PlanSeen
 plan_seen p = record {
   version = p.heads.version;

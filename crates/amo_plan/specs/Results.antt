@@ -21,6 +21,6 @@ abbrev pub answer_of : Task → Answer
 answer_of (Say text) = Text text
 answer_of (Add numbers) = Number (sum numbers)
 
--- the answer where the task fits, else the largest number
+-- the result if the task fits, else the largest number
 abbrev pub capped_answer : Task → Answer
 capped_answer task = if fits task then answer_of task else Number 18446744073709551615

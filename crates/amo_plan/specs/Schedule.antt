@@ -1,4 +1,4 @@
--- What a schedule says: its words, and the moves that each is.
+-- The words of a schedule, and the moves of each.
 use Rattle.std.specs.Prelude.{ℕ, ◌+◌, List, [], ◌∷◌, length, slice_index, take, drop, filter, position, Bool, not, ◌&&◌, ◌||◌, ◌==◌, nat_le, Option, Some, None, option_map, Result, Ok, if◌then◌else◌, replicate}
 use Rattle.std.specs.List.{slice_split, flat_map}
 use Rattle.amo_givens.specs.declared.moves.Move.{Move}
@@ -41,7 +41,7 @@ is_x b = b == 120
 abbrev pub is_asterisk : ℕ → Bool
 is_asterisk b = b == 42
 
--- a number; or two, where there is an asterisk
+-- a number; or two, if there is an asterisk
 abbrev pub turns_at : Option ℕ → List ℕ → Option ScheduleWord
 turns_at None w = turns_of (number_of w) (Some 1)
 turns_at (Some i) w = turns_of (number_of (take i w)) (number_of (drop (i + 1) w))

@@ -1,4 +1,4 @@
--- What the types of the code say.
+-- The types of the code, as contracts see them.
 use Rattle.std.specs.Prelude.{map, option_map}
 use Rattle.toml.specs.View.{table_view}
 use Rattle.amo_plan.specs.declared.top.Top.{Top as TopCode}

@@ -13,7 +13,7 @@ use Rattle.amo_plan.specs.Tree.{Key, has, natural, natural_at, is_known, each_ke
 pub record MoreSeen : Type 0 where
   pub schedule : List ℕ
   pub rounds : ℕ
-  -- none where the key is absent
+  -- None if the key is absent
   pub budgets : Option (List ℕ)
 
 -- what the top level says
@@ -41,7 +41,7 @@ is_two None = false
 abbrev pub top_keys : List Key
 top_keys = codes "version" ∷ codes "workers" ∷ codes "beta" ∷ codes "job" ∷ codes "schedule" ∷ codes "rounds" ∷ codes "budgets" ∷ []
 
--- the key is one of them, where `block` is one if the test says so
+-- the key is one of them; `block` is one only if the test is true
 abbrev pub is_top_key : Bool → Key → Bool
 is_top_key with_block k = is_known top_keys k || (with_block && bytes_eq k (codes "block"))
 
@@ -49,7 +49,7 @@ is_top_key with_block k = is_known top_keys k || (with_block && bytes_eq k (code
 abbrev pub known_block : ℕ → Option ℕ
 known_block g = if is_between 1 MOST_IN_BLOCK g then Some g else None
 
--- an integer of 1..=MOST_IN_BLOCK, or 1 where there is none
+-- an integer of 1..=MOST_IN_BLOCK, or 1 if the key is absent
 abbrev pub block_in : Option Data → Option ℕ
 block_in None = Some 1
 block_in (Some d) = option_and_then known_block (natural d)

@@ -1,4 +1,4 @@
--- What stands in the tree of a document, by its keys.
+-- The values in the tree of a document, by their keys.
 use Rattle.std.specs.Prelude.{ℕ, ℤ, pos, negsuc, List, [], ◌∷◌, Bool, true, ◌&&◌, Option, Some, None, is_some, option_map, option_and_then}
 use Rattle.std.specs.List.{list_any}
 use Rattle.std.specs.Str.{bytes_eq}

@@ -1,4 +1,4 @@
-//! What a task gives.
+//! The results of tasks as values.
 ghost use Rattle.std.specs.Prelude.{◌≡◌, ◌≤◌, IsTrue, sum};
 ghost use Rattle.amo_plan.specs.Results.{fits, answer_of, capped_answer};
 ghost use Rattle.amo_plan.specs.declared.answer.Answer.TheVariants.{Number};
@@ -6,12 +6,12 @@ ghost use Rattle.amo_plan.specs.declared.answer.Answer.TheVariants.{Number};
 use crate::task::Task;
 use crate::text::Text;
 
-/// What a task gives.
+/// `Answer`: the result of a task.
 #[derive(Debug, Drop)]
 pub enum Answer {
-    /// The text that it says.
+    /// The text of a task that says one.
     Text(Text),
-    /// The sum of its numbers.
+    /// The sum of a task that adds numbers.
     Number(u64),
 }
 
@@ -23,8 +23,8 @@ fn sum_of(numbers: &[u64]) -> u64
     numbers.iter().sum()
 }
 
-/// What the task gives: the text that it says, or the sum of its numbers. It takes no memory. The
-/// task has to fit, as each of a plan does.
+/// Returns the result of the task: its text, or the sum of its numbers. The task must fit, as each
+/// task of a plan does. It takes no memory.
 pub fn answer_of(task: Task) -> Answer
     requires { IsTrue (fits task) }
     ensures { result ≡ answer_of task }
@@ -35,7 +35,8 @@ pub fn answer_of(task: Task) -> Answer
     }
 }
 
-/// What the task gives where it fits, else the largest number. It takes no memory.
+/// Returns the result of the task, or the largest number if the task doesn't fit. It takes no
+/// memory.
 pub(crate) fn capped_answer(task: Task) -> Answer
     ensures { result ≡ capped_answer task }
 {

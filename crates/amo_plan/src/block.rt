@@ -1,4 +1,4 @@
-//! Tasks in blocks, which are performed as one.
+//! Blocks of tasks, which are claimed and performed as one.
 ghost use Rattle.std.specs.Prelude.{◌≡◌, ◌≤◌, ◌++◌, [], map, length, take, drop, IfOk, OnOk, vec_len, vec_capacity};
 ghost use Rattle.std.specs.Int.{div_ceil};
 ghost use Rattle.std.specs.Vec.Iter.{into_iter_items};
@@ -12,7 +12,8 @@ use std::alloc::{AllocError, Global};
 use std::marker::Model;
 use std::vec::IntoIter;
 
-/// Tasks that are performed as one, seen as their list. It carries room for as many answers.
+/// `Block`: tasks that are claimed and performed as one. Contracts see it as the list of its tasks.
+/// It has room for as many results.
 #[derive(Debug, Drop)]
 pub struct Block {
     tasks: Vec<Task>,
@@ -31,7 +32,8 @@ impl Model for Block {
 }
 
 impl Block {
-    /// A block of these tasks, or out of memory for the answers.
+    /// Returns a block of these tasks. The only error is out of memory, for the room of the
+    /// results.
     fn new(alloc: Global, tasks: Vec<Task>) -> Result<Block, AllocError>
         ensures { IfOk result (λ b. b ≡ tasks.items) }
     {
@@ -39,7 +41,7 @@ impl Block {
         Ok(Block { tasks, answers })
     }
 
-    /// Its tasks.
+    /// Returns its tasks, in their order.
     pub fn tasks(&self) -> &[Task]
         ensures { result.now ≡ self.now }
     {
@@ -47,7 +49,7 @@ impl Block {
     }
 }
 
-/// The next so many tasks, or fewer where there are no more.
+/// Takes the next tasks, `count` of them, or fewer if there are no more.
 fn take_tasks(
     alloc: Global,
     tasks: &mut IntoIter<Task>,
@@ -66,8 +68,34 @@ fn take_tasks(
     Ok(taken)
 }
 
-/// The tasks in blocks of so many, the last of which may have fewer; no tasks give no blocks. Once
-/// out of memory the tasks are gone.
+/// Returns the tasks in blocks of `block` tasks each. The last block may have fewer. No tasks give
+/// no blocks.
+///
+/// # Errors
+///
+/// `AllocError` if memory is refused. The tasks are then dropped.
+///
+/// # Examples
+///
+/// ```
+/// use amo_plan::{Answer, Task, Text, answer_block, blocks_of};
+///
+/// let mut tasks = Vec::new(rt.alloc());
+/// for word in ["one", "two", "three"] {
+///     tasks.push(Task::Say(Text::from_str(rt.alloc(), word)?))?;
+/// }
+/// let mut blocks = blocks_of(rt.alloc(), tasks, 2)?;
+/// assert!(rt; blocks.len() == 2 && blocks[1].tasks().len() == 1);
+/// let Some(last) = blocks.pop() else {
+///     panic!(rt; "there are two blocks")
+/// };
+/// let answers = answer_block(last);
+/// let is_three = match &answers[0] {
+///     Answer::Text(text) => text.as_str() == "three",
+///     Answer::Number(_) => false,
+/// };
+/// assert!(rt; is_three);
+/// ```
 pub fn blocks_of(alloc: Global, tasks: Vec<Task>, block: u32) -> Result<Vec<Block>, AllocError>
     requires some { 1 ≤ block }
     requires few { block ≤ MOST_IN_BLOCK }
@@ -83,8 +111,8 @@ pub fn blocks_of(alloc: Global, tasks: Vec<Task>, block: u32) -> Result<Vec<Bloc
     Ok(blocks)
 }
 
-/// What each task of the block gives, in their order: a task that doesn't fit the largest number.
-/// It takes no memory.
+/// Returns the result of each task of the block, in order. A task that doesn't fit gives the
+/// largest number. It takes no memory.
 pub fn answer_block(block: Block) -> Vec<Answer>
     ensures { result.items ≡ map capped_answer block }
 {

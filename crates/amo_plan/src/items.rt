@@ -1,9 +1,20 @@
-//! Items, as contracts see them: their list.
+//! A vector that contracts see as a list.
 ghost use Rattle.std.specs.Prelude.{◌≡◌};
 
 use std::marker::Model;
 
-/// Items, seen as their list.
+/// `Items`: a vector that contracts see as the list of its items.
+///
+/// # Examples
+///
+/// ```
+/// use amo_plan::Items;
+///
+/// let numbers = vec![in rt.alloc(); 2u64, 40]?;
+/// let items = Items::new(numbers);
+/// assert_eq!(rt; items.as_slice(), [2, 40].as_slice());
+/// assert_eq!(rt; items.into_vec().len(), 2);
+/// ```
 #[derive(Debug, Drop)]
 pub struct Items<T> {
     items: Vec<T>,
@@ -18,21 +29,21 @@ impl<T> Model for Items<T> {
 }
 
 impl<T> Items<T> {
-    /// The items that this vector holds. It takes no memory.
+    /// Returns the items of this vector. It takes no memory.
     pub fn new(items: Vec<T>) -> Items<T>
         ensures { result ≡ items.items }
     {
         Items { items }
     }
 
-    /// What it holds.
+    /// Returns the items as a slice.
     pub fn as_slice(&self) -> &[T]
         ensures { result.now ≡ self.now }
     {
         self.items.as_slice()
     }
 
-    /// Gives the vector up. It takes no memory.
+    /// Returns the vector. It takes no memory.
     pub fn into_vec(self) -> Vec<T>
         ensures { result.items ≡ self }
     {

@@ -1,4 +1,4 @@
-//! Reads the jobs of a plan, each by itself.
+//! The jobs of a plan, each read on its own.
 ghost use Rattle.std.specs.Prelude.{◌≡◌, map, codes};
 ghost use Rattle.toml.specs.Data.{get_member};
 ghost use Rattle.toml.specs.View.{view, table_view};
@@ -19,9 +19,9 @@ use toml::{Table, Value};
 /// A job, of which only the kinds of its values are tested yet.
 #[derive(Debug, Drop)]
 pub(crate) struct Job {
-    /// What it is called.
+    /// The name, which isn't tested yet.
     pub(crate) name: Text,
-    /// What it does.
+    /// The task, which isn't tested yet.
     pub(crate) task: Task,
 }
 

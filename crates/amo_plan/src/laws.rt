@@ -1,5 +1,5 @@
-//! The theorems over the definitions. Nothing here runs: each function's contract is a law, which
-//! the calls of the crates above stand on.
+//! The theorems over the definitions. Nothing here runs: each function's contract is a theorem, on
+//! which the crates above stand.
 ghost use Rattle.std.specs.Prelude.{◌≡◌, ◌<◌, ◌≤◌, ◌↔◌, ◌^◌, ℕ, List, Some, Ok};
 ghost use Rattle.std.specs.Fmt.{decimal};
 ghost use Rattle.amo_decimal.specs.Numbers.{number_in};
@@ -9,22 +9,22 @@ ghost use Rattle.amo_plan.specs.declared.limits.TheConstants.{HIGHEST_IN_WORD};
 ghost use Rattle.amo_plan.specs.Plan.{PlanSeen, plan_of};
 ghost use Rattle.amo_plan.specs.Schedule.{number_of};
 
-/// A text says a number of at most 64 bits, or one of a range of these, just where it is what
-/// printing that number gives.
+/// States that a text is read as a number of at most 64 bits, or as one of a range, exactly if it
+/// is what printing that number gives.
 pub fn digits_are_decimal()
     ensures number { (text : List ℕ) (k : ℕ) → k < 2 ^ 64 → number_in text ≡ Some k ↔ text ≡ decimal k }
     ensures range { (low high : ℕ) (text : List ℕ) (k : ℕ) → high < 2 ^ 64
         → within low high (number_in text) ≡ Some k ↔ (text ≡ decimal k) × (low ≤ k) × (k ≤ high) }
 {}
 
-/// A number in a word of a schedule is read as k just where it is k in decimal digits, and k is 1
-/// to `HIGHEST_IN_WORD`.
+/// States that a number in a word of a schedule is read as k exactly if it is k in decimal digits,
+/// and k is within 1 and `HIGHEST_IN_WORD`.
 pub fn schedule_numbers_are_decimal()
     ensures { (text : List ℕ) (k : ℕ) → number_of text ≡ Some k ↔ (text ≡ decimal k) × (1 ≤ k) × (k ≤ HIGHEST_IN_WORD) }
 {}
 
-/// What each plan of a text keeps: proper names that all differ, tasks that fit, as many budgets as
-/// workers, moves of workers that exist, and all limits.
+/// States the rules of each plan that is read: proper names that all differ, tasks that fit, as
+/// many budgets as workers, moves of workers that exist, and all limits.
 pub fn plans_keep_their_rules()
     ensures { (bytes : List ℕ) (p : PlanSeen) → plan_of bytes ≡ Ok p → Keeps p }
 {}

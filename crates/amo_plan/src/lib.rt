@@ -1,9 +1,8 @@
-//! Plans: a text that names jobs and a schedule, read from bytes, and the results of its jobs.
+//! Plans: a text that names jobs and a schedule, and the results of its jobs.
 //!
-//! `read_plan` gives the plan of a text, or the first test that the text fails. What a plan is, and
-//! which tests there are in which order, is the definition `plan_of` in specs/Plan.antt, a function
-//! of the bytes. The module `laws` has the theorems over the definitions: which texts are numbers,
-//! and what each plan keeps.
+//! Start at [`read_plan`], which returns the plan of a text, or the first test that the text fails.
+//! The definition `plan_of` in `specs/Plan.antt` is a function of the bytes: it says which texts
+//! are plans, and the order of the tests. The module `laws` has the theorems over the definitions.
 #![tactic(auto)]
 
 mod answer;

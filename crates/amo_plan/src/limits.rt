@@ -1,4 +1,4 @@
-//! The limits of a plan and of what is asked of one, and those of rounds and budgets tested.
+//! The limits of a plan and of what is computed from one.
 ghost use Rattle.std.specs.Prelude.{◌≡◌, ◌≤◌, IfOk, IfSome, length, option_map};
 ghost use Rattle.std.specs.List.{list_all};
 ghost use Rattle.amo_plan.specs.Passing.{Gives};
@@ -9,40 +9,40 @@ use crate::fault::PlanFault;
 use amo_givens::{MAX_STEPS, MAX_TEXT};
 use std::alloc::Global;
 
-/// The newest version of the format.
+/// The newest version of the format, 2.
 pub const NEWEST_VERSION: u64 = 2;
 
-/// The most bytes of a plan.
+/// The most bytes of a plan, 1,048,576.
 pub const MOST_BYTES: usize = MAX_TEXT;
 
-/// The most moves of a schedule.
+/// The most moves of a schedule, 100,000.
 pub const MOST_MOVES: u64 = 100_000;
 
-/// The most rounds.
+/// The most passes after the schedule, 10,000.
 pub const MOST_ROUNDS: u64 = 10_000;
 
-/// The most jobs of a block.
+/// The most jobs of a block, 4096.
 pub const MOST_IN_BLOCK: u64 = 4096;
 
 /// The most bytes of a job's name.
 pub(crate) const MOST_IN_NAME: usize = 64;
 
-/// How many steps each worker has where no budgets are named.
+/// The step budget of each worker if the plan names no budgets, 1,000,000.
 pub const USUAL_BUDGET: u64 = 1_000_000;
 
-/// The highest number of a schedule's word.
+/// The highest number in a word of a schedule, 999,999.
 pub const HIGHEST_IN_WORD: u64 = 999_999;
 
-/// The highest number that is read from digits.
+/// The highest number that is read from digits, 1,000,000,000,000.
 pub const HIGHEST_NUMBER: u64 = 1_000_000_000_000;
 
-/// The greatest number of a schedule with which an explorer begins.
+/// The highest number of a schedule with which an exploration begins.
 pub const MOST_FIRST: u64 = 1_000_000_000_000;
 
-/// The most schedules that an explorer tells of.
+/// The most schedules of one exploration, 1000.
 pub const MOST_COUNT: u32 = 1000;
 
-/// The most turns of a schedule that an explorer numbers.
+/// The most turns of an explored schedule, 10,000.
 pub const MOST_TURNS: u32 = 10_000;
 
 /// No budget is above `MAX_STEPS`.
@@ -52,8 +52,8 @@ fn are_small(budgets: &[u64]) -> bool
     budgets.iter().all(|budget| *budget <= MAX_STEPS)
 }
 
-/// The budgets of the workers, `USUAL_BUDGET` steps each where none are named, if rounds and
-/// budgets keep their limits.
+/// Returns the budgets of the workers if passes and budgets keep their limits: `USUAL_BUDGET` steps
+/// each if the plan names none.
 #[tactic(auto, unfolding(crate::specs::Limits::budgets_within))]
 pub(crate) fn budgets_within(
     alloc: Global,

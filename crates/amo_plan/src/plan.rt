@@ -1,4 +1,4 @@
-//! A plan.
+//! A plan as a value.
 ghost use Rattle.std.specs.Prelude.{◌≡◌, true, length};
 ghost use Rattle.std.specs.Int.{div_ceil};
 ghost use Rattle.amo_givens.specs.Moves.{are_in_range};
@@ -9,32 +9,33 @@ use crate::task::Task;
 use crate::text::Text;
 use amo_givens::{Givens, Move};
 
-/// A plan without its tasks.
+/// `Heads`: a plan without its tasks.
 #[derive(Debug, Drop)]
 pub struct Heads {
     /// The version of the format, 1 or 2.
     pub version: u32,
-    /// How many jobs make a block, which is claimed and performed as one: 1 in version 1, else 1 to
-    /// 4096.
+    /// The number of jobs in a block, which is claimed and performed as one: 1 in version 1,
+    /// otherwise 1 to 4096.
     pub block: u32,
-    /// The givens of the algorithm, whose jobs are the blocks.
+    /// The givens of the algorithm. Its jobs are the blocks.
     pub givens: Givens,
     /// The names of the jobs.
     pub names: Items<Text>,
     /// The moves of the schedule.
     pub moves: Items<Move>,
-    /// How many rounds follow the schedule, at most 10,000. In each, each worker has one turn.
+    /// The number of passes after the schedule, at most 10,000. In each pass each worker has one
+    /// turn.
     pub rounds: u32,
-    /// How many steps each worker has, where they run: at most 10,000,000.
+    /// The step budget of each worker in threads, at most 10,000,000.
     pub budgets: Items<u64>,
 }
 
-/// A plan: jobs with names and tasks, and how workers take turns at them. It keeps as many names as
-/// tasks, a budget for each worker, moves of its own workers alone, and tasks that fit; its givens
-/// are of as many jobs as its jobs make blocks.
+/// `Plan`: jobs with names and tasks, and the order in which workers take turns. It has as many
+/// names as tasks, and a budget for each worker. Its moves are of its own workers, its tasks fit,
+/// and its givens have as many jobs as there are blocks.
 #[derive(Debug, Drop)]
 pub struct Plan {
-    /// All but the tasks.
+    /// The plan without its tasks.
     pub heads: Heads,
     /// The tasks of the jobs, in their order.
     pub tasks: Items<Task>,

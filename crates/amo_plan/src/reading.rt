@@ -1,4 +1,4 @@
-//! Reads a plan.
+//! How a plan is read.
 ghost use Rattle.std.specs.Prelude.{◌≡◌, ◌<◌, true, map, length, Err, IfOk, IfSome};
 ghost use Rattle.std.specs.Int.{div_ceil};
 ghost use Rattle.toml.specs.View.{table_view};
@@ -90,12 +90,34 @@ fn plan_in(alloc: Global, table: &Table) -> Result<Plan, PlanFault>
     plan_with(alloc, givens, &top, jobs)
 }
 
-/// The plan of a text, or why it is none, or out of memory.
+/// Returns the plan of a text. The contract is exact: a plan comes only if `plan_of` gives exactly
+/// that plan.
 ///
-/// `plan_of` gives for each text either a plan or the first test that the text fails. `Ok` comes
-/// only where it gives just that plan, and a fault other than `NoMemory` only where it gives that
-/// fault. A text that is too long is refused before any memory is taken. After a fault nothing is
-/// left behind.
+/// # Errors
+///
+/// The first test that the text fails, as `plan_of` gives it; or `NoMemory` if memory is refused. A
+/// text that is too long is refused before any memory is taken. After an error nothing is left
+/// behind.
+///
+/// # Examples
+///
+/// ```
+/// use amo_givens::Move;
+/// use amo_plan::{PlanFault, read_plan};
+///
+/// let text = "version = 1
+/// workers = 1
+/// beta = 1
+/// schedule = \"1*2 x1\"
+/// job = [{name = \"a\", say = \"hi\"}]
+/// ";
+/// let plan = read_plan(rt.alloc(), text.as_bytes())?;
+/// assert!(rt; plan.heads.givens.jobs() == 1 && plan.tasks.as_slice().len() == 1);
+/// let moves = [Move::Turn(1), Move::Turn(1), Move::Halt(1)];
+/// assert!(rt; plan.heads.moves.as_slice() == moves.as_slice());
+/// let cut = read_plan(rt.alloc(), "version = 1\nworkers = 1\n".as_bytes());
+/// assert!(rt; matches!(cut, Err(PlanFault::MissingKey(0))));
+/// ```
 #[tactic(auto, unfolding(crate::specs::Plan::plan_of))]
 pub fn read_plan(alloc: Global, bytes: &[u8]) -> Result<Plan, PlanFault>
     ensures plan { Gives plan_seen result (plan_of bytes.now) }

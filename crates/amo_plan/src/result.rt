@@ -1,4 +1,4 @@
-//! The results of tasks.
+//! The results of tasks as texts.
 ghost use Rattle.std.specs.Prelude.{◌≡◌, ◌≤◌, IfOk, IsTrue, sum, string_bytes};
 ghost use Rattle.std.specs.Fmt.{decimal};
 ghost use Rattle.amo_plan.specs.Results.{fits, result_text};
@@ -6,7 +6,7 @@ ghost use Rattle.amo_plan.specs.Results.{fits, result_text};
 use crate::task::Task;
 use std::alloc::{AllocError, Global};
 
-/// The sum in decimal digits, or out of memory.
+/// Returns the sum in decimal digits. The only error is out of memory.
 fn sum_text(alloc: Global, numbers: &[u64]) -> Result<String, AllocError>
     requires { sum numbers.now ≤ 18446744073709551615 }
     ensures { IfOk result (λ s. string_bytes s ≡ decimal (sum numbers.now)) }
@@ -15,8 +15,23 @@ fn sum_text(alloc: Global, numbers: &[u64]) -> Result<String, AllocError>
     total.to_string(alloc)
 }
 
-/// The text of a task's result: what it says, or its sum in decimal digits; or out of memory. The
-/// task has to fit, as each of a plan does.
+/// Returns the result of a task as a text: the text that it says, or its sum in decimal digits. The
+/// task must fit, as each task of a plan does.
+///
+/// # Errors
+///
+/// `AllocError` if memory is refused.
+///
+/// # Examples
+///
+/// ```
+/// use amo_plan::{Answer, Items, Task, answer_of, result_of};
+///
+/// let task = Task::Add(Items::new(vec![in rt.alloc(); 2u64, 40]?));
+/// assert!(rt; task.fits());
+/// assert_eq!(rt; result_of(rt.alloc(), &task)?.as_str(), "42");
+/// assert!(rt; matches!(answer_of(task), Answer::Number(42)));
+/// ```
 pub fn result_of(alloc: Global, task: &Task) -> Result<String, AllocError>
     requires { IsTrue (fits task.now) }
     ensures { IfOk result (λ s. string_bytes s ≡ result_text task.now) }

@@ -1,4 +1,4 @@
-//! Reads a schedule.
+//! How a schedule is read.
 ghost use Rattle.std.specs.Prelude.{◌≡◌, ◌++◌, map, replicate, IfOk, OnOk};
 ghost use Rattle.amo_givens.specs.declared.moves.Move.TheVariants.{Turn};
 ghost use Rattle.amo_plan.specs.Passing.{Gives};
@@ -27,7 +27,7 @@ fn words(alloc: Global, text: &[u8]) -> Result<Vec<&[u8]>, AllocError>
         .collect(alloc)
 }
 
-/// What the words say, of the workers up to so many.
+/// Returns the words of the schedule, for workers up to this number.
 #[tactic(auto, using(crate::proofs::PassingLemmas::each_more, crate::proofs::PassingLemmas::each_stop, crate::proofs::PassingLemmas::each_all, crate::proofs::PassingLemmas::each_none))]
 fn read_words(
     alloc: Global,
@@ -45,7 +45,7 @@ fn read_words(
     Ok(read)
 }
 
-/// So many turns of a worker at the end of the moves.
+/// Adds turns of a worker to the moves, `count` of them.
 fn push_turns(moves: &mut Vec<Move>, worker: u32, count: u32) -> Result<(), AllocError>
     ensures { OnOk result (moves.new.items ≡ moves.old.items ++ replicate count (Turn worker)) }
 {

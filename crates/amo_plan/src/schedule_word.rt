@@ -1,4 +1,4 @@
-//! Reads the words of a schedule, each by itself.
+//! The words of a schedule, each read on its own.
 ghost use Rattle.std.specs.Prelude.{◌≡◌, ◌<◌, length, IfSome, IsTrue, position, slice_index};
 ghost use Rattle.amo_plan.specs.Passing.{Gives};
 ghost use Rattle.amo_plan.specs.Schedule.{is_asterisk, is_x, is_l, number_of, turns_word, word_of, worker_of, word_at, moves_of_word};
@@ -7,14 +7,14 @@ use crate::digits::number_within;
 use crate::fault::PlanFault;
 use crate::limits::HIGHEST_IN_WORD;
 
-/// What a word says.
+/// A word of a schedule.
 #[derive(Clone, Copy, Debug, PartialEq, Eq)]
 pub(crate) enum ScheduleWord {
-    /// Of a worker so many turns.
+    /// This number of turns (second) of a worker (first).
     Turns(u32, u32),
-    /// A stop of a worker.
+    /// A halt of a worker.
     Stop(u32),
-    /// The leaving of a worker.
+    /// A leave of a worker.
     Departure(u32),
 }
 
@@ -92,7 +92,7 @@ fn begins_with_l(version: u32, text: &[u8]) -> bool
     version == 2 && !text.is_empty() && text[0] == b'l'
 }
 
-/// What a word says, if it is one.
+/// Returns the word that this text is, if it is valid.
 #[tactic(auto, unfolding(crate::specs::Schedule::word_of))]
 fn read_word(version: u32, text: &[u8]) -> Option<ScheduleWord>
     ensures { result ≡ word_of version text.now }

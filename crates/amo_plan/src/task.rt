@@ -1,4 +1,4 @@
-//! What a job does.
+//! The tasks of jobs.
 ghost use Rattle.std.specs.Prelude.{◌≡◌, ◌≤◌, sum, is_some};
 ghost use Rattle.std.specs.Option.{SomeIff};
 ghost use Rattle.amo_plan.specs.Results.{fits};
@@ -6,17 +6,18 @@ ghost use Rattle.amo_plan.specs.Results.{fits};
 use crate::items::Items;
 use crate::text::Text;
 
-/// What a job does.
+/// `Task`: the work of a job.
 #[derive(Debug, Drop)]
 pub enum Task {
-    /// It says this text.
+    /// Say this text.
     Say(Text),
-    /// It adds these numbers up.
+    /// Add these numbers.
     Add(Items<u64>),
 }
 
 impl Task {
-    /// The result has room: the sum is at most 18446744073709551615. A text always has.
+    /// Returns true if the result has room: a sum is at most 18446744073709551615. A text always
+    /// fits.
     pub fn fits(&self) -> bool
         ensures { result ≡ fits self.now }
     {

@@ -1,4 +1,4 @@
-//! Reads the top level of a plan.
+//! The top level of a plan, and how it is read.
 ghost use Rattle.std.specs.Prelude.{◌≡◌, true, false, map, codes, option_copied, option_map, length, IfOk, IfSome};
 ghost use Rattle.std.specs.List.{list_all};
 ghost use Rattle.toml.specs.Data.{get_member};
@@ -28,30 +28,30 @@ pub(crate) struct Form {
 /// The values that may be absent, but for the jobs.
 #[derive(Drop)]
 pub(crate) struct More<'a> {
-    /// The text of the schedule, empty where the key is absent.
+    /// The text of the schedule, empty if the key is absent.
     pub(crate) schedule: &'a str,
-    /// How many rounds, 0 where the key is absent. Their limit isn't tested yet.
+    /// The number of passes, 0 if the key is absent. Its limit isn't tested yet.
     pub(crate) rounds: u64,
-    /// As many budgets as workers; None where the key is absent. Their limit isn't tested yet.
+    /// As many budgets as workers; `None` if the key is absent. Their limit isn't tested yet.
     pub(crate) budgets: Option<Vec<u64>>,
 }
 
-/// What the top level says.
+/// The values of the top level.
 #[derive(Drop)]
 pub(crate) struct Top<'a> {
     /// The version, and how many jobs make a block.
     pub(crate) form: Form,
-    /// How many workers there are to be. No limit is tested yet.
+    /// The number of workers. No limit is tested yet.
     pub(crate) workers: u64,
     /// The threshold. No limit is tested yet.
     pub(crate) beta: u64,
-    /// The tables of the jobs, none where the key is absent.
+    /// The tables of the jobs, empty if the key is absent.
     pub(crate) jobs: Vec<&'a Table>,
     /// The values that may be absent, but for the jobs.
     pub(crate) more: More<'a>,
 }
 
-/// The version, if it is one that there is.
+/// Returns the version, if it is 1 to `NEWEST_VERSION`.
 fn version(table: &Table) -> Option<u32>
     ensures version { result ≡ version_of (table_view table.now) }
     ensures within { IfSome result (λ v. is_between 1 NEWEST_VERSION v ≡ true) }
@@ -64,7 +64,7 @@ fn version(table: &Table) -> Option<u32>
     }
 }
 
-/// The key is one of the top level, where `block` is one if it says so.
+/// Returns true if the key is one of the top level. `block` is one if `with_block` is true.
 fn is_top_key(with_block: bool, key: &str) -> bool
     ensures { result ≡ is_top_key with_block key.now }
 {
@@ -90,7 +90,7 @@ fn has_top_keys(with_block: bool, table: &Table) -> bool
     true
 }
 
-/// How many jobs make a block in version 2, where the key may be absent.
+/// Returns the number of jobs in a block of version 2, in which the key may be absent.
 fn block_in(value: Option<&Value>) -> Option<u32>
     ensures within { IfSome result (λ b. is_between 1 MOST_IN_BLOCK b ≡ true) }
     ensures block { result ≡ block_in (option_map (λ v. view v.now) value.entry) }

@@ -1,4 +1,4 @@
-//! What stands in the tree of a document, by its keys.
+//! The values in the tree of a document, by their keys.
 ghost use Rattle.std.specs.Prelude.{◌≡◌, option_map, option_copied, is_some, map};
 ghost use Rattle.toml.specs.Data.{get_member};
 ghost use Rattle.toml.specs.View.{view, table_view, items_view};
@@ -30,7 +30,7 @@ pub(crate) fn natural(value: &Value) -> Option<u64>
     u64::try_from(value.as_integer()?).ok()
 }
 
-/// The same at a key.
+/// Returns the integer at a key, if it is one that is not negative.
 pub(crate) fn natural_at(table: &Table, key: &str) -> Option<u64>
     ensures { result ≡ natural_at key.now (table_view table.now) }
 {

@@ -1,4 +1,4 @@
--- What a process is told to load or store is its step.
+-- The access that a process wants is its step.
 use Rattle.std.proofs.Common.{◌≡◌, ℕ, refl, Option, Some, None}
 use Rattle.std.specs.Prelude.{if◌then◌else◌}
 use Rattle.amo_kk.specs.Record.{wants_nothing}

@@ -53,7 +53,7 @@ wanted_fits : (g : Givens) (p : ℕ) (rest : List Item) (t : Standing) → Wants
 wanted_fits g p [] t h = tt
 wanted_fits g p (item ∷ items) t h = h
 
--- so the next items are those of where it stands
+-- so the next items are those of its standing
 next_are : (g : Givens) (s : Shared) (p : ℕ) (left : List Item) (t : Standing) → standing_at g s p ≡ Some t → FitsLeft g p left (standing_at g s p) → next_items g s p left ≡ items_of g p t
 next_are g s p [] t is h = ap (batch_at g p) is
 next_are g s p (item ∷ items) t is h = sym (let z : FitsLeft g p (item ∷ items) (Some t) = subst (λ o. FitsLeft g p (item ∷ items) o) is h in z)
@@ -177,7 +177,7 @@ first_fits g =
 pub always_same : (g : Givens) (hs : List Happening) → AreOfWorkers g hs → (batched_of g hs).shared ≡ shared_of g hs
 always_same g hs o = all_same g (first_batched g) (opening_tale g) hs (opening_told g g.limits) (first_shows g) o (first_fits g)
 
--- a job is told once
+-- a job is handed out once
 
 shared_append : (g : Givens) (s : Shared) (hs more : List Happening) → shared_after_all g s (hs ++ more) ≡ shared_after_all g (shared_after_all g s hs) more
 shared_append g s [] more = refl

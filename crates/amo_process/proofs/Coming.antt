@@ -1,4 +1,4 @@
--- What a worker that isn't gone hears in a lawful world can come where it stands.
+-- A worker that isn't gone reads, in a lawful world, only values that are possible for it.
 use Rattle.std.proofs.Common.{◌≡◌, ℕ, ◌+◌, ◌≤◌, true, false, not, ◌&&◌, refl, sym, ap, ◌∙◌, subst, arith, length}
 use Rattle.std.specs.Prelude.{◌==◌, nat_le}
 use Rattle.std.proofs.lemmas.Bool.{true≢false}

@@ -25,12 +25,12 @@ use Rattle.amo_process.proofs.Hearing.{hear_parts, going_by, going_sound, more_g
 use Rattle.amo_process.proofs.Passes.{goer}
 use Rattle.amo_process.proofs.Batches.{rest_wanted}
 
--- of nothing, nothing more is left once a number is heard
+-- if no item is left, nothing is left once a value is read
 nothing_more : (vs : List ℕ) → left_after_all [] vs ≡ Some [] → vs ≡ []
 nothing_more [] h = refl
 nothing_more (v ∷ vs) h = absurd (none-some [] h)
 
--- a store lets 0 be heard
+-- a store gives 0
 after_store : (word value v : ℕ) (items : List Item) (vs : List ℕ) → left_after_all (Store word value ∷ items) (v ∷ vs) ≡ Some [] → (v ≡ 0) × (left_after_all items vs ≡ Some [])
 after_store word value zero items vs h = (refl, h)
 after_store word value (suc v) items vs h = absurd (none-some [] h)
@@ -95,7 +95,7 @@ module _ (g : Givens) (p : ℕ) where
               (chosen (record r { dones = r.dones ++ j ∷ []; known = with_number j r.known }) (min (r.steps + 1) (2 ^ 64 - 1)) vs s)
       go ended is = subst (λ x. Goal x) (sym is) (λ n l a. absurd (none-some [] l))
 
-  -- where there is nothing to be told, nothing is wanted
+  -- if there is no item, nothing is wanted
   abbrev is_empty : List Item → Bool
   is_empty [] = true
   is_empty (item ∷ items) = false

@@ -1,4 +1,4 @@
--- What a batch has behind a filing.
+-- The rest of a batch after a job is recorded as done.
 use Rattle.std.proofs.Common.{◌≡◌, ℕ, false, refl, sym, [], ◌++◌, Some, None, append-nil}
 use Rattle.std.specs.Prelude.{if◌then◌else◌}
 use Rattle.amo_kk.specs.Step.{want, record_after}

@@ -1,4 +1,4 @@
--- More numbers heard: where a worker stands after them, and that its record is sound.
+-- More values read: the standing of a worker after them, and that its record is sound.
 use Rattle.std.proofs.Common.{◌≡◌, ℕ, zero, suc, ◌+◌, ◌≤◌, Bool, true, false, not, ◌&&◌, ◌||◌, refl, sym, ap, ◌∙◌, subst, arith, List, [], ◌∷◌, ◌++◌, length, Option, Some, None, append-nil, append_assoc}
 use Rattle.std.specs.Prelude.{if◌then◌else◌, ◌==◌, nat_le}
 use Rattle.std.proofs.lemmas.Bool.{true≢false, false_from_ne_true, and_parts, le-leb, leb-true}
@@ -147,7 +147,7 @@ module _ (g : Givens) (p : ℕ) (next claim v : ℕ) (row : List ℕ) where
       by true = ap (going g p false) (record_push g p start rest v) ∙ from (is_nothing rest) (record_after_all g p start rest)
       by false = refl
 
--- where it stands after one more number
+-- the standing after one more value
 pub standing_push : (g : Givens) (p : ℕ) (heard : List ℕ) (v : ℕ) → standing_of g p (heard ++ v ∷ []) ≡ standing_after g p v (heard ++ v ∷ []) (standing_of g p heard)
 standing_push g p [] v = refl
 standing_push g p (next ∷ []) v = refl
@@ -170,7 +170,7 @@ none_stays g p heard (v ∷ vs) h =
     ap (standing_of g p) (sym (append_assoc heard (v ∷ []) vs))
     ∙ none_stays g p (heard ++ v ∷ []) vs (standing_push g p heard v ∙ ap (standing_after g p v (heard ++ v ∷ [])) h)
 
--- where a worker that goes on stands then
+-- the standing then of a worker that goes on
 pub more_going : (g : Givens) (p : ℕ) (heard : List ℕ) (r : Record) (fresh : Bool) (v : ℕ) (vs : List ℕ) → standing_of g p heard ≡ Some (Going (with_record g p r) fresh)
     → standing_of g p (heard ++ v ∷ vs) ≡ going g p false (record_after_all g p r (v ∷ vs))
 more_going g p heard r fresh v [] h =
@@ -202,7 +202,7 @@ hear_parts g p r v vs s = go (can_hear g v (want r)) refl
     go true is h = (is, h)
     go false is h = absurd (none-some s h)
 
--- what can be heard may be loaded
+-- a possible value may be loaded
 pub may_load : (g : Givens) (v : ℕ) (x : Want) → can_hear g v x ≡ true → MayLoad g v x
 may_load g v (LoadNext q) h = leb-true _ _ h
 may_load g v (LoadDone q k) h = (within (not (k == g.jobs + 1 && not (v == 0))) h, λ e. last v g.jobs k h e)
@@ -214,7 +214,7 @@ may_load g v (LoadDone q k) h = (within (not (k == g.jobs + 1 && not (v == 0))) 
     last v n k h e = grind (arith, nat_tests)
 may_load g v x h = tt
 
--- What it says of a list that its worker goes on so.
+-- The fact about a list that its worker goes on so.
 pub record IsGoingBy (g : Givens) (p : ℕ) (heard : List ℕ) (l : LocalView) : Type 0 where
   pub next : ℕ
   pub claim : ℕ

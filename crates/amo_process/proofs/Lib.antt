@@ -5,7 +5,7 @@ pub mod Told
 pub mod Accesses
 pub mod Batches
 pub mod Within
--- These serve this crate alone.
+-- Only this crate uses these files.
 mod Coming
 mod Beginning
 mod Performs

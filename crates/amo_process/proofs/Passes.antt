@@ -150,7 +150,7 @@ left_parts items v vs rest = go (left_after items v) refl
     go None is h = absurd (none-some rest h)
     go (Some mid) is h = record { mid = mid; first = is; others = h }
 
--- where more was heard, something was left
+-- if more was read, something was left
 left_some : (g : Givens) (p : ℕ) (r : Record) (mid : List Item) (v : ℕ) (vs : List ℕ) (rest : List Item) → HasLeft g p r mid → left_after_all mid (v ∷ vs) ≡ Some rest → items_from g p r (want r) ≡ mid
 left_some g p r [] v vs rest t h = absurd (none-some rest h)
 left_some g p r (item ∷ mid) v vs rest t h = t.wants

@@ -27,7 +27,7 @@ loading_stands g p (next ∷ claim ∷ row) h =
 
 -- one own word more
 
--- what is behind the announcement and the count of claims
+-- the values after the announcement and the count of claims
 pub row_from : (own : List ℕ) → take (length own - 2) (drop 2 own) ≡ drop 2 own
 row_from own = take_all (length own - 2) (drop 2 own) (let e = length-drop 2 own in omega arith)
 

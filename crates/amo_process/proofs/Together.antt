@@ -123,7 +123,7 @@ module _ (g : Givens) (s : Shared) (t : Tale) (told : IsTold g t) (shows : Shows
   abbrev mine : ShowsWorker g (numbered [] s.lists p) t p
   mine = shows.workers p o
 
-  -- what is told of a process that begins
+  -- the job of a process that begins
   pub beginning_at : IsBeginning g p heard a → BeginsAt g w told.lawful p o (length heard)
   beginning_at b = begins g w told.lawful p o (length heard) b.few
 

@@ -1,4 +1,4 @@
--- A job is told to be performed by one process, between two of its accesses.
+-- Each job is handed to one process, between two of its accesses.
 use Rattle.std.proofs.Common.{◌≡◌, ⊎_elim, ◌⊎◌, inl, inr, ℕ, ◌≤◌, Bool, true, false, refl, sym, ap, ◌∙◌, subst, arith, List, [], ◌∷◌, ◌++◌, length, Some, append_assoc, append-nil, drop}
 use Rattle.std.specs.Prelude.{if◌then◌else◌}
 use Rattle.std.proofs.lemmas.Bool.{true≢false}
@@ -100,7 +100,7 @@ no_deed_parts p (Returned q j ∷ xs) ys n = let r = no_deed_parts p xs ys n.1 i
 cancel : {X : Type 0} (xs ys zs : List X) → xs ++ ys ≡ xs ++ zs → ys ≡ zs
 cancel xs ys zs e = sym (drop-append_seam xs ys) ∙ ap (drop (length xs)) e ∙ drop-append_seam xs zs
 
--- what is told is nothing, or what is in the hand
+-- no job is handed out but the one in the hand
 told_hand : (g : Givens) (s : Shared) (t : Tale) (p : ℕ) → IsTold g t → (shows : Shows g s t) → (o : IsWorker g p)
     → (told_to_perform g s p ≡ 0) ⊎ (told_to_perform g s p ≡ job_in_hand (process (world_of_tale t) p).local.phase)
 told_hand g s t p told shows o = ⊎_elim
@@ -113,7 +113,7 @@ told_hand g s t p told shows o = ⊎_elim
     by true h = inl h
     by false h = inr h
 
--- after the step of a worker with a job in its hand, there is none
+-- after the step of a worker with a job in its hand, no job is in it
 hand_empties : (g : Givens) (p v : ℕ) (r : Record) → 1 ≤ job_in_hand r.phase → job_in_hand (record_after g p v r).phase ≡ 0
 hand_empties g p v r some = go r.phase refl (has_done g p v r r.phase refl) some
   where
@@ -121,7 +121,7 @@ hand_empties g p v r some = go r.phase refl (has_done g p v r r.phase refl) some
     go (Claiming j) is d h = absurd (omega arith)
     go phase is d h = d.held_now
 
--- a worker that is told to perform a job is told so no more after its step
+-- a worker that has a job to perform doesn't have it after its step
 step_ends : (g : Givens) (s : Shared) (t : Tale) (p j : ℕ) → IsTold g t → (shows : Shows g s t) → (o : IsWorker g p) → 1 ≤ j → told_to_perform g s p ≡ j
     → told_to_perform g (shared_after g s (Steps p)) p ≡ 0
 step_ends g s t p j told shows o some e = ⊎_elim
@@ -153,11 +153,11 @@ step_ends g s t p j told shows o some e = ⊎_elim
         shown : Shows g (shared_after g s (Steps p)) now
         shown = subst (λ xs. Shows g (shared_after g s (Steps p)) (tale_after_all g t xs)) acts (one_shows g s t (Steps p) told shows (o, tt))
 
--- a process that begins is told nothing
+-- a process that begins has no job to perform
 new_ends : (g : Givens) (s : Shared) (p : ℕ) → length s.lists ≡ g.workers → IsWorker g p → told_to_perform g (shared_after g s (Begins p)) p ≡ 0
 new_ends g s p size o = ap (λ l. told_by (standing_of g p l)) (numbered-put_same [] [] s.lists p o.low (let h = o.high in omega arith))
 
--- no access of p, and no new process of it, where there is no deed of p
+-- no access of p, and no new process of it, if there is no deed of p
 no_step : (g : Givens) (s : Shared) (t : Tale) (hs : List Happening) (p j : ℕ) → IsTold g t → Shows g s t → AreOfWorkers g hs → IsWorker g p → 1 ≤ j → told_to_perform g s p ≡ j
     → (es : List Entry) → (tale_after_all g t (acts_after g s hs)).entries ≡ t.entries ++ es → HasNoDeed p es → HasNoStep p hs
 no_step g s t [] p j told shows o w some e es is none = tt
@@ -229,7 +229,7 @@ told_once g hs more p q j o m w x some first second = (once.0, no_step g (shared
     once = one_stretch g t.entries rest.more p q j story some ((shows.workers p w).performs ∙ first)
         (ap (λ l. may_perform q 0 l) (sym rest.is) ∙ (later.workers q x).performs ∙ second)
 
--- where a worker is told that it has ended, enough is filed
+-- if a worker has its end, enough jobs are recorded as done
 over_is_late : (g : Givens) (hs : List Happening) (p : ℕ) (l : LocalView) (fresh : Bool) → AreOfWorkers g hs → IsWorker g p → standing_at g (shared_of g hs) p ≡ Some (Going l fresh) → is_over l.state.phase ≡ true
     → bound g ≤ done_count (world_of_tale (tale_of g (acts_of g hs)))
 over_is_late g hs p l fresh o w is over = enough_done g (world_of_tale (tale_of g (acts_of g hs))) p told.lawful w (⊎_elim

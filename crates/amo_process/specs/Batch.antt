@@ -1,4 +1,4 @@
--- What a worker is told in one batch: all that is known of its next loads and stores before anything more is heard.
+-- Batches: all that is known of a worker's next loads and stores before it reads more.
 use Rattle.std.specs.Prelude.{⊤, ◌≡◌, ℕ, zero, suc, ◌+◌, ◌-◌, ◌<◌, ◌≤◌, Bool, true, false, not, ◌||◌, ◌⊎◌, List, [], ◌∷◌, ◌++◌, Option, Some, None, map, set, slice_index, ◌==◌, if◌then◌else◌}
 use Rattle.std.specs.List.{filter, range_with_len}
 use Rattle.amo_sets.specs.Lists.{numbered}
@@ -46,7 +46,8 @@ items_wanted g p fronts (StoreClaim c j) = Store (claim_word g p) c ∷ []
 items_wanted g p fronts (StoreDone k j) = Store (done_word g p k) j ∷ []
 items_wanted g p fronts Nothing = []
 
--- the same; after a filing comes what the worker wants then, since a store lets nothing be heard
+-- the items from this access on; after a job is recorded as done they go on with the next access, since a store gives no
+-- value
 abbrev pub items_from : Givens → ℕ → Record → Want → List Item
 items_from g p r (StoreDone k j) =
     Store (done_word g p k) j ∷ items_wanted g p (record_after g p 0 r).fronts (want (record_after g p 0 r))
@@ -82,8 +83,8 @@ abbrev pub files : Standing → Bool
 files (Beginning word) = false
 files (Going l fresh) = is_filing (want l.state)
 
--- what is left of these items once one more number is heard: a store and a load yield one number, a row all up to its first
--- 0. None where there was nothing to be heard, or a store gave another number than 0
+-- The items that are left after one more value. A store and a load give one value, a row all up to its first 0. None if no
+-- item is left, or if a store gave another value than 0.
 abbrev pub left_after : List Item → ℕ → Option (List Item)
 left_after [] v = None
 left_after (Store word value ∷ items) zero = Some items
@@ -92,11 +93,12 @@ left_after (Load word ∷ items) v = Some items
 left_after (LoadUntilZero word last ∷ items) zero = Some items
 left_after (LoadUntilZero word last ∷ items) (suc v) = Some (LoadUntilZero (word + 1) last ∷ items)
 
--- what is left once these numbers are heard, one after the other; None where they don't fit the items
+-- the function f of the items that are left; None if the values did not fit
 abbrev pub left_if : (List Item → Option (List Item)) → Option (List Item) → Option (List Item)
 left_if f None = None
 left_if f (Some items) = f items
 
+-- the items that are left after these values, one after the other; None if a value doesn't fit them
 abbrev pub left_after_all : List Item → List ℕ → Option (List Item)
 left_after_all items [] = Some items
 left_after_all items (v ∷ vs) = left_if (λ rest. left_after_all rest vs) (left_after items v)
@@ -106,8 +108,8 @@ abbrev pub wants_load : Standing → Bool
 wants_load (Beginning word) = true
 wants_load (Going l fresh) = is_load (want l.state)
 
--- Worker p, which stands so, wants what is left of its batch; where nothing is left, the batch was as long as could be: what
--- the worker wants now isn't a load.
+-- Worker p, in this standing, wants what is left of its batch. If nothing is left, the batch was as long as it could be:
+-- the worker's next access isn't a load.
 abbrev pub WantsLeft : Givens → ℕ → Standing → List Item → Type 0
 WantsLeft g p s [] = wants_load s ≡ false
 WantsLeft g p s (item ∷ rest) = items_of g p s ≡ item ∷ rest
@@ -124,8 +126,8 @@ abbrev pub PerformsOrRests : Standing → Type 0
 PerformsOrRests (Beginning word) = ⊥
 PerformsOrRests (Going l fresh) = (1 ≤ to_perform (Going l fresh)) ⊎ (wants_nothing l.state.phase ≡ true)
 
--- Worker p stands so once nothing is left of these items: what it wants is no load, and where it has loaded nothing by them
--- and announced nothing, it has a job to perform now, or goes on no more.
+-- The standing of worker p once nothing is left of these items. Its next access is no load. If it has loaded nothing by
+-- them and announced nothing, it has a job to perform now, or goes on no more.
 pub record IsAtEnd (p : ℕ) (items : List Item) (s : Standing) : Type 0 where
   pub no_load : wants_load s ≡ false
   pub rests : loads_or_announces p items ≡ false → PerformsOrRests s
@@ -147,6 +149,7 @@ IsWithin g (Store word value) = word < word_count g
 IsWithin g (Load word) = word < word_count g
 IsWithin g (LoadUntilZero word last) = (word ≤ last) × (last < word_count g)
 
+-- each of these items is within the registers
 abbrev pub AreWithin : Givens → List Item → Type 0
 AreWithin g [] = ⊤
 AreWithin g (item ∷ items) = IsWithin g item × AreWithin g items

@@ -1,5 +1,5 @@
--- Processes over one list of shared words that ask for batches: each carries out what is left of its batch, one access at a
--- time, and asks anew where nothing is left. The accesses of several may come in any order.
+-- Processes over one list of registers that ask for batches. Each carries out what is left of its batch, one access at a
+-- time, and asks anew if nothing is left. The accesses of several may come in any order.
 use Rattle.std.specs.Prelude.{ℕ, List, [], ◌∷◌, Option, Some, None, slice_index}
 use Rattle.amo_sets.specs.Lists.{numbered, put, table}
 use Rattle.amo_givens.specs.declared.givens.Givens.{Givens}
@@ -20,12 +20,12 @@ pub record Batched : Type 0 where
 abbrev pub first_batched : Givens → Batched
 first_batched g = record { shared = first_shared g; left = table g.workers (λ _. []) }
 
--- the batch of a worker, where it stands somewhere
+-- the batch of a worker, if it has a standing
 abbrev pub batch_at : Givens → ℕ → Option Standing → List Item
 batch_at g p None = []
 batch_at g p (Some s) = items_of g p s
 
--- what the process of p carries out next: what is left, or, where nothing is left, the batch that it is told when it asks
+-- the next items of the process of p: what is left, or, if nothing is left, the batch for which it asks
 abbrev pub next_items : Givens → Shared → ℕ → List Item → List Item
 next_items g s p [] = batch_at g p (standing_at g s p)
 next_items g s p (item ∷ items) = item ∷ items

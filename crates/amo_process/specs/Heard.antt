@@ -1,6 +1,6 @@
--- What a process has heard since it began, as a list of numbers, and where its worker then stands. It begins by loading the
--- worker's own words: the announcement, the count of claims, and the row up to its first 0. Then it goes on as the machine
--- that begins again by them.
+-- The values that a process has read since it began, and the standing of its worker then. It begins by loading the worker's
+-- own registers: the announcement, the count of claims, and the row up to its first 0. Then it goes on as the machine that
+-- restarts from them.
 use Rattle.std.specs.Prelude.{◌≡◌, ℕ, zero, suc, ◌+◌, ◌*◌, ◌<◌, Bool, true, false, not, ◌&&◌, List, [], ◌∷◌, Option, Some, None, length, nat_le, ◌==◌, if◌then◌else◌}
 use Rattle.amo_kk.specs.Record.{job_in_hand}
 use Rattle.amo_kk.specs.Step.{want, record_after}
@@ -22,18 +22,18 @@ can_hear g v (StoreClaim c j) = v == 0
 can_hear g v (StoreDone k j) = v == 0
 can_hear g v Nothing = false
 
--- the record after these numbers, if each of them can come where it stands
+-- the record after these values, if each of them is possible in its place
 abbrev pub record_after_all : Givens → ℕ → Record → List ℕ → Option Record
 record_after_all g p r [] = Some r
 record_after_all g p r (v ∷ vs) = if can_hear g v (want r) then record_after_all g p (record_after g p v r) vs else None
 
--- what comes after the first 0, where there is one
+-- the part after the first 0, if there is a 0
 abbrev pub rest_of : List ℕ → Option (List ℕ)
 rest_of [] = None
 rest_of (zero ∷ xs) = Some xs
 rest_of (suc j ∷ xs) = rest_of xs
 
--- whether nothing was heard
+-- true if no value was read
 abbrev pub is_nothing : List ℕ → Bool
 is_nothing [] = true
 is_nothing (v ∷ vs) = false
@@ -43,8 +43,8 @@ abbrev pub going : Givens → ℕ → Bool → Option Record → Option Standing
 going g p fresh (Some r) = Some (Going (record { givens = g; number = p; state = r }) fresh)
 going g p fresh None = None
 
--- where worker p stands that has loaded its announcement, its count of claims and this much of its row, and has then, if
--- the row was loaded to its first 0, heard the rest
+-- the standing of worker p that has loaded its announcement, its count of claims and this much of its row, and has then, if
+-- the row was loaded to its first 0, read the rest
 abbrev pub standing_in : Givens → ℕ → (next claim : ℕ) (row : List ℕ) → Option (List ℕ) → Option Standing
 standing_in g p next claim row None = if nat_le (length row) g.jobs then Some (Beginning (done_word g p (length row + 1))) else None
 standing_in g p next claim row (Some rest) =
@@ -58,7 +58,7 @@ own_word g p zero = next_word p
 own_word g p (suc zero) = claim_word g p
 own_word g p (suc (suc k)) = done_word g p (k + 1)
 
--- where worker p stands whose process has heard these numbers; None where they can't be so
+-- the standing of worker p whose process has read these values; None if they are impossible
 abbrev pub standing_of : Givens → ℕ → List ℕ → Option Standing
 standing_of g p [] = Some (Beginning (next_word p))
 standing_of g p (next ∷ []) = Some (Beginning (claim_word g p))
@@ -79,12 +79,12 @@ abbrev pub in_doubt : Standing → ℕ
 in_doubt (Beginning word) = 0
 in_doubt (Going l fresh) = if fresh then job_in_hand l.state.phase else 0
 
--- the job that a worker is told to perform where it stands, or 0
+-- the job that a worker in this standing is to perform, or 0
 abbrev pub told_by : Option Standing → ℕ
 told_by None = 0
 told_by (Some s) = to_perform s
 
--- the job that it is told to be in doubt there, or 0
+-- the job that is in doubt in this standing, or 0
 abbrev pub doubted_by : Option Standing → ℕ
 doubted_by None = 0
 doubted_by (Some s) = in_doubt s

@@ -1,4 +1,4 @@
--- Processes over one list of shared words. Each knows nothing but what it has heard since it began.
+-- Processes over one list of registers. Each knows only what it has read since it began.
 use Rattle.std.specs.Prelude.{◌≡◌, ◌≢◌, ⊤, ◌⊎◌, ℕ, ◌<◌, Bool, List, [], ◌∷◌, ◌++◌, Option, Some, None, set, slice_index, length, replicate, take, if◌then◌else◌}
 use Rattle.amo_sets.specs.Lists.{numbered, put, table}
 use Rattle.amo_givens.specs.Givens.{IsWorker}
@@ -24,12 +24,12 @@ use Rattle.amo_process.specs.declared.standing.Standing.{Standing}
 use Rattle.amo_process.specs.declared.standing.Standing.TheVariants.{Beginning, Going}
 use Rattle.amo_process.specs.Heard.{standing_of, told_by}
 
--- The shared words, and for each worker what its process has heard.
+-- The registers, and for each worker the values that its process has read.
 pub record Shared : Type 0 where
   pub words : List ℕ
   pub lists : List (List ℕ)
 
--- all words are 0, and nobody has heard anything
+-- all registers are 0, and no process has read anything
 abbrev pub first_shared : Givens → Shared
 first_shared g = record { words = replicate (word_count g) 0; lists = table g.workers (λ _. []) }
 
@@ -41,7 +41,7 @@ standing_at g s p = standing_of g p (numbered [] s.lists p)
 abbrev pub heard_of : Givens → List ℕ → Want → ℕ
 heard_of g words x = if is_load x then slice_index words (loaded_word g x) else 0
 
--- with one more number that the process of p has heard
+-- with one more value that the process of p has read
 abbrev pub with_heard : Shared → ℕ → ℕ → List ℕ → Shared
 with_heard s p v words = record { words = words; lists = put s.lists p (numbered [] s.lists p ++ v ∷ []) }
 
@@ -70,6 +70,7 @@ shared_after_leave g s p None = s
 shared_after_leave g s p (Some (Beginning word)) = s
 shared_after_leave g s p (Some (Going l fresh)) = if can_leave l.state.phase then with_new_process s p (set s.words (next_word p) 0) else s
 
+-- the registers and the lists of values after one event
 abbrev pub shared_after : Givens → Shared → Happening → Shared
 shared_after g s (Steps p) = shared_after_step g s p (standing_at g s p)
 shared_after g s (Begins p) = with_new_process s p s.words
@@ -90,24 +91,28 @@ acts_of_step p None = []
 acts_of_step p (Some (Beginning word)) = []
 acts_of_step p (Some (Going l fresh)) = if wants_nothing l.state.phase then [] else Moves (Turn p) ∷ []
 
+-- the acts of a leave: the worker's leave in the algorithm and a restart, if the worker may leave
 abbrev pub acts_of_leave : ℕ → Option Standing → List Act
 acts_of_leave p None = []
 acts_of_leave p (Some (Beginning word)) = []
 acts_of_leave p (Some (Going l fresh)) = if can_leave l.state.phase then Moves (Leave p) ∷ Returns p ∷ [] else []
 
+-- the acts of one event
 abbrev pub acts_of_one : Givens → Shared → Happening → List Act
 acts_of_one g s (Steps p) = acts_of_step p (standing_at g s p)
 acts_of_one g s (Begins p) = Returns p ∷ []
 acts_of_one g s (Leaves p) = acts_of_leave p (standing_at g s p)
 
+-- the acts of these events, in their order, from this state on
 abbrev pub acts_after : Givens → Shared → List Happening → List Act
 acts_after g s [] = []
 acts_after g s (h ∷ hs) = acts_of_one g s h ++ acts_after g (shared_after g s h) hs
 
+-- the acts of these events from the first state on
 abbrev pub acts_of : Givens → List Happening → List Act
 acts_of g hs = acts_after g (first_shared g) hs
 
--- the job that the process of p is told to perform, or 0
+-- the job that the process of p is to perform, or 0
 abbrev pub told_to_perform : Givens → Shared → ℕ → ℕ
 told_to_perform g s p = told_by (standing_at g s p)
 
@@ -125,7 +130,7 @@ pub record IsBeginning (g : Givens) (p : ℕ) (heard : List ℕ) (a : Process) :
 abbrev pub IsGoing : Givens → ℕ → List ℕ → Process → Type 0
 IsGoing g p heard a = (fresh : Bool) × (standing_of g p heard ≡ Some (Going (record { givens = g; number = p; state = a.local }) fresh))
 
--- What worker p is told by its list is what it is in the tale.
+-- The record of worker p by its list of values is its record in the trace.
 pub record ShowsWorker (g : Givens) (heard : List ℕ) (t : Tale) (p : ℕ) : Type 0 where
   pub gone : (process (world_of_tale t) p).gone ≡ wants_nothing (process (world_of_tale t) p).local.phase
   pub stands : IsBeginning g p heard (process (world_of_tale t) p) ⊎ IsGoing g p heard (process (world_of_tale t) p)

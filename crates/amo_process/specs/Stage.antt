@@ -15,7 +15,7 @@ standing_in_stage g p own (Loading l) = standing_of g p own
 standing_in_stage g p own (Stepping l fresh) = Some (Going l fresh)
 standing_in_stage g p own Refused = None
 
--- These own words are not all: the row has no 0 yet, and may go on.
+-- The own registers are not complete: the row has no 0 yet, and may go on.
 pub record IsLoading (g : Givens) (own : List ℕ) : Type 0 where
   pub row : rest_of (drop 2 own) ≡ None
   pub few : length own ≤ g.jobs + 2
@@ -26,7 +26,7 @@ StageFits g p own (Loading l) = (l ≡ record { givens = g; number = p; state = 
 StageFits g p own (Stepping l fresh) = (l.givens ≡ g) × (l.number ≡ p)
 StageFits g p own Refused = ⊤
 
--- What holds of a process of worker p: it has room for all own words, the last 0 of the row among them.
+-- The facts about a process of worker p: it has room for all own registers, the last 0 of the row among them.
 pub record IsHeld (g : Givens) (p : ℕ) (own : List ℕ) (room : ℕ) (stage : Stage) : Type 0 where
   pub worker : IsWorker g p
   pub room_is : room ≡ g.jobs + 3

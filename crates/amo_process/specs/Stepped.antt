@@ -1,4 +1,4 @@
--- A process that is stepped: it keeps what it needs of what it has heard, not the list.
+-- A process that is stepped: it keeps what it needs of the values that it has read, not their list.
 use Rattle.std.specs.Prelude.{⊤, ℕ, zero, suc, ◌<◌, Bool, true, false, List, [], ◌∷◌, ◌++◌, Option, Some, None, if◌then◌else◌}
 use Rattle.amo_kk.specs.Record.{is_over, can_leave}
 use Rattle.amo_kk.specs.Step.{want, record_after}
@@ -18,33 +18,33 @@ pub record ProcessView : Type 0 where
   pub number : ℕ
   -- the own words that it has loaded, in their order
   pub own : List ℕ
-  -- where its worker stands; None where a number was heard that can't come
+  -- the standing of its worker; None if an impossible value was read
   pub standing : Option Standing
 
--- the process of worker p that has heard nothing
+-- the process of worker p that has read nothing
 abbrev pub new_process : Givens → ℕ → ProcessView
 new_process g p = record { givens = g; number = p; own = []; standing = Some (Beginning (next_word p)) }
 
--- the loaded own words, with v where one was awaited
+-- the loaded own registers, with v if one was due
 abbrev pub own_after : ℕ → List ℕ → Option Standing → List ℕ
 own_after v own None = own
 own_after v own (Some (Beginning word)) = own ++ v ∷ []
 own_after v own (Some (Going l fresh)) = own
 
--- where it stands after one more number: by its own words while it loads them, v among them, then by the machine's step
+-- the standing after one more value: by its own registers while it loads them, v among them, then by the machine's step
 abbrev pub standing_after : Givens → ℕ → ℕ → List ℕ → Option Standing → Option Standing
 standing_after g p v own None = None
 standing_after g p v own (Some (Beginning word)) = standing_of g p own
 standing_after g p v own (Some (Going l fresh)) =
     if can_hear g v (want l.state) then Some (Going (record l { state = record_after g p v l.state }) false) else None
 
--- the process that has heard v as well
+-- the process that has read v too
 abbrev pub process_after : ProcessView → ℕ → ProcessView
 process_after a v =
     let own = own_after v a.own a.standing in
     record a { own = own; standing = standing_after a.givens a.number v own a.standing }
 
--- the process that has heard these numbers as well, in their order
+-- the process that has read these values too, in their order
 abbrev pub process_after_all : ProcessView → List ℕ → ProcessView
 process_after_all a [] = a
 process_after_all a (v ∷ vs) = process_after_all (process_after a v) vs
@@ -76,7 +76,7 @@ has_ended None = false
 has_ended (Some (Beginning word)) = false
 has_ended (Some (Going l fresh)) = is_over l.state.phase
 
--- whether a number was heard that can't come
+-- true if an impossible value was read
 abbrev pub is_refused : Option Standing → Bool
 is_refused None = true
 is_refused (Some s) = false
@@ -93,7 +93,7 @@ IsWord g (Load word) = word < word_count g
 IsWord g (Store word v) = word < word_count g
 IsWord g NoAccess = ⊤
 
--- the list of this number, where it isn't 0
+-- the list of this number, empty if it is 0
 abbrev pub one_or_none : ℕ → List ℕ
 one_or_none zero = []
 one_or_none (suc j) = suc j ∷ []

@@ -1,12 +1,12 @@
-//! What a process does next to the shared words.
+//! The accesses that a process makes.
 
-/// A load or a store of a shared word. A place is the word's number, from 0.
+/// `Access`: the next load or store of a register. A place is the number of the word, from 0.
 #[derive(Clone, Copy, Debug, PartialEq, Eq)]
 pub enum Access {
-    /// The word at this place is loaded.
+    /// Load the word at this place.
     Load(u64),
-    /// At this place this value is stored.
+    /// Store the value (second) at this place (first).
     Store(u64, u64),
-    /// There is none: the worker has ended, or a number was heard that can't come where it stands.
+    /// No access: the worker has ended, or the process was given an impossible value.
     Nothing,
 }

@@ -1,4 +1,4 @@
-//! What a worker is told in one batch.
+//! Batches: all accesses that are known in advance.
 ghost use Rattle.std.specs.Prelude.{◌≡◌, ◌+◌, ◌*◌, ◌<◌, ◌≤◌, ◌++◌, ◌∷◌, [], IfOk, length};
 ghost use Rattle.std.specs.Vec.{vec_capacity};
 ghost use Rattle.amo_givens.specs.Givens.{IsWorker};
@@ -11,20 +11,20 @@ use amo_givens::Givens;
 use amo_kk::{Local, Want};
 use std::alloc::{AllocError, Global};
 
-/// One thing that a process is told to do in a batch. It notes each number that it loads, and 0 for
-/// a store.
+/// `Item`: one access of a batch, or several loads. Give the process each value that was loaded,
+/// and 0 for a store, in order.
 #[derive(Clone, Copy, Debug, PartialEq, Eq)]
 pub enum Item {
-    /// To store the second number to the word.
+    /// Store the value (second) at this place (first).
     Store(u64, u64),
-    /// To load the word.
+    /// Load the word at this place.
     Load(u64),
-    /// To load the word and those above it, one after the other, up to the first that is 0. The
-    /// second is the last of these words, where always 0 stands.
+    /// Load the word at this place (first) and those after it, one after the other, up to the first
+    /// that is 0. The word at the last place (second) is always 0.
     LoadUntilZero(u64, u64),
 }
 
-/// Room for a batch.
+/// Returns an empty list with room for a batch.
 pub(crate) fn room_for(alloc: Global, givens: Givens) -> Result<Vec<Item>, AllocError>
     ensures none { IfOk result (λ v. v.items ≡ []) }
     ensures room { IfOk result (λ v. vec_capacity v ≡ 2 * givens.workers + 2) }
@@ -32,14 +32,14 @@ pub(crate) fn room_for(alloc: Global, givens: Givens) -> Result<Vec<Item>, Alloc
     Vec::with_capacity(alloc, 2 * givens.workers as usize + 2)
 }
 
-/// The row of q from this place on, of which so many entries were read.
+/// Returns the item that loads the row of q from this place on.
 fn row_from(givens: Givens, q: u32, word: u64) -> Item
     ensures { result ≡ Item.LoadUntilZero word (last_word givens q) }
 {
     Item::LoadUntilZero(word, done_word(givens, q, givens.jobs + 1))
 }
 
-/// Adds the announcements of the others of p above q.
+/// Adds loads of the announcements of the workers after q, leaving out p.
 fn add_loads(items: &mut Vec<Item>, givens: Givens, p: u32, q: u32)
     requires within { q ≤ givens.workers }
     requires room { length items.old.items + givens.workers ≤ vec_capacity items.old }
@@ -54,7 +54,7 @@ fn add_loads(items: &mut Vec<Item>, givens: Givens, p: u32, q: u32)
     }
 }
 
-/// Adds the rows of the other workers above q, each from where the machine has read it.
+/// Adds loads of the rows of the other workers after q, each after the entries that the machine has read.
 fn add_rows(items: &mut Vec<Item>, local: &Local, q: u32)
     requires within { q ≤ local.now.givens.workers }
     requires room { length items.old.items + local.now.givens.workers ≤ vec_capacity items.old }
@@ -71,7 +71,7 @@ fn add_rows(items: &mut Vec<Item>, local: &Local, q: u32)
     }
 }
 
-/// Adds what the machine wants, and the rest of its pass.
+/// Adds the access that the machine wants, and the rest of its pass.
 pub(crate) fn add_wanted(items: &mut Vec<Item>, local: &Local)
     requires room { length items.old.items + 2 * local.now.givens.workers + 1 ≤ vec_capacity items.old }
     ensures { items.new.items ≡ items.old.items ++ items_wanted local.now.givens local.now.number local.now.state.fronts (want local.now.state) }
@@ -102,7 +102,7 @@ pub(crate) fn add_wanted(items: &mut Vec<Item>, local: &Local)
     }
 }
 
-/// The batch of a machine that goes on.
+/// Returns the batch of a machine that goes on.
 fn items_going(mut local: Local, mut items: Vec<Item>) -> Vec<Item>
     requires none { items.items ≡ [] }
     requires room { 2 * local.givens.workers + 2 ≤ vec_capacity items }
@@ -117,7 +117,7 @@ fn items_going(mut local: Local, mut items: Vec<Item>) -> Vec<Item>
     items
 }
 
-/// The own words of worker p, from this one on.
+/// Returns loads of the own registers of worker p, from this place on.
 pub(crate) fn items_beginning(givens: Givens, p: u32, word: u64, mut items: Vec<Item>) -> Vec<Item>
     requires none { items.items ≡ [] }
     requires room { 4 ≤ vec_capacity items }
@@ -139,8 +139,26 @@ pub(crate) fn items_beginning(givens: Givens, p: u32, word: u64, mut items: Vec<
     items
 }
 
-/// The batch of worker p that stands so: all that is known of its next loads and stores before
-/// anything more is heard. All its memory is asked for at once, and only that may be wanting.
+/// Returns the batch of worker p in this standing: all accesses that are known before another value
+/// is read. It takes memory once, for at most `2 * workers + 2` items.
+///
+/// # Errors
+///
+/// `AllocError` if memory is refused. The standing is then dropped.
+///
+/// # Examples
+///
+/// ```
+/// use amo_kk::{Givens, Local};
+/// use amo_process::{Item, items_of, standing_of};
+///
+/// let givens = Givens::try_new(3, 2, 2)?;
+/// let new = Local::new(rt.alloc(), givens, 1)?;
+/// let standing = standing_of(new, &[0, 0, 0])?; // its own registers are all 0
+/// let items = items_of(rt.alloc(), givens, 1, standing)?;
+/// let wanted = [Item::Store(1, 1), Item::Load(2), Item::LoadUntilZero(9, 12)];
+/// assert!(rt; items.as_slice() == wanted.as_slice());
+/// ```
 pub fn items_of(
     alloc: Global,
     givens: Givens,

@@ -1,8 +1,11 @@
-//! A worker as a process of its own, which may die at any point: another process begins again as
-//! the same worker, from the worker's shared words alone. What it does next is a function of what
-//! it has heard since it began: `standing_of` answers from the whole list, and a `Process` is
-//! stepped. `items_of` tells a whole batch. The theorems stand in the modules `laws` and
-//! `batch_laws`.
+//! A worker as a process of its own, which may die at any point. Another process then goes on as
+//! the same worker, from the worker's registers alone.
+//!
+//! Start at [`Process`]: it returns the next load or store as a function of the values that the
+//! process has read since it began. `standing_of` computes the same from the list of these values,
+//! and `items_of` returns a whole batch of accesses. The modules `laws` and `batch_laws` have the
+//! theorems. The registers must be sequentially consistent, and at most one process of a worker may
+//! live at a time. No contract can state either.
 #![tactic(auto)]
 
 mod access;

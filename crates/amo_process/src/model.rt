@@ -1,12 +1,11 @@
-//! The values of which the definitions speak. No code makes one.
+//! The values that definitions speak of. No code makes one.
 
-/// What happens next among the processes. The number is the worker's.
+/// `Happening`: one event among the processes. The number is that of the worker.
 #[derive(Clone, Copy, Debug, PartialEq, Eq)]
 pub enum Happening {
-    /// The process of the worker makes the load or store that it was told, if any, and notes what
-    /// it heard.
+    /// The process of the worker makes its next access, if it has one, and notes the value.
     Steps(u32),
-    /// The process of the worker, if there was one, is dead, and another begins, knowing nothing.
+    /// The process of the worker is dead, if there was one. Another begins, and knows nothing.
     Begins(u32),
     /// The process of the worker leaves, if it may.
     Leaves(u32),

@@ -1,4 +1,5 @@
-//! A process that is stepped: it keeps the machine, not the list of what it has heard.
+//! A process that is stepped: it keeps the state machine, and not the list of the values that it
+//! read.
 ghost use Rattle.std.specs.Prelude.{◌≡◌, ◌<◌, ◌≤◌, ◌+◌, true, false, IfOk, IfErr, option_to_list};
 ghost use Rattle.amo_givens.specs.Givens.{IsWorker};
 ghost use Rattle.amo_kk.specs.Fits.{WantFits};
@@ -19,8 +20,37 @@ use std::alloc::{AllocError, Global};
 use std::marker::Model;
 use std::mem;
 
-/// A process of a worker, that is told what each of its accesses gave. It stands where the list of
-/// all that it was told says, and keeps no such list.
+/// `Process`: a resumable worker. Its first accesses load the worker's own registers, so it
+/// restarts from them.
+///
+/// Call `to_perform`, then `want`, make that access, and call `told` or `stored`. Only `new` and
+/// `batch` take memory. No call blocks.
+///
+/// # Examples
+///
+/// ```
+/// use amo_kk::Givens;
+/// use amo_process::{Access, Process};
+///
+/// let givens = Givens::try_new(2, 1, 1)?;
+/// let mut process = Process::new(rt.alloc(), givens, 1)?;
+/// let mut words = [0u64; 6]; // the registers: in a file, or in a store
+/// let mut jobs = Vec::new(rt.alloc());
+/// while !process.has_ended() {
+///     if let Some(job) = process.to_perform() {
+///         jobs.push(job)?; // perform it here
+///     }
+///     match process.want() {
+///         Access::Load(place) => process.told(words[place as usize])?,
+///         Access::Store(place, value) => {
+///             words[place as usize] = value;
+///             process.stored();
+///         }
+///         Access::Nothing => {}
+///     }
+/// }
+/// assert_eq!(rt; jobs.as_slice(), [1, 2].as_slice());
+/// ```
 #[derive(Drop)]
 pub struct Process {
     givens: Givens,
@@ -47,8 +77,24 @@ impl Model for Process {
 }
 
 impl Process {
-    /// A process of worker p that has heard nothing. All its memory is asked for here, and only
-    /// that may be wanting.
+    /// Returns a process of worker p that has read nothing. It takes memory twice: for the state
+    /// machine, and for the values of the own registers.
+    ///
+    /// # Errors
+    ///
+    /// `AllocError` if memory is refused.
+    ///
+    /// # Examples
+    ///
+    /// ```
+    /// use amo_kk::Givens;
+    /// use amo_process::{Access, Process};
+    ///
+    /// let givens = Givens::try_new(5, 2, 2)?;
+    /// let process = Process::new(rt.alloc(), givens, 2)?;
+    /// assert!(rt; process.givens() == givens && process.number() == 2);
+    /// assert!(rt; process.want() == Access::Load(2));
+    /// ```
     pub fn new(alloc: Global, givens: Givens, p: u32) -> Result<Process, AllocError>
         requires worker { IsWorker givens p }
         ensures { IfOk result (λ a. a ≡ new_process givens p) }
@@ -63,14 +109,14 @@ impl Process {
         })
     }
 
-    /// The givens that it was made with.
+    /// Returns the givens with which the process was made.
     pub fn givens(&self) -> Givens
         ensures { result ≡ self.now.givens }
     {
         self.givens
     }
 
-    /// The worker's number, from 1.
+    /// Returns the worker's number, from 1.
     pub fn number(&self) -> u32
         ensures number { result ≡ self.now.number }
         ensures worker { IsWorker self.now.givens result }
@@ -78,7 +124,7 @@ impl Process {
         self.number
     }
 
-    /// The access that it makes next.
+    /// Returns the next access. If a job is to be performed, perform it before this access.
     pub fn want(&self) -> Access
         ensures access { result ≡ access_of self.now.givens self.now.number self.now.standing }
         ensures within { IsWord self.now.givens result }
@@ -90,10 +136,26 @@ impl Process {
         }
     }
 
-    /// All that is known of its next accesses before it hears more, to a filing and no further:
-    /// since a store lets nothing be heard, `stored` may be told of a filing and the next batch
-    /// asked for before both are carried out. Of each item all that it gave is told, number by
-    /// number. All its memory is asked for at once, and only that may be wanting.
+    /// Returns the accesses that are known in advance, as far as the next store that records a job
+    /// as done. After such a store call `stored`, and ask for the next batch: both may be carried
+    /// out together. It takes memory once.
+    ///
+    /// # Errors
+    ///
+    /// `AllocError` if memory is refused. The process stays as it is.
+    ///
+    /// # Examples
+    ///
+    /// ```
+    /// use amo_kk::Givens;
+    /// use amo_process::{Item, Process};
+    ///
+    /// let givens = Givens::try_new(3, 2, 2)?;
+    /// let process = Process::new(rt.alloc(), givens, 1)?;
+    /// let items = process.batch(rt.alloc())?;
+    /// let wanted = [Item::Load(1), Item::Load(3), Item::LoadUntilZero(5, 8)];
+    /// assert!(rt; items.as_slice() == wanted.as_slice());
+    /// ```
     pub fn batch(&self, alloc: Global) -> Result<Vec<Item>, AllocError>
         ensures { IfOk result (λ v. v.items ≡ items_to_filing self.now.givens self.now.number self.now.standing) }
     {
@@ -109,8 +171,13 @@ impl Process {
         Ok(items)
     }
 
-    /// The access that it makes next was made: it gave v, which is 0 for a store. Where v can't
-    /// come it is refused, and from then on the process wants nothing and refuses each number.
+    /// `told`: gives the process the value of its next access, which was made: the value of a load,
+    /// or 0 after a store.
+    ///
+    /// # Errors
+    ///
+    /// [`NoSuchNumber`] if no worker can have stored this value there. From then on the process
+    /// wants no access, and refuses each value. Stop all workers then: the registers are damaged.
     pub fn told(&mut self, v: u64) -> Result<(), NoSuchNumber>
         ensures process { self.new ≡ process_after self.old v }
         ensures goes_on { IfOk result (λ _. is_refused self.new.standing ≡ false) }
@@ -124,7 +191,7 @@ impl Process {
         }
     }
 
-    /// The store that it makes next was made.
+    /// `stored`: notes that the store that is the next access was made.
     pub fn stored(&mut self)
         requires { is_store (access_of self.old.givens self.old.number self.old.standing) ≡ true }
         ensures process { self.new ≡ process_after self.old 0 }
@@ -133,7 +200,8 @@ impl Process {
         let _told = self.told(0);
     }
 
-    /// The job that is to be performed now, before the next access, if there is one.
+    /// Returns the job that the caller performs now, before the next access. It is `None` if there
+    /// is no such job.
     pub fn to_perform(&self) -> Option<u32>
         ensures { option_to_list result ≡ one_or_none (told_by self.now.standing) }
     {
@@ -143,8 +211,27 @@ impl Process {
         }
     }
 
-    /// The job in doubt, if there is one: its own words show it claimed and not filed. It may or
-    /// may not have been performed, and is never to be performed; the next access files it.
+    /// Returns the job in doubt, if the own registers show one: claimed, and not recorded as done.
+    /// Nobody can know whether it was performed. **Never perform it.** The next access records it
+    /// as done.
+    ///
+    /// # Examples
+    ///
+    /// ```
+    /// use amo_kk::Givens;
+    /// use amo_process::{Access, Process};
+    ///
+    /// let givens = Givens::try_new(5, 2, 2)?;
+    /// let mut process = Process::new(rt.alloc(), givens, 2)?;
+    /// for value in [4, 2, 2, 0] {
+    ///     process.told(value)?; // announced job 4, counted 2 claims, recorded job 2
+    /// }
+    /// assert!(rt; process.in_doubt() == Some(4) && process.to_perform() == None);
+    /// assert!(rt; process.want() == Access::Store(12, 4) && !process.may_leave());
+    /// process.stored();
+    /// assert!(rt; process.may_leave());
+    /// assert!(rt; process.leave() == Access::Store(2, 0)); // make this store, and exit
+    /// ```
     pub fn in_doubt(&self) -> Option<u32>
         ensures { option_to_list result ≡ one_or_none (doubted_by self.now.standing) }
     {
@@ -164,7 +251,8 @@ impl Process {
         }
     }
 
-    /// Returns true if the worker may leave: it goes on, and has nothing in its hand.
+    /// Returns true if the worker may leave: its own registers were read, it isn't gone, and it has
+    /// nothing in its hand.
     pub fn may_leave(&self) -> bool
         ensures { result ≡ may_leave self.now.standing }
     {
@@ -174,8 +262,8 @@ impl Process {
         }
     }
 
-    /// The worker leaves: this store is the last access of the process, which is gone. Another may
-    /// begin later.
+    /// Ends the process, and returns the store that the caller makes as the last access. Another
+    /// process of the worker may begin later.
     pub fn leave(self) -> Access
         requires { may_leave self.standing ≡ true }
         ensures { result ≡ Store (next_word self.number) 0 }
@@ -184,7 +272,7 @@ impl Process {
     }
 }
 
-/// The job in the hand of the machine.
+/// Returns the job in the hand of the machine.
 fn in_hand(local: &Local) -> Option<u32>
     ensures { option_to_list result ≡ one_or_none (job_in_hand local.now.state.phase) }
 {
@@ -198,7 +286,7 @@ fn in_hand(local: &Local) -> Option<u32>
     }
 }
 
-/// The place of the own word that is loaded next, where so many were loaded.
+/// Returns the place of the own register that is loaded next, after so many of them.
 fn own_word(givens: Givens, p: u32, loaded: usize) -> u64
     requires worker { IsWorker givens p }
     requires few { loaded ≤ givens.jobs + 2 }
@@ -212,7 +300,18 @@ fn own_word(givens: Givens, p: u32, loaded: usize) -> u64
     }
 }
 
-/// The access of worker p whose machine wants this.
+/// Returns the access of worker p for this wish of its state machine.
+///
+/// # Examples
+///
+/// ```
+/// use amo_kk::{Givens, Want};
+/// use amo_process::{Access, access_for};
+///
+/// let givens = Givens::try_new(5, 2, 2)?;
+/// assert!(rt; access_for(givens, 2, Want::LoadDone(1, 6)) == Access::Load(10));
+/// assert!(rt; access_for(givens, 2, Want::StoreClaim(3, 4)) == Access::Store(4, 3));
+/// ```
 pub fn access_for(givens: Givens, p: u32, want: Want) -> Access
     requires worker { IsWorker givens p }
     requires fits { WantFits givens p want }

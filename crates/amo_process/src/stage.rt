@@ -1,4 +1,4 @@
-//! How far a stepped process is.
+//! The stages of a stepped process.
 ghost use Rattle.std.specs.Prelude.{◌≡◌, ◌+◌, ◌++◌, ◌∷◌, [], ℕ, Bool, List, Some};
 ghost use Rattle.std.specs.Vec.{vec_capacity};
 ghost use Rattle.amo_kk.specs.Choice.{first_record};
@@ -11,19 +11,19 @@ use crate::standing::hear;
 use amo_givens::Givens;
 use amo_kk::{Local, NoSuchWords};
 
-/// How far a process is.
+/// `Stage`: how far a process has come.
 #[derive(Drop)]
 pub(crate) enum Stage {
-    /// It loads its own words, and the machine hasn't begun.
+    /// It loads its own registers, and the machine hasn't begun.
     Loading(Local),
-    /// The machine goes on. True where it has made no access since it began.
+    /// The machine goes on. The flag is true if it has made no access since it began.
     Stepping(Local, bool),
-    /// A number was heard that can't come where it stood.
+    /// It was given an impossible value.
     Refused,
 }
 
 impl Stage {
-    /// The stage after one more number, which is kept where it is one of the own words.
+    /// Returns the stage after one more value, which is kept if it is that of an own register.
     pub(crate) fn after(self, givens: Givens, p: u32, own: &mut Vec<u64>, v: u64) -> Stage
         requires fits { StageFits givens p own.old.items self }
         requires room { vec_capacity own.old ≡ givens.jobs + 3 }
@@ -45,7 +45,7 @@ impl Stage {
     }
 }
 
-/// The stage after the own word v, where these were loaded before it.
+/// Returns the stage after the own register with value v, if these were loaded before it.
 fn loaded(givens: Givens, p: u32, local: Local, own: &[u64], v: u64) -> Stage
     requires new { local ≡ record { givens = givens; number = p; state = first_record givens p } }
     requires loading { IsLoading givens own.now }
@@ -67,7 +67,7 @@ fn loaded(givens: Givens, p: u32, local: Local, own: &[u64], v: u64) -> Stage
     }
 }
 
-/// The stage after the machine's next access, which gave v.
+/// Returns the stage after the machine's next access, which gave v.
 fn stepped(givens: Givens, p: u32, mut local: Local, v: u64) -> Stage
     requires givens { local.givens ≡ givens }
     requires number { local.number ≡ p }

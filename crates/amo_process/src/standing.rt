@@ -1,4 +1,4 @@
-//! Where a worker stands whose process knows nothing but what it has heard.
+//! The standing of a worker whose process knows only what it has read.
 ghost use Rattle.std.specs.Prelude.{◌≡◌, ◌+◌, ◌<◌, ◌≤◌, Some, None, true, false, IfOk, IfErr, IfSome, IfNone, length, take, drop};
 ghost use Rattle.amo_givens.specs.Givens.{IsWorker};
 ghost use Rattle.amo_kk.specs.Choice.{first_record};
@@ -11,16 +11,17 @@ use amo_givens::Givens;
 use amo_kk::{Local, NoSuchWords, Want};
 use thiserror::Error;
 
-/// Where a worker stands.
+/// `Standing`: the state of a worker, computed from the values that its process has read.
 #[derive(Drop)]
 pub enum Standing {
-    /// It is loading its own words, this one next.
+    /// It loads its own registers, the one at this place next.
     Beginning(u64),
-    /// Its own words were loaded, and it goes on. True where it has made no access since.
+    /// Its own registers were loaded, and its machine goes on. The flag is true if it has made no
+    /// access since.
     Going(Local, bool),
 }
 
-/// The error for a loaded number that no worker can have stored there.
+/// `NoSuchNumber`: the error for a value that no worker can have stored there.
 #[derive(Clone, Copy, Debug, PartialEq, Eq, Error)]
 #[error("loaded number: impossible in this state; stop all workers, and start a new round")]
 pub struct NoSuchNumber;
@@ -31,7 +32,7 @@ impl From<NoSuchWords> for NoSuchNumber {
     }
 }
 
-/// Returns true if v can be what this load or store gave.
+/// Returns true if this load or store can have given v.
 fn can_hear(givens: Givens, v: u64, want: Want) -> bool
     ensures { result ≡ can_hear givens v want }
 {
@@ -43,7 +44,7 @@ fn can_hear(givens: Givens, v: u64, want: Want) -> bool
     }
 }
 
-/// Lets the machine hear v. False, and nothing changes, where v can't come next.
+/// Gives the machine the value v. It returns false, and changes nothing, if v is impossible.
 pub(crate) fn hear(local: &mut Local, v: u64) -> bool
     ensures answer { result ≡ can_hear local.old.givens v (want local.old.state) }
     ensures heard { result ≡ true → local.new ≡ record local.old { state = record_after local.old.givens local.old.number v local.old.state } }
@@ -62,8 +63,7 @@ pub(crate) fn hear(local: &mut Local, v: u64) -> bool
     true
 }
 
-/// Lets the machine hear these numbers, one after the other. False where one can't come where it
-/// stands.
+/// Gives the machine these values, one after the other. It returns false if one is impossible.
 fn hear_all(local: &mut Local, heard: &[u64]) -> bool
     ensures heard { result ≡ true → record_after_all local.old.givens local.old.number local.old.state heard.now ≡ Some local.new.state }
     ensures stays { result ≡ true → local.new ≡ record local.old { state = local.new.state } }
@@ -77,7 +77,7 @@ fn hear_all(local: &mut Local, heard: &[u64]) -> bool
     true
 }
 
-/// How many entries stand before the first 0 of a row, where it has one.
+/// Returns how many entries stand before the first 0 of a row; `None` if it has no 0.
 fn row_end(row: &[u64]) -> Option<usize>
     ensures none { IfNone result (rest_of row.now ≡ None) }
     ensures entries { IfSome result (λ k. entries_of row.now ≡ take k row.now) }
@@ -92,7 +92,18 @@ fn row_end(row: &[u64]) -> Option<usize>
     None
 }
 
-/// The place of the k-th entry of the row of q among the shared words.
+/// Returns the place of the k-th entry of the row of worker q.
+///
+/// # Examples
+///
+/// ```
+/// use amo_kk::Givens;
+/// use amo_process::done_word;
+///
+/// let givens = Givens::try_new(5, 2, 2)?;
+/// assert_eq!(rt; done_word(givens, 1, 1), 5);
+/// assert_eq!(rt; done_word(givens, 2, 6), 16);
+/// ```
 pub fn done_word(givens: Givens, q: u32, k: u32) -> u64
     ensures place { result ≡ done_word givens q k }
     ensures within { IsWorker givens q → k ≤ givens.jobs + 1 → result < word_count givens }
@@ -101,8 +112,8 @@ pub fn done_word(givens: Givens, q: u32, k: u32) -> u64
     2 * workers + (q as u64).saturating_sub(1) * (jobs + 1) + k as u64
 }
 
-/// Where the worker of this machine stands that has loaded its announcement, its count of claims,
-/// and then this.
+/// Returns the standing of the worker of this machine, after it has loaded its announcement, its
+/// count of claims, and then this.
 fn standing_in(
     local: Local,
     announced: u64,
@@ -129,9 +140,29 @@ fn standing_in(
     Ok(Standing::Going(local, rest.is_empty()))
 }
 
-/// Where the worker of this new machine stands whose process has heard these numbers since it
-/// began, in their order: what each load gave, and 0 of each store. The machine is gone where it is
-/// still loading its own words, or refused.
+/// Returns the standing of a worker whose process has read these values since it began, in order:
+/// the value of each load, and 0 for each store. The machine must be new. It takes time in
+/// proportion to the list.
+///
+/// # Errors
+///
+/// [`NoSuchNumber`] if one of the values is impossible. The machine is dropped in each case but
+/// `Going`.
+///
+/// # Examples
+///
+/// ```
+/// use amo_kk::{Givens, Local};
+/// use amo_process::{Standing, standing_of};
+///
+/// let givens = Givens::try_new(5, 2, 2)?;
+/// let new = Local::new(rt.alloc(), givens, 2)?;
+/// let in_hand = match standing_of(new, &[4, 2, 2, 0])? {
+///     Standing::Going(local, true) => local.in_hand(),
+///     Standing::Going(_, false) | Standing::Beginning(_) => None,
+/// };
+/// assert!(rt; in_hand == Some(4)); // it is in doubt
+/// ```
 pub fn standing_of(local: Local, heard: &[u64]) -> Result<Standing, NoSuchNumber>
     requires new { local.state ≡ first_record local.givens local.number }
     ensures standing { IfOk result (λ s. standing_of local.givens local.number heard.now ≡ Some s) }

@@ -120,7 +120,7 @@ all_under g (suc before) moves r under =
     let last = run_out_under g (suc before) (moves + before * 17174624) (all_run_out g before r) (all_under g before moves r under) in
     record { reached = reached_later g (moves + before * 17174624 + 17174624) (moves + suc before * 17174624) _ (omega arith) last.reached; most = last.most }
 
--- the same where nobody has gone on alone before
+-- the limit holds if nobody has gone on alone before
 pub first_under : (g : Givens) (before moves : ℕ) (w : World) → IsReached g moves w → IsUnderLimit g (moves + before * 17174624) (all_run_out g before (record { world = w; most = 0 }))
 first_under g before moves w way = all_under g before moves _ (record { reached = way; most = omega arith })
 

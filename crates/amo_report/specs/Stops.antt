@@ -55,7 +55,7 @@ all_run_out g (suc before) r = run_out g (suc before) (all_run_out g before r)
 abbrev pub stopped_world : PlanSeen → ℕ → ℕ → World
 stopped_world plan p k = world_after_halt (world_after_moves plan.givens (opening_world plan.givens) (take k plan.moves)) p
 
--- what becomes of it, where the others go on alone, in the order of their numbers
+-- the run in which the others go on alone after the crash, in the order of their numbers
 abbrev pub stopped : PlanSeen → ℕ → ℕ → LoneRun
 stopped plan p k = all_run_out plan.givens plan.givens.workers (record { world = stopped_world plan p k; most = 0 })
 

@@ -1,4 +1,4 @@
--- What a line says of a whole run, and of the least over many runs.
+-- The part of a line on a whole run, and the least number over many runs.
 use Rattle.std.specs.Prelude.{ℕ, List, [], ◌++◌, Option, Some, None, length, codes}
 use Rattle.std.specs.Fmt.{decimal}
 use Rattle.amo_kk.specs.Run.{claimed_jobs, done_jobs}

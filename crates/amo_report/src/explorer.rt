@@ -1,4 +1,4 @@
-//! The explorer: what numbered schedules lead to.
+//! The explorer: texts on numbered schedules.
 ghost use Rattle.std.specs.Prelude.{◌≡◌, ◌≤◌, ◌++◌, ℕ, OnOk, IfOk, string_bytes};
 ghost use Rattle.amo_kk.specs.World.{world_after_moves};
 ghost use Rattle.amo_world.specs.declared.answer.Verdict.TheVariants.{Lawful};
@@ -15,7 +15,7 @@ use amo_render::{count_ends, count_performances};
 use amo_world::{Verdict, World, judge};
 use std::alloc::{AllocError, Global};
 
-/// The turns of a numbered schedule of this length.
+/// Runs the turns of a numbered schedule of this length.
 fn run_schedule(world: &mut World, number: u64, length: u32)
     ensures { world.new ≡ record { givens = world.old.givens; world = world_after_moves world.old.givens world.old.world (schedule world.old.givens.workers number length) } }
 {
@@ -28,7 +28,8 @@ fn run_schedule(world: &mut World, number: u64, length: u32)
     }
 }
 
-/// The world after a numbered schedule and the rounds of the plan. The only error is out of memory.
+/// Returns the world after a numbered schedule and the passes of the plan. The only error is out of
+/// memory.
 fn run_explored(alloc: Global, plan: &Plan, number: u64, length: u32) -> Result<World, AllocError>
     ensures { IfOk result (λ w. w ≡ record { givens = (plan_seen plan.now).givens; world = explored_world (plan_seen plan.now) length number }) }
 {
@@ -56,8 +57,8 @@ fn push_schedule(
     writeln!(out)
 }
 
-/// Appends the line of a numbered schedule, which is run in a world of its own, and tells how many
-/// performances it has.
+/// Appends the line of a numbered schedule, which is run in a world of its own, and returns how
+/// many jobs are done in it.
 fn push_explored(
     alloc: Global,
     out: &mut String,
@@ -75,13 +76,16 @@ fn push_explored(
     Ok(count_performances(history))
 }
 
-/// The text of the explorer: for each of `count` schedules of `length` turns, from number `from`
-/// on, a fresh world is run through the schedule and the plan's rounds, and its line says how much
-/// was claimed and performed, how many workers ended, and what the judge says, which is always
-/// `lawful`. Turn i, from 0, of schedule s is one of worker s / workers ^ i % workers + 1. The last
-/// line has the least number of performances. The plan's own schedule isn't used. `from` is at most
-/// `MOST_FIRST`, `count` 1 to `MOST_COUNT`, `length` at most `MOST_TURNS`. The only error is want
-/// of memory.
+/// Returns the text of the explorer: a line for each of `count` schedules of `length` turns, from
+/// number `from` on. A last line has the least number of done jobs. Each schedule runs in a fresh
+/// world, followed by the plan's passes. The plan's own schedule isn't used. A line has how much
+/// was claimed and done, how many workers ended, and the judge's verdict, which is always `lawful`.
+/// Turn i of schedule s, counted from 0, is of worker `s / workers ^ i % workers + 1`. The numbers
+/// must be within `MOST_FIRST`, 1 to `MOST_COUNT`, and `MOST_TURNS`.
+///
+/// # Errors
+///
+/// `AllocError` if memory is refused.
 #[tactic(auto, using(amo_render::proofs::Least::pieces_more, amo_render::proofs::Least::least_more))]
 pub fn explore(
     alloc: Global,

@@ -1,5 +1,5 @@
 //! The theorems over the definitions of the explorer and of stops. Nothing here runs: each
-//! function's contract is a law.
+//! function's contract is a theorem.
 ghost use Rattle.std.specs.Prelude.{◌≡◌, ◌≤◌, ◌+◌, ◌*◌, ℕ, suc, true, false, List, length};
 ghost use Rattle.amo_givens.specs.Givens.{lone_bound};
 ghost use Rattle.amo_kk.specs.Alone.{IsFirstToClaimOrEnd};
@@ -16,7 +16,7 @@ ghost use Rattle.amo_report.specs.Stops.{lone_turns, stopped, stopped_verdict};
 
 use amo_kk::laws::{first_bad_is_the_first, history_is_a_run};
 
-/// Whatever moves are made in the opening world, the judge finds the history lawful.
+/// States that after any moves from the opening world, the judge finds the history lawful.
 pub fn histories_are_lawful()
     ensures { (g : Givens) (moves : List Move) → verdict g (world_of g moves).history ≡ Lawful }
 {
@@ -24,15 +24,16 @@ pub fn histories_are_lawful()
     first_bad_is_the_first();
 }
 
-/// The turns that are counted of a worker that goes on alone, and isn't gone, are those up to the
-/// first that claims a job or ends it.
+/// States that the counted turns of a worker that goes on alone, and isn't gone, are those up to
+/// the first that claims a job or ends it.
 pub fn lone_turns_are_counted()
     ensures { (g : Givens) (w : World) (p : ℕ) → IsLawful g w → (process w p).gone ≡ false
         → (i : ℕ) × IsFirstToClaimOrEnd g w p i × (lone_turns g p (lone_bound g) w ≡ suc i) }
 {}
 
-/// Wherever a schedule of at most `MOST_STOPS` moves is cut off: no worker takes more than 6 *
-/// workers + jobs turns in one go, all are gone in the end, and the judge finds the history lawful.
+/// States three facts for a schedule of at most `MOST_STOPS` moves that is cut off anywhere. No
+/// worker takes more than `6 * workers + jobs` turns in one go. All workers are gone in the end.
+/// The judge finds the history lawful.
 pub fn stops_run_out()
     ensures most { (plan : PlanSeen) (p count : ℕ) → length plan.moves ≤ MOST_STOPS → (stopped plan p count).most ≤ 6 * plan.givens.workers + plan.givens.jobs }
     ensures gone { (plan : PlanSeen) (p count q : ℕ) → length plan.moves ≤ MOST_STOPS → (process (stopped plan p count).world q).gone ≡ true }

@@ -1,5 +1,7 @@
-//! What becomes of a plan: the report of its replay, the text of a check, what numbered schedules
-//! lead to, and what stops of a worker lead to.
+//! The texts of the commands `amo replay`, `check`, `explore` and `stops`, as functions of a plan.
+//!
+//! Start at [`replay`], which leads from the bytes of a plan to those of its report, over any
+//! source and sink of `amo_io`. The other functions return one text each.
 #![tactic(auto)]
 
 mod checking;

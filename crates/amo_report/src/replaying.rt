@@ -9,9 +9,40 @@ use amo_io::{Sink, Source};
 use amo_render::{ReplayFault, write_of};
 use std::alloc::Global;
 
-/// Reads a plan to the end of the reader, runs its schedule and its rounds in the opening world,
-/// and writes the report and nothing else. Neither stream may have failed. What each fault leaves
-/// is said at `ReplayFault`.
+/// Reads a plan to the end of the source, runs its schedule and its passes in the opening world,
+/// and writes the report. It writes nothing else, and nothing before the report is whole. Neither
+/// stream may have failed before.
+///
+/// # Errors
+///
+/// A `ReplayFault`: the source failed, the sink failed (then a beginning of the report was
+/// written), the plan has a fault, or memory was refused.
+///
+/// # Examples
+///
+/// ```
+/// use amo_report::{Bytes, Room, replay};
+///
+/// let plan = "version = 1
+/// workers = 1
+/// beta = 1
+/// schedule = \"1*3\"
+/// job = [{name = \"a\", say = \"hi\"}]
+/// ";
+/// let report = "jobs 1 workers 1 beta 1 bound 1
+/// 1 claimed 1 1
+/// 2 done 1 1
+/// 3 ended 1
+/// worker 1 ended turns 3 claimed 1 done 1
+/// result 1 a hi
+/// performed 1
+/// unclaimed
+/// ";
+/// let mut out = Room::new(rt.alloc(), 500)?;
+/// let answer = replay(rt.alloc(), &mut Bytes::new(plan.as_bytes()), &mut out);
+/// assert!(rt; answer.is_ok());
+/// assert!(rt; out.as_slice() == report.as_bytes());
+/// ```
 pub fn replay<R: Source, W: Sink>(
     alloc: Global,
     reader: &mut R,

@@ -48,7 +48,8 @@ fn push_closing(
     push_unclaimed(alloc, out, heads.givens.jobs, history)
 }
 
-/// The report of a plan, given the history and how many turns each worker has had.
+/// Returns the report of a plan with this history and these numbers of turns. The only error is out
+/// of memory.
 #[tactic(auto, unfolding(crate::specs::Report::report_lines))]
 fn history_report(
     alloc: Global,
@@ -66,9 +67,32 @@ fn history_report(
     Ok(out)
 }
 
-/// The report of a plan in a world of the plan's givens: its numbers, the history, how each worker
-/// went, the results of what was performed, and which jobs nobody has claimed. The only error is
-/// out of memory.
+/// Returns the report of a plan in a world of the plan's givens. It has the plan's numbers, the
+/// history, the end of each worker, the results of done jobs, and the jobs that nobody has claimed.
+///
+/// # Errors
+///
+/// `AllocError` if memory is refused.
+///
+/// # Examples
+///
+/// ```
+/// use amo_plan::read_plan;
+/// use amo_report::{all_turns, report_text};
+/// use amo_world::World;
+///
+/// let text = "version = 1
+/// workers = 1
+/// beta = 1
+/// job = [{name = \"a\", say = \"hi\"}]
+/// ";
+/// let plan = read_plan(rt.alloc(), text.as_bytes())?;
+/// let mut world = World::new(rt.alloc(), plan.heads.givens)?;
+/// world.run_alone(1);
+/// assert_eq!(rt; all_turns(rt.alloc(), &world)?.as_slice(), [2].as_slice());
+/// let report = report_text(rt.alloc(), &plan, &world)?;
+/// assert!(rt; report.as_str().starts_with("jobs 1 workers 1 beta 1 bound 1\n1 claimed 1 1\n"));
+/// ```
 pub fn report_text(alloc: Global, plan: &Plan, world: &World) -> Result<String, AllocError>
     requires { world.now.givens ≡ plan.now.heads.givens }
     ensures { IfOk result (λ s. string_bytes s ≡ report_in (plan_seen plan.now) world.now.world) }

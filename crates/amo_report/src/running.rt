@@ -19,7 +19,7 @@ fn run_round(world: &mut World)
     }
 }
 
-/// So many rounds.
+/// Runs passes, `count` of them: in each pass each worker takes one turn.
 pub(crate) fn run_rounds(world: &mut World, count: u32)
     ensures { world.new ≡ record { givens = world.old.givens; world = world_after_moves world.old.givens world.old.world (rounds world.old.givens.workers count) } }
 {
@@ -28,7 +28,7 @@ pub(crate) fn run_rounds(world: &mut World, count: u32)
     }
 }
 
-/// The world of a plan: after its schedule and its rounds. The only error is out of memory.
+/// Returns the world of a plan, after its schedule and its passes. The only error is out of memory.
 pub(crate) fn simulate(alloc: Global, plan: &Plan) -> Result<World, AllocError>
     ensures { IfOk result (λ w. w ≡ record { givens = (plan_seen plan.now).givens; world = plan_world (plan_seen plan.now) }) }
 {
@@ -38,7 +38,11 @@ pub(crate) fn simulate(alloc: Global, plan: &Plan) -> Result<World, AllocError>
     Ok(world)
 }
 
-/// Each worker's number of turns, in the order of their numbers. The only error is out of memory.
+/// Returns how many turns each worker has taken, in the order of the workers.
+///
+/// # Errors
+///
+/// `AllocError` if memory is refused.
 pub fn all_turns(alloc: Global, world: &World) -> Result<Vec<u64>, AllocError>
     ensures { IfOk result (λ v. v.items ≡ turns_of world.now.givens world.now.world) }
 {

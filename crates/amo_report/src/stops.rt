@@ -1,4 +1,4 @@
-//! Stops: what becomes of a schedule that is cut off after each of its moves.
+//! The text of stops: a schedule that is cut off after each of its moves.
 ghost use Rattle.std.specs.Prelude.{◌≡◌, ◌≤◌, ◌+◌, ◌*◌, ◌++◌, ℕ, true, false, length, OnOk, IfOk, string_bytes};
 ghost use Rattle.amo_givens.specs.Givens.{IsWorker, lone_bound};
 ghost use Rattle.amo_kk.specs.World.{process};
@@ -17,11 +17,11 @@ use amo_render::count_performances;
 use amo_world::{Verdict, World, judge};
 use std::alloc::{AllocError, Global};
 
-/// The most moves of a plan whose stops are shown.
+/// The most moves of a plan for which stops are computed, 1000.
 pub const MOST_STOPS: usize = 1000;
 
-/// Runs worker p, which isn't gone, alone until it claims a job or ends, and tells in how many
-/// turns. The world is far from having had more moves than its workers count.
+/// Runs worker p, which isn't gone, alone until it claims a job or ends, and returns how many turns
+/// it took. The world is far from the limit of a worker's count of steps.
 fn lone_run(world: &mut World, p: u32) -> u64
     requires here { (process world.old.world p).gone ≡ false }
     requires reached { IsReached world.old.givens most_before_a_claim world.old.world }
@@ -33,8 +33,8 @@ fn lone_run(world: &mut World, p: u32) -> u64
     world.turns_of(p) - before
 }
 
-/// Runs worker p alone until it is gone, and tells the most turns that it, or another before, took
-/// in one go.
+/// Runs worker p alone until it is gone, and returns the most turns that it, or another before,
+/// took in one go.
 fn run_out(world: &mut World, p: u32, mut most: u64) -> u64
     requires worker { IsWorker world.old.givens p }
     requires reached { IsReached world.old.givens most_before_an_end world.old.world }
@@ -51,8 +51,8 @@ fn run_out(world: &mut World, p: u32, mut most: u64) -> u64
     most
 }
 
-/// Runs each worker that isn't gone, in the order of their numbers, alone until it is gone, and
-/// tells the most turns that one took in one go.
+/// Runs each worker that isn't gone, in order, alone until it is gone. It returns the most turns
+/// that one took in one go.
 fn run_all_out(world: &mut World) -> u64
     requires { IsReached world.old.givens most_before_all_ends world.old.world }
     ensures world { world.new ≡ record { givens = world.old.givens; world = (all_run_out world.old.givens world.old.givens.workers (record { world = world.old.world; most = 0 })).world } }
@@ -66,8 +66,8 @@ fn run_all_out(world: &mut World) -> u64
     most
 }
 
-/// The world in which worker p stops after the first `count` moves of the plan. The only error is
-/// out of memory.
+/// Returns the world in which worker p crashes after the first `count` moves of the plan. The only
+/// error is out of memory.
 fn stop_after(alloc: Global, plan: &Plan, p: u32, count: usize) -> Result<World, AllocError>
     requires worker { IsWorker plan.now.heads.givens p }
     requires count { count ≤ length plan.now.heads.moves }
@@ -98,8 +98,8 @@ fn push_stop(
     writeln!(out)
 }
 
-/// Appends the line of the stop after so many moves, in a world of its own, and tells how many
-/// performances it has.
+/// Appends the line of the crash after so many moves, in a world of its own, and returns how many
+/// jobs are done in it.
 fn push_stopped(
     alloc: Global,
     out: &mut String,
@@ -121,13 +121,17 @@ fn push_stopped(
     Ok(count_performances(history))
 }
 
-/// The text of stops: for each number of moves from 0 to that of the plan's schedule, a fresh world
-/// takes so many, worker p stops, and each worker that isn't gone, in the order of their numbers,
-/// runs alone until it ends. The line says how much was claimed and performed, the most turns that
-/// a worker took in one go to claim a job or end, which is at most 6 * workers + jobs, and what the
-/// judge says, which is always `lawful`. The last line has the least number of performances. The
-/// plan's rounds aren't used. p is in 1..=workers, and there are at most `MOST_STOPS` moves. The
-/// only error is out of memory.
+/// Returns the text of stops: a line for each number of moves, from 0 to that of the plan's
+/// schedule. A last line has the least number of done jobs. In a fresh world the plan makes so many
+/// moves, and worker p crashes. Then each worker that isn't gone runs alone until it ends, in the
+/// order of the workers. A line has how much was claimed and done, and the most turns that a worker
+/// took in one go to claim a job or end. It ends with the judge's verdict, which is always
+/// `lawful`. The plan's passes aren't used. The plan must have a worker p, and at most `MOST_STOPS`
+/// moves.
+///
+/// # Errors
+///
+/// `AllocError` if memory is refused.
 #[tactic(auto, using(amo_render::proofs::Least::pieces_more, amo_render::proofs::Least::least_more))]
 pub fn stops_text(alloc: Global, plan: &Plan, p: u32) -> Result<String, AllocError>
     requires low { 1 ≤ p }

@@ -1,4 +1,4 @@
-//! What a line says of a whole run, and what is the least over many runs.
+//! The part of a line on a whole run, and the least number over many runs.
 ghost use Rattle.std.specs.Prelude.{◌≡◌, ◌++◌, OnOk, string_bytes};
 ghost use Rattle.amo_render.specs.Least.{lesser};
 ghost use Rattle.amo_report.specs.Summary.{counts_part, verdict_part, least_line};
@@ -18,7 +18,7 @@ pub(crate) fn push_counts(out: &mut String, history: &[Event]) -> Result<(), All
     write!(out, " claimed {claims} done {dones}")
 }
 
-/// Appends what the judge says, after a space.
+/// Appends the judge's verdict, after a space.
 #[tactic(auto, unfolding(crate::specs::Summary::verdict_part))]
 pub(crate) fn push_verdict(out: &mut String, verdict: Verdict) -> Result<(), AllocError>
     ensures { OnOk result (string_bytes out.new ≡ string_bytes out.old ++ verdict_part verdict) }
@@ -29,7 +29,7 @@ pub(crate) fn push_verdict(out: &mut String, verdict: Verdict) -> Result<(), All
     }
 }
 
-/// The lesser of a number and another, where there is one.
+/// Returns the lesser of a number and another, if there is another.
 pub(crate) fn lesser(number: usize, other: Option<usize>) -> usize
     ensures { result ≡ lesser number other }
 {
@@ -39,7 +39,7 @@ pub(crate) fn lesser(number: usize, other: Option<usize>) -> usize
     }
 }
 
-/// Appends the line of the least number of performances, where there is one.
+/// Appends the line of the least number of done jobs, if there is one.
 #[tactic(auto, unfolding(crate::specs::Summary::least_line))]
 pub(crate) fn push_least(out: &mut String, least: Option<usize>) -> Result<(), AllocError>
     ensures { OnOk result (string_bytes out.new ≡ string_bytes out.old ++ least_line least) }

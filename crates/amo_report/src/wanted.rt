@@ -1,4 +1,4 @@
-//! Which text of a plan is wanted, and the text.
+//! The choice of a text, and that text.
 ghost use Rattle.std.specs.Prelude.{◌≡◌, ◌≤◌, Ok, IfOk, IfErr, string_bytes};
 ghost use Rattle.amo_plan.specs.PlanSeen.{plan_seen};
 ghost use Rattle.amo_render.specs.Written.{IsNotMade};
@@ -14,14 +14,14 @@ use amo_plan::{Plan, PlanFault};
 use amo_render::{PlanText, ReplayFault};
 use std::alloc::{AllocError, Global};
 
-/// Which text of a plan is wanted.
+/// `Wanted`: the text of a plan that the caller chooses.
 #[derive(Clone, Copy, Debug, PartialEq, Eq)]
 pub enum Wanted {
     /// The report of its replay.
     Report,
-    /// That it is a plan, with its numbers.
+    /// The line of a check.
     Check,
-    /// What numbered schedules of it lead to.
+    /// The text of the explorer.
     Explored {
         /// The number of the first schedule, at most `MOST_FIRST`.
         from: u64,
@@ -30,15 +30,15 @@ pub enum Wanted {
         /// How many turns each of them has, at most `MOST_TURNS`.
         turns: u32,
     },
-    /// What stops of a worker lead to, one after each of its first moves.
+    /// The text of stops.
     Stops {
         /// The worker, from 1. The plan may have fewer.
         worker: u32,
     },
 }
 
-/// The report of a plan, in the world after its schedule and its rounds. The only error is out of
-/// memory.
+/// Returns the report of a plan, in the world after its schedule and its passes. The only error is
+/// out of memory.
 fn plan_report(alloc: Global, plan: &Plan) -> Result<String, AllocError>
     ensures { IfOk result (λ s. string_bytes s ≡ report_of (plan_seen plan.now)) }
 {
@@ -46,8 +46,8 @@ fn plan_report(alloc: Global, plan: &Plan) -> Result<String, AllocError>
     report_text(alloc, plan, &world)
 }
 
-/// What `stops_text` makes of a plan. Where the plan has no worker p this is
-/// `Plan(NoSuchWorker(0))`, else where it has more than `MOST_STOPS` moves `Plan(TooLong)`.
+/// Returns the text of stops of worker p. The error is `Plan(NoSuchWorker(0))` if the plan has no
+/// such worker, then `Plan(TooLong)` if it has more than `MOST_STOPS` moves, or out of memory.
 #[tactic(auto, unfolding(crate::specs::Stops::stops_in))]
 fn plan_stops(alloc: Global, plan: &Plan, p: u32) -> Result<String, ReplayFault>
     requires { 1 ≤ p }
@@ -70,9 +70,9 @@ impl PlanText for Wanted {
 
     ghost made = { text_of };
 
-    /// The text. Where the stops of a worker are wanted that the plan doesn't have, this is
-    /// `Plan(NoSuchWorker(0))`, else where it has more than `MOST_STOPS` moves `Plan(TooLong)`; of
-    /// each other text the only error is out of memory.
+    /// Returns the text. For stops the error is `Plan(NoSuchWorker(0))` if the plan has no such
+    /// worker, then `Plan(TooLong)` if it has more than `MOST_STOPS` moves. The only other error is
+    /// out of memory.
     fn make(&self, alloc: Global, plan: &Plan) -> Result<String, ReplayFault> {
         match *self {
             Wanted::Report => Ok(plan_report(alloc, plan)?),

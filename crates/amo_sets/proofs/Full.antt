@@ -18,7 +18,7 @@ size n = (n + 63) / 64
 abbrev filled : ℕ → List ℕ
 filled n = replicate (size n) (2 ^ 64 - 1)
 
--- bit i of a word among words, where it is 1 and where it is 0
+-- bit i of a word among words, if it is 1 and if it is 0
 bit_one : (ws : List ℕ) (i w : ℕ) → get_or ws (i / 64) 0 ≡ w → bit_at w (i % 64) ≡ 1 → bit ws (suc i) ≡ true
 bit_one ws i w e one = ap (λ (v : ℕ). is_one v (suc (i % 64))) e ∙ eq-eqb (bit_at w (i % 64)) 1 one
 
@@ -43,7 +43,7 @@ filled_full n ws is whole = record { inside = inside; outside = outside }
     outside zero h = absurd (omega arith)
     outside (suc i) h = past n ws i (ap (λ (v : List ℕ). length v) is ∙ length-replicate (size n) (2 ^ 64 - 1)) (omega arith)
 
--- and where the last word has fewer bits
+-- and if the last word has fewer bits
 pub trimmed_full : (n : ℕ) (ws : List ℕ) (w : ℕ) → ws ≡ replicate ((n + 63) / 64) (2 ^ 64 - 1) → n % 64 ≢ 0 → w ≡ 2 ^ (n % 64) - 1 → IsFull n (set ws (n / 64) w)
 trimmed_full n ws w is ne last = record { inside = inside; outside = outside }
   where

@@ -31,7 +31,7 @@ has-without i xs j = ⊎_elim
     other : (b : Bool) → (i ≡ j → ⊥) → (not (i == j) && b) ≡ b
     other b n = grind (arith, nat_tests)
 
--- nothing goes where the number is not there
+-- nothing goes if the number is not there
 pub without_stranger : (j : ℕ) (xs : List ℕ) → has xs j ≡ false → without_number j xs ≡ xs
 without_stranger j [] h = refl
 without_stranger j (x ∷ xs) h = ⊎_elim
@@ -48,7 +48,7 @@ without_stranger j (x ∷ xs) h = ⊎_elim
     step : (x : ℕ) (ys : List ℕ) → (x ≡ j → ⊥) → ys ≡ xs → (if j == x then ys else x ∷ ys) ≡ x ∷ xs
     step x ys n e = grind (arith, nat_tests)
 
--- just one goes where it is there, and no number stands twice
+-- just one goes if it is there, and no number stands twice
 pub length-without : (j : ℕ) (xs : List ℕ) → AreDistinct xs → has xs j ≡ true → length (without_number j xs) + 1 ≡ length xs
 length-without j [] d h = absurd (true≢false (sym h))
 length-without j (x ∷ xs) d h = ⊎_elim

@@ -1,4 +1,4 @@
--- What contracts see of the words of a set, and what becomes of it where the bit of one job is written.
+-- The words of a set as contracts see them, and as they are once the bit of one job is written.
 use Rattle.std.proofs.Common.{⊎_elim, subst, ◌≡◌, ◌≢◌, ℕ, zero, suc, ◌+◌, ◌-◌, ◌*◌, ◌/◌, ◌%◌, ◌^◌, ◌<◌, ◌≤◌, Bool, true, false, List, length, get_or, set, refl, sym, ap, ◌∙◌, arith, bit_and, bit_or, w64}
 use Rattle.std.specs.Int.{bit_not}
 use Rattle.std.proofs.lemmas.Bool.{cases_lt, cases_eq}
@@ -38,7 +38,7 @@ pub kept_is : (a : Inside) (s : List Bool) → the_view a ≡ s → the_invarian
 kept_is a s e inv =
     inv.kept ∙ ap (λ (m : ℕ). count m (bit a.words.items)) (sym (length_of a s e)) ∙ count_same (length s) (bit a.words.items) (numbered false s) (λ j l h. sym (member_of a s e j l h))
 
--- where there is a stranger, there are fewer members than jobs; and where there is a member, there is one at least
+-- if there is a stranger, there are fewer members than jobs; and if there is a member, there is one at least
 pub with_stranger : (a : Inside) (s : List Bool) (j : ℕ) → the_view a ≡ s → the_invariant a → 1 ≤ j → j ≤ length s → numbered false s j ≡ false → a.len < a.range
 with_stranger a s j e inv l h is = let n = length_of a s e in let kept = kept_is a s e inv in let few = count_lt (length s) (numbered false s) j l h is in omega arith
 

@@ -45,7 +45,7 @@ tally-add a (suc b) t =
 pub tally_rest : (n b : ℕ) (t : ℕ → Bool) → ((j : ℕ) → n < j → t j ≡ false) → tally (n + b) t ≡ tally n t
 tally_rest n b t h = tally-add n b t ∙ ap (λ (m : ℕ). tally n t + m) (tally_none b (λ r. t (n + r)) (λ j l m. h (n + j) (omega arith))) ∙ add-zero (tally n t)
 
--- where none passes above n, a count past n is the count to n
+-- if none passes above n, a count past n is the count to n
 pub tally_all : (n m : ℕ) (t : ℕ → Bool) → ((j : ℕ) → n < j → t j ≡ false) → n ≤ m → tally m t ≡ tally n t
 tally_all n m t h le =
     let e : m ≡ n + (m - n) = omega arith in
@@ -54,7 +54,7 @@ tally_all n m t h le =
 tally_le : (n : ℕ) (t : ℕ → Bool) → tally n t ≤ n
 tally_le n t = let e = tally_count n t in let l = count_le_all t n in omega arith
 
--- where none passes above n, no more than n pass
+-- if none passes above n, no more than n pass
 pub tally_le_range : (n m : ℕ) (t : ℕ → Bool) → ((j : ℕ) → n < j → t j ≡ false) → tally m t ≤ n
 tally_le_range n m t h = ⊎_elim
     (λ (l : m < n). let e = tally_le m t in omega arith)

@@ -1,4 +1,4 @@
-//! A set of jobs within 1..=n, one bit a job.
+//! A set of jobs, one bit a job.
 ghost use Rattle.std.specs.Prelude.{◌≡◌, ◌↔◌, ◌⊎◌, ℕ, ◌+◌, ◌*◌, ◌/◌, ◌<◌, ◌≤◌, true, false, IsTrue, IsNone, IfOk, IfSome, count_ones, length, replicate, unwrap_or};
 ghost use Rattle.amo_sets.specs.Bits.{bit, is_one, is_without};
 ghost use Rattle.amo_sets.specs.Lists.{numbered, put};
@@ -8,11 +8,27 @@ use crate::lists::filled;
 use std::alloc::{AllocError, Global};
 use std::marker::Model;
 
-/// A set of jobs within `1..=n`. Contracts see, for each of these jobs in order, whether it is a
-/// member.
+/// `JobSet`: a bitset of jobs within `1..=n`. Contracts see it as a list of `n` truth values, one a
+/// job, in the order of the jobs.
 ///
-/// Only the three makers take memory. Adding and taking out, tests and the number of members take
-/// constant time.
+/// Only `full`, `empty` and `copy` take memory: 8 bytes for each 64 jobs that are begun. To add, to
+/// take out, to test and to count members takes constant time. `count_without`, `rank_without` and
+/// `clear` take time in proportion to `n / 64`.
+///
+/// # Examples
+///
+/// ```
+/// use amo_sets::JobSet;
+///
+/// let mut set = JobSet::empty(rt.alloc(), 9)?;
+/// for job in [7, 2, 4] {
+///     set.add(job);
+/// }
+/// set.take_out(4);
+/// assert_eq!(rt; set.len(), 2);
+/// assert!(rt; set.has(7) && !set.has(4));
+/// assert!(rt; set.covers(9) && !set.covers(10));
+/// ```
 #[derive(Drop)]
 pub struct JobSet {
     words: Vec<u64>,
@@ -41,7 +57,21 @@ impl Model for JobSet {
 }
 
 impl JobSet {
-    /// All jobs of `1..=n`. The only error is out of memory.
+    /// Returns the set of all jobs of `1..=n`. It takes memory once.
+    ///
+    /// # Errors
+    ///
+    /// `AllocError` if memory is refused.
+    ///
+    /// # Examples
+    ///
+    /// ```
+    /// use amo_sets::JobSet;
+    ///
+    /// let all = JobSet::full(rt.alloc(), 65)?;
+    /// assert_eq!(rt; all.len(), 65);
+    /// assert_eq!(rt; all.words(), [u64::MAX, 1].as_slice());
+    /// ```
     pub fn full(alloc: Global, n: u32) -> Result<JobSet, AllocError>
         ensures { IfOk result (λ s. s ≡ replicate n true) }
     {
@@ -57,7 +87,11 @@ impl JobSet {
         })
     }
 
-    /// No job of `1..=n`. The only error is out of memory.
+    /// Returns the set with no job of `1..=n`. It takes memory once.
+    ///
+    /// # Errors
+    ///
+    /// `AllocError` if memory is refused.
     pub fn empty(alloc: Global, n: u32) -> Result<JobSet, AllocError>
         ensures { IfOk result (λ s. s ≡ replicate n false) }
     {
@@ -69,7 +103,23 @@ impl JobSet {
         })
     }
 
-    /// Another set of the same range with the same members. The only error is out of memory.
+    /// Returns another set with the same range and the same members. It takes memory once.
+    ///
+    /// # Errors
+    ///
+    /// `AllocError` if memory is refused. This set stays as it is.
+    ///
+    /// # Examples
+    ///
+    /// ```
+    /// use amo_sets::JobSet;
+    ///
+    /// let mut first = JobSet::full(rt.alloc(), 9)?;
+    /// let second = first.copy(rt.alloc())?;
+    /// first.clear();
+    /// assert!(rt; first.is_empty() && first.range() == 9);
+    /// assert_eq!(rt; second.len(), 9);
+    /// ```
     pub fn copy(&self, alloc: Global) -> Result<JobSet, AllocError>
         ensures { IfOk result (λ s. s ≡ self.now) }
     {
@@ -82,14 +132,14 @@ impl JobSet {
         })
     }
 
-    /// The n of `1..=n`.
+    /// Returns the `n` of `1..=n`.
     pub fn range(&self) -> u32
         ensures { result ≡ length self.now }
     {
         self.range
     }
 
-    /// Returns true if the job is one of `1..=n`, a member or not.
+    /// Returns true if the job is within `1..=n`, whether it is a member or not.
     pub fn covers(&self, j: u32) -> bool
         ensures { IsTrue result ↔ ((1 ≤ j) × (j ≤ length self.now)) }
     {
@@ -106,7 +156,7 @@ impl JobSet {
         (self.words[k / 64] >> (k % 64)) & 1 == 1
     }
 
-    /// How many members there are.
+    /// Returns how many members there are.
     pub fn len(&self) -> u32
         ensures { result ≡ count (length self.now) (numbered false self.now) }
     {
@@ -120,7 +170,7 @@ impl JobSet {
         self.len() == 0
     }
 
-    /// The members of word q, from 0, that the other set lacks, as its bits.
+    /// Returns the members of word q, counted from 0, that the other set lacks, as bits of a word.
     fn word_without(&self, other: &JobSet, q: usize) -> u64
         requires same { length self.now ≡ length other.now }
         requires within { q < (length self.now + 63) / 64 }
@@ -129,7 +179,21 @@ impl JobSet {
         self.words[q] & !other.words[q]
     }
 
-    /// How many members the other set lacks.
+    /// Returns how many members the other set lacks.
+    ///
+    /// # Examples
+    ///
+    /// ```
+    /// use amo_sets::JobSet;
+    ///
+    /// let all = JobSet::full(rt.alloc(), 9)?;
+    /// let mut some = JobSet::empty(rt.alloc(), 9)?;
+    /// some.add(1);
+    /// some.add(3);
+    /// assert_eq!(rt; all.count_without(&some), 7);
+    /// assert!(rt; all.rank_without(&some, 1) == Some(2));
+    /// assert!(rt; all.rank_without(&some, 8) == None);
+    /// ```
     pub fn count_without(&self, other: &JobSet) -> u32
         requires { length self.now ≡ length other.now }
         ensures { result ≡ count (length self.now) (is_without self.now other.now) }
@@ -141,8 +205,8 @@ impl JobSet {
         total
     }
 
-    /// The member of rank i, from 1, among those that the other set lacks: it and just i - 1
-    /// smaller ones are members that the other lacks. None where i is 0 or above their count.
+    /// Returns the i-th smallest member that the other set lacks, counted from 1. It returns `None`
+    /// if i is 0 or if the other set lacks fewer than i members.
     pub fn rank_without(&self, other: &JobSet, i: u32) -> Option<u32>
         requires { length self.now ≡ length other.now }
         ensures none { IsNone result ↔ ((i ≡ 0) ⊎ (count (length self.now) (is_without self.now other.now) < i)) }
@@ -164,8 +228,8 @@ impl JobSet {
         None
     }
 
-    /// The bits, n / 64 rounded up words: job j is bit (j - 1) mod 64 of word floor((j - 1) / 64).
-    /// All other bits are 0.
+    /// Returns the bits, 64 jobs a word: job j is bit `(j - 1) mod 64` of word `(j - 1) / 64`. All
+    /// other bits are 0.
     pub fn words(&self) -> &[u64]
         ensures len { length result.now ≡ (length self.now + 63) / 64 }
         ensures bits { (j : ℕ) → bit result.now j ≡ numbered false self.now j }
@@ -173,7 +237,7 @@ impl JobSet {
         self.words.as_slice()
     }
 
-    /// Adds the job. Where it is a member, nothing changes.
+    /// Adds the job. If the job is a member, nothing changes. It takes no memory.
     pub fn add(&mut self, j: u32)
         requires low { 1 ≤ j }
         requires high { j ≤ length self.old }
@@ -186,7 +250,7 @@ impl JobSet {
         }
     }
 
-    /// Takes out the job. Where it is no member, nothing changes.
+    /// Takes out the job. If the job isn't a member, nothing changes. It takes no memory.
     pub fn take_out(&mut self, j: u32)
         requires low { 1 ≤ j }
         requires high { j ≤ length self.old }
@@ -208,9 +272,9 @@ impl JobSet {
     }
 }
 
-/// Where the byte of the word begins that has its i-th bit that is 1, the lowest first, and how
-/// many bits of that byte up to it are 1. Where there is no such byte, the number of bits, and how
-/// many bits are wanting.
+/// Finds the byte that has the i-th bit that is 1, the lowest first. It returns the place of the
+/// byte's first bit, and how many bits of the byte up to the i-th are 1. If the word has fewer such
+/// bits, it returns 64 and how many are missing.
 fn byte_of(word: u64, i: u32) -> (u32, u32)
     requires { 1 ≤ i }
     ensures within { result.0 ≤ 64 }
@@ -228,7 +292,7 @@ fn byte_of(word: u64, i: u32) -> (u32, u32)
     (64, left)
 }
 
-/// The place, from 1, of the i-th bit of the word that is 1, the lowest first.
+/// Returns the place, from 1, of the i-th bit of the word that is 1, the lowest first.
 fn place_of(word: u64, i: u32) -> u32
     requires low { 1 ≤ i }
     requires high { i ≤ count_ones word }

@@ -1,5 +1,7 @@
-//! Sets of jobs, one bit a job, with the words on numbered lists, sets of numbers, counts and ranks
-//! that the contracts of all layers use.
+//! Sets of jobs, one bit a job.
+//!
+//! Start at [`JobSet`]. The folder `specs` has the words on numbered lists, sets of numbers, counts
+//! and ranks that the contracts of all crates above use.
 #![tactic(auto)]
 
 mod job_set;

@@ -1,11 +1,23 @@
-//! Lists with just the room that they need.
+//! Lists that have no more room than they need.
 ghost use Rattle.std.specs.Prelude.{◌≡◌, IfOk, replicate, vec_len};
 ghost use Rattle.std.specs.Vec.{vec_capacity};
 
 use std::alloc::{AllocError, Global};
 
-/// The list that has this item so many times, with room for no more. The only error is out of
-/// memory.
+/// Returns a list that has `item` `count` times, and room for no more. It takes memory once.
+///
+/// # Errors
+///
+/// `AllocError` if memory is refused.
+///
+/// # Examples
+///
+/// ```
+/// use amo_sets::filled;
+///
+/// let list = filled(rt.alloc(), 3, 7u64)?;
+/// assert_eq!(rt; list.as_slice(), [7, 7, 7].as_slice());
+/// ```
 pub fn filled<T: Copy>(alloc: Global, count: usize, item: T) -> Result<Vec<T>, AllocError>
     ensures items { IfOk result (λ v. v.items ≡ replicate count item) }
     ensures len { IfOk result (λ v. vec_len v ≡ count) }

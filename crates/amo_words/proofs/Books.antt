@@ -1,4 +1,4 @@
--- What holds of the fields of a book: once the table is open, and after a hire.
+-- The facts about the fields of a registry: once the table is open, and after a hire.
 use Rattle.std.proofs.Common.{◌≡◌, ℕ, ◌-◌, ◌<◌, List, Bool, true, false, set, refl, sym, ap, ◌∙◌, subst, ⊎_elim, replicate, length-set}
 use Rattle.std.specs.Prelude.{if◌then◌else◌, nat_lt}
 use Rattle.atomic_table.specs.Seated.{TableId}
@@ -104,7 +104,7 @@ opened_view {P} k = go (nat_lt 0 k.givens.jobs)
     go true = refl
     go false = refl
 
--- What comes of a new table whose first view is that of the key, once all payloads are placed: its book, and the answer.
+-- A new table whose first view is that of the key, once all payloads are placed: its registry, and the result.
 pub all_opened : {P : Type 0} (k : Key P) (first v : View P) (id id' : TableId) (seat : ℕ) (spots : List Spot) (room workers : ℕ)
     → id'.words ≡ word_count k.givens → id'.slots ≡ k.givens.jobs → id ≡ id' → first ≡ first_view k → v ≡ record first { role = open_role first.givens }
     → workers ≡ k.givens.workers → spots ≡ replicate workers Home → room ≡ workers

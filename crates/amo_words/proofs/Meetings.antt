@@ -42,7 +42,7 @@ module _ (g : Givens) (log : List Move) (spots : List Spot) (stand : AllStand g 
       ∙ ((lawful g log).lawful.apart p q (worker_back p l lp) (record { worker = worker_back q m mq; differs = apart })).claims j
       (ap (λ (x : LocalView). has x.state.claimed j) (sym (stands_back p l lp)) ∙ claimed)
 
-  -- where one of them has ended, enough jobs are done
+  -- if one of them has ended, enough jobs are done
   pub late_back : (p : ℕ) (l : LocalView) → IsBack spots p l → is_over l.state.phase ≡ true → bound g ≤ done_count (world_of g log)
   late_back p l back ended =
       enough_done g (world_of g log) p (lawful g log) (worker_back p l back) (ap (λ (m : LocalView). is_over m.state.phase) (sym (stands_back p l back)) ∙ ended)

@@ -1,4 +1,4 @@
--- What each kind of a worker's step owes to the table, which may still be opening.
+-- The duty of each kind of a worker's step towards the table, which may still be opening.
 use Rattle.std.proofs.Common.{◌≡◌, ℕ, ◌-◌, ◌<◌, List, set, ap, Option, true, false, []}
 use mathlib.Core.Option.{none, some}
 use lib.ListN.{get_elem?}

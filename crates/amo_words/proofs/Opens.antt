@@ -97,7 +97,7 @@ module _ {P : Type 0} (k : Key P) where
     );
   }
 
-  -- what a slot is, by where it stands
+  -- the contents of a slot, by its place
   low_home : (n j : ℕ) (b : Bool) (x : P) → j < n → placed_home n b j x ≡ some (Some x)
   low_home n j b x h = ap (λ c. cond c (let y : maybe.Option (Option P) = some (Some x) in y) (cond (b && (j == n)) none (some None))) (lt-ltb j n h)
 

@@ -1,4 +1,4 @@
--- What each kind of a worker's step owes to the open table.
+-- The duty of each kind of a worker's step towards the open table.
 use Rattle.std.proofs.Common.{◌≡◌, ℕ, ◌+◌, ◌-◌, List, [], ◌∷◌, ◌++◌, get_or, set, sym, refl, ap, ◌∙◌, subst, arith, Option, Some, true, false}
 use Rattle.std.proofs.lemmas.List.{set-get_or}
 use mathlib.Core.Option.{none, some}
@@ -53,7 +53,7 @@ module _ {P : Type 0} (k : Key P) (slots id : ℕ) (me : Me (Option P) (View P))
   abbrev p : ℕ
   p = l.number
 
-  -- where the worker goes on
+  -- if the worker goes on
   module _ (s : State (Option P) (View P)) (h : IsOpen k s) (at : get_elem? s.views id ≡ some me.0) where
     abbrev w0 : World
     w0 = world_of g h.log

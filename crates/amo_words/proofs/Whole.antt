@@ -1,4 +1,4 @@
--- The free jobs one at a time, what the closed table shows, and how many jobs are done where a worker has ended.
+-- The free jobs one at a time, the closed table, and how many jobs are done if a worker has ended.
 use Rattle.std.proofs.Common.{◌≡◌, ⊎_elim, ℕ, zero, suc, ◌+◌, ◌-◌, ◌<◌, ◌≤◌, ◌==◌, Bool, true, false, ◌||◌, List, [], ◌∷◌, ◌++◌, length, get_or, set, take, drop, map, refl, sym, ap, ◌∙◌, subst, arith, eq-eqb, ne_eqb, Option, Some, append_assoc, Vec, Global}
 use Rattle.std.specs.Prelude.{if◌then◌else◌}
 use Rattle.std.specs.List.{sum_by}
@@ -74,7 +74,7 @@ pub all_shown : (g : Givens) (log : List Move) (words : List ℕ) → words ≡ 
 all_shown g log words is = let law : IsLawful g (world_of g log) = lawful g log in record { size = law.size; sound = λ p o. law.lawful.sound p o; shown = is }
 
 module _ {P : Type 0} (k : Key P) where
-  -- the closed table, where the book's view was v
+  -- the closed table, if the registry's view was v
   pub settles : (id : ℕ) (v : View P) (spots : List Spot) (words : List ℕ) (slots : List (Option P)) → v.role ≡ Keeping spots → v.moves ≡ [] → Final (Seen (IsKept k) id v) words slots
       → (v.givens ≡ k.givens) × IsClosed v.givens v.payloads v.seen spots words slots × Final (Seen (IsKept k) id (book_view v.givens v.payloads v.seen spots)) words slots
   settles id v spots words slots is none f' = let f = lift_final k id v words slots (ap is_placing is) f' in let s = f.0 in let h = f.1.0 in let g = k.givens in let xs = k.payloads.value.items in
@@ -92,7 +92,7 @@ module _ {P : Type 0} (k : Key P) where
         subst (λ (u : View P). Final (Seen (IsKept k) id u) words slots) (λ c. record v { moves = none c; role = is c }) f',
       )
 
--- enough jobs are done where a worker has ended
+-- enough jobs are done if a worker has ended
 
 count_all : (all : List Process) → sum_by (λ (a : Process). length a.local.dones) all ≡ job_count (dones_of all)
 count_all [] = refl
@@ -101,7 +101,7 @@ count_all (a ∷ all) =
     ∙ ap (λ n. length a.local.dones + n) (count_all all)
     ∙ sym (sum_by-cons (λ (xs : List ℕ). length xs) a.local.dones (dones_of all))
 
--- where a worker that came back has ended
+-- if a worker that came back has ended
 pub enough : (g : Givens) (log : List Move) (spots : List Spot) → AllStand g log spots → (p : ℕ) (l : LocalView) → IsBack spots p l → is_over l.state.phase ≡ true → bound g ≤ job_count (dones_of (world_of g log).processes)
 enough g log spots stand p l back ended = subst (λ n. bound g ≤ n) (count_all (world_of g log).processes) (late_back g log spots stand p l back ended)
 

@@ -1,4 +1,4 @@
--- What the fields of a worker show before and after a step.
+-- The fields of a worker before and after a step.
 use Rattle.std.proofs.Common.{◌≡◌, ℕ, zero, suc, ◌+◌, ◌-◌, ◌*◌, ◌/◌, ◌<◌, ◌≤◌, List, [], ◌∷◌, sym, ap, ◌∙◌, subst, arith, Option, Some, true, mul-le-mul_right, suc-mul, slice_get, unwrap_or, drop, get_or}
 use Rattle.atomic_table.specs.Seated.{TableId}
 use mathlib.Core.Option.{some, some-injective, some-ne-none}

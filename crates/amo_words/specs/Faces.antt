@@ -27,7 +27,7 @@ pub record FloorView : Type 0 where
   pub table_id : TableId
   pub givens : Givens
 
--- what stands for the machine of a seat that is no worker's
+-- the machine that stands for that of a handle of no worker
 abbrev pub no_machine : Givens → LocalView
 no_machine g = record { givens = g; number = 0; state = nobody.local }
 
@@ -49,7 +49,7 @@ machine w = machine_of w.view.givens w.view.role
 abbrev pub spots : {P : Type 0} → Seated P → List Spot
 spots b = spots_of b.view.role
 
--- What holds of a worker's fields: its seat's view, its table, and its machine.
+-- The facts about a worker's fields: its handle's view, its table, and its machine.
 pub record IsWorking {P : Type 0} (v : View P) (id : TableId) (l : LocalView) : Type 0 where
   pub role : v.role ≡ Working l
   pub givens : v.givens ≡ l.givens
@@ -58,8 +58,8 @@ pub record IsWorking {P : Type 0} (v : View P) (id : TableId) (l : LocalView) : 
   pub worker : IsWorker l.givens l.number
   pub sound : IsSoundRecord l.givens l.number l.state
 
--- What holds of a book's fields: its seat's view, its table, the givens, and the spots, whose list has just the room that
--- it needs. The book's machines stand after what it has seen.
+-- The facts about a registry's fields: its handle's view, its table, the givens, and the slot states, whose list has
+-- exactly the room that it needs. The registry's machines stand after the moves that it has seen.
 pub record IsBook {P : Type 0} (v : View P) (id : TableId) (g : Givens) (spots : List Spot) (room : ℕ) : Type 0 where
   pub role : v.role ≡ Keeping spots
   pub givens : v.givens ≡ g

@@ -1,6 +1,6 @@
--- Within this crate, but for `HasTurned` and `HasLeft`, which callers read: what each kind of step tells its seat. A kind is
--- stated by cases on the role of the seat's view: of the roles that never make such a step nothing is said, so nobody can use
--- it to learn what it knows by then.
+-- Within this crate, but for `HasTurned` and `HasLeft`, which callers read: the change of a handle by each kind of step. A
+-- kind is stated by cases on the role of the handle's view. Nothing is stated for the roles that never make such a step, so
+-- no such step teaches them anything.
 use Rattle.std.specs.Prelude.{◌≡◌, ℕ, ◌+◌, ◌-◌, List, [], ◌∷◌, ◌++◌, slice_set, nat_lt, if◌then◌else◌, true, false, Option, Some, None, replicate, ⊤}
 use mathlib.Core.Option.{some}
 use lib.ListN.{get_elem?}
@@ -35,8 +35,9 @@ machine_left l = record l { state = record_after_leave l.state }
 abbrev pub view_after : {P : Type 0} → View P → List Move → Move → LocalView → View P
 view_after v between m l = record v { seen = (v.seen ++ between) ++ m ∷ []; moves = []; role = Working l }
 
--- From the view v the worker with the machine l took a turn to the view w, n being what was loaded, or 0: since its
--- last step only others have moved, all moves are turns and leavings, and a load gave what its word held in the world just before.
+-- From the view v the worker with the machine l took a turn to the view w, n being the loaded value, or 0. Since its last
+-- step only others have moved, all moves are turns and leaves, and a load gave the value that its register had in the world
+-- just before.
 pub record HasTurned {P : Type 0} (v : View P) (l : LocalView) (n : ℕ) (w : View P) : Type 0 where
   pub between : List Move
   pub others : moves_of l.number between ≡ 0
@@ -112,6 +113,7 @@ without_hired p role = role
 abbrev pub book_left : {P : Type 0} → ℕ → View P → View P
 book_left p v = record v { role = without_hired p v.role }
 
+-- the view of the new handle of worker p after it is hired
 abbrev pub worker_right : {P : Type 0} → ℕ → View P → View P
 worker_right p v = record v { moves = []; role = role_of_hired v.givens p v.role }
 
@@ -119,6 +121,7 @@ worker_right p v = record v { moves = []; role = role_of_hired v.givens p v.role
 abbrev pub shed_left : {P : Type 0} → View P → View P
 shed_left v = spent_view
 
+-- the view of the new handle, which has no slots
 abbrev pub shed_right : {P : Type 0} → View P → View P
 shed_right v = v
 
@@ -127,6 +130,7 @@ abbrev pub with_back : List Spot → Role → Role
 with_back spots (Working l) = Keeping (slice_set spots (l.number - 1) (Back l))
 with_back spots role = Keeping spots
 
+-- the registry's role with that of a collected worker
 abbrev pub joined : Role → Role → Role
 joined (Keeping spots) role = with_back spots role
 joined own role = own
@@ -135,8 +139,8 @@ joined own role = own
 abbrev pub both_views : {P : Type 0} → View P → View P → View P
 both_views v w = record v { moves = w.seen; role = joined v.role w.role }
 
--- The book's load after a join: it learns a list of moves that begins with what it had seen and with what the worker
--- had seen, and after which all its machines stand.
+-- The registry's load after a join. It learns a list of moves that begins with what it had seen and with what the worker
+-- had seen. All its machines stand after that list.
 pub record HasMet {P : Type 0} (v : View P) (spots : List Spot) (w : View P) : Type 0 where
   pub leads : w ≡ record v { seen = w.seen; moves = [] }
   pub seen : StartsWith w.seen v.seen
@@ -144,10 +148,12 @@ pub record HasMet {P : Type 0} (v : View P) (spots : List Spot) (w : View P) : T
   pub own : AreOwn v.givens w.seen
   pub stand : AllStand v.givens w.seen spots
 
+-- a load of the registry leads from the first view to the second
 abbrev pub MetBy : {P : Type 0} → View P → Role → View P → Type 0
 MetBy v (Keeping spots) w = HasMet v spots w
 MetBy v role w = ⊤
 
+-- the change of the handle by that load, whatever value it gave
 abbrev pub told_by_meeting : {P : Type 0} → Step (Option P) → Me (Option P) (View P) → ℕ → Me (Option P) (View P) → Type 0
 told_by_meeting st me n me' = MetBy me.0 me.0.role me'.0 × (me'.1 ≡ me.1)
 
@@ -171,8 +177,10 @@ abbrev pub PlacedBy : {P : Type 0} → View P → List (ℕ × Option P) → Rol
 PlacedBy v out (Opening n b) w out' = (w ≡ record v { role = next_role v.givens n }) × (out' ≡ rest out)
 PlacedBy v out role w out' = ⊤
 
+-- the change of the handle that takes the next slot
 abbrev pub told_by_picking : {P : Type 0} → Step (Option P) → Me (Option P) (View P) → ℕ → Me (Option P) (View P) → Type 0
 told_by_picking st me n me' = PickedBy me.0 me.1 me.0.role me'.0 me'.1
 
+-- the change of the handle that gives the slot back with its payload
 abbrev pub told_by_placing : {P : Type 0} → Step (Option P) → Me (Option P) (View P) → ℕ → Me (Option P) (View P) → Type 0
 told_by_placing st me n me' = PlacedBy me.0 me.1 me.0.role me'.0 me'.1

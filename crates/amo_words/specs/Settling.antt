@@ -1,5 +1,5 @@
--- What the closed words and slots show, and what a settlement says. Within this crate: `IsReadable`, `HaveRoom`, `any_has`,
--- `AreMarked` and `IsBlank`, by which it is filled.
+-- The jobs that closed registers and slots show, and the final accounting. Within this crate: `IsReadable`, `HaveRoom`,
+-- `any_has`, `AreMarked` and `IsBlank`, by which it is filled.
 use Rattle.std.specs.Prelude.{◌≡◌, ◌==◌, replicate, ℕ, zero, suc, ◌+◌, ◌<◌, ◌≤◌, Bool, true, false, ◌||◌, if◌then◌else◌, List, [], ◌∷◌, ◌++◌, length, map, get_or, Option, Some, vec_capacity}
 use Rattle.std.proofs.Common.{Vec, Global}
 use mathlib.Core.Option.{some}
@@ -31,9 +31,9 @@ use Rattle.amo_words.specs.Looking.{IsBack}
 use Rattle.amo_words.specs.Faces.{AreShown, ClosedView}
 use Rattle.amo_kk.specs.Machine.{LocalView}
 
--- What the words say of each worker.
+-- The registers of each worker.
 
--- a word before these: none of them where it is 0
+-- a word before these, or no word if it is 0
 abbrev pub unless_zero : ℕ → List ℕ → List ℕ
 unless_zero zero xs = []
 unless_zero (suc x) xs = suc x ∷ xs
@@ -51,10 +51,11 @@ row_in g words p = row_from words (done_word g p 1) (g.jobs + 1)
 abbrev pub hand_in_words : Givens → List ℕ → ℕ → List ℕ
 hand_in_words g words p = if get_or words (claim_word g p) 0 == length (row_in g words p) + 1 then get_or words (next_word p) 0 ∷ [] else []
 
--- what these words say of the dones and of the claims of all workers, from 1
+-- the done jobs of all workers, from 1, as these registers have them
 abbrev pub dones_in_words : Givens → List ℕ → List (List ℕ)
 dones_in_words g words = table g.workers (λ p. row_in g words p)
 
+-- the claimed jobs of all workers, from 1, as these registers have them
 abbrev pub claims_in_words : Givens → List ℕ → List (List ℕ)
 claims_in_words g words = table g.workers (λ p. row_in g words p ++ hand_in_words g words p)
 
@@ -68,10 +69,11 @@ pub record IsReadable {S : Type 0} (g : Givens) (c : Closed S Global) : Type 0 w
 abbrev pub HaveRoom : ℕ → ℕ → List (Vec ℕ Global) → Type 0
 HaveRoom room i lists = (k : ℕ) (d : Vec ℕ Global) → i ≤ k → k < length lists → ((get_or lists k d).items ≡ []) × (room ≤ vec_capacity (get_or lists k d))
 
--- what each worker has done, and claimed
+-- the done jobs of each worker
 abbrev pub dones_of : List Process → List (List ℕ)
 dones_of all = map (λ (a : Process). a.local.dones) all
 
+-- the claimed jobs of each worker
 abbrev pub claims_of : List Process → List (List ℕ)
 claims_of all = map (λ (a : Process). a.local.claimed) all
 
@@ -118,9 +120,9 @@ job_count lists = sum_by (λ xs. length xs) lists
 abbrev pub book_view : {P : Type 0} → Givens → List P → List Move → List Spot → View P
 book_view g payloads seen spots = record { givens = g; payloads = payloads; seen = seen; moves = []; role = Keeping spots }
 
--- The settlement is whole. The table was closed with some words and slots, where the book's seat knew what the book knew.
--- A list of turns and leavings that begins with what the book had seen leads to a world that has these words, and in which
--- the book's machines stand. The lists, the ends and the free jobs are those of that world.
+-- The final accounting is whole. The table was closed with some registers and slots, when the registry's handle knew what
+-- the registry knew. A list of turns and leaves that begins with what the registry had seen leads to a world that has these
+-- registers, and in which the registry's machines stand. The lists, the ends and the free jobs are those of that world.
 pub record IsWhole {P : Type 0} (g : Givens) (payloads : List P) (seen : List Move) (spots : List Spot) (s : Settlement P) : Type 0 where
   pub key : Key P
   pub seat : ℕ
@@ -139,12 +141,13 @@ pub record IsWhole {P : Type 0} (g : Givens) (payloads : List P) (seen : List Mo
   pub dones : map (λ (v : Vec ℕ Global). v.items) s.dones.items ≡ dones_of (world_of g log).processes
   pub ends : s.ends.items ≡ map end_of spots
   pub free : s.free.items ≡ free_of (world_of g log).processes 1 payloads
-  -- where a worker has come back that ended, so many jobs are done
+  -- if a collected worker had ended, so many jobs are done
   pub enough : (p : ℕ) (l : LocalView) → IsBack spots p l → is_over l.state.phase ≡ true
       → bound g ≤ job_count (map (λ (v : Vec ℕ Global). v.items) s.dones.items)
 
--- The floor whose book had these spots and had seen these moves was closed, and c is what stood: the words and slots of the
--- table between two steps, where the book's seat knew what the book knew. They show a world that the book's moves lead to.
+-- The floor whose registry had these slot states and had seen these moves was closed, and c is what stood. It has the
+-- registers and slots of the table between two steps, when the registry's handle knew what the registry knew. They show a
+-- world to which the registry's moves lead.
 pub record HasClosed {P : Type 0} (g : Givens) (payloads : List P) (seen : List Move) (spots : List Spot) (c : ClosedView P) : Type 0 where
   pub givens : c.givens ≡ g
   pub spots_are : c.spots ≡ spots
@@ -157,18 +160,19 @@ pub record HasClosed {P : Type 0} (g : Givens) (payloads : List P) (seen : List 
 abbrev pub IsWholeOf : {P : Type 0} → ClosedView P → Settlement P → Type 0
 IsWholeOf {P} c s = (g : Givens) (payloads : List P) (seen : List Move) (spots : List Spot) → HasClosed g payloads seen spots c → IsWhole g payloads seen spots s
 
--- The settlement is read from the closed floor: the lists of each worker are what the words say of it, a worker that is
--- lost or not; the ends are by the spots; and the free jobs are those that the words give to nobody.
+-- The final accounting is read from the closed floor. The lists of each worker, lost or not, come from its registers, and
+-- the ends from the slot states. The free jobs are those that the registers give to no worker.
 pub record IsReadFrom {P : Type 0} (c : ClosedView P) (s : Settlement P) : Type 0 where
   pub claims : map (λ (v : Vec ℕ Global). v.items) s.claims.items ≡ claims_in_words c.givens c.words
   pub dones : map (λ (v : Vec ℕ Global). v.items) s.dones.items ≡ dones_in_words c.givens c.words
   pub ends : s.ends.items ≡ map end_of c.spots
   pub free : (all : List Process) (payloads : List P) → AreShown c.givens all c.words → HasFree c.givens all payloads c.slots → s.free.items ≡ free_of all 1 payloads
 
--- what a settlement says of worker p
+-- the done jobs of worker p in the final accounting
 abbrev pub settled_dones : {P : Type 0} → Settlement P → ℕ → List ℕ
 settled_dones s p = numbered [] (map (λ (v : Vec ℕ Global). v.items) s.dones.items) p
 
+-- the claimed jobs of worker p in the final accounting
 abbrev pub settled_claims : {P : Type 0} → Settlement P → ℕ → List ℕ
 settled_claims s p = numbered [] (map (λ (v : Vec ℕ Global). v.items) s.claims.items) p
 

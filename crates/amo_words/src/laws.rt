@@ -1,5 +1,5 @@
-//! The theorems over the rule and the book that callers may lean on. Nothing here runs: each
-//! function's contract is a law.
+//! The theorems over the shared state and the registry, for the crates above. Nothing here runs:
+//! each function's contract is a theorem.
 ghost use Rattle.std.specs.Prelude.{◌≡◌, ◌≢◌, ◌≤◌, ◌++◌, ℕ, List, [], get_or, true, false, Option};
 ghost use mathlib.Core.Option.{some};
 ghost use lib.ListN.{get_elem?};
@@ -24,12 +24,12 @@ ghost use Rattle.amo_words.specs.Logs.{machine_after, moves_of, AreOwn, StartsWi
 ghost use Rattle.amo_words.specs.Rule.{AllStand, Has, HasWhole, IsOpen, SlotsFit, spent_view};
 ghost use Rattle.amo_words.specs.Looking.{IsBack, back_count};
 
-/// What the rule says of an open table: its words are those of a lawful world, reached by a list of
-/// turns and leavings. Some seat has seen, or had from a worker, that whole list, and what any
-/// other has seen is a beginning of it. Each worker's machine is in the view of one seat alone, as
-/// it is in that world; a worker that is out has seen all its own moves. All views but spent ones
-/// have the floor's givens and payloads, and what they had from a worker is a beginning of the list
-/// too. The slot of a job is at home, with its payload, just until the job is claimed.
+/// States that the shared state shows a world at each moment. Its registers are those of a lawful
+/// world, reached by a list of turns and leaves. Some handle has seen that whole list, or got it
+/// from a worker. Any other has seen a beginning of it. Each worker's machine is in the view of one
+/// handle alone, as it is in that world. A worker that is out has seen all its own moves. All views
+/// but spent ones have the floor's givens and payloads, and got a beginning of the list. A job's
+/// slot has its payload exactly until the job is claimed.
 pub fn floors_show_worlds<P>()
     ensures world { (k : Key P) (s : State (Option P) (View P)) (h : IsOpen k s)
         → (s.words ≡ words_of (world_of k.givens h.log).processes) × IsLawful k.givens (world_of k.givens h.log) × AreOwn k.givens h.log }
@@ -48,8 +48,8 @@ pub fn floors_show_worlds<P>()
     ensures slots { (k : Key P) (s : State (Option P) (View P)) (h : IsOpen k s) → SlotsFit (world_of k.givens h.log) k.payloads.value.items s.homes }
 {}
 
-/// The workers that have come back to a book stand in one lawful world, and no job is claimed by
-/// two of them.
+/// States that the workers that were collected stand in one lawful world, in which no job is
+/// claimed by two of them.
 pub fn met_workers_agree()
     ensures lawful { (g : Givens) (log : List Move) → IsLawful g (world_of g log) }
     ensures stand { (g : Givens) (log : List Move) (spots : List Spot) (p : ℕ) (l : LocalView)
@@ -60,30 +60,31 @@ pub fn met_workers_agree()
         → AllStand g log spots → IsBack spots p l → IsBack spots q m → q ≢ p → has l.state.claimed j ≡ true → has m.state.claimed j ≡ false }
 {}
 
-/// The workers that have come back to a book have together done no more jobs than there are.
+/// States that the workers that were collected have together done at most as many jobs as there
+/// are.
 pub fn met_workers_do_each_job_once()
     ensures { (g : Givens) (log : List Move) (spots : List Spot) → AllStand g log spots → back_count spots ≤ g.jobs }
 {}
 
-/// Where a worker that has come back had ended by its own choice, all workers together have done at
+/// States that if a collected worker had ended by its own choice, all workers together have done at
 /// least `bound` jobs.
 pub fn met_ends_come_late()
     ensures { (g : Givens) (log : List Move) (spots : List Spot) (p : ℕ) (l : LocalView)
         → AllStand g log spots → IsBack spots p l → is_over l.state.phase ≡ true → bound g ≤ done_count (world_of g log) }
 {}
 
-/// What a collected worker had seen is a beginning of what the book has seen ever after: the calls
-/// of all who came back stand in the book's list, those of each in the order in which it saw them.
-/// And each beginning of a list of turns and leavings of workers is such a list, so also the one
-/// with which a settlement begins.
+/// States that the moves that a collected worker had seen are a beginning of the moves that the
+/// registry has seen from then on. So the steps of all collected workers stand in the registry's
+/// list, each in the order in which its worker saw them. Each beginning of a list of turns and
+/// leaves is such a list, as is the one with which a final accounting begins.
 pub fn seen_lists_begin()
     ensures later { (log seen first : List Move) → StartsWith log seen → StartsWith seen first → StartsWith log first }
     ensures turns { (g : Givens) (log seen : List Move) → AreOwn g log → StartsWith log seen → AreOwn g seen }
 {}
 
-/// What a settlement that was read from a closed floor says of each worker is what its words said
-/// as they stood: so of one that is lost its row up to the first 0, and its announcement as a claim
-/// where its count of claims is one more. Of a worker whose words are 0 it says nothing.
+/// States that the final accounting of a closed floor repeats the registers as they stood. Of a
+/// lost worker it has the row up to the first 0, and its announcement as a claim if its count of
+/// claims is one more. It has no job of a worker whose registers are 0.
 pub fn settlements_say_what_words_say<P>()
     ensures dones { (c : ClosedView P) (s : Settlement P) (p : ℕ) → IsReadFrom c s → IsWorker c.givens p → settled_dones s p ≡ row_in c.givens c.words p }
     ensures claims { (c : ClosedView P) (s : Settlement P) (p : ℕ) → IsReadFrom c s → IsWorker c.givens p

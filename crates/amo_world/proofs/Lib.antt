@@ -1,6 +1,6 @@
 -- The crates above lean on this too:
 pub mod Resting
--- These serve this crate alone.
+-- Only this crate uses these files.
 mod Places
 mod Turning
 mod Opening

@@ -93,7 +93,7 @@ module _ (g : Givens) (w : World) (p : ℕ) (law : IsLawful g w) (here : (proces
   going : wants_nothing (process w p).local.phase ≡ false
   going = ⊎_elim (λ t. absurd (true≢false (sym ((law.lawful.sound p o).gone t) ∙ here))) (λ f. f) (cases_Bool (wants_nothing (process w p).local.phase))
 
-  -- a turn's answer tells whether it claims or ends
+  -- a turn's result shows whether it claims or ends
   turn_rests : rests (turn_answer g w p) ≡ claims_or_ends g w p
   turn_rests =
       ap (λ b. rests (if b then Idle else turned (turn_shown g w p))) here

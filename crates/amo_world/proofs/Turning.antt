@@ -1,4 +1,4 @@
--- What holds of the fields of a world before and after a turn, a halt and a leaving of a worker that isn't gone.
+-- The facts about the fields of a world before and after a turn, a halt and a leave of a worker that isn't gone.
 use Rattle.std.proofs.Common.{◌≡◌, ⊎_elim, ℕ, ◌+◌, ◌-◌, ◌<◌, ◌≤◌, Bool, true, false, List, [], ◌∷◌, ◌++◌, map, length, get_or, set, sym, ap, ◌∙◌, subst, arith, length-append}
 use Rattle.std.specs.Prelude.{if◌then◌else◌}
 use Rattle.std.proofs.lemmas.Bool.{true≢false, cases_Bool, cases_eq}
@@ -39,13 +39,13 @@ worker_here x v p same o = subst (λ (y : WorldView). IsWorker y.givens p) (sym 
 pub still_here : (x v : WorldView) (p : ℕ) (answer : Bool) → x ≡ v → answer ≡ (process v.world p).gone → answer ≡ false → (process x.world p).gone ≡ false
 still_here x v p answer same is e = ap (λ (y : WorldView). (process y.world p).gone) same ∙ sym is ∙ e
 
--- What is known of worker p, which takes its turn: it isn't gone, and this is what its load gives.
+-- The facts about worker p, which takes its turn: it isn't gone, and this is the value of its load.
 pub record TakesTurn (g : Givens) (w : World) (p value : ℕ) : Type 0 where
   pub worker : IsWorker g p
   pub here : (process w p).gone ≡ false
   pub loads : value ≡ loaded_value w (want (process w p).local)
 
--- the same, where it is known of the view
+-- the facts, if they are known of the view
 pub takes_turn : (g : Givens) (w : World) (p value : ℕ) (v : WorldView) → (let u : WorldView = record { givens = g; world = w } in u) ≡ v → IsWorker v.givens p → (process v.world p).gone ≡ false
     → value ≡ loaded_value v.world (want (process v.world p).local) → TakesTurn g w p value
 takes_turn g w p value v same worker here loads = record {
@@ -93,7 +93,7 @@ module _ (g : Givens) (processes : List OwnProcess) (history : List Event) (plac
   sound : IsSoundProcess g p (process_of s)
   sound = subst (λ (a : Process). IsSoundProcess g p a) process_is (kept.lawful.lawful.sound p o)
 
-  -- what stands after a change of the process, where that makes this world
+  -- the process after a change that makes this world
   module _ (t : OwnProcess) (events : List Event) (v : World) (law : IsLawful g v) (runs : HasRun g v)
       (makes : world_of_processes (set processes (p - 1) t) (history ++ events) ≡ v) where
     has_room : length history + length events ≤ room

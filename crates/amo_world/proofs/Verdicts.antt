@@ -15,7 +15,7 @@ use Rattle.amo_kk.proofs.Room.{run_is_short}
 use Rattle.amo_world.specs.declared.answer.Verdict.{Verdict}
 use Rattle.amo_world.specs.declared.answer.Verdict.TheVariants.{Lawful, FirstBad}
 
--- the place n, or none where it is 0, counted from k places earlier
+-- the place n counted from k places earlier, or None if n is 0
 abbrev pub later : ℕ → ℕ → ℕ
 later k n = if n == 0 then 0 else k + n
 

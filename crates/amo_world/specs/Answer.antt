@@ -1,4 +1,4 @@
--- What the calls on a world answer, as functions of the world before them.
+-- The results of the calls on a world, as functions of the world before them.
 use Rattle.std.specs.Prelude.{ℕ, List, ◌==◌, if◌then◌else◌}
 use Rattle.amo_kk.specs.Object.{first_object}
 use Rattle.amo_kk.specs.Run.{first_bad}

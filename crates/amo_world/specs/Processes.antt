@@ -14,7 +14,7 @@ use Rattle.amo_world.specs.declared.process.SimProcess.{SimProcess as OwnProcess
 abbrev pub process_of : OwnProcess → Process
 process_of s = record { local = s.local.state; next = s.next; claim = s.claim; row = s.row.items; gone = s.gone }
 
--- the same after the step of its worker, where the wanted load gives this value
+-- the process after the step of its worker, if the wanted load gives this value
 abbrev pub process_after_step : OwnProcess → ℕ → Process
 process_after_step s value = process_after (want s.local.state) (process_of s) (record_after s.local.givens s.local.number value s.local.state)
 
@@ -28,8 +28,8 @@ pub record IsSameWorker (before after : OwnProcess) : Type 0 where
 abbrev pub world_of_processes : List OwnProcess → List Event → World
 world_of_processes processes history = record { processes = map process_of processes; history = history }
 
--- The processes are those of the workers 1..n in their order, each with a machine of these givens and with room for the
--- row that such a worker can have, and no more.
+-- The processes are those of the workers 1..n in their order. Each has a machine of these givens, and exactly the room for
+-- the row that such a worker can have.
 pub record AreInOrder (g : Givens) (n : ℕ) (processes : List OwnProcess) : Type 0 where
   pub size : length processes ≡ n
   pub givens : (k : ℕ) (s : OwnProcess) → k < length processes → (get_or processes k s).local.givens ≡ g

@@ -1,15 +1,15 @@
-//! What the calls on a world answer.
+//! The results of the calls on a world.
 
-/// What a turn of a worker was.
+/// `Turned`: the result of a turn.
 #[derive(Clone, Copy, Debug, PartialEq, Eq)]
 pub enum Turned {
-    /// A step of which the history has nothing.
+    /// The worker took a step that the history doesn't have: it announced or read.
     Moved,
     /// The worker has claimed the job.
     Claimed(u32),
-    /// The job is filed as performed, and the worker goes on.
+    /// The worker has recorded the job as done, and goes on.
     Done(u32),
-    /// The job is filed as performed, and the worker has ended.
+    /// The worker has recorded the job as done, and has ended.
     DoneEnded(u32),
     /// The worker has ended.
     Ended,
@@ -17,20 +17,20 @@ pub enum Turned {
     Idle,
 }
 
-/// How a worker that runs alone came to rest.
+/// `Alone`: the end of a run of one worker alone.
 #[derive(Clone, Copy, Debug, PartialEq, Eq)]
 pub enum Alone {
-    /// It has claimed the job, which is now in its hand.
+    /// The worker has claimed the job, which is now in its hand.
     Claimed(u32),
     /// It has ended.
     Ended,
 }
 
-/// What the judge says of a list of events.
+/// `Verdict`: the judge's verdict on a list of events.
 #[derive(Clone, Copy, Debug, PartialEq, Eq)]
 pub enum Verdict {
-    /// Each event is a step from the state that the ones before it leave.
+    /// The list is a run: each event is a step from the state that the events before it leave.
     Lawful,
-    /// The event at this place, from 1, is the first that is no such step.
+    /// The event at this place, counted from 1, is the first that is no such step.
     FirstBad(u32),
 }

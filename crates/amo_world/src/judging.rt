@@ -10,10 +10,27 @@ use amo_givens::Givens;
 use amo_kk::Event;
 use std::alloc::{AllocError, Global};
 
-/// Returns true if the events are a run of the one sequential set of unclaimed jobs, from its first
-/// state: `Lawful`, or the place of the first event that is no step. The events may name any
-/// numbers; with a worker outside 1..=workers or a job outside 1..=jobs an event is never a step.
-/// The only error is that memory for one state was refused.
+/// Returns the verdict on a history of any system: `Lawful` if the events are a run of the
+/// sequential object, the set of unclaimed jobs, from its first state. Otherwise it returns the
+/// place of the first event that is no step. Events may name any numbers. An event of a worker or a
+/// job outside the givens is never a step.
+///
+/// # Errors
+///
+/// `AllocError` if memory for one state is refused.
+///
+/// # Examples
+///
+/// ```
+/// use amo_givens::Givens;
+/// use amo_world::{Event, Verdict, judge};
+///
+/// let givens = Givens::try_new(2, 2, 2)?;
+/// let good = [Event::Claimed(1, 1), Event::Done(1, 1), Event::Claimed(2, 2)];
+/// assert!(rt; judge(rt.alloc(), givens, &good)? == Verdict::Lawful);
+/// let twice = [Event::Claimed(1, 1), Event::Claimed(2, 1)];
+/// assert!(rt; judge(rt.alloc(), givens, &twice)? == Verdict::FirstBad(2));
+/// ```
 pub fn judge(alloc: Global, givens: Givens, events: &[Event]) -> Result<Verdict, AllocError>
     ensures verdict { IfOk result (λ v. v ≡ verdict givens events.now) }
     ensures run { IfOk result (λ v. (v ≡ Verdict.Lawful) ↔ IsRun givens (first_object givens) events.now) }

@@ -1,5 +1,7 @@
-//! All workers of a run in one thread: one step at a time, in whatever order the caller chooses,
-//! and the history of what has happened, which is a run of one sequential set of unclaimed jobs.
+//! A simulator: all workers of a run in one thread, one step at a time, in any order.
+//!
+//! Start at [`World`]. Its history is a run of the sequential object, the set of unclaimed jobs.
+//! [`judge`] decides the same for the history of any system.
 #![tactic(auto)]
 
 mod answer;

@@ -1,4 +1,4 @@
-//! One worker with the shared words that it alone writes.
+//! One worker with the registers that it alone writes.
 ghost use Rattle.std.specs.Prelude.{◌≡◌, ◌≤◌, ◌<◌, ◌+◌, length, true, false, ℕ, IfOk};
 ghost use Rattle.std.specs.Vec.{vec_capacity};
 ghost use Rattle.amo_kk.specs.declared.phase.Want.{Want};
@@ -13,7 +13,8 @@ use amo_kk::{Local, Shown, Want};
 use amo_sets::filled;
 use std::alloc::{AllocError, Global};
 
-/// A worker's machine, its announcement, its count of claims and its row, and whether it is gone.
+/// A worker's state machine, its announcement, its count of claims and its row, and whether it is
+/// gone.
 #[derive(Drop)]
 pub(crate) struct SimProcess {
     pub(crate) local: Local,
@@ -98,7 +99,7 @@ impl SimProcess {
         shown
     }
 
-    /// The next step of the worker, where its load gave this value; 0 stands where it stores.
+    /// Takes the next step of the worker. The value is that of its load, and 0 for a store.
     pub(crate) fn act(&mut self, value: u32) -> Shown
         requires going { wants_nothing self.old.local.state.phase ≡ false }
         requires hears { MayLoad self.old.local.givens value (want self.old.local.state) }

@@ -10,8 +10,8 @@ use amo_kk::Event;
 use std::alloc::{AllocError, Global};
 use std::marker::Model;
 
-/// Which jobs are unclaimed, the job in each worker's hand or 0, the performed pairs of worker and
-/// job, and which workers are gone.
+/// A state of the sequential object: the unclaimed jobs, the job in each worker's hand or 0, the
+/// done pairs of worker and job, and the workers that are gone.
 #[derive(Drop)]
 pub(crate) struct State {
     givens: Givens,

@@ -1,4 +1,4 @@
-//! What a history says of the jobs.
+//! Counts of the jobs in a history.
 ghost use Rattle.std.specs.Prelude.{◌≡◌, ◌<◌, ◌^◌, length};
 ghost use Rattle.amo_sets.specs.Sets.{has};
 ghost use Rattle.amo_kk.specs.Run.{claimed_jobs, done_jobs};
@@ -19,7 +19,7 @@ pub(crate) fn has_claim(history: &[Event], j: u32) -> bool
     false
 }
 
-/// How many jobs were claimed, and how many performed.
+/// How many jobs were claimed, and how many were done.
 #[derive(Clone, Copy)]
 pub(crate) struct Tally {
     pub(crate) claimed: u32,

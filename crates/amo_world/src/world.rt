@@ -1,4 +1,4 @@
-//! The world: all workers, and what has happened.
+//! The world: all workers, and the history.
 ghost use Rattle.std.specs.Prelude.{◌≡◌, ◌≤◌, ◌<◌, ◌+◌, ◌*◌, ◌++◌, ◌∷◌, [], ℕ, true, false, not, List, length, map, IfOk, if◌then◌else◌, nat_lt};
 ghost use Rattle.std.specs.Vec.{vec_capacity};
 ghost use Rattle.amo_sets.specs.Lists.{table};
@@ -26,8 +26,31 @@ use amo_kk::{Event, Leaving, Local, Shown, Want};
 use std::alloc::{AllocError, Global};
 use std::marker::Model;
 
-/// All workers of some givens with their shared words, and the history of what has happened. No
-/// call but `new` takes memory.
+/// `World`: all workers of some givens with their registers, and the history. Only `new` takes
+/// memory. Workers and jobs are numbered from 1, and each call needs numbers of the givens.
+///
+/// # Examples
+///
+/// ```
+/// use amo_givens::{Givens, Move};
+/// use amo_world::{Alone, Event, Turned, World};
+///
+/// let givens = Givens::try_new(5, 2, 2)?;
+/// let mut world = World::new(rt.alloc(), givens)?;
+/// assert!(rt; world.turn(2) == Turned::Moved); // it announces job 3
+/// assert!(rt; world.halt(2) && !world.halt(2)); // it crashes, once
+/// assert!(rt; world.run_alone(1) == Alone::Claimed(1));
+/// assert!(rt; world.turn(1) == Turned::Done(1));
+/// assert!(rt; world.turns_of(1) == 5 && world.turns_of(2) == 1);
+/// let wanted = [Event::Halted(2), Event::Claimed(1, 1), Event::Done(1, 1)];
+/// assert!(rt; world.history() == wanted.as_slice());
+/// assert!(rt; world.unclaimed_len() == 4 && world.performed_len() == 1);
+/// assert!(rt; world.is_unclaimed(3) && world.announced(2) == 3);
+/// let moves = [Move::Turn(1), Move::Leave(1)];
+/// assert!(rt; world.in_range(&moves));
+/// world.run(&moves);
+/// assert!(rt; world.is_gone(1) && world.givens() == givens);
+/// ```
 #[derive(Drop)]
 pub struct World {
     givens: Givens,
@@ -48,10 +71,13 @@ impl Model for World {
 }
 
 impl World {
-    /// The opening world of these givens: no worker has taken a step. Where there are fewer jobs
-    /// than the threshold each worker has ended, and the history begins with the ends of 1, 2, ..
-    /// in this order; else it is empty. The room for all that can happen is made here, and the only
-    /// error is that memory for it was refused.
+    /// Returns the opening world of these givens, in which no worker has taken a step. If there are
+    /// fewer jobs than the threshold, each worker has ended, and the history begins with these
+    /// ends. It takes all memory that the world ever needs.
+    ///
+    /// # Errors
+    ///
+    /// `AllocError` if memory is refused.
     pub fn new(alloc: Global, givens: Givens) -> Result<World, AllocError>
         ensures { IfOk result (λ w. w ≡ record { givens = givens; world = opening_world givens }) }
     {
@@ -64,9 +90,9 @@ impl World {
         })
     }
 
-    /// The next step of worker p, in 1..=workers, and what it was: `Idle`, and nothing changes,
-    /// where p is gone. The history gains the claim, the performance and the end that the answer
-    /// names, in this order.
+    /// Takes the next step of worker p, and returns its result: `Idle` if p is gone, and then
+    /// nothing changes. The history gets the claim, the done job and the end that the result names,
+    /// in this order.
     pub fn turn(&mut self, p: u32) -> Turned
         requires { IsWorker self.old.givens p }
         ensures answer { result ≡ turn_answer self.old.givens self.old.world p }
@@ -78,7 +104,7 @@ impl World {
         self.act(p)
     }
 
-    /// The next step of worker p, which isn't gone, and what it was.
+    /// Takes the next step of worker p, which isn't gone, and returns its result.
     // Apart from `turn`, so that a turn of a worker that is gone costs no more than the look at it.
     #[inline(never)]
     fn act(&mut self, p: u32) -> Turned
@@ -93,8 +119,8 @@ impl World {
         turned(shown)
     }
 
-    /// Halts worker p, in 1..=workers. True, and the history gains `Halted`, where p was not gone;
-    /// else false, and nothing changes.
+    /// Halts worker p: it takes no further step. It returns true, and the history gets `Halted`, if
+    /// p wasn't gone. Otherwise nothing changes.
     pub fn halt(&mut self, p: u32) -> bool
         requires { IsWorker self.old.givens p }
         ensures answer { result ≡ not (process self.old.world p).gone }
@@ -108,9 +134,23 @@ impl World {
         true
     }
 
-    /// Worker p, in 1..=workers, takes its announcement back and is gone; the history gains `Left`.
-    /// It stays where it has a job in its hand, and nothing changes there nor where it is gone
-    /// already, whatever is in its hand.
+    /// Asks worker p to leave. It takes its announcement back and is gone, and the history gets
+    /// `Left`. If it has a job in its hand, or is gone already, nothing changes.
+    ///
+    /// # Examples
+    ///
+    /// ```
+    /// use amo_givens::Givens;
+    /// use amo_kk::Leaving;
+    /// use amo_world::World;
+    ///
+    /// let givens = Givens::try_new(5, 2, 2)?;
+    /// let mut world = World::new(rt.alloc(), givens)?;
+    /// assert!(rt; world.leave(2) == Leaving::Left && world.leave(2) == Leaving::Gone);
+    /// world.run_alone(1);
+    /// assert!(rt; world.leave(1) == Leaving::InHand(1));
+    /// assert!(rt; world.local(1).in_hand() == Some(1) && world.heard(1) == 0);
+    /// ```
     pub fn leave(&mut self, p: u32) -> Leaving
         requires { IsWorker self.old.givens p }
         ensures answer { result ≡ leave_answer self.old.world p }
@@ -127,8 +167,8 @@ impl World {
         answer
     }
 
-    /// Turns of worker p, which isn't gone, and of nobody else, until one claims a job or ends p.
-    /// There are at most `lone_bound` of them, in at most three attempts.
+    /// Gives turns to worker p alone, which isn't gone, until one claims a job or ends p. There are
+    /// at most `lone_bound` of them, in at most three attempts.
     pub fn run_alone(&mut self, p: u32) -> Alone
         requires { (process self.old.world p).gone ≡ false }
         ensures givens { self.new.givens ≡ self.old.givens }
@@ -145,8 +185,8 @@ impl World {
         }
     }
 
-    /// Makes these moves in their order, whose workers are all in 1..=workers, as `in_range` tells.
-    /// What a move would have answered is not kept; the history has what was done.
+    /// Makes these moves, in order. Check `in_range` first. The results of the moves aren't kept;
+    /// the history has the events.
     pub fn run(&mut self, moves: &[Move])
         requires { are_in_range self.old.givens moves.now ≡ true }
         ensures { self.new ≡ record { givens = self.old.givens; world = world_after_moves self.old.givens self.old.world moves.now } }
@@ -174,7 +214,7 @@ impl World {
         }
     }
 
-    /// Returns true if the worker of each move is in 1..=workers.
+    /// Returns true if the worker of each move is one of the givens.
     pub fn in_range(&self, moves: &[Move]) -> bool
         ensures { result ≡ are_in_range self.now.givens moves.now }
     {
@@ -187,14 +227,14 @@ impl World {
         true
     }
 
-    /// The givens.
+    /// Returns the givens of the world.
     pub fn givens(&self) -> Givens
         ensures { result ≡ self.now.givens }
     {
         self.givens
     }
 
-    /// The process of worker p.
+    /// Returns worker p with its registers.
     fn process(&self, p: u32) -> &SimProcess
         requires { IsWorker self.now.givens p }
         ensures process { process_of result.now ≡ process self.now.world p }
@@ -205,7 +245,7 @@ impl World {
         &self.processes[p as usize - 1]
     }
 
-    /// What the load that worker p, in 1..=workers, wants gives; 0 where it wants none.
+    /// Returns the value of the load that worker p makes next, or 0 if it makes no load next.
     pub fn heard(&self, p: u32) -> u32
         requires { IsWorker self.now.givens p }
         ensures { result ≡ loaded_value self.now.world (want (process self.now.world p).local) }
@@ -213,7 +253,7 @@ impl World {
         self.loaded(self.process(p).local.want())
     }
 
-    /// What the load that some worker wants gives; 0 where a store is wanted.
+    /// Returns the value of this load, or 0 for a store.
     fn loaded(&self, want: Want) -> u32
         requires { (p : ℕ) × WantFits self.now.givens p want }
         ensures { result ≡ loaded_value self.now.world want }
@@ -227,7 +267,7 @@ impl World {
         }
     }
 
-    /// Returns true if worker p, in 1..=workers, is gone: it has ended, was halted or has left.
+    /// Returns true if worker p is gone: it has ended, was halted or has left.
     pub fn is_gone(&self, p: u32) -> bool
         requires { IsWorker self.now.givens p }
         ensures { result ≡ (process self.now.world p).gone }
@@ -235,7 +275,7 @@ impl World {
         self.process(p).gone
     }
 
-    /// The job that worker p, in 1..=workers, has announced last; 0 where there is none.
+    /// Returns the job that worker p has announced last, or 0.
     pub fn announced(&self, p: u32) -> u32
         requires { IsWorker self.now.givens p }
         ensures { result ≡ (process self.now.world p).next }
@@ -243,7 +283,7 @@ impl World {
         self.process(p).next
     }
 
-    /// The machine of worker p, in 1..=workers.
+    /// Returns the state machine of worker p.
     pub fn local(&self, p: u32) -> &Local
         requires { IsWorker self.now.givens p }
         ensures { result.now ≡ record { givens = self.now.givens; number = p; state = (process self.now.world p).local } }
@@ -251,8 +291,7 @@ impl World {
         &self.process(p).local
     }
 
-    /// How many steps worker p, in 1..=workers, has taken, its leaving among them. A turn that was
-    /// `Idle` is none.
+    /// Returns how many steps worker p has taken, a leave included. An `Idle` turn isn't counted.
     pub fn turns_of(&self, p: u32) -> u64
         requires { IsWorker self.now.givens p }
         ensures { result ≡ (process self.now.world p).local.steps }
@@ -260,10 +299,9 @@ impl World {
         self.process(p).local.steps()
     }
 
-    /// What has happened, in its order: a run of the one sequential set of unclaimed jobs, whose
-    /// last state agrees with all workers. So no job is claimed or performed twice, each
-    /// performance comes after a claim of the same worker, and where a worker has ended, at least
-    /// `bound` jobs were performed before.
+    /// Returns the history, in order. It is a run of the sequential object, whose last state agrees
+    /// with all workers. So no job is claimed or done twice, and each job is done after a claim of
+    /// the same worker. If a worker has ended, at least `bound` jobs were done before.
     pub fn history(&self) -> &[Event]
         ensures events { result.now ≡ self.now.world.history }
         ensures lawful { IsLawful self.now.givens self.now.world }
@@ -280,7 +318,7 @@ impl World {
         &self.history
     }
 
-    /// Returns true if no worker has claimed job j, in 1..=jobs.
+    /// Returns true if no worker has claimed job j.
     pub fn is_unclaimed(&self, j: u32) -> bool
         requires { IsJob self.now.givens j }
         ensures { result ≡ has (object_of self.now.givens self.now.world).unclaimed j }
@@ -288,7 +326,7 @@ impl World {
         !has_claim(&self.history, j)
     }
 
-    /// How many jobs no worker has claimed.
+    /// Returns how many jobs no worker has claimed.
     pub fn unclaimed_len(&self) -> u32
         ensures { result ≡ length (object_of self.now.givens self.now.world).unclaimed }
     {
@@ -296,7 +334,7 @@ impl World {
         jobs - count(&self.history).claimed
     }
 
-    /// How many jobs were performed.
+    /// Returns how many jobs were done.
     pub fn performed_len(&self) -> u32
         ensures { result ≡ length (object_of self.now.givens self.now.world).performed }
     {
@@ -304,7 +342,7 @@ impl World {
     }
 }
 
-/// What the step shows, in the words of a turn.
+/// Returns the result of a turn that shows this.
 fn turned(shown: Shown) -> Turned
     ensures { result ≡ turned shown }
 {
@@ -345,7 +383,7 @@ fn first_history(alloc: Global, givens: Givens) -> Result<Vec<Event>, AllocError
     Ok(history)
 }
 
-/// Adds an event where there is room.
+/// Adds an event to a history that has room for it.
 fn add_event(history: &mut Vec<Event>, event: Event)
     requires { length history.old.items < vec_capacity history.old }
     ensures items { history.new.items ≡ history.old.items ++ event ∷ [] }
@@ -354,7 +392,7 @@ fn add_event(history: &mut Vec<Event>, event: Event)
     history.push_reserved(event);
 }
 
-/// Adds what a step of worker p shows, where there is room.
+/// Adds the events that a step of worker p shows to a history that has room for them.
 fn add_shown(history: &mut Vec<Event>, p: u32, shown: Shown)
     requires { length history.old.items + length (events_of p shown) ≤ vec_capacity history.old }
     ensures items { history.new.items ≡ history.old.items ++ events_of p shown }

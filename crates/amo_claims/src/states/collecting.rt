@@ -1,4 +1,4 @@
-//! A worker that takes no step any more.
+//! A worker that takes no further step.
 ghost use Rattle.std.specs.Prelude.{◌≡◌};
 ghost use Rattle.amo_words.specs.Faces.{machine};
 ghost use Rattle.amo_words.specs.Hiring.{HasCollected};
@@ -7,8 +7,8 @@ use crate::states::Gone;
 use amo_words::{Book, Floor};
 
 impl<P> Gone<P> {
-    /// How many steps the worker has taken, its leaving among them; at most 18446744073709551615,
-    /// where it stays.
+    /// Returns how many steps the worker has taken, a leave included. The count stops at
+    /// 18446744073709551615.
     pub fn steps(&self) -> u64
         ensures steps { result ≡ (machine self.now).state.steps }
     {
@@ -17,8 +17,8 @@ impl<P> Gone<P> {
 }
 
 impl<P: Drop> Gone<P> {
-    /// The worker's machine goes into the book as it is. Waits for nobody, and takes no memory.
-    /// Both have to be of this floor.
+    /// Gives the worker back to the registry, with its state machine as it is. It doesn't block,
+    /// and takes no memory. Worker, registry and floor must belong together.
     pub fn collect(self, floor: &Floor<P>, book: &mut Book<P>)
         requires book_table { book.old.table_id ≡ floor.now.table_id }
         requires worker_table { self.table_id ≡ floor.now.table_id }

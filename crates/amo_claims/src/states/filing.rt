@@ -1,4 +1,4 @@
-//! Filing what was performed.
+//! How a performed job is recorded as done.
 ghost use Rattle.std.specs.Prelude.{◌≡◌};
 ghost use Rattle.amo_words.specs.Faces.{machine};
 ghost use Rattle.amo_claims.specs.States.{HoldsJob};
@@ -8,7 +8,7 @@ use crate::states::{After, Gone, Performed, Ready};
 use amo_words::{Filed, Floor};
 
 impl<P, Out> Performed<P, Out> {
-    /// How many steps the worker has taken, at most 18446744073709551615, where it stays.
+    /// Returns how many steps the worker has taken. The count stops at 18446744073709551615.
     pub fn steps(&self) -> u64
         ensures steps { result ≡ (machine self.now.worker).state.steps }
     {
@@ -17,9 +17,9 @@ impl<P, Out> Performed<P, Out> {
 }
 
 impl<P: Drop, Out> Performed<P, Out> {
-    /// Files the job in the worker's hand as performed, by one store, and gives the answer back. It
-    /// is Over just where the worker has ended with it. Waits for nobody, and takes no memory. The
-    /// floor has to be the worker's own.
+    /// Records the job in the worker's hand as done, by one store, and returns the answer. The
+    /// state is `Over` exactly if the worker has ended with this step. It doesn't block, and takes
+    /// no memory. The floor must be the worker's own.
     pub fn file(self, floor: &Floor<P>) -> (After<P>, Out)
         requires table { self.worker.table_id ≡ floor.now.table_id }
         ensures files { Files self.worker result.0 }

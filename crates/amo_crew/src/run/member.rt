@@ -15,7 +15,7 @@ pub(crate) struct Member<P, Out> {
     pub budget: u64,
 }
 
-/// What comes back of a worker's thread.
+/// The worker that comes back from its thread.
 #[derive(Drop)]
 pub(crate) struct Ran<P, Out> {
     pub gone: Gone<P>,
@@ -24,7 +24,7 @@ pub(crate) struct Ran<P, Out> {
     pub in_hand: Option<(u32, P)>,
 }
 
-/// What became of a member.
+/// The end of a member.
 #[derive(Drop)]
 pub(crate) enum Finish<P, Out> {
     /// Its thread ran.

@@ -12,7 +12,7 @@ use amo_mailbox::{Outlet, Output, Queue};
 use amo_words::Floor;
 use std::sync::Wait;
 
-/// Runs a member's worker until it has ended or its steps are its budget.
+/// Runs a member's worker until it has ended or has used up its budget.
 pub(crate) fn run_member<P: Drop, W: Work<P>, R: Wait>(
     rt: &R,
     floor: &Floor<P>,
@@ -61,7 +61,7 @@ where
     halted(ready, outlet)
 }
 
-/// What comes back of a worker that has ended.
+/// Returns the result for a worker that has ended.
 fn ended<P, Out>(gone: Gone<P>, outlet: Outlet<Out>) -> Ran<P, Out>
     ensures same { (result.gone ≡ gone) × (result.outlet ≡ outlet) }
     ensures end { (result.end ≡ End.Ended (machine gone).state.steps) × (result.in_hand ≡ None) }
@@ -75,7 +75,7 @@ fn ended<P, Out>(gone: Gone<P>, outlet: Outlet<Out>) -> Ran<P, Out>
     }
 }
 
-/// What comes back of a worker whose budget is used up, with nothing in its hand.
+/// Returns the result for a worker whose budget is used up, with nothing in its hand.
 fn halted<P, Out>(ready: Ready<P>, outlet: Outlet<Out>) -> Ran<P, Out>
     ensures same { (result.gone ≡ ready) × (result.outlet ≡ outlet) }
     ensures ready { IsReady ready }
@@ -90,7 +90,7 @@ fn halted<P, Out>(ready: Ready<P>, outlet: Outlet<Out>) -> Ran<P, Out>
     }
 }
 
-/// What comes back of a worker whose budget is used up, with a job in its hand.
+/// Returns the result for a worker whose budget is used up, with a job in its hand.
 fn holding<P, Out>(held: Held<P>, outlet: Outlet<Out>) -> Ran<P, Out>
     ensures same { (result.gone ≡ held.worker) × (result.outlet ≡ outlet) }
     ensures holds { Holds held.worker held.job held.payload }

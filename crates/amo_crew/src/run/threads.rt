@@ -14,7 +14,7 @@ use std::sync::Wait;
 use std::thread;
 use std::thread::{Promise, Scope, Threads};
 
-/// What a member's thread promises: its run.
+/// The promise of a member's thread: its run.
 #[derive(Drop)]
 pub(crate) struct Runs<'a, P: Drop, W: Work<P>>(
     &'a Floor<P>,
@@ -29,7 +29,7 @@ impl<'a, P: Drop, W: Work<P>> Promise<Ran<P, W::Out>> for Runs<'a, P, W> {
     ghost kept_by = { λ p r. IsRunOf (W.related p.2.now) p.1.now p.0.now.table_id p.3.value r };
 }
 
-/// Takes what stands in the queue.
+/// Takes all outputs that stand in the queue.
 pub(crate) fn take_all<Out: Drop, R: Wait>(rt: &R, queue: &Queue<Out>, inlet: &mut Inlet<Out>)
     requires { IsInletOf queue.now inlet.old }
     ensures belong { IsInletOf queue.now inlet.new }
@@ -43,7 +43,7 @@ pub(crate) fn take_all<Out: Drop, R: Wait>(rt: &R, queue: &Queue<Out>, inlet: &m
     unreachable!()
 }
 
-/// Starts a thread for the last member, runs those before it, takes what stands in the queue, and
+/// Starts a thread for the last member, runs those before it, takes the outputs in the queue, and
 /// joins the thread.
 fn run_from<'s, E, P: Send + Drop + 's, W: Work<P> + Sync + 's, R: Threads + Wait + Sync + 's>(
     rt: &'s R,

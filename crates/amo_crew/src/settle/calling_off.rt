@@ -1,4 +1,4 @@
-//! What is left where a worker could not be hired.
+//! The end of a run in which a worker could not be hired.
 ghost use Rattle.std.specs.Prelude.{◌≡◌, ◌≤◌, [], ℕ, List, All, length, vec_len, vec_capacity, map, replicate};
 ghost use Rattle.amo_givens.specs.declared.givens.Givens.{Givens};
 ghost use Rattle.amo_words.specs.Hiring.{HasCollected};
@@ -16,7 +16,7 @@ use amo_claims::After;
 use amo_words::{Book, Floor, Settlement};
 use std::alloc::Global;
 
-/// The worker goes back to the book, without a step.
+/// Gives the worker back to the registry, without a step.
 fn send_back<P: Drop>(floor: &Floor<P>, book: &mut Book<P>, after: After<P>)
     requires table { book.old.table_id ≡ floor.now.table_id }
     requires worker { (worker_in after).table_id ≡ floor.now.table_id }
@@ -28,7 +28,7 @@ fn send_back<P: Drop>(floor: &Floor<P>, book: &mut Book<P>, after: After<P>)
     }
 }
 
-/// The workers of the crew go back to the book, without a step.
+/// Gives the workers of the crew back to the registry, without a step.
 pub(crate) fn call_back<P: Drop, Out: Drop>(
     floor: &Floor<P>,
     book: &mut Book<P>,
@@ -50,7 +50,7 @@ pub(crate) fn call_back<P: Drop, Out: Drop>(
     }
 }
 
-/// The payloads of free jobs, in their order.
+/// Returns the payloads of free jobs, in their order.
 pub(crate) fn payloads_of<P: Drop>(free: Vec<(u32, P)>, mut spare: Vec<P>) -> Vec<P>
     requires empty { spare.items ≡ [] }
     requires room { vec_len free ≤ vec_capacity spare }
@@ -62,7 +62,7 @@ pub(crate) fn payloads_of<P: Drop>(free: Vec<(u32, P)>, mut spare: Vec<P>) -> Ve
     spare
 }
 
-/// An end for each worker, none of whose threads was started.
+/// Returns an end for each worker, none of whose threads was started.
 pub(crate) fn none_started(workers: u32, mut ends: Vec<End>) -> Vec<End>
     requires empty { ends.items ≡ [] }
     requires room { workers ≤ vec_capacity ends }
@@ -74,8 +74,8 @@ pub(crate) fn none_started(workers: u32, mut ends: Vec<End>) -> Vec<End>
     ends
 }
 
-/// What is refused where a worker could not be hired: nothing was started, and the payloads come
-/// back where the floor can be settled.
+/// Returns the refusal for a worker that could not be hired. No thread was started, and the
+/// payloads come back if the final accounting has memory.
 pub(crate) fn call_off<P: Drop, Out: Drop>(
     alloc: Global,
     floor: Floor<P>,

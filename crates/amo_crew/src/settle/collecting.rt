@@ -1,4 +1,4 @@
-//! How workers come back to the book.
+//! How workers are collected after their threads.
 ghost use Rattle.std.specs.Prelude.{ℕ, List, ◌≡◌, ◌+◌, ◌≤◌, ◌++◌, vec_len, All};
 ghost use Rattle.amo_givens.specs.declared.givens.Givens.{Givens};
 ghost use Rattle.amo_givens.specs.declared.limits.TheConstants.{MAX_WORKERS};
@@ -13,7 +13,7 @@ use amo_claims::Work;
 use amo_mailbox::Outlet;
 use amo_words::{Book, Floor};
 
-/// What is collected beside the book.
+/// The values that are collected beside the registry.
 #[derive(Drop)]
 pub(crate) struct Collected<P, Out> {
     pub outlets: Vec<Outlet<Out>>,
@@ -55,8 +55,8 @@ fn collect_one<P: Drop, Out: Drop>(
     }
 }
 
-/// Collects the workers whose threads ran, in the order of their numbers, and tells of each worker
-/// how it ended: each one whose thread ran is back, with the end that it came back with.
+/// Collects the workers whose threads ran, in the order of their numbers, and notes the end of
+/// each. Each worker whose thread ran is back, with the end with which it came back.
 pub(crate) fn collect_all<P: Drop, W: Work<P>>(
     floor: &Floor<P>,
     book: &mut Book<P>,

@@ -1,4 +1,4 @@
-//! A run whose settling wanted memory.
+//! A run whose final accounting was refused memory.
 ghost use Rattle.amo_crew.specs.Unsettling.{UnsettledView};
 
 use crate::outcome::End;
@@ -11,8 +11,51 @@ mod showing;
 
 pub(crate) use settling::conclude;
 
-/// What a run left whose settling wanted memory: its floor, which is closed, what became of the
-/// threads, their outputs, and what was in hand. It can be settled later.
+/// `Unsettled`: a run whose final accounting was refused memory. It has the closed floor, the ends
+/// of the threads, the outputs, and the jobs in hand. `settle` does the final accounting later.
+///
+/// # Examples
+///
+/// ```
+/// use amo_crew::{Outcome, StopPlan, Unsettled, Work, execute, ExecFault};
+/// use amo_givens::{Givens, MAX_STEPS};
+///
+/// struct Sum;
+///
+/// impl Work<u32> for Sum {
+///     ghost use Rattle.std.specs.Prelude.{◌≡◌};
+///
+///     type Out = u32;
+///
+///     ghost related = { λ _ _ _ number out. out ≡ number };
+///
+///     fn perform(&self, _worker: u32, _job: u32, number: u32) -> u32 {
+///         number
+///     }
+/// }
+///
+/// /// Does the final accounting of a run, and tries a second time if memory is refused.
+/// fn settled(rest: Unsettled<u32, u32>, alloc: std::alloc::Global) -> Option<Outcome<u32, u32>> {
+///     match rest.settle(alloc) {
+///         Ok(outcome) => Some(outcome),
+///         Err(rest) => rest.settle(alloc).ok(),
+///     }
+/// }
+///
+/// let givens = Givens::try_new(2, 1, 1)?;
+/// let plan = StopPlan::try_new(rt.alloc(), givens, &[MAX_STEPS])?;
+/// let numbers = vec![in rt.alloc(); 7, 8]?;
+/// let outcome = match execute(&rt, rt.alloc(), givens, numbers, &Sum, &plan) {
+///     Ok(outcome) => Some(outcome),
+///     Err(ExecFault::Unsettled(rest)) => {
+///         assert!(rt; rest.ends().len() == 1 && rest.in_hand().is_empty());
+///         assert!(rt; rest.outputs().len() <= 2);
+///         settled(rest, rt.alloc())
+///     }
+///     Err(fault) => return Err(Fail::from(fault)),
+/// };
+/// assert!(rt; outcome.is_some());
+/// ```
 #[derive(Drop)]
 pub struct Unsettled<P: Drop, Out> {
     floor: ClosedFloor<P>,

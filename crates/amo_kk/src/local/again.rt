@@ -1,4 +1,4 @@
-//! A worker that begins again, from its own words alone.
+//! A worker that restarts from its own registers alone.
 ghost use Rattle.std.specs.Prelude.{◌≡◌, ◌≤◌, ◌<◌, ◌+◌, ◌++◌, ◌∷◌, ◌&&◌, [], true, false, not, IfOk, IfErr, length};
 ghost use Rattle.std.specs.Vec.{vec_capacity};
 ghost use Rattle.amo_sets.specs.Sets.{has};
@@ -15,7 +15,7 @@ use crate::phase::Phase;
 use amo_givens::Givens;
 use thiserror::Error;
 
-/// The error for own words that no worker can have left.
+/// `NoSuchWords`: the error for own registers whose values no worker can have left.
 #[derive(Clone, Copy, Debug, PartialEq, Eq, Error)]
 #[error("own words: impossible values; stop all workers, and start a new round")]
 pub struct NoSuchWords;
@@ -28,8 +28,8 @@ fn is_new(givens: Givens, knowledge: &Knowledge, j: u64) -> bool
     j >= 1 && j <= givens.jobs as u64 && !knowledge.knows(j as u32)
 }
 
-/// Takes up the entries of a row, where nothing is known yet: they are claimed, done and known.
-/// False where they can't be those of a row.
+/// Notes the entries of a row as claimed, done and known, if no job is known yet. It returns false
+/// if they can't be those of a row.
 fn take_row(
     givens: Givens,
     knowledge: &mut Knowledge,
@@ -63,10 +63,28 @@ fn take_row(
 }
 
 impl Local {
-    /// A new machine, before its first step, begins again by its worker's own words: what it has
-    /// announced, how many claims it has counted, and the entries of its row. Where one claim more
-    /// was counted than there are entries, the announced job is in its hand, and in doubt. Words
-    /// that no worker can have left are refused, and the machine is gone.
+    /// Restarts a worker from its own registers: its announcement, its count of claims, and the
+    /// entries of its row up to the first 0. The machine must be new, before its first step. If one
+    /// claim more was counted than the row has entries, the announced job is in the worker's hand,
+    /// and in doubt: nobody can know whether it was performed. **Never perform it**; record it as
+    /// done. It takes no memory.
+    ///
+    /// # Errors
+    ///
+    /// [`NoSuchWords`] if no worker can have left these values. The machine is then dropped.
+    ///
+    /// # Examples
+    ///
+    /// ```
+    /// use amo_kk::{Givens, Local, Want};
+    ///
+    /// let givens = Givens::try_new(5, 2, 2)?;
+    /// let local = Local::new(rt.alloc(), givens, 2)?.again(4, 2, &[2])?;
+    /// assert!(rt; local.in_hand() == Some(4)); // in doubt
+    /// assert!(rt; local.want() == Want::StoreDone(2, 4));
+    /// let wrong = Local::new(rt.alloc(), givens, 2)?.again(4, 3, &[2]);
+    /// assert!(rt; wrong.is_err());
+    /// ```
     pub fn again(self, announced: u64, counted: u64, row: &[u64]) -> Result<Local, NoSuchWords>
         requires new { self.state ≡ first_record self.givens self.number }
         ensures machine { IfOk result (λ l. l ≡ record self { state = record_again self.givens self.number announced counted row.now }) }
@@ -102,7 +120,7 @@ impl Local {
         Ok(Local::in_doubt(givens, number, knowledge, fronts, claims, dones, job))
     }
 
-    /// The machine that has done these jobs, after a new choice.
+    /// Returns the machine that has done these jobs, after a new choice.
     pub(super) fn rested(
         givens: Givens,
         p: u32,
@@ -118,7 +136,7 @@ impl Local {
         Local::of_parts(givens, p, phase, knowledge, fronts, claims, dones)
     }
 
-    /// The machine that has done these jobs, with one more in its hand.
+    /// Returns the machine that has done these jobs, with one more in its hand.
     fn in_doubt(
         givens: Givens,
         p: u32,
@@ -138,7 +156,7 @@ impl Local {
         Local::of_parts(givens, p, phase, knowledge, fronts, claims, dones)
     }
 
-    /// The machine of these parts, before its first step.
+    /// Returns the machine of these parts, before its first step.
     fn of_parts(
         givens: Givens,
         number: u32,

@@ -1,4 +1,4 @@
-//! The words of a floor as they stood when it was closed.
+//! The registers of a floor as they stood when it was closed.
 ghost use Rattle.std.specs.Prelude.{◌≡◌, ◌+◌, ◌<◌, ◌≤◌, get_or};
 ghost use Rattle.amo_givens.specs.Givens.{IsWorker};
 ghost use Rattle.amo_kk.specs.Words.{next_word, claim_word, done_word};
@@ -11,8 +11,8 @@ use amo_kk::layout::{claim_word, done_word, next_word};
 use std::alloc::Global;
 
 impl<P: Drop> Floor<P> {
-    /// Closes the floor: nobody has it any more, so its words stand as they are. Takes no memory.
-    /// The book has to be this floor's.
+    /// Closes the floor: no thread has it any more, so its registers stay as they are. It takes no
+    /// memory. The registry must be this floor's.
     pub fn close(self, book: Book<P>) -> ClosedFloor<P>
         requires { book.table_id ≡ self.table_id }
         ensures floor { result.givens ≡ self.givens }
@@ -34,14 +34,14 @@ impl<P: Drop> Floor<P> {
 }
 
 impl<P: Drop> ClosedFloor<P> {
-    /// What the floor was opened with.
+    /// Returns the givens with which the floor was opened.
     pub fn givens(&self) -> Givens
         ensures { result ≡ self.now.givens }
     {
         self.givens
     }
 
-    /// The announcement of worker p, as it stood.
+    /// Returns the announcement of worker p, as it stood: a job, or 0.
     pub fn announcement(&self, p: u32) -> u64
         requires { IsWorker self.now.givens p }
         ensures { result ≡ get_or self.now.words (next_word p) 0 }
@@ -49,7 +49,7 @@ impl<P: Drop> ClosedFloor<P> {
         self.closed.word(next_word(p))
     }
 
-    /// How many jobs worker p had claimed, as its word said.
+    /// Returns how many jobs worker p had claimed, as its register stood.
     pub fn claim_count(&self, p: u32) -> u64
         requires { IsWorker self.now.givens p }
         ensures { result ≡ get_or self.now.words (claim_word self.now.givens p) 0 }
@@ -57,7 +57,8 @@ impl<P: Drop> ClosedFloor<P> {
         self.closed.word(claim_word(self.givens, p))
     }
 
-    /// The k-th entry of the row of worker p, as it stood, k from 1 to one more than the jobs.
+    /// Returns the k-th entry of the row of worker p, as it stood, for k from 1 to `jobs + 1`: a
+    /// done job, or 0.
     pub fn entry(&self, p: u32, k: u32) -> u64
         requires worker { IsWorker self.now.givens p }
         requires place { (1 ≤ k) × (k ≤ self.now.givens.jobs + 1) }

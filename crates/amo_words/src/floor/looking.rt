@@ -1,4 +1,4 @@
-//! What the book shows. None of these takes memory.
+//! The state of the registry, as callers see it. None of these calls takes memory.
 ghost use Rattle.std.specs.Prelude.{◌≡◌, ◌-◌, ◌<◌, slice_get, Some};
 ghost use Rattle.amo_givens.specs.Givens.{IsWorker};
 ghost use Rattle.amo_kk.specs.Record.{is_over};
@@ -12,19 +12,19 @@ use crate::floor::Book;
 use crate::rule::Spot;
 use amo_kk::Local;
 
-/// Where a worker of the book is.
+/// `Place`: the slot state of a worker.
 #[derive(Clone, Copy, Debug, PartialEq, Eq)]
 pub enum Place {
     /// It was never hired.
     Home,
-    /// It was hired, and not collected: it runs, or was dropped.
+    /// It was hired, and not collected: it is at work, or was dropped.
     Out,
-    /// It was collected, and the book has its machine.
+    /// It was collected, and the registry has its machine.
     Back,
 }
 
 impl<P> Book<P> {
-    /// The machine of worker p, which is back.
+    /// Returns the machine of worker p, which was collected.
     fn back(&self, p: u32) -> &Local
         requires { (l : LocalView) × IsBack (spots self.now) p l }
         ensures { (l : LocalView) → IsBack (spots self.now) p l → result.now ≡ l }
@@ -35,7 +35,7 @@ impl<P> Book<P> {
         }
     }
 
-    /// Where worker p of 1..m is. It is Back just where the other questions may be asked of it.
+    /// Returns the slot state of worker p. The other questions need `Back`.
     pub fn place_of(&self, p: u32) -> Place
         requires { IsWorker self.now.view.givens p }
         ensures { (x : Spot) × HasSpotOf (spots self.now) p x × (result ≡ where_is x) }
@@ -47,7 +47,7 @@ impl<P> Book<P> {
         }
     }
 
-    /// How many steps worker p has taken, which is Back.
+    /// Returns how many steps worker p has taken, which was collected.
     pub fn steps_of(&self, p: u32) -> u64
         requires { (l : LocalView) × IsBack (spots self.now) p l }
         ensures { (l : LocalView) → IsBack (spots self.now) p l → result ≡ l.state.steps }
@@ -55,7 +55,7 @@ impl<P> Book<P> {
         self.back(p).steps()
     }
 
-    /// Returns true if worker p, which is Back, has ended by its own choice.
+    /// Returns true if worker p, which was collected, has ended by its own choice.
     pub fn ended_of(&self, p: u32) -> bool
         requires { (l : LocalView) × IsBack (spots self.now) p l }
         ensures { (l : LocalView) → IsBack (spots self.now) p l → result ≡ is_over l.state.phase }
@@ -63,7 +63,7 @@ impl<P> Book<P> {
         self.back(p).ended()
     }
 
-    /// The jobs that worker p has claimed, which is Back, in their order.
+    /// Returns the jobs that worker p has claimed, which was collected, in the order of its claims.
     pub fn claims_of(&self, p: u32) -> &[u32]
         requires { (l : LocalView) × IsBack (spots self.now) p l }
         ensures { (l : LocalView) → IsBack (spots self.now) p l → result.now ≡ l.state.claimed }
@@ -71,7 +71,8 @@ impl<P> Book<P> {
         self.back(p).claims()
     }
 
-    /// The jobs that worker p has done, which is Back, in their order.
+    /// Returns the jobs that worker p has done, which was collected, in the order in which it
+    /// recorded them.
     pub fn dones_of(&self, p: u32) -> &[u32]
         requires { (l : LocalView) × IsBack (spots self.now) p l }
         ensures { (l : LocalView) → IsBack (spots self.now) p l → result.now ≡ l.state.dones }

@@ -1,4 +1,4 @@
-//! What a worker shows. None of these takes memory.
+//! The state of a worker, as callers see it. None of these calls takes memory.
 ghost use Rattle.std.specs.Prelude.{◌≡◌, ◌↔◌, true};
 ghost use Rattle.std.specs.Option.{option_to_list};
 ghost use Rattle.amo_givens.specs.Givens.{IsWorker};
@@ -10,7 +10,8 @@ ghost use Rattle.amo_words.specs.Faces.{machine};
 use crate::floor::Worker;
 
 impl<P> Worker<P> {
-    /// The worker's number, from 1. What the worker knows is sound.
+    /// Returns the worker's number, from 1. Its contract also gives callers that the worker's
+    /// record is sound.
     pub fn number(&self) -> u32
         ensures number { result ≡ (machine self.now).number }
         ensures worker { IsWorker self.now.view.givens result }
@@ -20,43 +21,43 @@ impl<P> Worker<P> {
         self.local.number()
     }
 
-    /// How many steps it has taken, its leaving among them; at most 18446744073709551615, where it
-    /// stays.
+    /// Returns how many steps the worker has taken, a leave included. The count stops at
+    /// 18446744073709551615.
     pub fn steps(&self) -> u64
         ensures { result ≡ (machine self.now).state.steps }
     {
         self.local.steps()
     }
 
-    /// The job in its hand: claimed and not yet filed.
+    /// Returns the job in the worker's hand: claimed, and not recorded as done.
     pub fn in_hand(&self) -> Option<u32>
         ensures { option_to_list result ≡ jobs_in_hand (machine self.now).state.phase }
     {
         self.local.in_hand()
     }
 
-    /// Returns true if it has left. It then takes no further step.
+    /// Returns true if the worker has left. It then takes no further step.
     pub fn has_left(&self) -> bool
         ensures { result ≡ true ↔ (machine self.now).state.phase ≡ Phase.Left }
     {
         self.local.has_left()
     }
 
-    /// Returns true if it has ended by its own choice. It then takes no further step.
+    /// Returns true if the worker has ended by its own choice. It then takes no further step.
     pub fn ended(&self) -> bool
         ensures { result ≡ is_over (machine self.now).state.phase }
     {
         self.local.ended()
     }
 
-    /// The jobs that it has claimed, in their order.
+    /// Returns the jobs that the worker has claimed, in the order of its claims.
     pub fn claims(&self) -> &[u32]
         ensures { result.now ≡ (machine self.now).state.claimed }
     {
         self.local.claims()
     }
 
-    /// The jobs that it has done, in their order.
+    /// Returns the jobs that the worker has done, in the order in which it recorded them.
     pub fn dones(&self) -> &[u32]
         ensures { result.now ≡ (machine self.now).state.dones }
     {

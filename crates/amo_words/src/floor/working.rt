@@ -1,4 +1,4 @@
-//! What a worker does: one load or store a call.
+//! The steps of a worker: one load or store a call.
 ghost use Rattle.std.specs.Prelude.{◌≡◌, ◌≤◌, ◌-◌, ◌<◌, [], ◌∷◌, ℕ, List, true, false, Option, Some, slice_get};
 ghost use Rattle.atomic_table.specs.Table.{rest};
 ghost use Rattle.amo_kk.specs.Record.{can_leave, jobs_in_hand};
@@ -17,30 +17,30 @@ use crate::slots::exchange;
 use amo_kk::layout::{claim_word, done_word, next_word};
 use amo_kk::{Leaving, Shown, Want};
 
-/// What a step of a worker came to.
+/// `Step`: the result of one step of a worker.
 #[derive(Drop)]
 pub enum Step<P> {
-    /// The worker has made its load or store, and goes on.
+    /// The worker has made one load or store, and goes on.
     Moved,
-    /// It has claimed the job, and hands over its payload as it was put in. The job is in its hand
-    /// until it is filed.
+    /// The worker has claimed the job, and hands over its payload as it was put in. The job is in
+    /// its hand until it is recorded as done.
     Claimed(u32, P),
-    /// With this step it has ended by its own choice.
+    /// With this step the worker has ended by its own choice.
     Ended,
-    /// It had ended or left before, and nothing changed.
+    /// The worker had ended or left before, and nothing changed.
     Idle,
 }
 
-/// What filing a job came to.
+/// `Filed`: the result of recording a job as done.
 #[derive(Clone, Copy, Debug, PartialEq, Eq)]
 pub enum Filed {
     /// The worker goes on.
     More,
-    /// With this step it has ended by its own choice.
+    /// With this step the worker has ended by its own choice.
     Ended,
 }
 
-/// Takes the payload of j out of its slot, which the seat has taken last.
+/// Takes the payload of j out of its slot, which the handle has taken last.
 fn take_out<P>(words: &Words<P>, seat: &mut TableSeat<P>, j: u32) -> P
     requires table { seat.old.table_id ≡ words.now.table_id }
     requires job { 1 ≤ j }
@@ -54,7 +54,7 @@ fn take_out<P>(words: &Words<P>, seat: &mut TableSeat<P>, j: u32) -> P
     payload
 }
 
-/// A step that claims nothing, in its caller's words.
+/// Returns the result of a step that claims nothing.
 fn moved<P>(shown: Shown) -> Step<P>
     ensures { result ≡ quiet_step shown }
 {
@@ -81,7 +81,7 @@ impl<P> Worker<P> {
         self.local.stored()
     }
 
-    /// Loads the word that is wanted.
+    /// Loads the register that the machine wants.
     fn hear(&mut self, words: &Words<P>, word: usize) -> Shown
         requires table { self.old.table_id ≡ words.now.table_id }
         requires inside { word < words.now.table_id.words }
@@ -97,7 +97,7 @@ impl<P> Worker<P> {
     }
 
     /// Stores the count of claims, which takes the slot of j, and takes the payload out of it. No
-    /// other worker can have taken it: after this store the world is lawful, and in such a world no
+    /// other worker can have taken it. After this store the world is lawful, and in such a world no
     /// job is claimed by two.
     fn claim(&mut self, words: &Words<P>, count: u32, j: u32) -> P
         requires table { self.old.table_id ≡ words.now.table_id }
@@ -113,7 +113,7 @@ impl<P> Worker<P> {
         take_out(words, &mut self.seat, j)
     }
 
-    /// Files j, as the k-th of the worker's row.
+    /// Records j as done, at place k of the worker's row.
     fn store_done(&mut self, words: &Words<P>, k: u32, j: u32) -> Shown
         requires table { self.old.table_id ≡ words.now.table_id }
         requires wants { want (machine self.old).state ≡ Wanted.StoreDone k j }
@@ -142,9 +142,9 @@ impl<P> Worker<P> {
 }
 
 impl<P: Drop> Worker<P> {
-    /// One turn of the worker, which has nothing in its hand: the one load or store that its
-    /// machine wants. Threads may share the floor, which has to be the worker's own. Waits for
-    /// nobody, and takes no memory.
+    /// Takes one step of the worker, which has nothing in its hand: the one load or store that its
+    /// state machine wants. It doesn't block, and takes no memory. Threads may share the floor,
+    /// which must be the worker's own.
     pub fn step(&mut self, floor: &Floor<P>) -> Step<P>
         requires table { self.old.table_id ≡ floor.now.table_id }
         requires empty { jobs_in_hand (machine self.old).state.phase ≡ [] }
@@ -165,8 +165,8 @@ impl<P: Drop> Worker<P> {
         }
     }
 
-    /// Files the job in the worker's hand as performed, by one store: its caller has performed it.
-    /// Waits for nobody, and takes no memory. The floor has to be the worker's own.
+    /// Records the job in the worker's hand as done, by one store. The caller has performed it. It
+    /// doesn't block, and takes no memory. The floor must be the worker's own.
     pub fn file(&mut self, floor: &Floor<P>) -> Filed
         requires table { self.old.table_id ≡ floor.now.table_id }
         requires in_hand { (j : ℕ) × (jobs_in_hand (machine self.old).state.phase ≡ j ∷ []) }
@@ -184,10 +184,10 @@ impl<P: Drop> Worker<P> {
         }
     }
 
-    /// The worker takes back its announcement by one store and goes, so that the job which it had
-    /// announced is free to others. Where a job is in its hand it stays (`InHand`), and where it
-    /// had ended or left before it is `Gone`: then there is no access and nothing changes. Takes no
-    /// memory. The floor has to be the worker's own.
+    /// Asks the worker to leave. It takes back its announcement by one store, so that the job which
+    /// it had announced is free to others. If it has a job in its hand (`InHand`), or had ended or
+    /// left before (`Gone`), it makes no access and nothing changes. It takes no memory. The floor
+    /// must be the worker's own.
     pub fn leave(&mut self, floor: &Floor<P>) -> Leaving
         requires table { self.old.table_id ≡ floor.now.table_id }
         ensures table { self.new.table_id ≡ self.old.table_id }

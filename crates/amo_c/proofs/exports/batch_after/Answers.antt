@@ -1,3 +1,4 @@
+-- `batch_after`: its promises, by the lemmas of Batches.
 use Rattle.std.proofs.Common.{map, sym, subst}
 use Rattle.std.specs.List.{All}
 use Rattle.amo_kk.specs.Words.{word_count}

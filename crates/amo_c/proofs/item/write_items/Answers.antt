@@ -1,3 +1,4 @@
+-- `write_items`: what its loop keeps and its promises, directly from definitions and clauses.
 use Rattle.std.proofs.Common.{◌≡◌, ℕ, zero, suc, ◌+◌, min, sym, ap, ◌∙◌, arith, List, [], ◌∷◌, ◌++◌, length, take, drop}
 use Rattle.std.specs.Prelude.{map}
 use Rattle.std.proofs.lemmas.List.{take_more_set, map_more, drop-set-lt, drop-drop, take-map}

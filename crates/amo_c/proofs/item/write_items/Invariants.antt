@@ -1,3 +1,4 @@
+-- The facts that each pass of a loop of `write_items` keeps.
 use Rattle.std.proofs.Common.{◌≡◌, take, drop}
 use Rattle.std.specs.Prelude.{map}
 use Rattle.amo_c.specs.Batch.{item_told}

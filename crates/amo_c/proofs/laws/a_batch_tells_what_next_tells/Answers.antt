@@ -1,3 +1,4 @@
+-- `a_batch_tells_what_next_tells`: its promises, by the lemmas of Batches.
 use Rattle.amo_c.proofs.Batches.{rest_told, end_told}
 use Rattle.amo_c.proofs.laws.a_batch_tells_what_next_tells.Goals as goal
 

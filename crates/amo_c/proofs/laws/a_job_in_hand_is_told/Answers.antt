@@ -1,3 +1,4 @@
+-- `a_job_in_hand_is_told`: its promises, by the lemmas of Tells.
 use Rattle.amo_c.proofs.Tells.{told_performs, told_doubts, told_hand}
 use Rattle.amo_c.proofs.laws.a_job_in_hand_is_told.Goals as goal
 

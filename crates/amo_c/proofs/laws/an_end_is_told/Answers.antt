@@ -1,3 +1,4 @@
+-- `an_end_is_told`: its promises, by the lemmas of Tells.
 use Rattle.amo_c.proofs.Tells.{told_over, over_is_told}
 use Rattle.amo_c.proofs.laws.an_end_is_told.Goals as goal
 

@@ -1,3 +1,4 @@
+-- `what_is_told_is_done`: its promises, by the lemmas of Tells.
 use Rattle.amo_c.proofs.Tells.{told_steps, told_leaves, told_stays}
 use Rattle.amo_c.proofs.laws.what_is_told_is_done.Goals as goal
 

@@ -1,3 +1,4 @@
+-- `execute`: the premises of its calls, directly from definitions and clauses.
 use Rattle.std.proofs.Common.{sym, ◌∙◌, subst}
 use Rattle.amo_words.specs.Rule.{AllStand}
 use Rattle.amo_words.specs.Faces.{spots}

@@ -1,3 +1,4 @@
+-- `run_on`: the premises of its calls and its promises, by the lemmas of Starts and Backs.
 use Rattle.std.proofs.Common.{List, refl, sym, subst}
 use Rattle.amo_givens.specs.declared.givens.Givens.{Givens}
 use Rattle.amo_crew.specs.Unsettling.{IsUnsettled}

@@ -1,3 +1,4 @@
+-- `prepare`: its promises, by the lemmas of Starts.
 use Rattle.std.proofs.Common.{ap, length, arith}
 use Rattle.amo_crew.proofs.Starts.{outlets_at, outlets_len}
 use Rattle.amo_crew.proofs.kit.prepare.Goals as goal

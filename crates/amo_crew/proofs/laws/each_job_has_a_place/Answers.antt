@@ -1,3 +1,4 @@
+-- `each_job_has_a_place`: its promises, by the lemmas of Once and Places.
 use Rattle.amo_crew.proofs.Once.{in_hand_once, free_once}
 use Rattle.amo_crew.proofs.Places.{has_a_place, has_a_place_or, outputs_told}
 use Rattle.amo_crew.proofs.laws.each_job_has_a_place.Goals as goal

@@ -1,3 +1,4 @@
+-- `each_job_is_answered_once`: its promises, by the lemmas of Once.
 use Rattle.amo_crew.proofs.Once.{answered_once, answered_not_in_hand, answered_not_free, in_hand_not_free}
 use Rattle.amo_crew.proofs.laws.each_job_is_answered_once.Goals as goal
 

@@ -1,3 +1,4 @@
+-- `outcome_fits`: its promises, by the lemmas of Fitted.
 use Rattle.amo_crew.proofs.Fitted.{fits_givens, workers_fit}
 use Rattle.amo_crew.proofs.laws.outcome_fits.Goals as goal
 

@@ -10,8 +10,8 @@ use crate::run::threads::Runs;
 use amo_claims::Work;
 use std::thread::{PromisedHandle, SpawnError, Threads};
 
-/// Joins the thread of a member that was to run so. Where it could not be started the member's run
-/// comes back, and was not called.
+/// Joins the thread of a member that was to run so. If it could not be started, the member's run
+/// comes back, and wasn't called.
 pub(crate) fn finish_of<'a, P: Drop, W: Work<P>, F: FnOnce() -> Ran<P, W::Out> + Drop, R: Threads>(
     rt: &R,
     _runs: Runs<'a, P, W>,

@@ -1,4 +1,4 @@
-//! How a run is settled.
+//! How the final accounting of a run is done.
 ghost use Rattle.std.specs.Prelude.{◌≡◌, IfOk, IfErr, true};
 ghost use Rattle.amo_crew.specs.Outcomes.{AllStarted};
 ghost use Rattle.amo_crew.specs.Unsettling.{IsSettledOf};
@@ -12,7 +12,7 @@ use amo_words::ClosedFloor;
 use std::alloc::Global;
 
 impl<P: Drop, Out> Unsettled<P, Out> {
-    /// What a run left.
+    /// Returns a run whose final accounting is to be done.
     pub(crate) fn new(
         floor: ClosedFloor<P>,
         ends: Vec<End>,
@@ -29,8 +29,12 @@ impl<P: Drop, Out> Unsettled<P, Out> {
         }
     }
 
-    /// Settles what the run left: the settlement is read from the words as they stand. Where there
-    /// is no memory it comes back unchanged.
+    /// Does the final accounting of the run, from the registers as they stand.
+    ///
+    /// # Errors
+    ///
+    /// If memory is refused, the run comes back unchanged. You may call it again, as often as you
+    /// like.
     pub fn settle(self, alloc: Global) -> Result<Outcome<P, Out>, Unsettled<P, Out>>
         ensures settled { IfOk result (IsSettledOf self) }
         ensures refused { IfErr result (λ u. u ≡ self) }
@@ -69,7 +73,7 @@ fn has_refused(ends: &[End]) -> bool
     )
 }
 
-/// Settles what the run left, and says whether all threads were started.
+/// Does the final accounting of the run, and returns a refusal if a thread could not be started.
 pub(crate) fn conclude<P: Drop, Out: Drop>(
     alloc: Global,
     rest: Unsettled<P, Out>,

@@ -1,3 +1,4 @@
+-- The facts that each pass of a loop of `read_at_most` keeps.
 use Rattle.std.proofs.Common.{◌≡◌, ◌≤◌, ◌-◌, vec_len}
 use Rattle.std.specs.Io.KnownBytes.{Consumes}
 use Rattle.amo_io.proofs.copying.read_at_most.Given as goal

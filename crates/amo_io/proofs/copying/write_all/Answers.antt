@@ -1,3 +1,4 @@
+-- `write_all`: its other goals, directly from definitions and clauses.
 use Rattle.std.proofs.Common.{rules, arith}
 use Rattle.std.proofs.Math.Seq.{take-add}
 use Rattle.std.proofs.KnownBytes.{Appends-trans}

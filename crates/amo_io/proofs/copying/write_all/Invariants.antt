@@ -1,3 +1,4 @@
+-- The facts that each pass of a loop of `write_all` keeps.
 use Rattle.std.proofs.Common.{◌≡◌, ◌≤◌, ◌-◌, length, take}
 use Rattle.std.specs.Io.KnownBytes.{Appends}
 use Rattle.amo_io.proofs.copying.write_all.Given as goal

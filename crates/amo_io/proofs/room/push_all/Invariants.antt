@@ -1,3 +1,4 @@
+-- The facts that each pass of a loop of `push_all` keeps.
 use Rattle.std.proofs.Common.{◌≡◌, ◌+◌, ◌++◌, take, vec_len, vec_capacity}
 use Rattle.amo_io.proofs.room.push_all.Given as goal
 

@@ -1,3 +1,4 @@
+-- `alone_takes_three_attempts`: its promises, by the lemmas of Attempts.
 use Rattle.amo_kk.proofs.Attempts.{fits_three}
 use Rattle.amo_kk.proofs.laws.alone_takes_three_attempts.Goals as goal
 

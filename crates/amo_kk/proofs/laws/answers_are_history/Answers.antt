@@ -1,3 +1,4 @@
+-- `answers_are_history`: its promises, by the lemmas of Shows.
 use Rattle.amo_kk.proofs.Shows.{turn_history, idle, left_history, kept_in_hand, gone_stays}
 use Rattle.amo_kk.proofs.laws.answers_are_history.Goals as goal
 

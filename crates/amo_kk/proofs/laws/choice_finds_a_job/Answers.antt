@@ -1,3 +1,4 @@
+-- `choice_finds_a_job`: its promises, by the lemmas of FirstChoice.
 use Rattle.amo_kk.proofs.FirstChoice.{choice_finds}
 use Rattle.amo_kk.proofs.laws.choice_finds_a_job.Goals as goal
 

@@ -1,3 +1,4 @@
+-- `claims_are_apart`: its promises, directly from definitions and clauses.
 use Rattle.amo_kk.proofs.laws.claims_are_apart.Goals as goal
 
 pub returns : goal.returns

@@ -1,3 +1,4 @@
+-- `claims_are_dones_and_in_hand`: its promises, directly from definitions and clauses.
 use Rattle.amo_kk.proofs.laws.claims_are_dones_and_in_hand.Goals as goal
 
 pub returns-clause-list : goal.returns-clause-list

@@ -1,3 +1,4 @@
+-- `first_bad_is_the_first`: its promises, by the lemmas of Claims.
 use Rattle.amo_kk.proofs.Claims.{first_bad_run, run_first_bad, first_bad_is}
 use Rattle.amo_kk.proofs.laws.first_bad_is_the_first.Goals as goal
 

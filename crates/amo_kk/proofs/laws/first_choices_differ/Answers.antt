@@ -1,3 +1,4 @@
+-- `first_choices_differ`: its promises, by the lemmas of FirstChoice.
 use Rattle.amo_kk.proofs.FirstChoice.{first_choice, first_over, ranks_rise}
 use Rattle.amo_kk.proofs.laws.first_choices_differ.Goals as goal
 

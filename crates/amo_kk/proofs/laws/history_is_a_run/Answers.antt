@@ -1,3 +1,4 @@
+-- `history_is_a_run`: its promises, by the lemmas of Worlds and Runs.
 use Rattle.amo_kk.proofs.Worlds.{always_lawful}
 use Rattle.amo_kk.proofs.Runs.{always_runs}
 use Rattle.amo_kk.proofs.laws.history_is_a_run.Goals as goal

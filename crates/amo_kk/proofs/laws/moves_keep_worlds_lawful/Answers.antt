@@ -1,3 +1,4 @@
+-- `moves_keep_worlds_lawful`: its promises, by the lemmas of Worlds and Runs.
 use Rattle.amo_kk.proofs.Worlds.{move_lawful}
 use Rattle.amo_kk.proofs.Runs.{move_goes}
 use Rattle.amo_kk.proofs.laws.moves_keep_worlds_lawful.Goals as goal

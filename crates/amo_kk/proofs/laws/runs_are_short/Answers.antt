@@ -1,3 +1,4 @@
+-- `runs_are_short`: its promises, by the lemmas of Room.
 use Rattle.amo_kk.proofs.Room.{run_is_short}
 use Rattle.amo_kk.proofs.laws.runs_are_short.Goals as goal
 

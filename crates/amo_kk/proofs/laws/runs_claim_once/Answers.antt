@@ -1,3 +1,4 @@
+-- `runs_claim_once`: its promises, by the lemmas of Claims.
 use Rattle.amo_kk.proofs.Claims.{claims_distinct, dones_distinct, done_has_claim, end_is_late}
 use Rattle.amo_kk.proofs.laws.runs_claim_once.Goals as goal
 

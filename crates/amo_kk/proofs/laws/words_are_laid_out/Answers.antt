@@ -1,3 +1,4 @@
+-- `words_are_laid_out`: its promises, by the lemmas of Words.
 use Rattle.amo_kk.proofs.Words.{turn_loads, turn_writes, leave_writes}
 use Rattle.amo_kk.proofs.laws.words_are_laid_out.Goals as goal
 

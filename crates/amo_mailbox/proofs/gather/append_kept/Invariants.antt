@@ -1,3 +1,4 @@
+-- The facts that each pass of a loop of `append_kept` keeps.
 use Rattle.std.proofs.Common.{◌≡◌, ◌<◌, ◌≤◌, ◌+◌, ◌++◌, ℕ, length, take, drop, get_or, flat_map, sum_by, vec_len, vec_capacity}
 use Rattle.amo_mailbox.specs.declared.outlet.Outlet.{Outlet}
 use Rattle.amo_mailbox.proofs.gather.append_kept.Given as goal

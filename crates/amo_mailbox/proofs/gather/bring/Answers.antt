@@ -1,3 +1,4 @@
+-- `bring`: the premises of its calls, by the lemmas of Passes.
 use Rattle.std.proofs.Common.{ap, ◌∙◌}
 use Rattle.crossbeam_queue.specs.Passes.{view}
 use Rattle.amo_mailbox.proofs.Passes.{cuts, merges}

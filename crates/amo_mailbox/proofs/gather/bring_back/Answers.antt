@@ -1,3 +1,4 @@
+-- `bring_back`: what its loop keeps, directly from definitions and clauses.
 use Rattle.std.proofs.Common.{rules, arith, ◌≡◌, ◌≢◌, ◌++◌, [], ◌∷◌, List, ℕ, map, take, length-set, get_or, ap, ◌∙◌, sym}
 use Rattle.std.proofs.Math.Seq.{map-set_same}
 use Rattle.std.proofs.lemmas.List.{map_more, get_or-set_other}

@@ -1,3 +1,4 @@
+-- The facts that each pass of a loop of `bring_back` keeps.
 use Rattle.std.proofs.Common.{◌≡◌, ◌<◌, ◌≤◌, ℕ, length, map, take, get_or}
 use Rattle.crossbeam_queue.specs.Passes.{view, IsPassOf}
 use Rattle.amo_mailbox.specs.declared.outlet.Outlet.{Outlet}

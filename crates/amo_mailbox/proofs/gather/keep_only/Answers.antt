@@ -1,3 +1,4 @@
+-- `keep_only`: its promises, directly from definitions and clauses.
 use Rattle.std.proofs.Common.{rules}
 use Rattle.std.proofs.lemmas.Fn.{filter_same}
 use Rattle.amo_mailbox.specs.declared.output.Output.{Output}

@@ -1,3 +1,4 @@
+-- `take_rest`: the premises of its calls and its promises, by the lemmas of Passes and Gathers.
 use Rattle.std.proofs.Common.{arith, ◌≡◌, List, ℕ, map, length, ap, ◌∙◌, sym}
 use Rattle.amo_mailbox.specs.declared.output.Output.{Output}
 use Rattle.amo_mailbox.specs.declared.outlet.Outlet.{Outlet}

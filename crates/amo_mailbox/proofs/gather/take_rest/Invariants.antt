@@ -1,3 +1,4 @@
+-- The facts that each pass of a loop of `take_rest` keeps.
 use Rattle.std.proofs.Common.{◌≡◌, filter, vec_capacity}
 use Rattle.crossbeam_queue.specs.Passes.{view, IsPassOf}
 use Rattle.amo_mailbox.specs.declared.pass_state.PassState.TheVariants.{Gets}

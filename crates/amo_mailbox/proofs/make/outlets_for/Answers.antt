@@ -1,3 +1,4 @@
+-- `outlets_for`: the premises of its calls and what its loop keeps, by the lemmas of Passes.
 use Rattle.std.proofs.Common.{◌+◌, map, ap, ◌∙◌, arith, rules}
 use Rattle.std.proofs.lemmas.List.Elements.{All-push}
 use Rattle.std.proofs.lemmas.List.{map_push}

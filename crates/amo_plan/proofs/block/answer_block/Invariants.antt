@@ -1,3 +1,4 @@
+-- The facts that each pass of a loop of `answer_block` keeps.
 use Rattle.std.proofs.Common.{◌≡◌, ◌≤◌, ◌+◌, map, length, vec_len, vec_capacity}
 use Rattle.std.specs.Vec.Iter.{into_iter_items}
 use Rattle.amo_plan.specs.Results.{capped_answer}

@@ -1,3 +1,4 @@
+-- `blocks_of`: what its loop keeps, by the lemmas of BlocksLemmas.
 use Rattle.std.proofs.Common.{◌≡◌, [], ◌∷◌, ◌++◌, take}
 use Rattle.std.specs.Vec.Iter.{into_iter_items}
 use Rattle.amo_plan.proofs.BlocksLemmas.{blocks_next}

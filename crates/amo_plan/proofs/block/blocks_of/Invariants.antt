@@ -1,3 +1,4 @@
+-- The facts that each pass of a loop of `blocks_of` keeps.
 use Rattle.std.proofs.Common.{◌≡◌, ◌++◌, ◌-◌}
 use Rattle.std.specs.Vec.Iter.{into_iter_items}
 use Rattle.amo_plan.specs.Blocks.{blocks_from, blocks_of}

@@ -1,3 +1,4 @@
+-- The facts that each pass of a loop of `take_tasks` keeps.
 use Rattle.std.proofs.Common.{◌≡◌, ◌++◌, length}
 use Rattle.std.specs.Vec.Iter.{into_iter_items}
 use Rattle.amo_plan.proofs.block.take_tasks.Given as goal

@@ -1,3 +1,4 @@
+-- The facts that each pass of a loop of `read_jobs` keeps.
 use Rattle.toml.specs.View.{table_view}
 use Rattle.amo_plan.specs.Jobs.{job_at}
 use Rattle.amo_plan.proofs.PassingLemmas.{Reads}

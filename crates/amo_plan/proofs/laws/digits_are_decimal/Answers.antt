@@ -1,3 +1,4 @@
+-- `digits_are_decimal`: its promises, by the lemmas of DigitsLemmas.
 use Rattle.amo_plan.proofs.DigitsLemmas.{number_is_decimal, within_is_decimal}
 use Rattle.amo_plan.proofs.laws.digits_are_decimal.Goals as goal
 

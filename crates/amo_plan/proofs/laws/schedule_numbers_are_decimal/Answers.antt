@@ -1,3 +1,4 @@
+-- `schedule_numbers_are_decimal`: its promises, by the lemmas of DigitsLemmas.
 use Rattle.std.proofs.Common.{arith}
 use Rattle.amo_plan.specs.declared.limits.TheConstants.{HIGHEST_IN_WORD}
 use Rattle.amo_plan.proofs.DigitsLemmas.{within_is_decimal}

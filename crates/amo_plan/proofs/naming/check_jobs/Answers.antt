@@ -1,3 +1,4 @@
+-- `check_jobs`: what its loop keeps and its promises, by the lemmas of NamesLemmas.
 use Rattle.std.proofs.Common.{rules, ◌≡◌, ap, ◌∙◌, [], ◌∷◌, Err}
 use Rattle.std.specs.Prelude.{◌≢◌, is_some}
 use Rattle.amo_plan.specs.declared.fault.PlanFault.TheVariants.{NoMemory}

@@ -1,3 +1,4 @@
+-- The facts that each pass of a loop of `check_jobs` keeps.
 use Rattle.std.proofs.Common.{◌≡◌, ◌+◌, List, [], drop}
 use Rattle.std.specs.Prelude.{is_some}
 use Rattle.std.specs.BTreeMap.{get_by}

@@ -1,3 +1,4 @@
+-- The facts that each pass of a loop of `part_jobs` keeps.
 use Rattle.std.proofs.Common.{◌≡◌, map}
 use Rattle.amo_plan.proofs.naming.part_jobs.Given as goal
 

@@ -1,3 +1,4 @@
+-- `block_givens`: its promises, directly from definitions and clauses.
 use Rattle.std.proofs.Common.{◌≡◌, ℕ, ap, sym, ◌∙◌}
 use Rattle.std.specs.Int.{div_ceil}
 use Rattle.amo_givens.specs.Givens.{givens_of}

@@ -1,3 +1,4 @@
+-- `plan_in`: its promises, by the lemmas of PlanLemmas.
 use Rattle.std.proofs.Common.{rules, ◌≡◌, length}
 use Rattle.toml.specs.View.{table_view}
 use Rattle.amo_plan.specs.Seen.{top_seen}

@@ -1,3 +1,4 @@
+-- `plan_with`: what its type keeps, by the lemmas of FineLemmas and WithinLemmas.
 use Rattle.std.proofs.Common.{sym, []}
 use Rattle.std.proofs.lemmas.List.{length-map}
 use Rattle.amo_plan.proofs.FineLemmas.{jobs_fit}

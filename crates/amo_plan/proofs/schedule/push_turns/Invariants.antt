@@ -1,3 +1,4 @@
+-- The facts that each pass of a loop of `push_turns` keeps.
 use Rattle.std.proofs.Common.{◌≡◌, ◌++◌, replicate}
 use Rattle.amo_givens.specs.declared.moves.Move.TheVariants.{Turn}
 use Rattle.amo_plan.proofs.schedule.push_turns.Given as goal

@@ -1,3 +1,4 @@
+-- The facts that each pass of a loop of `read_words` keeps.
 use Rattle.amo_plan.specs.Schedule.{word_at}
 use Rattle.amo_plan.proofs.PassingLemmas.{Reads}
 use Rattle.amo_plan.proofs.schedule.read_words.Given as goal

@@ -1,3 +1,4 @@
+-- `total`: its promises, directly from definitions and clauses.
 use Rattle.std.proofs.Common.{◌≡◌, sum}
 use Rattle.std.proofs.lemmas.List.{take_all}
 use Rattle.amo_plan.proofs.task.total.Goals as goal

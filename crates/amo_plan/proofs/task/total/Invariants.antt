@@ -1,3 +1,4 @@
+-- The facts that each pass of a loop of `total` keeps.
 use Rattle.std.proofs.Common.{◌≡◌, ◌≤◌, take, sum}
 use Rattle.amo_plan.proofs.task.total.Given as goal
 

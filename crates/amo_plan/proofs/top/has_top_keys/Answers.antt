@@ -1,3 +1,4 @@
+-- `has_top_keys`: what its loop keeps, by the lemmas of TreeLemmas.
 use Rattle.std.proofs.Common.{rules, ◌≡◌}
 use Rattle.std.specs.BTreeMap.{keys}
 use Rattle.amo_plan.specs.Top.{is_top_key}

@@ -1,3 +1,4 @@
+-- The facts that each pass of a loop of `has_top_keys` keeps.
 use Rattle.std.proofs.Common.{◌≡◌, string_bytes}
 use Rattle.std.specs.List.{list_all}
 use Rattle.toml.specs.View.{table_view}

@@ -1,3 +1,4 @@
+-- `add_loads`: what its loop keeps and its promises, by the lemmas of Others.
 use Rattle.std.proofs.Common.{◌+◌, ◌++◌, refl, sym, ap, ◌∙◌, arith, length}
 use Rattle.std.specs.Prelude.{map}
 use Rattle.std.proofs.lemmas.List.{length_push}

@@ -1,3 +1,4 @@
+-- `a_batch_ends_late`: its promises, by the lemmas of Ends.
 use Rattle.amo_process.proofs.Ends.{ends_late}
 use Rattle.amo_process.proofs.batch_laws.a_batch_ends_late.Goals as goal
 

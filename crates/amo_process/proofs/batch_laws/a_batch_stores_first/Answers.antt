@@ -1,3 +1,4 @@
+-- `a_batch_stores_first`: its promises, by the lemmas of Stores.
 use Rattle.amo_process.proofs.Stores.{stores_first}
 use Rattle.amo_process.proofs.batch_laws.a_batch_stores_first.Goals as goal
 

@@ -1,3 +1,4 @@
+-- `batches_are_accesses`: its promises, by the lemmas of Batches.
 use Rattle.amo_process.proofs.Batches.{rest_wanted}
 use Rattle.amo_process.proofs.batch_laws.batches_are_accesses.Goals as goal
 

@@ -1,3 +1,4 @@
+-- `batches_are_short`: its promises, by the lemmas of Short.
 use Rattle.amo_process.proofs.Short.{batch_short}
 use Rattle.amo_process.proofs.batch_laws.batches_are_short.Goals as goal
 

@@ -1,3 +1,4 @@
+-- `batches_are_within`: its promises, by the lemmas of Within.
 use Rattle.amo_process.proofs.Within.{batch_within}
 use Rattle.amo_process.proofs.batch_laws.batches_are_within.Goals as goal
 

@@ -1,3 +1,4 @@
+-- `items_are_steps`: its promises, by the lemmas of Batches.
 use Rattle.amo_process.proofs.Batches.{item_is_step}
 use Rattle.amo_process.proofs.batch_laws.items_are_steps.Goals as goal
 

@@ -1,3 +1,4 @@
+-- `a_job_is_told_once`: its promises, by the lemmas of Told.
 use Rattle.amo_process.proofs.Told.{told_once}
 use Rattle.amo_process.proofs.laws.a_job_is_told_once.Goals as goal
 

@@ -1,3 +1,4 @@
+-- `ends_are_told_late`: its promises, by the lemmas of Told.
 use Rattle.amo_process.proofs.Told.{words_are_late}
 use Rattle.amo_process.proofs.laws.ends_are_told_late.Goals as goal
 

@@ -1,3 +1,4 @@
+-- `loaded`: its promises, by the lemmas of Hearing and Stepped.
 use Rattle.std.proofs.Common.{ℕ, ◌≤◌, ◌<◌, true, List, length, get_or, drop, Some, ap, sym, subst, ◌∙◌}
 use Rattle.amo_kk.specs.Again.{are_own_words, record_again}
 use Rattle.amo_kk.specs.Machine.{LocalView}

@@ -1,3 +1,4 @@
+-- The facts that each pass of a loop of `hear_all` keeps.
 use Rattle.std.proofs.Common.{◌≡◌, drop}
 use Rattle.amo_process.specs.Heard.{record_after_all}
 use Rattle.amo_process.proofs.standing.hear_all.Given as goal

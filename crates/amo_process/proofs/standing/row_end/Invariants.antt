@@ -1,3 +1,4 @@
+-- The facts that each pass of a loop of `row_end` keeps.
 use Rattle.std.proofs.Common.{◌≡◌, ◌++◌, take, drop}
 use Rattle.amo_kk.specs.Again.{entries_of}
 use Rattle.amo_process.specs.Heard.{rest_of}

@@ -1,3 +1,4 @@
+-- `run_explored`: its promises, by the lemmas of Rounds.
 use Rattle.std.proofs.Common.{[], refl}
 use Rattle.amo_kk.specs.World.{opening_world, rounds}
 use Rattle.amo_report.specs.Explorer.{schedule}

@@ -1,3 +1,4 @@
+-- `run_schedule`: what its loop keeps, by the lemmas of Explored and Rounds.
 use Rattle.std.proofs.Common.{◌+◌, ◌%◌, [], ◌∷◌, ap}
 use Rattle.amo_givens.specs.declared.moves.Move.TheVariants.{Turn}
 use Rattle.amo_givens.specs.declared.givens.Givens.{Givens}

@@ -1,3 +1,4 @@
+-- `histories_are_lawful`: its promises, by the lemmas of Explored.
 use Rattle.amo_kk.specs.Object.{first_object}
 use Rattle.amo_kk.specs.World.{world_of}
 use Rattle.amo_report.proofs.Explored.{lawful_history}

@@ -1,3 +1,4 @@
+-- `stops_run_out`: its promises, by the lemmas of ReachedWorlds, RunOut and Stopped.
 use Rattle.amo_report.specs.Stops.{stopped}
 use Rattle.amo_report.proofs.ReachedWorlds.{reached_verdict}
 use Rattle.amo_report.proofs.RunOut.{nobody_left}

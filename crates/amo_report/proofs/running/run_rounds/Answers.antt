@@ -1,3 +1,4 @@
+-- `run_rounds`: what its loop keeps, by the lemmas of Rounds.
 use Rattle.std.proofs.Common.{◌+◌}
 use Rattle.amo_kk.specs.World.{round, rounds}
 use Rattle.amo_report.proofs.Rounds.{moves_more, rounds_more}

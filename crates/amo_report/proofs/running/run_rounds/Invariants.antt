@@ -1,3 +1,4 @@
+-- The facts that each pass of a loop of `run_rounds` keeps.
 use Rattle.std.proofs.Common.{◌≡◌}
 use Rattle.amo_kk.specs.World.{world_after_moves, rounds}
 use Rattle.amo_report.proofs.running.run_rounds.Given as goal

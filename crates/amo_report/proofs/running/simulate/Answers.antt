@@ -1,3 +1,4 @@
+-- `simulate`: the premises of its calls and its promises, by the lemmas of Rounds.
 use Rattle.std.proofs.Common.{refl, sym, ap, []}
 use Rattle.amo_kk.specs.World.{opening_world, rounds}
 use Rattle.amo_world.specs.Views.{WorldView}

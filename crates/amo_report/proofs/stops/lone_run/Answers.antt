@@ -1,3 +1,4 @@
+-- `lone_run`: no overflow, the premises of its calls and its promises, by the lemmas of ReachedWorlds and Stopped.
 use Rattle.std.proofs.Common.{◌≡◌, ◌-◌, ap, sym, subst, ◌∙◌, arith}
 use Rattle.amo_givens.specs.Givens.{IsWorker, lone_bound}
 use Rattle.amo_kk.specs.Alone.{world_after_turns}
@@ -16,7 +17,7 @@ turns_of-requires c =
     let v = c.args.world.now in
     subst (λ (g : Givens). IsWorker g c.args.p) (sym c.run_alone-alone.ensures.givens) (reached_worker v.givens _ v.world c.args.p c.requires.reached c.requires.here)
 
--- where the worker has come to rest
+-- if the worker has come to rest
 rests : (c : After-run_alone-alone) → RunsLone c.args.world.now.givens c.args.world.now.world c.args.p c.run_alone-alone.new.self.world
 rests c =
     let v = c.args.world.now in

@@ -1,3 +1,4 @@
+-- `push_stopped`: the premises of its calls, by the lemmas of Stopped.
 use Rattle.amo_plan.specs.PlanSeen.{plan_seen}
 use Rattle.amo_report.specs.Reached.{most_before_all_ends}
 use Rattle.amo_report.specs.Stops.{stopped_world}

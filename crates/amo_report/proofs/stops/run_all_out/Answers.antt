@@ -1,3 +1,4 @@
+-- `run_all_out`: the premises of its calls, by the lemmas of ReachedWorlds and Stopped.
 use Rattle.std.proofs.Common.{◌+◌, ◌*◌, ◌≤◌, subst, sym, ap, arith}
 use Rattle.amo_givens.specs.declared.givens.Givens.{Givens}
 use Rattle.amo_givens.specs.Givens.{lone_bound}

@@ -1,3 +1,4 @@
+-- The facts that each pass of a loop of `run_all_out` keeps.
 use Rattle.amo_report.specs.Stops.{all_run_out}
 use Rattle.amo_report.proofs.Stopped.{Shows}
 use Rattle.amo_report.proofs.stops.run_all_out.Given as goal

@@ -1,3 +1,4 @@
+-- The facts that each pass of a loop of `run_out` keeps.
 use Rattle.amo_report.specs.Stops.{after_lone_runs}
 use Rattle.amo_report.proofs.Stopped.{Shows}
 use Rattle.amo_report.proofs.stops.run_out.Given as goal

@@ -1,3 +1,4 @@
+-- `stop_after`: the premises of its calls, by the lemmas of WithinLemmas (amo_plan) and Rounds.
 use Rattle.std.proofs.Common.{take, ap, ◌∙◌}
 use Rattle.amo_world.specs.Views.{WorldView}
 use Rattle.amo_plan.proofs.WithinLemmas.{in_range-take}

@@ -1,3 +1,4 @@
+-- The facts that each pass of a loop of `stops_text` keeps.
 use Rattle.std.proofs.Common.{◌≡◌, map, string_bytes}
 use Rattle.std.specs.List.{flat_map}
 use Rattle.amo_plan.specs.PlanSeen.{plan_seen}

@@ -1,3 +1,4 @@
+-- `byte_of`: what its loop keeps and its promises, by the lemmas of Bytes.
 use Rattle.std.proofs.Common.{arith, ◌≡◌, ◌+◌, ◌*◌, ap, sym, ◌∙◌, ℕ}
 use Rattle.amo_sets.specs.Bits.{is_one}
 use Rattle.amo_sets.specs.Rank.{count}

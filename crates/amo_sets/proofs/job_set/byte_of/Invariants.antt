@@ -1,3 +1,4 @@
+-- The facts that each pass of a loop of `byte_of` keeps.
 use Rattle.std.proofs.Common.{◌≡◌, ◌+◌, ◌*◌, ◌≤◌}
 use Rattle.amo_sets.specs.Bits.{is_one}
 use Rattle.amo_sets.specs.Rank.{count}

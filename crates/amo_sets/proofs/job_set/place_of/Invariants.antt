@@ -1,3 +1,4 @@
+-- The facts that each pass of a loop of `place_of` keeps.
 use Rattle.std.proofs.Common.{◌≡◌, ◌+◌, ◌≤◌}
 use Rattle.amo_sets.specs.Bits.{is_one}
 use Rattle.amo_sets.specs.Rank.{count}

@@ -1,3 +1,4 @@
+-- The facts that each pass of a loop of `filled` keeps.
 use Rattle.std.proofs.Common.{◌≡◌, ◌-◌, ◌≤◌, vec_len, replicate}
 use Rattle.std.specs.Vec.{vec_capacity}
 use Rattle.amo_sets.proofs.lists.filled.Given as goal

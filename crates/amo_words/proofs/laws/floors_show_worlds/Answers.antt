@@ -1,3 +1,4 @@
+-- `floors_show_worlds`: its promises, by the lemmas of Worlds and Seats.
 use Rattle.amo_words.proofs.Worlds.{lawful}
 use Rattle.amo_words.proofs.Seats.{seen_begins, seat_only, known_of, holds_working, holds_keeping}
 use Rattle.amo_words.proofs.laws.floors_show_worlds.Goals as goal

@@ -1,3 +1,4 @@
+-- `met_ends_come_late`: its promises, by the lemmas of Meetings.
 use Rattle.amo_words.proofs.Meetings.{late_back}
 use Rattle.amo_words.proofs.laws.met_ends_come_late.Goals as goal
 

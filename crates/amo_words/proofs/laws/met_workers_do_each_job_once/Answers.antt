@@ -1,3 +1,4 @@
+-- `met_workers_do_each_job_once`: its promises, by the lemmas of Meetings.
 use Rattle.amo_words.proofs.Meetings.{back_few}
 use Rattle.amo_words.proofs.laws.met_workers_do_each_job_once.Goals as goal
 

@@ -1,3 +1,4 @@
+-- `seen_lists_begin`: its promises, by the lemmas of Worlds.
 use Rattle.std.proofs.Common.{subst}
 use Rattle.amo_words.specs.Logs.{AreOwn}
 use Rattle.amo_words.proofs.Worlds.{own_start, starts_trans}

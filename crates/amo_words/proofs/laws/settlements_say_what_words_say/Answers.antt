@@ -1,3 +1,4 @@
+-- `settlements_say_what_words_say`: its promises, by the lemmas of Told.
 use Rattle.amo_words.proofs.Told.{dones_one, claims_one, idle}
 use Rattle.amo_words.proofs.laws.settlements_say_what_words_say.Goals as goal
 

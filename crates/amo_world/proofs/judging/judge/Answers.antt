@@ -1,3 +1,4 @@
+-- `judge`: no overflow, what its loop keeps and its promises, by the lemmas of Verdicts.
 use Rattle.std.proofs.Common.{◌≡◌, ◌+◌, suc, true, get_or, drop, sym, ap, ◌∙◌, arith}
 use Rattle.amo_kk.specs.Object.{first_object, is_step, object_after}
 use Rattle.amo_kk.specs.Run.{first_bad}

@@ -1,3 +1,4 @@
+-- The facts that each pass of a loop of `judge` keeps.
 use Rattle.std.proofs.Common.{◌≡◌, take, drop}
 use Rattle.amo_kk.specs.Object.{first_object}
 use Rattle.amo_kk.specs.Run.{object_after_all, IsRun, first_bad}

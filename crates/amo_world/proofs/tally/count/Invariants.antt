@@ -1,3 +1,4 @@
+-- The facts that each pass of a loop of `count` keeps.
 use Rattle.std.proofs.Common.{◌≡◌, ◌+◌, length, drop, ◌≤◌}
 use Rattle.amo_kk.specs.Run.{claimed_jobs, done_jobs}
 use Rattle.amo_world.proofs.tally.count.Given as goal

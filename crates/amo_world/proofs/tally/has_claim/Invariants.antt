@@ -1,3 +1,4 @@
+-- The facts that each pass of a loop of `has_claim` keeps.
 use Rattle.std.proofs.Common.{◌≡◌, drop}
 use Rattle.amo_sets.specs.Sets.{has}
 use Rattle.amo_kk.specs.Run.{claimed_jobs}

@@ -1,3 +1,4 @@
+-- The facts that each pass of a loop of `first_history` keeps.
 use Rattle.std.proofs.Common.{◌≡◌, ◌+◌, ◌*◌, length}
 use Rattle.std.specs.Vec.{vec_capacity}
 use Rattle.amo_sets.specs.Lists.{table}

@@ -1,3 +1,4 @@
+-- `first_processes`: what its loop keeps, by the lemmas of Opening.
 use Rattle.std.proofs.Common.{◌≡◌, ◌∙◌, sym, subst, List, map, ◌+◌}
 use Rattle.amo_sets.specs.Lists.{table}
 use Rattle.amo_kk.specs.World.{first_process}

@@ -1,3 +1,4 @@
+-- The facts that each pass of a loop of `first_processes` keeps.
 use Rattle.std.proofs.Common.{◌≡◌, map}
 use Rattle.std.specs.Vec.{vec_capacity}
 use Rattle.amo_sets.specs.Lists.{table}

@@ -1,3 +1,4 @@
+-- The facts that each pass of a loop of `hire_all` keeps.
 use Rattle.std.proofs.Common.{◌≡◌, vec_len}
 use Rattle.amo_crew.specs.Hired.{AreHired}
 use Rattle.amo_crew.proofs.run.hiring.hire_all.Given as goal

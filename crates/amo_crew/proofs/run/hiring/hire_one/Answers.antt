@@ -1,3 +1,4 @@
+-- `hire_one`: its promises, by the lemmas of Hires.
 use Rattle.std.proofs.Common.{◌≡◌, List, length, refl, sym, ap, ◌∙◌, subst}
 use Rattle.amo_sets.specs.Lists.{numbered}
 use Rattle.amo_words.specs.Hiring.{HasHired}

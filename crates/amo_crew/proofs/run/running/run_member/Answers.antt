@@ -1,3 +1,4 @@
+-- `run_member`: what its loop keeps and its promises, by the lemmas of Runs.
 use Rattle.std.proofs.Common.{◌≡◌, ℕ, sym, ◌∙◌, ap, subst, arith}
 use Rattle.amo_kk.specs.Record.{wants_nothing}
 use Rattle.amo_words.specs.Faces.{Seated, machine}

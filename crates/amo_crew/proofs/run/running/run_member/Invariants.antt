@@ -1,3 +1,4 @@
+-- The facts that each pass of a loop of `run_member` keeps.
 use Rattle.std.proofs.Common.{◌-◌}
 use Rattle.amo_words.specs.Faces.{machine}
 use Rattle.amo_claims.specs.Calls.{worker_in}

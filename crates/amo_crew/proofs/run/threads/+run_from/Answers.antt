@@ -1,3 +1,4 @@
+-- `run_from`: the premises of its calls and its promises, by the lemmas of Zips.
 use Rattle.std.proofs.Common.{subst, Some}
 use Rattle.std.proofs.lemmas.List.Elements.{All-pop}
 use Rattle.amo_crew.specs.declared.run.member.Member.{Member}

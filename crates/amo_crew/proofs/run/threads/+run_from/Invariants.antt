@@ -1,3 +1,4 @@
+-- The facts that each pass of a loop of `run_from` keeps.
 use Rattle.std.proofs.Common.{length}
 use Rattle.amo_crew.proofs.run.threads.+run_from.Given as goal
 

@@ -1,3 +1,4 @@
+-- `run_all`: the premises of its calls, directly from definitions and clauses.
 use mathlib.Core.Bool.{Bool, true, false}
 use mir.Syntax.{of_param}
 use base.Shift.{Keyless}

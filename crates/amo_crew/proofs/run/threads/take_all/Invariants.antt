@@ -1,3 +1,4 @@
+-- The facts that each pass of a loop of `take_all` keeps.
 use Rattle.std.proofs.Common.{◌≡◌}
 use Rattle.amo_mailbox.specs.Endpoints.{IsInletOf}
 use Rattle.amo_crew.proofs.run.threads.take_all.Given as goal

@@ -1,3 +1,4 @@
+-- `call_back`: what its loop keeps and its promises, by the lemmas of Backs.
 use Rattle.std.proofs.Common.{List, Some, rules, ◌∙◌, subst}
 use Rattle.std.proofs.lemmas.List.Elements.{All-pop}
 use Rattle.amo_crew.specs.declared.run.member.Member.{Member}

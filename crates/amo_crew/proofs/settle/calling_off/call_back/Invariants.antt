@@ -1,3 +1,4 @@
+-- The facts that each pass of a loop of `call_back` keeps.
 use Rattle.std.proofs.Common.{◌≡◌, ℕ, List, All, length}
 use Rattle.amo_givens.specs.declared.givens.Givens.{Givens}
 use Rattle.amo_mailbox.specs.declared.queue.Queue.{Queue}

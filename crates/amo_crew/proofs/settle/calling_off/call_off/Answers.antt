@@ -1,3 +1,4 @@
+-- `call_off`: the premises of its calls and its promises, by the lemmas of Backs.
 use Rattle.std.proofs.Common.{ℕ, length, replicate, sym, ap, ◌∙◌, subst, arith}
 use Rattle.std.proofs.lemmas.List.{length-map}
 use Rattle.amo_givens.specs.declared.givens.Givens.{Givens}

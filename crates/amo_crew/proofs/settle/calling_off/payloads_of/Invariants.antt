@@ -1,3 +1,4 @@
+-- The facts that each pass of a loop of `payloads_of` keeps.
 use Rattle.std.proofs.Common.{◌≡◌, ◌≤◌, ◌+◌, ◌++◌, ℕ, map, length, vec_len, vec_capacity}
 use Rattle.std.specs.Vec.Iter.{into_iter_items}
 use Rattle.amo_crew.proofs.settle.calling_off.payloads_of.Given as goal

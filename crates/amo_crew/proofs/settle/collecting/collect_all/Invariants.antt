@@ -1,3 +1,4 @@
+-- The facts that each pass of a loop of `collect_all` keeps.
 use Rattle.std.proofs.Common.{◌≡◌, ◌+◌, ◌-◌, ◌≤◌, ◌++◌, ℕ, List, length, All}
 use mathlib.Core.Option.{some}
 use lib.ListN.{get_elem?}

@@ -1,3 +1,4 @@
+-- `Knowledge::knows`: its promises, by the lemmas of OpenJobs.
 use Rattle.std.proofs.Common.{◌≤◌, ap, sym, ◌∙◌, subst, length, not}
 use Rattle.amo_sets.specs.Sets.{has}
 use Rattle.amo_kk.specs.Knowledge.{KnowledgeView}

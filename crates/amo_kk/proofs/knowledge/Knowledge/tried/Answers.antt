@@ -1,3 +1,4 @@
+-- `Knowledge::tried`: its promises, by the lemmas of Sets (amo_sets).
 use Rattle.std.proofs.Common.{ap, sym, ◌∙◌}
 use Rattle.amo_sets.specs.Sets.{has}
 use Rattle.amo_sets.proofs.Sets.{has-set_of_bits}

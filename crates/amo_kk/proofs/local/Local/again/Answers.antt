@@ -1,3 +1,4 @@
+-- `Local::again`: its promises, by the lemmas of Again.
 use Rattle.std.proofs.Common.{◌≡◌, true, [], ap, arith}
 use Rattle.std.proofs.lemmas.Bool.{false_from_ne_true, and_parts}
 use Rattle.amo_kk.specs.Again.{are_new, are_own_words}

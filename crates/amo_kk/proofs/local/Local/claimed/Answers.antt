@@ -1,3 +1,4 @@
+-- `Local::claimed`: the premises of its calls and what its type keeps, by the lemmas of Holding.
 use Rattle.std.proofs.Common.{◌≡◌, ap, sym, refl, ◌∙◌, arith}
 use Rattle.std.specs.Vec.{vec_capacity}
 use Rattle.amo_kk.specs.Step.{want}

@@ -1,3 +1,4 @@
+-- `Local::done`: what its type keeps, by the lemmas of Holding.
 use Rattle.std.proofs.Common.{◌≡◌, false, ap, sym, refl, ◌∙◌}
 use Rattle.std.specs.Vec.{vec_capacity}
 use Rattle.amo_sets.specs.Sets.{has, with_number}

@@ -1,3 +1,4 @@
+-- `Local::heard_entry`: what its type keeps, by the lemmas of Holding.
 use Rattle.std.proofs.Common.{◌≡◌, ◌+◌, ◌-◌, List, ℕ, set, ap, sym, refl, subst, ◌∙◌, arith}
 use Rattle.std.specs.Vec.{vec_capacity}
 use Rattle.amo_sets.specs.Sets.{with_number}

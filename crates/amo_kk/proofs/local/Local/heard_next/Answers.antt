@@ -1,3 +1,4 @@
+-- `Local::heard_next`: what its type keeps, by the lemmas of Holding.
 use Rattle.std.proofs.Common.{◌≡◌, ◌≤◌, ap, sym, refl, subst, ◌∙◌}
 use Rattle.std.specs.Vec.{vec_capacity}
 use Rattle.amo_kk.specs.Step.{want_in, with_announced, record_at_announcement, MayLoad}

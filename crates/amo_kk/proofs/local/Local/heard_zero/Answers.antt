@@ -1,3 +1,4 @@
+-- `Local::heard_zero`: what its type keeps, by the lemmas of Holding.
 use Rattle.std.proofs.Common.{◌≡◌, ap, sym, refl, ◌∙◌}
 use Rattle.std.specs.Vec.{vec_capacity}
 use Rattle.amo_kk.specs.Step.{want, record_at_row}

@@ -1,3 +1,4 @@
+-- `Local::in_doubt`: the premises of its calls and its promises, by the lemmas of Fit and Holding.
 use Rattle.std.proofs.Common.{◌≡◌, ℕ, List, [], ◌∷◌, ◌++◌, length, ap, sym, subst, ◌∙◌, arith}
 use Rattle.std.proofs.lemmas.List.{length_push}
 use Rattle.std.specs.Vec.{vec_capacity}

@@ -1,3 +1,4 @@
+-- `Local::leave`: what its type keeps, by the lemmas of Holding.
 use Rattle.std.proofs.Common.{◌≡◌, true, ap, ◌∙◌}
 use Rattle.std.specs.Vec.{vec_capacity}
 use Rattle.amo_kk.specs.Record.{can_leave}

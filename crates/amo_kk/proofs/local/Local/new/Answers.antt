@@ -1,3 +1,4 @@
+-- `Local::new`: the premises of its calls and its promises, by the lemmas of Bits.
 use Rattle.std.proofs.Common.{[], ap, sym, ◌∙◌}
 use Rattle.amo_kk.specs.Again.{set_of, are_new, record_of_dones}
 use Rattle.amo_kk.specs.Choice.{record_after_choice}

@@ -1,3 +1,4 @@
+-- `Local::rested`: the premises of its calls and its promises, by the lemmas of Fit and Holding.
 use Rattle.std.proofs.Common.{◌≡◌, ℕ, List, ap, sym, subst, ◌∙◌}
 use Rattle.std.specs.Vec.{vec_capacity}
 use Rattle.amo_kk.specs.Choice.{record_after_choice}

@@ -1,3 +1,4 @@
+-- `Local::want`: its promises, by the lemmas of Wants.
 use Rattle.std.proofs.Common.{◌≡◌, length, arith, sym, ap, ◌∙◌, subst}
 use Rattle.amo_kk.specs.Machine.{LocalView}
 use Rattle.amo_kk.specs.Step.{want_in}

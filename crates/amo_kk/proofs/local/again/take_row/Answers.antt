@@ -1,3 +1,4 @@
+-- `take_row`: what its loop keeps, by the lemmas of Again.
 use Rattle.std.proofs.Common.{◌≡◌, ℕ, ◌+◌, true, not, ◌&&◌, List, [], ◌∷◌, ◌++◌, take, drop, get_or, ap, sym, ◌∙◌}
 use Rattle.std.proofs.lemmas.List.{take_more, drop_more}
 use Rattle.amo_sets.specs.Sets.{has, with_number}

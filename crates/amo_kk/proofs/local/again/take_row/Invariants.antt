@@ -1,3 +1,4 @@
+-- The facts that each pass of a loop of `take_row` keeps.
 use Rattle.std.proofs.Common.{◌≡◌, [], take, drop}
 use Rattle.std.specs.Vec.{vec_capacity}
 use Rattle.amo_kk.specs.Again.{set_of, are_new}

@@ -1,3 +1,4 @@
+-- `Inlet::gather`: the premises of its calls and its promises, by the lemmas of Gathers and Ended.
 use Rattle.std.proofs.Common.{rules, arith, ◌≡◌, ◌++◌, List, map, ap, ◌∙◌}
 use Rattle.std.proofs.lemmas.List.Sorted.{All-permutation, IsNonDecreasingBy-from_sort_by_key}
 use Rattle.crossbeam_queue.specs.Passes.{view}

@@ -1,3 +1,4 @@
+-- `Inlet::take`: the premises of its calls and its promises, by the lemmas of Passes.
 use Rattle.std.proofs.Common.{List, [], ◌∷◌, ◌++◌, ap, ◌∙◌}
 use Rattle.crossbeam_queue.specs.Passes.{view}
 use Rattle.amo_mailbox.specs.declared.output.Output.{Output}

@@ -1,3 +1,4 @@
+-- `Outlet::put`: the premises of its calls, by the lemmas of Passes.
 use Rattle.std.proofs.Common.{ap, sym, ◌∙◌, ℕ}
 use Rattle.crossbeam_queue.specs.Passes.{view}
 use Rattle.amo_mailbox.specs.Ports.{OutletView}

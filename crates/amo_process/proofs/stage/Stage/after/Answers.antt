@@ -1,3 +1,4 @@
+-- `Stage::after`: its promises, directly from definitions and clauses.
 use Rattle.std.proofs.Common.{sym, ap, ◌∙◌}
 use Rattle.amo_process.specs.Stepped.{standing_after}
 use Rattle.amo_process.specs.Stage.{standing_in_stage}

@@ -1,3 +1,4 @@
+-- The facts that each pass of a loop of `JobSet::count_without` keeps.
 use Rattle.std.proofs.Common.{◌≡◌, ◌*◌}
 use Rattle.amo_sets.specs.Bits.{is_without}
 use Rattle.amo_sets.proofs.Tally.{tally}

@@ -1,3 +1,4 @@
+-- `JobSet::covers`: its promises, by the lemmas of Shown.
 use Rattle.std.proofs.Common.{arith}
 use Rattle.std.proofs.lemmas.Bool.Decides.{nat_tests}
 use Rattle.amo_sets.proofs.Shown.{length_of}

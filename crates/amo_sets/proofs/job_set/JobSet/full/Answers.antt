@@ -1,3 +1,4 @@
+-- `JobSet::full`: what its type keeps and its promises, by the lemmas of Tables, Full and Numbers.
 use Rattle.std.proofs.Common.{rules, arith, ◌≡◌, ◌+◌, ◌-◌, ◌*◌, ◌/◌, ◌%◌, ◌^◌, ◌<◌, ℕ, replicate, ap, sym, ◌∙◌, true}
 use Rattle.std.proofs.lemmas.Nat.{pow_below}
 use Rattle.std.specs.Vec.{vec_len, vec_capacity}

@@ -1,3 +1,4 @@
+-- `JobSet::has`: the premises of its calls and its promises, by the lemmas of Shown.
 use Rattle.std.proofs.Common.{◌≡◌, ◌-◌, ◌/◌, ◌%◌, ◌^◌, ◌<◌, ℕ, suc, List, length, get_or, eqb, bit_and, arith, ap, ◌∙◌, sym}
 use Rattle.std.specs.Int.{bit_at}
 use Rattle.std.proofs.lemmas.List.{get_or_read}

@@ -1,3 +1,4 @@
+-- `JobSet::len`: its promises, by the lemmas of Shown.
 use Rattle.amo_sets.proofs.Shown.{kept_is}
 use Rattle.amo_sets.proofs.job_set.JobSet.len.Goals as goal
 

@@ -1,3 +1,5 @@
+-- `JobSet::rank_without`: no overflow, the premises of its calls, what its loop keeps and its promises, by the lemmas of
+-- Numbers, Ranks, Shown, Tally and Without.
 use Rattle.std.proofs.Common.{rules, arith, ⊎_elim, refl, true≢false, ◌≡◌, ◌<◌, ◌*◌, ◌+◌, length, sym, inl, inr}
 use Rattle.amo_sets.specs.Bits.{is_without}
 use Rattle.amo_sets.specs.Rank.{count}
@@ -44,7 +46,7 @@ loop-q-preserved c =
     let step = word_counted c.args.self.now c.args.other.now c.loop-q.q c.word_without-word.result c.word_without-word.ensures (search rules) in
     record { before = omega (arith, c.loop-q.invariant.before); some = omega arith }
 
--- where all words were passed, fewer than i are left
+-- if all words were passed, fewer than i are left
 too_few : (c : goal.After-loop-q) → count (length c.args.self.now) (is_without c.args.self.now c.args.other.now) < c.args.i
 too_few c =
     let n = length_of c.self.inside c.args.self.now c.self.view_is in

@@ -1,3 +1,4 @@
+-- `JobSet::words`: its promises, by the lemmas of Shown.
 use Rattle.std.proofs.Common.{◌≡◌, ◌+◌, ◌/◌, ℕ, List, length, ap, ◌∙◌, sym, arith}
 use Rattle.amo_sets.specs.Bits.{bit}
 use Rattle.amo_sets.proofs.Shown.{length_of, bits_are}

@@ -1,3 +1,4 @@
+-- `ClosedFloor::announcement`: its promises, by the lemmas of Told.
 use Rattle.amo_kk.specs.Words.{next_word}
 use Rattle.amo_words.proofs.Told.{word_at}
 use Rattle.amo_words.proofs.floor.ClosedFloor.announcement.Goals as goal

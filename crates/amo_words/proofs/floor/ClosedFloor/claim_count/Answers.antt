@@ -1,3 +1,4 @@
+-- `ClosedFloor::claim_count`: its promises, by the lemmas of Told.
 use Rattle.amo_kk.specs.Words.{claim_word}
 use Rattle.amo_words.proofs.Told.{word_at}
 use Rattle.amo_words.proofs.floor.ClosedFloor.claim_count.Goals as goal

@@ -1,3 +1,4 @@
+-- The facts that each pass of a loop of `ClosedFloor::drop` keeps.
 use Rattle.std.proofs.Common.{◌≡◌, ℕ, ◌<◌, false, get_or}
 use Rattle.std.specs.Mem.Slots.{slots_filled, slots_len}
 use Rattle.std.specs.Mem.Slots.Ownership.{Filled}

@@ -1,3 +1,4 @@
+-- `ClosedFloor::entry`: its promises, by the lemmas of Told.
 use Rattle.amo_kk.specs.Words.{done_word}
 use Rattle.amo_words.proofs.Told.{word_at}
 use Rattle.amo_words.proofs.floor.ClosedFloor.entry.Goals as goal

@@ -1,3 +1,4 @@
+-- `ClosedFloor::fill`: the premises of its calls and its promises, by the lemmas of Whole and Told.
 use Rattle.std.proofs.Common.{◌≡◌, ℕ, List, map, ap, sym, subst, ◌∙◌, Vec, Global, length, replicate, get_or, false, arith}
 use Rattle.std.specs.Mem.Slots.{slots_items}
 use Rattle.std.proofs.lemmas.List.{get_or-replicate, length-replicate}

@@ -1,3 +1,4 @@
+-- `ClosedFloor::settle`: its promises, by the lemmas of Told.
 use Rattle.amo_words.proofs.Told.{whole_of}
 use Rattle.amo_words.proofs.floor.ClosedFloor.settle.Goals as goal
 

@@ -1,3 +1,4 @@
+-- `Floor::close`: what its type keeps and its promises, by the lemmas of Whole.
 use Rattle.std.proofs.Common.{◌≡◌, List, ap, refl, sym, subst, ◌∙◌}
 use Rattle.std.specs.Mem.Slots.{slots_items}
 use Rattle.amo_givens.specs.declared.givens.Givens.{Givens}

@@ -1,3 +1,4 @@
+-- `Worker::step`: the premises of its calls, by the lemmas of Workers.
 use Rattle.std.proofs.Common.{◌≡◌, arith, ap, sym, ◌∙◌, subst}
 use Rattle.amo_kk.specs.Fits.{WantFits}
 use Rattle.amo_kk.specs.Words.{done_word}

@@ -1,3 +1,4 @@
+-- `State::follow`: its promises, by the lemmas of Holding (amo_kk) and Unclaimed.
 use Rattle.std.proofs.Common.{◌≤◌, false, sym, ap, ◌∙◌, arith}
 use Rattle.amo_sets.specs.Sets.{set_of_bits}
 use Rattle.amo_kk.specs.Object.{is_step, object_after}

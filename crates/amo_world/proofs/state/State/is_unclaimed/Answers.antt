@@ -1,3 +1,4 @@
+-- `State::is_unclaimed`: its promises, by the lemmas of Bits (amo_kk).
 use Rattle.std.proofs.Common.{◌≡◌, ◌-◌, ◌<◌, length, false, sym, ap, ◌∙◌, arith}
 use Rattle.std.proofs.lemmas.List.{get_or_default}
 use Rattle.amo_sets.specs.Sets.{has}

@@ -1,3 +1,4 @@
+-- `World::history`: its promises, by the lemmas of Claims (amo_kk).
 use Rattle.std.proofs.Common.{subst}
 use Rattle.amo_kk.specs.Object.{first_object}
 use Rattle.amo_kk.specs.Run.{IsRun}

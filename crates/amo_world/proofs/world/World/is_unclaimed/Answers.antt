@@ -1,3 +1,4 @@
+-- `World::is_unclaimed`: its promises, by the lemmas of Counts (amo_kk).
 use Rattle.std.proofs.Common.{ap, ◌∙◌, not}
 use Rattle.amo_sets.specs.Sets.{has}
 use Rattle.amo_kk.specs.Run.{claimed_jobs}

@@ -1,3 +1,4 @@
+-- `World::loaded`: its promises, by the lemmas of Places.
 use Rattle.std.proofs.Common.{◌≤◌, length, arith}
 use Rattle.amo_world.specs.Processes.{process_of}
 use Rattle.amo_world.proofs.Places.{next_found, entry_fits, entry_found}

@@ -1,3 +1,4 @@
+-- `World::new`: what its type keeps, by the lemmas of Opening.
 use Rattle.std.specs.Vec.{vec_capacity}
 use Rattle.amo_world.proofs.Opening.{opening_kept}
 use Rattle.amo_world.proofs.world.World.new.Goals as goal

@@ -1,3 +1,4 @@
+-- `World::process`: its promises, directly from definitions and clauses.
 use Rattle.std.proofs.Common.{◌+◌, sym, ap, ◌∙◌, subst}
 use Rattle.std.specs.Vec.{vec_capacity}
 use Rattle.amo_givens.specs.Givens.{IsWorker}

@@ -1,3 +1,4 @@
+-- `World::run_alone`: no overflow, what its loop keeps and its promises, by the lemmas of Resting.
 use Rattle.std.proofs.Common.{◌≡◌, ⊎_elim, true, false, subst, ap, ◌∙◌, arith}
 use Rattle.amo_kk.specs.Lawful.{IsLawful}
 use Rattle.amo_world.specs.declared.answer.Alone.{Alone}

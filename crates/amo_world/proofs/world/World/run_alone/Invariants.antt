@@ -1,3 +1,4 @@
+-- The facts that each pass of a loop of `World::run_alone` keeps.
 use Rattle.std.proofs.Common.{◌≡◌, ◌-◌, ◌≤◌}
 use Rattle.amo_givens.specs.Givens.{lone_bound}
 use Rattle.amo_world.proofs.Resting.{IsUnderWay}

@@ -1,3 +1,4 @@
+-- `Unsettled::settle`: its promises, directly from definitions and clauses.
 use Rattle.std.proofs.Common.{refl, subst}
 use Rattle.amo_crew.specs.Unsettling.{UnsettledView, IsSettledOf}
 use Rattle.amo_crew.proofs.settle.unsettled.Unsettled.settle.Goals as goal

@@ -1,3 +1,4 @@
+-- `conclude`: its promises, by the lemmas of Crews.
 use Rattle.std.proofs.Common.{sym, ap, ◌∙◌}
 use Rattle.amo_crew.specs.Refusing.{any_refused}
 use Rattle.amo_crew.proofs.Crews.{some_refused, all_started}
