@@ -20,7 +20,7 @@ on_terminal() (
 show_help() {
   local name word version
   read -r version <VERSION
-  for name in amo amo_show amo_worker amo_jobs; do
+  for name in amo amo_show amo_worker amo_jobs amo_share; do
     expect "./$name --version" 0 "$(lines "$name $version")" /dev/null "./$name" --version </dev/null
   done
   for name in amo amo_show; do
