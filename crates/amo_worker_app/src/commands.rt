@@ -1,6 +1,4 @@
 //! The whole program: its commands, its messages, and the statuses with which it ends.
-use crate::damage::show_damage;
-use crate::follow::follow;
 use crate::operator::{carry_out, said_by, said_in};
 use crate::remote::work_by_lines;
 use crate::worker::work;
@@ -10,6 +8,7 @@ use amo_run_dir::{
     Age, Fault, Item, ListSettings, Setting, look_at_folder, look_to_read, look_to_write, open,
     written,
 };
+use amo_run_views::{follow, show_damage};
 use amo_status::{Counts, Said, status_text};
 use amo_worker_args::{Misuse, Request, asked};
 use clap::Error;

@@ -3,8 +3,6 @@
 #![tactic(auto)]
 
 mod commands;
-mod damage;
-mod follow;
 mod operator;
 mod remote;
 mod worker;

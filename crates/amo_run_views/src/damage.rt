@@ -13,7 +13,7 @@ type Named = (u64, u64, u64);
 ///
 /// # Errors
 /// `DamagedRun` if something is wrong.
-pub(crate) fn show_damage(rt: HostRuntime, setting: &Setting<'_>) -> Result<(), Fault> {
+pub fn show_damage(rt: HostRuntime, setting: &Setting<'_>) -> Result<(), Fault> {
     let run = look_for_damage(rt, setting)?;
     print_run(rt, &run)?;
     if run.is_damaged() {

@@ -51,7 +51,7 @@ struct FollowedRun<'a> {
 /// # Errors
 /// As [`look_to_read`], and `OldRun` if version 0.1.0 has made the folder. `Later` if a journal
 /// can't be read on: then the same command begins anew. `Write` if the output is closed.
-pub(crate) fn follow(rt: HostRuntime, setting: &Setting<'_>, is_once: bool) -> Result<(), Fault> {
+pub fn follow(rt: HostRuntime, setting: &Setting<'_>, is_once: bool) -> Result<(), Fault> {
     if look_to_read(rt, setting)? == Age::Old {
         return Err(Fault::OldRun);
     }
