@@ -1,3 +1,5 @@
+-- `close_end`: the premises of its calls and its promises, by the lemmas of Moments, Whole, Parts,
+-- Results and Ending.
 use Rattle.std.proofs.Common.{◌∷◌, [], ℕ, ◌≤◌, List, length, refl, ap, arith, length-take}
 use Rattle.amo_journal.specs.Device.{AgreesBut, Holds, IsOutside, LeavesOnly}
 use Rattle.amo_journal.specs.Texts.{texts_in}

@@ -1,3 +1,5 @@
+-- `open_again`: the premises of its calls, that its numbers fit and its promises, by the lemmas of
+-- Moments, Parts, Ending, Results, Opening and Whole.
 use Rattle.std.proofs.Common.{◌≡◌, ◌-◌, ◌+◌, ◌≤◌, ℕ, List, length, ⊎_elim, refl, sym, ap, subst, arith, rules}
 use Rattle.amo_journal.specs.Texts.{texts_in, blocks}
 use Rattle.amo_journal.specs.Journal.{IsNear, IsUnsure, IsWhole, StaysNear}

@@ -1,3 +1,4 @@
+-- The facts that each pass of a loop of `with_lines` keeps.
 use Rattle.std.proofs.Common.{◌≡◌, map, drop, length}
 use Rattle.amo_judge.specs.History.{first_history, with_lines}
 use Rattle.amo_judge.proofs.reading.with_lines.Given as goal

@@ -1,3 +1,4 @@
+-- The facts that each pass of a loop of `claimed_marks` keeps.
 use Rattle.std.proofs.Common.{◌≡◌, ◌≤◌, ℕ, ◌||◌, false, drop, vec_len}
 use Rattle.amo_sets.specs.Lists.{numbered}
 use Rattle.amo_sets.specs.Sets.{has}
