@@ -45,8 +45,8 @@ fn status_of_command<R: Sync, C: Command<R>, S: Source, W: Sink, E: Sink>(
     }
 }
 
-/// The same of the command that these words ask for, the program's name first; 2 where they are
-/// none: then nothing is read or written to `out`.
+/// Returns the same of the command that these words ask for, the program's name first; 2 where they
+/// are none: then nothing is read or written to `out`.
 fn status_of_words<R: Sync, C: Command<R>, S: Source, W: Sink, E: Sink>(
     rt: &R,
     alloc: Global,
@@ -71,10 +71,10 @@ fn status_of_words<R: Sync, C: Command<R>, S: Source, W: Sink, E: Sink>(
     }
 }
 
-/// The whole program on the words that the system gives it, its own name first, and its streams:
-/// does what the words after the name ask for, and answers the exit status: 0 where it was done, 1
-/// where the plan was refused, 2 where the words are no command, 3 where memory or a thread was
-/// refused, 4 where a read or a write failed. With each but 0 one line is written to `err` and
+/// Returns the whole program on the words that the system gives it, its own name first, and its
+/// streams: does what the words after the name ask for, and answers the exit status: 0 where it was
+/// done, 1 where the plan was refused, 2 where the words are no command, 3 where memory or a thread
+/// was refused, 4 where a read or a write failed. With each but 0 one line is written to `err` and
 /// passed on; that this fails changes nothing. Where the words are no command nothing is read or
 /// written to `out`. Where the system can't give the words, since memory for them is refused or one
 /// of them isn't UTF-8, that is out of memory, before anything is read. Neither `reader` nor `out`

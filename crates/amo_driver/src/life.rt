@@ -26,8 +26,8 @@ pub(crate) struct Life {
 }
 
 impl Life {
-    /// A process of worker p that has done nothing, in whose journal the next intent has this
-    /// serial number.
+    /// Returns a process of worker p that has done nothing, in whose journal the next intent has
+    /// this serial number.
     pub(crate) fn new(
         alloc: Global,
         givens: Givens,
@@ -46,7 +46,7 @@ impl Life {
         })
     }
 
-    /// The next access of the process, and what is due between it and the one after.
+    /// Returns the next access of the process, and what is due between it and the one after.
     pub(crate) fn turn<O: Outside>(&mut self, outside: &mut O) -> Result<Option<LifeEnd>, Stop>
         requires goes { IsGoing (O.stands outside.old) self.old }
         ensures turns { IfOk result (λ end. TurnsTo (O.stands outside.new) self.new end) }

@@ -171,7 +171,7 @@ impl Run {
         }
     }
 
-    /// The line of a job, or 0.
+    /// Returns the line of a job, or 0.
     fn line_of(&self, job: u32) -> u64 {
         match self.lines.get(job.saturating_sub(1) as usize) {
             Some(line) => *line,
@@ -302,7 +302,7 @@ impl Past for Run {
     }
 }
 
-/// The entry of an answer.
+/// Returns the entry of an answer.
 fn answer_entry(serial: u64, answer: Became) -> Entry {
     let answer = match answer {
         Became::Done(code) => Outcome::Done { code, time: 0 },
@@ -396,13 +396,13 @@ fn first() -> Checksum {
     Checksum::first(b"run", b"journal")
 }
 
-/// The journal that a file holds.
+/// Returns the journal that a file holds.
 fn attempts_in(alloc: Global, file: &[u8]) -> Result<Vec<Attempt>, Fail> {
     let log = read_log(alloc, &first(), file)?;
     Ok(read_attempts(alloc, LINES, &log.records)?)
 }
 
-/// The lines that are open by these files.
+/// Returns the lines that are open by these files.
 fn open_by(alloc: Global, files: &[Vec<u8>]) -> Result<Vec<u64>, Fail> {
     let mut journals = Vec::new(alloc);
     for file in files {
@@ -411,7 +411,7 @@ fn open_by(alloc: Global, files: &[Vec<u8>]) -> Result<Vec<u64>, Fail> {
     Ok(open_lines(alloc, &[], &journals, LINES as usize)?)
 }
 
-/// The entries in a file, as texts without checksums, up to the first gate that is closed.
+/// Returns the entries in a file, as texts without checksums, up to the first gate that is closed.
 fn texts_by_eye<'a>(alloc: Global, file: &'a [u8]) -> Result<Vec<&'a str>, Fail> {
     let mut texts = Vec::new(alloc);
     for line in str::from_utf8(file)?.split_inclusive('\n') {
@@ -430,7 +430,7 @@ fn texts_by_eye<'a>(alloc: Global, file: &'a [u8]) -> Result<Vec<&'a str>, Fail>
     Ok(texts)
 }
 
-/// How many intents in a file have no answer: each answer is of one.
+/// Returns how many intents in a file have no answer: each answer is of one.
 fn pending_by_eye(alloc: Global, file: &[u8]) -> Result<usize, Fail> {
     let texts = texts_by_eye(alloc, file)?;
     let intents = texts
@@ -493,7 +493,7 @@ fn came_of(alloc: Global, call: &Call, chance: &mut Chance) -> Result<Vec<u8>, A
     Ok(came)
 }
 
-/// A whole run: three rounds of six lives each.
+/// Returns a whole run: three rounds of six lives each.
 fn three_rounds(alloc: Global, seed: u64, cut_at: u64, is_prompt: bool) -> Result<Run, Fail> {
     let mut run = Run::new(alloc, seed, cut_at, is_prompt)?;
     for _ in 0..3 {

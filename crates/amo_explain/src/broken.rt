@@ -23,7 +23,8 @@ const KINDS: [ErrorKind; 13] = [
     ErrorKind::Extend,
 ];
 
-/// The line and the column, both from 1, of the byte with this index. A column counts characters.
+/// Returns the line and the column, both from 1, of the byte with this index. A column counts
+/// characters.
 fn place_of(bytes: &[u8], index: usize) -> (usize, usize) {
     let mut line = 1usize;
     let mut column = 1usize;
@@ -41,7 +42,7 @@ fn place_of(bytes: &[u8], index: usize) -> (usize, usize) {
     (line, column)
 }
 
-/// The kind that has this description, if it is one of these.
+/// Returns the kind that has this description, if it is one of these.
 fn kind_of(message: &str) -> Option<ErrorKind> {
     for kind in KINDS {
         if kind.description() == message {
@@ -56,7 +57,7 @@ fn is_mark(c: char) -> bool {
     matches!(c, '{' | '}' | '[' | ']' | ',' | '=' | ':' | '#')
 }
 
-/// The front of a text, up to this index.
+/// Returns the front of a text, up to this index.
 fn front(text: &str, index: usize) -> &str {
     match text.split_at_checked(index) {
         Some((front, _)) => front,
@@ -64,7 +65,7 @@ fn front(text: &str, index: usize) -> &str {
     }
 }
 
-/// The first word of a text, or its first character where that is a mark.
+/// Returns the first word of a text, or its first character where that is a mark.
 fn first_word(text: &str) -> &str {
     for (i, c) in text.char_indices() {
         if i == 0 && is_mark(c) {

@@ -10,7 +10,7 @@ use amo_plan::{Plan, PlanFault, read_plan};
 use amo_render::fault_text;
 use std::alloc::{AllocError, Global};
 
-/// The line `taken`, and what the plan asks for.
+/// Returns the line `taken`, and what the plan asks for.
 fn taken(alloc: Global, plan: &Plan) -> Result<String, AllocError>
     ensures { IfOk result (λ s. BeginsWith (codes "taken\n") (string_bytes s)) }
 {
@@ -20,7 +20,7 @@ fn taken(alloc: Global, plan: &Plan) -> Result<String, AllocError>
     Ok(text)
 }
 
-/// The line of a fault of these bytes, and what is wrong.
+/// Returns the line of a fault of these bytes, and what is wrong.
 fn refused(alloc: Global, bytes: &[u8], fault: &PlanFault) -> Result<String, AllocError>
     ensures { IfOk result (λ s. BeginsWith (fault_line fault.now) (string_bytes s)) }
 {

@@ -7,7 +7,7 @@ use std::alloc::AllocError;
 const NAME_RULE: &str =
     " A name has 1 to 64 characters: letters from a to z and A to Z, digits, `_`, `-` and `.`.\n";
 
-/// The first job before this one that has its name.
+/// Returns the first job before this one that has its name.
 fn namesake(document: &Document<'_>, job: u32) -> Option<u32> {
     let name = document.name_of_job(job)?;
     for other in 1..job {

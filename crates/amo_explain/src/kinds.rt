@@ -32,7 +32,7 @@ fn push_number(
     write!(out, " Write it as `{example}`.\n")
 }
 
-/// The value at a key, if it is no whole number.
+/// Returns the value at a key, if it is no whole number.
 fn no_natural<'a>(document: &'a Document<'_>, key: &str) -> Option<&'a Value> {
     let value = document.value(key)?;
     match natural(value) {

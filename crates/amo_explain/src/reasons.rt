@@ -32,7 +32,7 @@ fn push_reason(
     }
 }
 
-/// Why these bytes are no plan, as this fault says it.
+/// Returns why these bytes are no plan, as this fault says it.
 pub(crate) fn reason_of(
     alloc: Global,
     bytes: &[u8],

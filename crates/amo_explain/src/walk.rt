@@ -77,7 +77,7 @@ fn ends_value(byte: u8) -> bool {
     matches!(byte, 0 | b'\n' | b'\r' | b',' | b']' | b'}' | b'#')
 }
 
-/// How many brackets are open after this byte.
+/// Returns how many brackets are open after this byte.
 fn depth_after(depth: usize, byte: u8) -> usize {
     match byte {
         b'[' | b'{' => depth.saturating_add(1),
@@ -107,7 +107,7 @@ fn after_value(alloc: Global, text: &str) -> Result<&str, AllocError> {
     Ok(rest)
 }
 
-/// A key and what follows it, if one stands at the front.
+/// Returns a key and what follows it, if one stands at the front.
 fn key_at(alloc: Global, text: &str) -> Result<Option<(Key, &str)>, AllocError> {
     match dotted_key(alloc, text) {
         Ok((key, rest)) => Ok(Some((key, rest))),
@@ -116,7 +116,7 @@ fn key_at(alloc: Global, text: &str) -> Result<Option<(Key, &str)>, AllocError> 
     }
 }
 
-/// The first part of a key that may have dots.
+/// Returns the first part of a key that may have dots.
 fn first_part(key: &Key) -> &str {
     match key.path.first() {
         Some(part) => part.as_str(),
@@ -124,7 +124,7 @@ fn first_part(key: &Key) -> &str {
     }
 }
 
-/// The second part.
+/// Returns the second part.
 fn second_part(key: &Key) -> Option<&str> {
     if key.path.is_empty() {
         return None;
@@ -157,7 +157,7 @@ struct Walk<'a> {
 }
 
 impl<'a> Walk<'a> {
-    /// The walk before its first key.
+    /// Returns the walk before its first key.
     fn new(alloc: Global, text: &'a str) -> Walk<'a> {
         Walk {
             alloc,
@@ -273,8 +273,8 @@ impl<'a> Walk<'a> {
     }
 }
 
-/// The keys that a text names, in its order. A text that TOML doesn't read is walked over as far as
-/// it can be.
+/// Returns the keys that a text names, in its order. A text that TOML doesn't read is walked over
+/// as far as it can be.
 pub(crate) fn names_in(alloc: Global, text: &str) -> Result<Vec<Named>, AllocError> {
     let mut walk = Walk::new(alloc, text);
     for _step in 0..text.len() {

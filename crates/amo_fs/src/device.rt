@@ -22,8 +22,8 @@ pub struct FileDevice {
 }
 
 impl FileDevice {
-    /// The device over a file, all of which it reads. An error is the system's, or a want of
-    /// memory.
+    /// Returns the device over a file, all of which it reads. An error is the system's, or a want
+    /// of memory.
     pub fn open(alloc: Global, mut file: File) -> io::Result<FileDevice> {
         let mut bytes = Vec::new(alloc);
         file.read_to_end(&mut bytes)?;

@@ -56,7 +56,7 @@ pub trait Device {
     /// How often the disk has failed.
     ghost faults: { Self → ℕ };
 
-    /// All the bytes.
+    /// Returns all the bytes.
     fn read(&mut self, alloc: Global) -> Result<Vec<u8>, DeviceError>
         ensures bytes { IfOk result (λ bytes. bytes.items ≡ seen self.old) }
         ensures seen { seen self.new ≡ seen self.old }

@@ -29,7 +29,7 @@ fn add(set: &mut JobSet, job: u32)
     }
 }
 
-/// The numbers of `1..=jobs` that a list has, as a set.
+/// Returns the numbers of `1..=jobs` that a list has, as a set.
 #[tactic(auto, using(amo_render::proofs::Marks::marked_more))]
 fn set_of(alloc: Global, jobs: u32, list: &[u32]) -> Result<JobSet, AllocError>
     ensures { IfOk result (IsSetOf jobs list.now) }
@@ -65,7 +65,7 @@ fn is_in(sets: &[JobSet], number: u32, job: u32) -> bool
     }
 }
 
-/// The output that stays noted: the earlier, unless the later is of a lesser worker.
+/// Returns the output that stays noted: the earlier, unless the later is of a lesser worker.
 fn kept(earlier: Option<BlockDone>, later: BlockDone) -> BlockDone
     ensures { result ≡ kept earlier later }
 {
@@ -145,7 +145,7 @@ pub(crate) fn count_filed(filed: &[Option<BlockDone>]) -> usize
     count
 }
 
-/// How many jobs these blocks have.
+/// Returns how many jobs these blocks have.
 pub(crate) fn count_filed_jobs(filed: &[Option<BlockDone>], block: u32, jobs: usize) -> u64
     requires { length filed.now < 2 ^ 32 }
     ensures { result ≡ sum_by (jobs_in_block block jobs) (filed_blocks filed.now (length filed.now)) }

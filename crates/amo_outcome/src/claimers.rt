@@ -29,7 +29,7 @@ fn note_claims(claimers: &mut [Option<u32>], worker: u32, claims: &[u32])
     }
 }
 
-/// The least worker that has each of so many jobs in its list.
+/// Returns the least worker that has each of so many jobs in its list.
 #[tactic(auto, using(crate::proofs::Claims::claims_noted))]
 pub(crate) fn claimers_of(
     alloc: Global,

@@ -11,7 +11,7 @@ use amo_plan::{Answer, Text};
 use amo_render::push_escaped;
 use std::alloc::{AllocError, Global};
 
-/// How a worker went, in one word.
+/// Returns how a worker went, in one word.
 fn end_word(end: End) -> &'static str
     ensures { result.now ≡ end_word end }
 {
@@ -22,7 +22,7 @@ fn end_word(end: End) -> &'static str
     }
 }
 
-/// How many steps it took.
+/// Returns how many steps it took.
 fn end_steps(end: End) -> u64
     ensures { result ≡ end_steps end }
 {

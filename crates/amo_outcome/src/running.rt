@@ -27,7 +27,7 @@ struct Executed {
     started: Started,
 }
 
-/// The budgets of a plan. The only error is out of memory.
+/// Returns the budgets of a plan. The only error is out of memory.
 #[tactic(auto, using(crate::proofs::Budgets::only_memory))]
 fn stops_of(alloc: Global, heads: &Heads) -> Result<StopPlan, AllocError>
     requires count { length heads.now.budgets ≡ heads.now.givens.workers }

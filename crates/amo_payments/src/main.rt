@@ -74,7 +74,7 @@ fn has_streams(rt: HostRuntime) -> bool {
         .all(|path| fs::symlink_metadata(&rt, path).is_ok())
 }
 
-/// The two words behind the program's name.
+/// Returns the two words behind the program's name.
 fn two_words(rt: HostRuntime) -> Option<(String, String)> {
     let mut words = env::args(&rt).ok()?;
     let _ = words.next()?;
@@ -86,7 +86,7 @@ fn two_words(rt: HostRuntime) -> Option<(String, String)> {
     Some((journal, bank))
 }
 
-/// The folder of a path.
+/// Returns the folder of a path.
 fn folder_of(path: &str) -> &str {
     match path.rsplit_once('/') {
         Some(("", _)) => "/",
@@ -114,7 +114,7 @@ fn open_bank(rt: HostRuntime, path: &str) -> Result<File, Refusal> {
     options.open(&rt, path).map_err(|_| Refusal::Bank)
 }
 
-/// The files that the words name.
+/// Returns the files that the words name.
 fn open_files(rt: HostRuntime) -> Result<(FileDevice, File), Refusal> {
     if !has_streams(rt) {
         return Err(Refusal::Streams);

@@ -18,7 +18,7 @@ pub struct Lines<W: Wire> {
 }
 
 impl<W: Wire> Lines<W> {
-    /// A worker's outside over a wire to which nothing was said.
+    /// Returns a worker's outside over a wire to which nothing was said.
     pub fn new(wire: W) -> Lines<W>
         ensures { result.wire ≡ wire }
     {

@@ -5,8 +5,8 @@ ghost use Rattle.amo_protocol.specs.Lines.{note_text, text_of};
 use amo_driver::{JobResult, Try};
 use std::alloc::{AllocError, Global};
 
-/// The line of what is tried, its end with it. The serial number of an intent counts within the
-/// life of one process.
+/// Returns the line of what is tried, its end with it. The serial number of an intent counts within
+/// the life of one process.
 pub fn text_of(alloc: Global, asked: Try) -> Result<Vec<u8>, AllocError>
     ensures { IfOk result (λ said. said.items ≡ text_of asked) }
 {

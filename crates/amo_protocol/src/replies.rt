@@ -80,7 +80,7 @@ fn reply_of_word(word: &str, rest: &str) -> Option<Reply>
     }
 }
 
-/// The number, the code and the way that the text says.
+/// Returns the number, the code and the way that the text says.
 fn code_and_way(text: &str) -> Option<(u64, u8, Way)>
     ensures { result ≡ code_and_way_in text.now }
 {
@@ -91,7 +91,7 @@ fn code_and_way(text: &str) -> Option<(u64, u8, Way)>
     Some((serial, code, way))
 }
 
-/// The number and the way that the text says.
+/// Returns the number and the way that the text says.
 fn number_and_way(text: &str) -> Option<(u64, Way)>
     ensures { result ≡ number_and_way_in text.now }
 {

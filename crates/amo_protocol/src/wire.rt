@@ -25,8 +25,8 @@ pub trait Wire {
         ensures counts { Counts (has_said self.old) (has_said self.new) };
 }
 
-/// The line that these bytes are, without its end. Bytes that don't end with the end of a line are
-/// none: the rest of them is lost.
+/// Returns the line that these bytes are, without its end. Bytes that don't end with the end of a
+/// line are none: the rest of them is lost.
 pub fn whole_line(said: Vec<u8>) -> Option<Vec<u8>>
     ensures whole { IfSome result (λ line. said.items ≡ line.items ++ 10 ∷ []) }
     ensures cut { (line : List ℕ) → said.items ≡ line ++ 10 ∷ [] → IsSome result }

@@ -5,7 +5,7 @@ ghost use Rattle.amo_render.specs.Happened.{is_end};
 
 use amo_kk::Event;
 
-/// How many claims the history has.
+/// Returns how many claims the history has.
 #[tactic(auto, using(crate::proofs::Counted::claims_counted))]
 pub fn count_claims(history: &[Event]) -> usize
     ensures { result ≡ length (claimed_jobs history.now) }
@@ -16,7 +16,7 @@ pub fn count_claims(history: &[Event]) -> usize
         .count()
 }
 
-/// How many performances the history has.
+/// Returns how many performances the history has.
 #[tactic(auto, using(crate::proofs::Counted::dones_counted))]
 pub fn count_performances(history: &[Event]) -> usize
     ensures { result ≡ length (done_jobs history.now) }
@@ -27,7 +27,7 @@ pub fn count_performances(history: &[Event]) -> usize
         .count()
 }
 
-/// How many ends the history has.
+/// Returns how many ends the history has.
 pub fn count_ends(history: &[Event]) -> usize
     ensures { result ≡ count_by is_end history.now }
 {

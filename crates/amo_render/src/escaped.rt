@@ -11,7 +11,7 @@ fn is_plain(byte: u8) -> bool
     32 <= byte && byte <= 126 && byte != b'\\'
 }
 
-/// The lower-case hexadecimal digit of a number below 16.
+/// Returns the lower-case hexadecimal digit of a number below 16.
 fn hex_digit(number: u8) -> u8
     requires { number < 16 }
     ensures digit { result ≡ hex_digit number }

@@ -30,7 +30,7 @@ pub fn push_events(out: &mut String, history: &[Event]) -> Result<(), AllocError
     Ok(())
 }
 
-/// How a worker went, in one word.
+/// Returns how a worker went, in one word.
 pub fn state_of(worker: usize, history: &[Event]) -> &'static str
     ensures { result.now ≡ state_of worker history.now }
 {
@@ -65,7 +65,7 @@ fn is_done_of(worker: usize, event: &Event) -> bool
     }
 }
 
-/// How many claims of the worker the history has.
+/// Returns how many claims of the worker the history has.
 pub fn claims_of(worker: usize, history: &[Event]) -> usize
     ensures { result ≡ count_by (is_claim_of worker) history.now }
 {
@@ -75,7 +75,7 @@ pub fn claims_of(worker: usize, history: &[Event]) -> usize
         .count()
 }
 
-/// How many performances of the worker the history has.
+/// Returns how many performances of the worker the history has.
 pub fn dones_of(worker: usize, history: &[Event]) -> usize
     ensures { result ≡ count_by (is_done_of worker) history.now }
 {

@@ -19,8 +19,8 @@ pub trait BytesText {
     /// Whether the bytes have no such text, for this fault of a plan.
     ghost is_refused: { Self → List ℕ → PlanFault → Type 0 };
 
-    /// The text of these bytes. `Plan(f)` comes only where they have none for the fault f; the only
-    /// other one is out of memory.
+    /// Returns the text of these bytes. `Plan(f)` comes only where they have none for the fault f;
+    /// the only other one is out of memory.
     fn make(&self, alloc: Global, bytes: &[u8]) -> Result<String, ReplayFault>
         ensures text { IfOk result (λ s. is_of self.now bytes.now (string_bytes s)) }
         ensures refused { IfErr result (λ e. IsNoText (is_refused self.now bytes.now) e) };

@@ -9,7 +9,7 @@ use amo_kk::Event;
 use amo_plan::Heads;
 use std::alloc::AllocError;
 
-/// How many jobs the block with this number has, of so many jobs.
+/// Returns how many jobs the block with this number has, of so many jobs.
 pub fn jobs_in_block(block: u32, jobs: usize, number: u32) -> u64
     ensures value { result ≡ jobs_in_block block jobs number }
     ensures few { result ≤ block }
@@ -18,7 +18,7 @@ pub fn jobs_in_block(block: u32, jobs: usize, number: u32) -> u64
     (block as u64).min((jobs as u64).saturating_sub(before))
 }
 
-/// How many jobs the performed blocks have.
+/// Returns how many jobs the performed blocks have.
 fn count_jobs(block: u32, jobs: usize, history: &[Event]) -> u64
     requires { length history.now < 2 ^ 32 }
     ensures { result ≡ sum_by (jobs_in_block block jobs) (done_jobs history.now) }

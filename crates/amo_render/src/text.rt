@@ -17,8 +17,8 @@ pub trait PlanText {
     /// The text of a plan, or the fault for which the plan has none.
     ghost made: { Self → PlanSeen → Result (List ℕ) PlanFault };
 
-    /// The text of this plan. `Plan(f)` comes just where the plan has none for this fault; the only
-    /// other one is out of memory.
+    /// Returns the text of this plan. `Plan(f)` comes just where the plan has none for this fault;
+    /// the only other one is out of memory.
     fn make(&self, alloc: Global, plan: &Plan) -> Result<String, ReplayFault>
         requires { fits self.now }
         ensures text { IfOk result (λ s. made self.now (plan_seen plan.now) ≡ Ok (string_bytes s)) }

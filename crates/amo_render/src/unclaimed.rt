@@ -19,7 +19,7 @@ fn set_mark(marks: &mut [bool], job: u32)
     }
 }
 
-/// A mark for each of so many jobs, set where the history claims it.
+/// Returns a mark for each of so many jobs, set where the history claims it.
 #[tactic(auto, using(crate::proofs::Marks::marked_more))]
 fn claimed_marks(alloc: Global, jobs: u32, history: &[Event]) -> Result<Vec<bool>, AllocError>
     ensures count { IfOk result (λ v. vec_len v ≡ jobs) }

@@ -37,8 +37,8 @@ impl From<AllocError> for ReplayFault {
     }
 }
 
-/// The plan that these bytes are. `Plan(f)` comes just where they give the fault f, memory aside;
-/// the only other one is out of memory. What is read keeps what each plan keeps.
+/// Returns the plan that these bytes are. `Plan(f)` comes just where they give the fault f, memory
+/// aside; the only other one is out of memory. What is read keeps what each plan keeps.
 pub fn plan_of_bytes(alloc: Global, bytes: &[u8]) -> Result<Plan, ReplayFault>
     ensures plan { IfOk result (λ p. plan_of bytes.now ≡ Ok (plan_seen p)) }
     ensures kept { IfOk result (λ p. Keeps (plan_seen p)) }

@@ -150,7 +150,7 @@ pub fn is_there(rt: HostRuntime, setting: &Setting<'_>) -> Result<bool, Fault> {
     }
 }
 
-/// A record that another version has written is not touched.
+/// Returns a record that another version has written is not touched.
 fn check_version(rt: HostRuntime, setting: &Setting<'_>) -> Result<(), Fault> {
     let Some(bytes) = bytes_of(rt, setting, Item::Record)? else {
         return Ok(());
@@ -164,7 +164,7 @@ fn check_version(rt: HostRuntime, setting: &Setting<'_>) -> Result<(), Fault> {
     Err(Fault::Door(Door::Version))
 }
 
-/// The folder that holds what has this path.
+/// Returns the folder that holds what has this path.
 fn parent_of(path: &str) -> &str {
     match path.rsplit_once('/') {
         Some(("", _)) => "/",

@@ -13,7 +13,7 @@ use std::rt::HostRuntime;
 /// How many bytes of a file are read at once.
 const CHUNK: usize = 4096;
 
-/// The path of a file of the run.
+/// Returns the path of a file of the run.
 pub fn path_of(rt: HostRuntime, setting: &Setting<'_>, item: Item) -> Result<String, Fault> {
     let run = setting.run;
     Ok(format!(in rt.alloc(); "{run}/{item}")?)

@@ -33,8 +33,8 @@ impl Words {
         }
     }
 
-    /// The first bytes of the file, as many as `front` has, and how long it is; or nothing where it
-    /// is shorter.
+    /// Returns the first bytes of the file, as many as `front` has, and how long it is; or nothing
+    /// where it is shorter.
     pub fn front(&self, front: &mut [u8]) -> Result<Option<u64>, Fault> {
         let len = had(Item::Words, self.file.metadata())?.len();
         if len < front.len() as u64 {
@@ -44,7 +44,7 @@ impl Words {
         Ok(Some(len))
     }
 
-    /// The value of a word.
+    /// Returns the value of a word.
     pub fn load(&self, word: u64) -> Result<u64, Fault> {
         if word > MOST_WORDS {
             return Err(Fault::NoWay);

@@ -35,8 +35,8 @@ impl Model for Jobs {
 }
 
 impl Jobs {
-    /// The jobs of a jobs' file. Where `cut` is true, what stands behind its last line feed is left
-    /// out, whatever it is; else the file is refused if anything stands there.
+    /// Returns the jobs of a jobs' file. Where `cut` is true, what stands behind its last line feed
+    /// is left out, whatever it is; else the file is refused if anything stands there.
     pub fn read(alloc: Global, mut bytes: Vec<u8>, cut: bool) -> Result<Jobs, JobsFault>
         // The file is taken just where no line is refused; else the first that is refused is told.
         ensures taken { OnOk result (IsTaken bytes.items cut) }
@@ -69,7 +69,7 @@ impl Jobs {
         is_all_of(&self.bytes, bytes, cut)
     }
 
-    /// How many there are.
+    /// Returns how many there are.
     pub fn count(&self) -> u64
         ensures count { result ≡ length self.now }
         // What holds of all jobs, wherever they were read.
@@ -78,7 +78,7 @@ impl Jobs {
         self.ends.len() as u64
     }
 
-    /// The line of this number, from 1, without its end.
+    /// Returns the line of this number, from 1, without its end.
     pub fn line(&self, number: u64) -> Option<&[u8]>
         ensures { option_map (λ line. line.now) result ≡ line_of self.now number }
     {
@@ -88,7 +88,7 @@ impl Jobs {
         Some(line_at(&self.bytes, &self.ends, (number - 1) as usize))
     }
 
-    /// The lines, each with its line feed behind it.
+    /// Returns the lines, each with its line feed behind it.
     pub fn bytes(&self) -> &[u8]
         ensures { result.now ≡ ended self.now }
     {

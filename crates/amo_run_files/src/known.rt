@@ -28,8 +28,8 @@ pub(crate) fn check(alloc: Global, bytes: &[u8], ends: &[usize], cut: bool) -> R
     }
 }
 
-/// The lines, if each may stand behind those before it. They are kept in order, not by a hash: so
-/// no lines make it slow.
+/// Returns the lines, if each may stand behind those before it. They are kept in order, not by a
+/// hash: so no lines make it slow.
 fn known_lines<'a>(
     alloc: Global,
     bytes: &'a [u8],
@@ -50,7 +50,7 @@ fn known_lines<'a>(
     Ok(known)
 }
 
-/// Why what stands behind the last line feed is refused, if it is.
+/// Returns why what stands behind the last line feed is refused, if it is.
 fn why_remainder<'a>(
     known: &mut BTreeSet<&'a [u8]>,
     rest: &'a [u8],
@@ -65,8 +65,8 @@ fn why_remainder<'a>(
     Ok(why.or(Some(Why::NoEnd)))
 }
 
-/// Why the line may not stand behind those that are known, if it may not. If it may, it is known
-/// from now on.
+/// Returns why the line may not stand behind those that are known, if it may not. If it may, it is
+/// known from now on.
 fn why_not<'a>(known: &mut BTreeSet<&'a [u8]>, line: &'a [u8]) -> Result<Option<Why>, AllocError>
     ensures exact { (before : List (List ℕ)) → HasJust known.old before → IfOk result (λ why. why ≡ why_not before line.now) }
     ensures known { (before : List (List ℕ)) → HasJust known.old before

@@ -5,7 +5,7 @@ ghost use Rattle.amo_run_files.specs.Lines.{lines_in, remainder_in, ends_of};
 
 use std::alloc::{AllocError, Global};
 
-/// Where each line ends, behind its line feed.
+/// Returns where each line ends, behind its line feed.
 pub(crate) fn ends_in(alloc: Global, bytes: &[u8]) -> Result<Vec<usize>, AllocError>
     ensures { IfOk result (λ ends. ends.items ≡ ends_of 0 (lines_in bytes.now)) }
 {
@@ -18,14 +18,14 @@ pub(crate) fn ends_in(alloc: Global, bytes: &[u8]) -> Result<Vec<usize>, AllocEr
     Ok(ends)
 }
 
-/// Where the last of the lines ends that end so, or 0.
+/// Returns where the last of the lines ends that end so, or 0.
 pub(crate) fn last_end(ends: &[usize]) -> usize
     ensures { (lines : List (List ℕ)) → ends.now ≡ ends_of 0 lines → result ≡ length (ended lines) }
 {
     ends.last().copied().unwrap_or(0)
 }
 
-/// Where the line at this index begins, among those that end so.
+/// Returns where the line at this index begins, among those that end so.
 fn start_of(ends: &[usize], i: usize) -> usize
     requires { i < length ends.now }
     ensures { (lines : List (List ℕ)) → ends.now ≡ ends_of 0 lines → result ≡ length (ended (take i lines)) }
@@ -36,7 +36,7 @@ fn start_of(ends: &[usize], i: usize) -> usize
     ends[i - 1]
 }
 
-/// The line at this index, without its end.
+/// Returns the line at this index, without its end.
 pub(crate) fn line_at<'a>(bytes: &'a [u8], ends: &[usize], i: usize) -> &'a [u8]
     requires ends { ends.now ≡ ends_of 0 (lines_in bytes.now) }
     requires there { i < length ends.now }

@@ -11,8 +11,8 @@ pub struct RoundParams {
     pub beta: u64,
 }
 
-/// The givens of a round of these jobs, of at most so many workers, with this threshold where it
-/// fits.
+/// Returns the givens of a round of these jobs, of at most so many workers, with this threshold
+/// where it fits.
 pub fn givens_of(jobs: u64, workers: u64, beta: u64) -> RoundParams
     requires some_worker { 1 ≤ workers }
     requires few_workers { workers < 2 ^ 32 }
@@ -64,7 +64,7 @@ pub fn seat_of(worker: u64, first: u64, workers: u64, shared: u64) -> Option<u64
     Some(turn)
 }
 
-/// How many workers the circle has from the first to this one, both with it.
+/// Returns how many workers the circle has from the first to this one, both with it.
 fn turn_of(worker: u64, first: u64, workers: u64) -> u64
     requires in_round { (1 ≤ worker) × (worker ≤ workers) }
     requires first_in_round { (1 ≤ first) × (first ≤ workers) }

@@ -106,7 +106,7 @@ impl AttemptsByLine {
         1 <= worker && worker <= self.journals.len() as u64
     }
 
-    /// Has the run know so many lines, if it knew fewer.
+    /// Makes the run know so many lines, if it knew fewer.
     pub fn grow(&mut self, alloc: Global, count: u64) -> Result<(), AllocError>
         ensures lines { OnOk result (length self.new.lines.items ≡ max (length self.old.lines.items) count) }
         ensures journals { self.new.journals ≡ self.old.journals }

@@ -57,7 +57,7 @@ pub fn append_entries<D: Device>(
     ensures log { LeavesOnly D.moment D.left_since journal.old.device journal.new.device
         (HasOneMoreOrNot journal.old.first.digits (records_in (D.seen journal.old.device)) (text_of_append append)) }
 
-    // It doesn't give up by itself.
+    // It fails only if the disk failed.
     ensures failed { IsErrOf result (AppendError.Device DeviceError.Failed) → D.faults journal.old.device < D.faults journal.new.device }
     ensures too_long { IsErrOf result AppendError.TooLong → ((2 ^ 60 ≤ journal.old.gate) ⊎ (longest < length (text_of_append append) + 11)) × (journal.new ≡ journal.old) }
 {
@@ -96,7 +96,7 @@ pub fn append_finding<D: Device>(
     ensures log { LeavesOnly D.moment D.left_since journal.old.device journal.new.device
         (HasOneMoreOrNot journal.old.first.digits (records_in (D.seen journal.old.device)) (text_of_finding finding)) }
 
-    // It doesn't give up by itself.
+    // It fails only if the disk failed.
     ensures failed { IsErrOf result (AppendError.Device DeviceError.Failed) → D.faults journal.old.device < D.faults journal.new.device }
     ensures too_long { IsErrOf result AppendError.TooLong → ((2 ^ 60 ≤ journal.old.gate) ⊎ (longest < length (text_of_finding finding) + 11)) × (journal.new ≡ journal.old) }
 {

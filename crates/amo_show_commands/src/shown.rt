@@ -21,7 +21,7 @@ impl PlanText for Shown {
 
     ghost made = { text_of };
 
-    /// The text. The only error is out of memory.
+    /// Returns the text. The only error is out of memory.
     fn make(&self, alloc: Global, plan: &Plan) -> Result<String, ReplayFault> {
         match *self {
             Shown::Trace => Ok(trace_text(alloc, plan)?),

@@ -74,7 +74,7 @@ impl Call {
     }
 }
 
-/// The bytes with others written over them, or behind them where they don't reach so far.
+/// Returns the bytes with others written over them, or behind them where they don't reach so far.
 pub(crate) fn written_over(
     alloc: Global,
     bytes: &[u8],
@@ -92,7 +92,7 @@ pub(crate) fn written_over(
     Ok(after)
 }
 
-/// A read, which fails or doesn't.
+/// Returns a read, which fails or doesn't.
 pub(crate) fn read_call(fails: bool) -> Call
     ensures call { result ≡ read_call fails }
     ensures failed { has_failed result ≡ fails }
@@ -100,7 +100,7 @@ pub(crate) fn read_call(fails: bool) -> Call
     if fails { Call::FailedRead } else { Call::Read }
 }
 
-/// A write, which writes half the bytes where it fails.
+/// Returns a write, which writes half the bytes where it fails.
 pub(crate) fn write_call(fails: bool, at: usize, bytes: Vec<u8>) -> Call
     ensures call { result ≡ write_call fails at bytes }
     ensures failed { has_failed result ≡ fails }
@@ -113,7 +113,7 @@ pub(crate) fn write_call(fails: bool, at: usize, bytes: Vec<u8>) -> Call
     }
 }
 
-/// A cut, which cuts nothing where it fails.
+/// Returns a cut, which cuts nothing where it fails.
 pub(crate) fn cut_call(fails: bool, len: usize) -> Call
     ensures call { result ≡ cut_call fails len }
     ensures failed { has_failed result ≡ fails }
@@ -125,7 +125,7 @@ pub(crate) fn cut_call(fails: bool, len: usize) -> Call
     }
 }
 
-/// A sync, which leaves stale places where it fails.
+/// Returns a sync, which leaves stale places where it fails.
 pub(crate) fn sync_call(fails: bool) -> Call
     ensures call { result ≡ sync_call fails }
     ensures failed { has_failed result ≡ fails }

@@ -27,9 +27,9 @@ impl Disk {
     ghost use Rattle.amo_journal.specs.Device.{Only};
     ghost use Rattle.amo_sim_disk.specs.Disk.{disk_calls, disk_failing, disk_story, disk_story_after};
 
-    /// A disk that has these bytes and no others. The call of the number that is given fails, where
-    /// the first call has the number 0, and reads, writes, cuts and syncs count alike. A call that
-    /// there was no memory for doesn't count, and changes nothing.
+    /// Returns a disk that has these bytes and no others. The call of the number that is given
+    /// fails, where the first call has the number 0, and reads, writes, cuts and syncs count alike.
+    /// A call that there was no memory for doesn't count, and changes nothing.
     pub fn new(alloc: Global, bytes: &[u8], failing: Option<usize>) -> Result<Self, AllocError>
         ensures read { IfOk result (λ disk. read_in (disk_story disk) ≡ bytes.now) }
         ensures durable { IfOk result (λ disk. Only bytes.now (OutcomeIn (disk_story disk))) }
@@ -54,8 +54,8 @@ impl Disk {
         &self.bytes
     }
 
-    /// The calls that were made, in their order. That of the number which was given failed, and no
-    /// other.
+    /// Returns the calls that were made, in their order. That of the number which was given failed,
+    /// and no other.
     pub fn calls(&self) -> &[Call]
         ensures calls { result.now ≡ disk_calls self.now }
         ensures failed { FailsAsPlanned (disk_failing self.now) result.now }
@@ -63,13 +63,13 @@ impl Disk {
         &self.calls
     }
 
-    /// An image that a crash might have left after so many of the calls, or after all where there
-    /// were fewer, by what had come to the disk of each. `came` has, at the number of a write,
-    /// bytes for the first of those that it was asked to write: a byte that is right came to the
-    /// disk; for any other one the old byte stands, or 0 past the image's end. Nothing comes where
-    /// the image ends before the place of the write. At the number of a cut it has as many bytes as stay behind
-    /// the length. A sync that succeeded leaves what is read. Past the end of `came`, no byte comes
-    /// or stays.
+    /// Returns an image that a crash might have left after so many of the calls, or after all where
+    /// there were fewer, by what had come to the disk of each. `came` has, at the number of a
+    /// write, bytes for the first of those that it was asked to write: a byte that is right came to
+    /// the disk; for any other one the old byte stands, or 0 past the image's end. Nothing comes
+    /// where the image ends before the place of the write. At the number of a cut it has as many
+    /// bytes as stay behind the length. A sync that succeeded leaves what is read. Past the end of
+    /// `came`, no byte comes or stays.
     pub fn image_after(
         &self,
         alloc: Global,

@@ -77,7 +77,7 @@ fn byte_over(came: u8, stood: Option<u8>, read: Option<u8>) -> u8
     }
 }
 
-/// The image cut to a length, but for so many bytes behind it.
+/// Returns the image cut to a length, but for so many bytes behind it.
 fn cut_short(alloc: Global, len: usize, image: &[u8], behind: usize) -> Result<Vec<u8>, AllocError>
     ensures { IfOk result (λ after. Cut len image.now after.items) }
 {

@@ -14,7 +14,7 @@ use std::alloc::{AllocError, Global};
 /// half as many.
 pub const MOST_ALONE: u32 = 16;
 
-/// The most jobs with so many workers whose worlds are looked through.
+/// Returns the most jobs with so many workers whose worlds are looked through.
 fn most_jobs(workers: u32) -> u32
     requires some { 1 ≤ workers }
     requires few { workers ≤ MAX_WORKERS }
@@ -33,7 +33,7 @@ fn push_spaced(out: &mut String, numbers: &[u32]) -> Result<(), AllocError>
     Ok(())
 }
 
-/// A turn of each of these workers, in the words of a plan.
+/// Returns a turn of each of these workers, in the words of a plan.
 fn turn_words(alloc: Global, turns: &[u32]) -> Result<String, AllocError>
     ensures { IfOk result (λ s. string_bytes s ≡ turn_words turns.now) }
 {
@@ -120,9 +120,9 @@ impl BytesText for AllWorlds {
 
     ghost is_refused = { λ _. AreNoPlan };
 
-    /// The text, in which nothing of the plan but its version and its givens has a part. `Plan(f)`
-    /// comes just where the bytes are no plan, for the fault f; the only other one is out of
-    /// memory.
+    /// Returns the text, in which nothing of the plan but its version and its givens has a part.
+    /// `Plan(f)` comes just where the bytes are no plan, for the fault f; the only other one is out
+    /// of memory.
     fn make(&self, alloc: Global, bytes: &[u8]) -> Result<String, ReplayFault> {
         let plan = plan_of_bytes(alloc, bytes)?;
         Ok(all_text(alloc, plan.heads.version, plan.heads.givens)?)

@@ -16,7 +16,7 @@ pub(crate) struct Found {
     pub(crate) turns: Vec<u32>,
 }
 
-/// The first worker that isn't gone.
+/// Returns the first worker that isn't gone.
 fn first_here(world: &World) -> Option<u32>
     ensures { IsNext world.now.givens world.now.world result }
 {

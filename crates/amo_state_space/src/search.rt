@@ -56,7 +56,8 @@ impl Model for Search {
 }
 
 impl Search {
-    /// The opening world of these givens, and nothing known. The only error is out of memory.
+    /// Returns the opening world of these givens, and nothing known. The only error is out of
+    /// memory.
     pub(crate) fn new(alloc: Global, givens: Givens) -> Result<Search, AllocError>
         ensures { IfOk result (λ s. s ≡ record { givens = givens; moves = [] }) }
     {
@@ -67,7 +68,7 @@ impl Search {
         })
     }
 
-    /// The moves in a row: a turn of each worker, and a stop of each.
+    /// Returns the moves in a row: a turn of each worker, and a stop of each.
     fn move_at(&self, before: u32) -> Move
         requires { before < 2 * self.now.givens.workers }
         ensures { IsWorker self.now.givens (worker_of result) }
@@ -117,7 +118,7 @@ impl Search {
         Ok(())
     }
 
-    /// How many worlds are known.
+    /// Returns how many worlds are known.
     pub(crate) fn count(&self) -> usize {
         self.known.len()
     }
@@ -132,8 +133,8 @@ impl Search {
         Ok(self.known.get(&key).and_then(|longest| longest.first))
     }
 
-    /// The longest way on from this world, over turns, once each world that turns lead to, and
-    /// stops while not all others are stopped, is known. So many were stopped so far.
+    /// Returns the longest way on from this world, over turns, once each world that turns lead to,
+    /// and stops while not all others are stopped, is known. So many were stopped so far.
     pub(crate) fn look(&mut self, alloc: Global, stops: u32) -> Result<Longest, AllocError>
         requires stops { length (stopped self.old.moves) ≡ stops }
         requires few { stops ≤ 15 }
@@ -162,7 +163,7 @@ impl Search {
     }
 }
 
-/// The stops so far and the one that this move may be.
+/// Returns the stops so far and the one that this move may be.
 fn stops_after(one: Move, stops: u32) -> u32
     requires { stops ≤ 15 }
     ensures { result ≡ (if is_halt one then stops + 1 else stops) }

@@ -36,7 +36,7 @@ pub(crate) fn jobs_word(version: u32) -> &'static str
     if version == 1 { "jobs" } else { "blocks" }
 }
 
-/// How the list of unclaimed jobs begins.
+/// Returns how the list of unclaimed jobs begins.
 fn list_start(version: u32) -> &'static str
     ensures { result.now ≡ list_start version }
 {

@@ -38,14 +38,14 @@ fn push_worker_paths(
     push_path(out, "x", width, failures, jobs, worker, rows)
 }
 
-/// The row after which the worker is gone.
+/// Returns the row after which the worker is gone.
 fn going(worker: u32, rows: &[Transition]) -> Option<Transition>
     ensures { result ≡ going worker rows.now }
 {
     transition_at(rows, until_gone(worker, rows))
 }
 
-/// The mark of a worker that is gone in this phase.
+/// Returns the mark of a worker that is gone in this phase.
 fn going_shape(phase: Phase) -> &'static str
     ensures { result.now ≡ going_shape phase }
 {
@@ -189,7 +189,7 @@ fn push_jobs_head(out: &mut String, version: u32, jobs: u32) -> Result<(), Alloc
     push_text(out, "i", 16, 1048, "claimed by")
 }
 
-/// How many jobs the columns are placed by.
+/// Returns how many jobs the columns are placed by.
 pub(crate) fn columns_of(plan: &Plan) -> u32
     ensures value { result ≡ columns_of (plan_seen plan.now) }
     ensures some { 1 ≤ result }
@@ -197,14 +197,14 @@ pub(crate) fn columns_of(plan: &Plan) -> u32
     plan.heads.givens.jobs.max(1)
 }
 
-/// How wide the picture is.
+/// Returns how wide the picture is.
 pub(crate) fn jobs_width(plan: &Plan) -> u128
     ensures value { result ≡ jobs_width (plan_seen plan.now) }
 {
     880 + 36 * plan.heads.givens.workers.max(2) as u128
 }
 
-/// How far down the band ends.
+/// Returns how far down the band ends.
 pub(crate) fn band_end(plan: &Plan) -> u128
     ensures value { result ≡ band_end (plan_seen plan.now) }
     ensures near { result < 2 ^ 40 }

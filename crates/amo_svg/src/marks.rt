@@ -37,7 +37,7 @@ pub(crate) enum Mark {
     Still,
 }
 
-/// The mark of a load that gives this value, by the worker's own job.
+/// Returns the mark of a load that gives this value, by the worker's own job.
 fn mark_of_load(job: u32, want: Want, value: u32) -> Mark
     ensures { result ≡ mark_of_load job want value }
 {
@@ -50,7 +50,7 @@ fn mark_of_load(job: u32, want: Want, value: u32) -> Mark
     }
 }
 
-/// The mark of a load or store.
+/// Returns the mark of a load or store.
 fn mark_of_want(job: u32, want: Want, value: u32) -> Mark
     ensures { result ≡ mark_of_want job want value }
 {
@@ -63,7 +63,7 @@ fn mark_of_want(job: u32, want: Want, value: u32) -> Mark
     }
 }
 
-/// The mark of an act, by the worker's own job.
+/// Returns the mark of an act, by the worker's own job.
 fn mark_of_act(job: u32, act: Act) -> Mark
     ensures { result ≡ mark_of_act job act }
 {
@@ -75,7 +75,7 @@ fn mark_of_act(job: u32, act: Act) -> Mark
     }
 }
 
-/// The mark of a transition.
+/// Returns the mark of a transition.
 pub(crate) fn mark_of(transition: &Transition) -> Mark
     ensures { result ≡ mark_of transition.now }
 {
@@ -86,7 +86,7 @@ pub(crate) fn mark_of(transition: &Transition) -> Mark
     mark_of_act(job, transition.act)
 }
 
-/// The colour of a mark's words.
+/// Returns the colour of a mark's words.
 pub(crate) fn class_of(mark: Mark) -> &'static str
     ensures { result.now ≡ class_of mark }
 {
@@ -170,7 +170,7 @@ pub(crate) fn push_label(out: &mut String, mark: Mark, over: bool) -> Result<(),
 /// The heads of the lanes come again each time that so many rows have been drawn.
 pub(crate) const RULED_ROWS: usize = 50;
 
-/// How far down a row is.
+/// Returns how far down a row is.
 pub(crate) fn row(number: usize) -> u128
     ensures value { result ≡ row number }
     ensures near { result < 2 ^ 80 }
@@ -179,7 +179,7 @@ pub(crate) fn row(number: usize) -> u128
     72 + 18 * (number as u128 + heads as u128)
 }
 
-/// Where the lifeline of a worker is.
+/// Returns where the lifeline of a worker is.
 pub(crate) fn lane(worker: u32) -> u128
     ensures value { result ≡ lane worker }
     ensures near { result < 2 ^ 40 }
@@ -222,7 +222,7 @@ fn files(worker: u32, transition: &Transition) -> bool
     transition.worker == worker && is_filing(transition)
 }
 
-/// How many of these transitions come before the worker's next store to its announcement.
+/// Returns how many of these transitions come before the worker's next store to its announcement.
 fn until_announcement(worker: u32, rest: &[Transition]) -> usize
     ensures value { result ≡ position_or_len (λ s. (s.worker == worker) && is_announcement (mark_of s)) rest.now }
     ensures few { result ≤ length rest.now }
@@ -232,7 +232,7 @@ fn until_announcement(worker: u32, rest: &[Transition]) -> usize
         .count()
 }
 
-/// How many of these transitions come before the worker's next performance.
+/// Returns how many of these transitions come before the worker's next performance.
 pub(crate) fn until_filing(worker: u32, rest: &[Transition]) -> usize
     ensures value { result ≡ position_or_len (λ s. (s.worker == worker) && is_filing (mark_of s)) rest.now }
     ensures few { result ≤ length rest.now }
@@ -252,7 +252,7 @@ fn loaded_of(want: Want) -> u32
     }
 }
 
-/// Where the word is that is loaded.
+/// Returns where the word is that is loaded.
 fn seen_at(want: Want) -> u128
     ensures { result ≡ seen_at want }
 {
@@ -263,7 +263,7 @@ fn seen_at(want: Want) -> u128
     }
 }
 
-/// Where the line of a load begins.
+/// Returns where the line of a load begins.
 fn line_start(worker: u32, want: Want, label: &str) -> u128
     ensures { result ≡ line_start worker want label.now }
 {
@@ -296,7 +296,7 @@ fn push_line(
     push_level(out, seen_at(want))
 }
 
-/// How far a row and the row so many rows below it are apart.
+/// Returns how far a row and the row so many rows below it are apart.
 fn apart(number: usize, rows: usize) -> u128
     requires number { number ≤ MOST_ROWS }
     requires rows { rows ≤ MOST_ROWS + 1 }

@@ -37,7 +37,7 @@ fn push_row_title(out: &mut String, transition: &Transition) -> Result<(), Alloc
     out.push_str("</title>\n")
 }
 
-/// The words of a transition. The only error is out of memory.
+/// Returns the words of a transition. The only error is out of memory.
 fn label_in(alloc: Global, transition: &Transition) -> Result<String, AllocError>
     ensures { IfOk result (λ s. string_bytes s ≡ label_in transition.now) }
 {
@@ -108,7 +108,7 @@ fn push_heads_again(out: &mut String, y: u128, workers: u32) -> Result<(), Alloc
     Ok(())
 }
 
-/// How wide a picture of rows is.
+/// Returns how wide a picture of rows is.
 pub(crate) fn rows_width(workers: u32) -> u128
     ensures { result ≡ rows_width workers }
 {
@@ -167,7 +167,7 @@ fn goes(worker: u32, transition: &Transition) -> bool
     transition.worker == worker && transition.gone
 }
 
-/// How many of these transitions come before the one after which the worker is gone.
+/// Returns how many of these transitions come before the one after which the worker is gone.
 pub(crate) fn until_gone(worker: u32, rows: &[Transition]) -> usize
     ensures value { result ≡ position_or_len (λ s. (s.worker == worker) && s.gone) rows.now }
     ensures few { result ≤ length rows.now }

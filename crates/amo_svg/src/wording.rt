@@ -35,7 +35,7 @@ pub(crate) enum Wording {
     FreeTitle,
 }
 
-/// The text.
+/// Returns the text.
 #[tactic(auto, unfolding(crate::specs::Wording::fixed_text))]
 pub(crate) fn fixed_text(wording: Wording) -> &'static str
     ensures { result.now ≡ fixed_text wording }
@@ -69,7 +69,7 @@ pub(crate) fn fixed_text(wording: Wording) -> &'static str
     }
 }
 
-/// The lines of what the marks say in a picture of rows.
+/// Returns the lines of what the marks say in a picture of rows.
 pub(crate) fn rows_key() -> [Wording; 5]
     ensures { result ≡ rows_key }
 {

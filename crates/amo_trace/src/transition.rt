@@ -53,7 +53,7 @@ pub enum Fact {
     Done(u32),
 }
 
-/// The job of an attempt, or in a worker's hand; 0 where it has none.
+/// Returns the job of an attempt, or in a worker's hand; 0 where it has none.
 pub fn job_of(phase: Phase) -> u32
     ensures { result ≡ job_of phase }
 {
@@ -102,7 +102,7 @@ fn fact_of_act(act: Act) -> Fact
     }
 }
 
-/// The transition at a place.
+/// Returns the transition at a place.
 pub fn transition_at(transitions: &[Transition], place: usize) -> Option<Transition>
     ensures { result ≡ slice_get transitions.now place }
 {

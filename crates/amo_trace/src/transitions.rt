@@ -103,7 +103,7 @@ fn push_round(moves: &mut Vec<Move>, workers: u32) -> Result<(), AllocError>
     Ok(())
 }
 
-/// All moves of a plan: its schedule, then its rounds. The only error is out of memory.
+/// Returns all moves of a plan: its schedule, then its rounds. The only error is out of memory.
 fn moves_of(alloc: Global, plan: &Plan) -> Result<Vec<Move>, AllocError>
     ensures { IfOk result (λ v. v.items ≡ moves_of (plan_seen plan.now)) }
 {
@@ -135,8 +135,8 @@ pub fn run_of(alloc: Global, plan: &Plan) -> Result<TracedRun, AllocError>
     Ok(TracedRun { transitions, world })
 }
 
-/// The transitions of a plan: what each move of its schedule and its rounds does, until all workers
-/// are gone. The only error is out of memory.
+/// Returns the transitions of a plan: what each move of its schedule and its rounds does, until all
+/// workers are gone. The only error is out of memory.
 pub fn transitions_of(alloc: Global, plan: &Plan) -> Result<Vec<Transition>, AllocError>
     ensures { IfOk result (λ v. v.items ≡ transitions_of (plan_seen plan.now)) }
 {

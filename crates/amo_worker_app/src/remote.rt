@@ -80,7 +80,7 @@ fn fault_of(rt: HostRuntime, stop: Stop, lines: Lines<Streams>) -> Fault {
     }
 }
 
-/// The fault of a line that is no answer, or of none.
+/// Returns the fault of a line that is no answer, or of none.
 fn odd(rt: HostRuntime, said: Option<Vec<u8>>) -> Fault {
     match said {
         Some(line) => match shown(rt, &line) {
