@@ -7,13 +7,13 @@ ghost use Rattle.amo_journal.specs.Past.{HadBeen, only_bytes};
 use crate::{Device, DeviceError};
 use std::alloc::{AllocError, Global};
 
-/// A file in memory. Each call is done at once, so a crash leaves what a read returns. It never
-/// fails but for want of memory, and takes memory at each write and cut.
+/// A file in memory. Each call is done at once, so a crash leaves what a read returns. It fails
+/// only for want of memory, and takes memory at each write and cut.
 #[derive(Drop)]
 pub struct MemoryDevice {
     alloc: Global,
     bytes: Vec<u8>,
-    /// What the file held before each change, the oldest first.
+    /// The content of the file before each change, the oldest first.
     past: Vec<Vec<u8>>,
 }
 

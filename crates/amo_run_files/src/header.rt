@@ -14,7 +14,7 @@ use amo_run_log::{three_of_bytes, two_of_bytes};
 use std::alloc::{AllocError, Global};
 use std::mem;
 
-/// What is recorded of a round when it is begun.
+/// `RoundHeader`: the record of a round when it is begun.
 #[derive(Debug, PartialEq, Eq, Drop)]
 pub struct RoundHeader {
     /// Rounds are counted from 1.
@@ -25,7 +25,7 @@ pub struct RoundHeader {
     pub givens: RoundParams,
     /// How many workers there may be, 1 to 16.
     pub workers: u64,
-    /// The worker who began the round.
+    /// The worker that began the round.
     pub first: u64,
     /// The line of each job, from job 1 on.
     pub lines: Vec<u64>,
@@ -136,7 +136,7 @@ fn is_version(text: &[u8]) -> bool
     text == b"amo-run 2".as_slice()
 }
 
-/// Returns the record that these texts say, behind that of the version.
+/// Returns the record that these texts say, after the text of the version.
 fn record_behind(
     alloc: Global,
     round: &[u8],
@@ -194,7 +194,7 @@ fn head_of(round: &[u8], givens: &[u8], workers: &[u8]) -> Option<(u64, RoundPar
     Some((round, givens, workers, first))
 }
 
-/// What stands behind this label.
+/// Returns the bytes after this label.
 fn labelled<'a>(label: &[u8], text: &'a [u8]) -> Option<&'a [u8]>
     ensures { option_map (λ behind. behind.now) result ≡ labelled label.now text.now }
 {

@@ -17,7 +17,7 @@ pub fn words_len(givens: &RoundParams) -> u64
     offset_of(givens.workers * (givens.jobs + 3) + 1)
 }
 
-/// Returns where the word of this number, from 0, stands in the file.
+/// Returns the place in the file of the word of this number, from 0.
 pub fn offset_of(word: u64) -> u64
     requires { HEAD_LEN + 8 * word < 2 ^ 64 }
     ensures { result ≡ offset_of word }
