@@ -72,8 +72,8 @@ fn text_at<'a>(id: &str, matches: &ArgMatches<'a>) -> Option<&'a str>
     matches.get_str(id)
 }
 
-/// Returns the number at an id: the number whose decimal digits the text there is, where there is
-/// one within the range.
+/// Returns the number at an id: the number of the decimal digits of the text there, if it is within
+/// the range.
 #[tactic(auto, using(crate::proofs::Numbers::at_is_decimal))]
 fn number_at(low: u64, high: u64, id: &str, matches: &ArgMatches<'_>) -> Option<u64>
     requires { high ≤ HIGHEST_NUMBER }
@@ -84,7 +84,7 @@ fn number_at(low: u64, high: u64, id: &str, matches: &ArgMatches<'_>) -> Option<
     number_within(low, high, text_at(id, matches)?.as_bytes())
 }
 
-/// What the texts of `explore` ask for.
+/// Returns the request of the texts of `explore`.
 #[tactic(auto, unfolding(crate::specs::Commands::explore_of_rows))]
 fn explore_of_matches(matches: &ArgMatches<'_>) -> Option<Request>
     ensures request { result ≡ explore_of_rows (rows_of (found_of matches.now)) }
@@ -96,7 +96,7 @@ fn explore_of_matches(matches: &ArgMatches<'_>) -> Option<Request>
     Some(Request::Write(Wanted::Explored { from, count, turns }))
 }
 
-/// What the text of `stops` asks for.
+/// Returns the request of the text of `stops`.
 fn stops_of_matches(matches: &ArgMatches<'_>) -> Option<Request>
     ensures request { result ≡ stops_of_rows (rows_of (found_of matches.now)) }
     ensures ranges { IfSome result IsWithinRanges }
@@ -105,7 +105,7 @@ fn stops_of_matches(matches: &ArgMatches<'_>) -> Option<Request>
     Some(Request::Write(Wanted::Stops { worker }))
 }
 
-/// What the subcommand of this name asks for.
+/// Returns the request of the subcommand with this name.
 #[tactic(auto, unfolding(crate::specs::Commands::request_of_row))]
 fn request_of_row(name: &str, matches: &ArgMatches<'_>) -> Option<Request>
     ensures request { result ≡ request_of_row name.now (rows_of (found_of matches.now)) }
@@ -121,7 +121,7 @@ fn request_of_row(name: &str, matches: &ArgMatches<'_>) -> Option<Request>
     }
 }
 
-/// What a whole line asks for, the program's name among its words.
+/// Returns the request of a whole line, the program's name among its words.
 fn request_of_line(alloc: Global, line: &[&str]) -> Result<Request, Fault>
     ensures request { IsAsked (request_of_line (map (λ w. w.now) line.now)) result }
     ensures ranges { IfOk result IsWithinRanges }
@@ -150,8 +150,11 @@ fn whole_line<'a>(alloc: Global, words: &[&'a str]) -> Result<Vec<&'a str>, Allo
     Ok(line)
 }
 
-/// What the words after the program's name ask for. `NoCommand` comes only where they are no
-/// command, and `NoMemory` only where memory was refused.
+/// Returns the request of the words after the program's name.
+///
+/// # Errors
+///
+/// `NoCommand` if the words are no command. `NoMemory` if memory was refused.
 pub fn asked(alloc: Global, words: &[&str]) -> Result<Request, Fault>
     ensures request { IsAsked (asked (map (λ w. w.now) words.now)) result }
     ensures ranges { IfOk result IsWithinRanges }

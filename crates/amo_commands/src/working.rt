@@ -1,4 +1,4 @@
-//! What the program does, over any source and any two sinks.
+//! The work of the program, over any source and any two sinks.
 ghost use Rattle.std.specs.Prelude.{◌≡◌, map, string_bytes, IfOk};
 
 use amo_args::{Request, asked};

@@ -1,4 +1,4 @@
-//! A text that TOML reads, with what a fault's place is looked for in.
+//! A text that TOML reads, with the tree in which the place of a fault is searched.
 use crate::walk::{Form, Named, names_in};
 use crate::wording::push_quoted;
 use std::alloc::{AllocError, Global};
@@ -41,7 +41,7 @@ impl<'a> Document<'a> {
         natural(self.value(key)?)
     }
 
-    /// Returns the text at a key of the top level, empty where there is none.
+    /// Returns the text at a key of the top level. It is empty if the key is missing.
     pub(crate) fn text_at(&self, key: &str) -> &str {
         match self.value(key) {
             Some(Value::String(text)) => text.as_str(),
@@ -75,7 +75,7 @@ impl<'a> Document<'a> {
         self.value_of_job(job, "name")?.as_str()
     }
 
-    /// Returns the line, from 1, of what has so many bytes of the text left.
+    /// Returns the line, from 1, of the place with so many bytes of the text left.
     pub(crate) fn line_at(&self, left: usize) -> usize {
         let before = self.text.len().saturating_sub(left);
         let mut line = 1usize;
@@ -90,7 +90,7 @@ impl<'a> Document<'a> {
         line
     }
 
-    /// Returns the line of a key of a job, or of the top level for 0, where it was found.
+    /// Returns the line of a key of a job, or of the top level for job 0, if it was found.
     pub(crate) fn line_of(&self, job: u32, key: &str) -> Option<usize> {
         for name in self.names.iter() {
             if name.job == job && name.key.as_str() == key {
@@ -100,7 +100,7 @@ impl<'a> Document<'a> {
         None
     }
 
-    /// Returns the line in which a job begins, where it was found.
+    /// Returns the line in which a job begins, if it was found.
     pub(crate) fn line_of_job(&self, job: u32) -> Option<usize> {
         let mut begun = 0u32;
         for name in self.names.iter() {
@@ -117,7 +117,7 @@ impl<'a> Document<'a> {
         None
     }
 
-    /// Appends a job by its number, and by its name where it has one.
+    /// Appends a job by its number, and by its name if it has one.
     pub(crate) fn push_job(&self, out: &mut String, job: u32) -> Result<(), AllocError> {
         write!(out, "job {job}")?;
         match self.name_of_job(job) {

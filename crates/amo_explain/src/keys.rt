@@ -1,4 +1,4 @@
-//! Which key a plan doesn't have, and which one is missing.
+//! Keys that a plan doesn't have, and keys that are missing.
 use crate::document::Document;
 use crate::walk::{Form, Named};
 use crate::wording::{push_line, push_quoted};
@@ -53,7 +53,7 @@ fn unknown_key<'a>(document: &'a Document<'_>, job: u32) -> Option<&'a str> {
     None
 }
 
-/// Returns the nearest of these keys, where one is near, whatever letters are capitals.
+/// Returns the nearest of these keys, if one is near, whatever letters are capitals.
 fn nearest(
     alloc: Global,
     keys: &'static [&'static str],
@@ -123,7 +123,7 @@ fn push_meant(
     }
 }
 
-/// Appends what is wrong with a key of the top level.
+/// Appends the fault of a key of the top level.
 fn push_unknown_at_top(
     alloc: Global,
     out: &mut String,
@@ -145,7 +145,7 @@ fn push_unknown_at_top(
     push_meant(alloc, out, 0, key, form)
 }
 
-/// Appends what is wrong with a key of a job.
+/// Appends the fault of a key of a job.
 fn push_unknown_in_job(
     alloc: Global,
     out: &mut String,

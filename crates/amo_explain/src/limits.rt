@@ -1,4 +1,4 @@
-//! Which limit a plan is above.
+//! Limits that a plan is above.
 use crate::document::{Document, natural};
 use crate::schedule::moves_in;
 use crate::wording::push_line;

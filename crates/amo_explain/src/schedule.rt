@@ -1,4 +1,4 @@
-//! What is wrong with a word of the schedule.
+//! The faults of a word of the schedule.
 use crate::document::Document;
 use crate::wording::{push_count, push_line, push_quoted};
 use amo_plan::{HIGHEST_IN_WORD, number_within};
@@ -9,7 +9,7 @@ fn is_space(byte: u8) -> bool {
     matches!(byte, b' ' | b'\t' | b'\n' | b'\r')
 }
 
-/// Returns the word in this place, from 1; empty where there is none.
+/// Returns the word in this place, from 1. It is empty if the text has fewer words.
 fn word_in(text: &str, place: u64) -> &str {
     let mut at = 0u64;
     for word in text.as_bytes().split(|byte| is_space(*byte)) {
@@ -72,7 +72,7 @@ fn is_digits(text: &str) -> bool {
     !text.is_empty() && text.bytes().all(|byte| byte.is_ascii_digit())
 }
 
-/// What to write in place of numbers that can't be read.
+/// Returns a text to write in place of numbers that can't be read.
 fn hint_of_numbers(text: &str) -> &'static str {
     let (worker, count) = text.split_once("*").unwrap_or((text, "1"));
     if worker == "0" {
@@ -92,7 +92,7 @@ fn hint_of_numbers(text: &str) -> &'static str {
     }
 }
 
-/// What to write in place of a word that can't be read, before this one.
+/// Returns a text to write in place of a word that can't be read, before this one.
 fn hint_of(version: Option<u64>, word: &str, next: &str) -> &'static str {
     let bare = match word.strip_prefix("x") {
         Some(rest) => rest,
@@ -149,7 +149,7 @@ fn push_word(
     write!(out, ", word {place} of the schedule, ")
 }
 
-/// Appends that the word in this place of the schedule is none.
+/// Appends that the word in this place of the schedule is invalid.
 pub(crate) fn push_bad_word(
     alloc: Global,
     out: &mut String,

@@ -1,4 +1,4 @@
-//! Which output says of a block that it is done.
+//! The outputs that show that a block is done.
 ghost use Rattle.std.specs.Prelude.{◌≡◌, ◌≤◌, ◌<◌, ◌^◌, ◌==◌, ◌&&◌, ℕ, None, Some, true, IfOk, length, replicate, sum_by};
 ghost use Rattle.std.proofs.Common.{Vec, Global};
 ghost use Rattle.std.specs.List.{AllZip};
@@ -20,7 +20,7 @@ pub(crate) struct BlockDone {
     pub(crate) place: usize,
 }
 
-/// Adds a number to a set, where it is one of those that the set may have.
+/// Adds a number to a set, if it is one of those that the set may have.
 fn add(set: &mut JobSet, job: u32)
     ensures { set.new ≡ put set.old job true }
 {
@@ -86,7 +86,7 @@ fn note(filed: &mut [Option<BlockDone>], job: u32, output: BlockDone)
     }
 }
 
-/// Notes the output at a place, where the set of its worker has its job.
+/// Notes the output at a place, if the set of its worker has its job.
 #[tactic(auto, using(crate::proofs::Noting::put_noted, crate::proofs::Noting::not_noted))]
 fn note_output(
     filed: &mut [Option<BlockDone>],

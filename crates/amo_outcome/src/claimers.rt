@@ -1,4 +1,4 @@
-//! Which worker has claimed a block.
+//! The worker that has claimed a block.
 ghost use Rattle.std.specs.Prelude.{◌≡◌, ◌≤◌, ◌<◌, ◌^◌, ℕ, None, Some, IfOk, length};
 ghost use Rattle.std.specs.Option.{option_or};
 ghost use Rattle.amo_sets.specs.Lists.{numbered, put};

@@ -134,7 +134,7 @@ fn push_free(out: &mut String, job: usize, name: &str) -> Result<(), AllocError>
     writeln!(out, "job {job} free {name}")
 }
 
-/// What is noted at a place, if anything is.
+/// Returns the note at a place, if there is one.
 fn noted<T: Copy>(items: &[Option<T>], place: usize) -> Option<T>
     ensures { result ≡ get_or items.now place None }
 {
@@ -144,7 +144,7 @@ fn noted<T: Copy>(items: &[Option<T>], place: usize) -> Option<T>
     }
 }
 
-/// What is noted of the blocks of an outcome: of each the output that says that it is done, and the
+/// The notes on the blocks of an outcome: for each the output that shows that it is done, and the
 /// worker that has claimed it.
 #[derive(Drop)]
 pub(crate) struct Notes<'a> {

@@ -74,8 +74,8 @@ abbrev pub cleared : (serial job : ℕ) → Option Bool → Deed
 cleared serial job (Some clear) = Cleared serial job clear
 cleared serial job None = Fell (Clear serial job)
 
--- the deed of a try, by the line in reply, without its end; there is none if no line came, or a
--- line that was cut
+-- the deed of a try, by the line in reply, without its end; without a whole line in reply nothing
+-- was done
 abbrev pub deed_of : Try → Option (List ℕ) → Deed
 deed_of (Load word) heard = loaded word (number_heard heard)
 deed_of (Store word value) heard = if is_agreed heard then Stored word value else Fell (Store word value)

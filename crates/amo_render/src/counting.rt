@@ -1,4 +1,4 @@
-//! How many events of a kind a history has.
+//! Counting of events of a kind in a history.
 ghost use Rattle.std.specs.Prelude.{◌≡◌, length, count_by};
 ghost use Rattle.amo_kk.specs.Run.{claimed_jobs, done_jobs};
 ghost use Rattle.amo_render.specs.Happened.{is_end};

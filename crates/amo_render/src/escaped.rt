@@ -38,7 +38,11 @@ fn push_byte(out: &mut String, byte: u8) -> Result<(), AllocError>
     out.push(hex_digit(byte % 16) as char)
 }
 
-/// Appends the bytes of a text as they are printed. After `AllocError` some of them may be there.
+/// Appends the bytes of a text as they are printed.
+///
+/// # Errors
+///
+/// `AllocError` if there was no memory. Some of the bytes may have been appended.
 pub fn push_escaped(out: &mut String, text: &[u8]) -> Result<(), AllocError>
     ensures { OnOk result (string_bytes out.new ≡ string_bytes out.old ++ escaped text.now) }
 {

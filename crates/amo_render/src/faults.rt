@@ -19,8 +19,11 @@ fn givens_fault_name(fault: GivensFault) -> &'static str
     }
 }
 
-/// Returns the line of a plan's fault: the word `fault`, its number, its name and its fields. The
-/// only error is want of memory.
+/// Returns the line of a plan's fault: the word `fault`, its number, its name and its fields.
+///
+/// # Errors
+///
+/// `AllocError` if there was no memory.
 pub fn fault_text(alloc: Global, fault: &PlanFault) -> Result<String, AllocError>
     ensures { IfOk result (λ s. string_bytes s ≡ fault_line fault.now) }
 {

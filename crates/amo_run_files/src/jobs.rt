@@ -40,7 +40,8 @@ impl Jobs {
     ///
     /// # Errors
     ///
-    /// The number of the first refused line, and the reason. Or there was no memory.
+    /// `Refused` with the number of the first refused line, and the reason. `Memory` if there was
+    /// no memory.
     pub fn read(alloc: Global, mut bytes: Vec<u8>, cut: bool) -> Result<Jobs, JobsFault>
         // The file is taken exactly if no line is refused. Otherwise the fault names the first
         // refused line.

@@ -18,14 +18,14 @@ use std::marker::Model;
 pub(crate) struct Longest {
     /// How many turns it has.
     turns: u32,
-    /// Whose turn is the first of them; nobody's, where all are gone.
+    /// The worker of the first of them, or `None` if all are gone.
     first: Option<u32>,
 }
 
 impl Longest {
-    /// This one, or the one that begins with this turn and goes on so, whichever is longer. A stop
-    /// is no turn, and no way is longer for one: who is stopped could as well wait until all others
-    /// are gone.
+    /// Returns this way, or the one that begins with this turn and goes on so, whichever is longer.
+    /// A stop is no turn, and makes no way longer: a worker that is stopped could as well wait
+    /// until all others are gone.
     fn or_after(self, one: Move, after: Longest) -> Longest {
         match one {
             Move::Turn(p) if self.turns <= after.turns => Longest {
@@ -37,7 +37,7 @@ impl Longest {
     }
 }
 
-/// A world, with the moves that led to it, and what is known of those that were looked at.
+/// A world, with the moves that led to it, and the facts on the worlds that were looked at.
 #[derive(Drop)]
 pub(crate) struct Search {
     world: World,
@@ -105,7 +105,7 @@ impl Search {
         Ok(())
     }
 
-    /// Goes back to where so many moves were made.
+    /// Goes back to the world after so many moves.
     fn back(&mut self, alloc: Global, count: usize) -> Result<(), AllocError>
         requires { count ≤ length self.old.moves }
         ensures { OnOk result (self.new ≡ record { givens = self.old.givens; moves = take count self.old.moves }) }
@@ -123,7 +123,7 @@ impl Search {
         self.known.len()
     }
 
-    /// Whose turn is the first on the longest way on from a world that is known.
+    /// Returns the worker of the first turn on the longest way on from a known world.
     pub(crate) fn first_turn(
         &self,
         alloc: Global,

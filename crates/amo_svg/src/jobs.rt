@@ -1,5 +1,5 @@
-//! Writes what the picture of a long run has besides its frame: a column for each job, and a narrow
-//! lane for each worker.
+//! Writes the picture of a long run, without its frame: a column for each job, and a narrow lane
+//! for each worker.
 ghost use Rattle.std.specs.Prelude.{◌≡◌, ◌++◌, ◌<◌, ◌≤◌, ◌^◌, OnOk, string_bytes};
 ghost use Rattle.amo_plan.specs.PlanSeen.{plan_seen};
 ghost use Rattle.amo_svg.specs.Jobs.{worker_paths, going, going_shape, lifeline, lane_number, lane_numbers, worker_title, worker_drawn, workers_drawn, grid_line, grid, jobs_head, columns_of, jobs_width, band_end, jobs_ground};
@@ -20,7 +20,7 @@ use amo_render::dones_of;
 use amo_trace::{Transition, transition_at};
 use std::alloc::AllocError;
 
-/// Appends what a worker claimed and where it failed, by paths of these kinds and this width.
+/// Appends the claims of a worker and its failures, by paths of these kinds and this width.
 #[tactic(auto, unfolding(crate::specs::Jobs::worker_paths))]
 fn push_worker_paths(
     out: &mut String,
@@ -212,7 +212,7 @@ pub(crate) fn band_end(plan: &Plan) -> u128
     band(plan.heads.givens.workers + 1)
 }
 
-/// Appends what is behind the workers' marks.
+/// Appends the ground below the workers' marks.
 #[tactic(auto, unfolding(crate::specs::Jobs::jobs_ground))]
 pub(crate) fn push_jobs_ground(out: &mut String, scene: &Scene<'_>) -> Result<(), AllocError>
     ensures { OnOk result (string_bytes out.new ≡ string_bytes out.old ++ jobs_ground (plan_seen scene.now.plan.now) scene.now.rows.now) }

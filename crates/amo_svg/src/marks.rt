@@ -1,4 +1,4 @@
-//! What a picture shows of a transition.
+//! The marks of transitions in a picture.
 ghost use Rattle.std.specs.Prelude.{◌≡◌, ◌++◌, ◌+◌, ◌<◌, ◌≤◌, ◌^◌, ◌&&◌, ◌==◌, OnOk, IfOk, string_bytes, length};
 ghost use Rattle.std.specs.List.{position_or_len};
 ghost use Rattle.amo_kk.specs.Record.{is_over};
@@ -12,7 +12,7 @@ use amo_kk::Want;
 use amo_trace::{Act, Transition, job_of, push_done, push_equals, push_next};
 use std::alloc::{AllocError, Global};
 
-/// What is drawn of a transition.
+/// The mark of a transition.
 #[derive(Clone, Copy, Debug)]
 pub(crate) enum Mark {
     /// It is stopped.
@@ -111,7 +111,7 @@ fn push_loaded(out: &mut String, want: Want) -> Result<(), AllocError>
     }
 }
 
-/// What follows a value that was loaded.
+/// Returns the words after a value that was loaded.
 fn sees_more(want: Want) -> &'static str
     ensures { result.now ≡ sees_more want }
 {
@@ -133,14 +133,14 @@ fn push_sees(out: &mut String, want: Want, value: u32) -> Result<(), AllocError>
     out.push_str(sees_more(want))
 }
 
-/// What follows words that may be the last of a worker.
+/// Returns the words after those that may be the last of a worker.
 fn ends(over: bool) -> &'static str
     ensures { result.now ≡ ends over }
 {
     if over { ", ends" } else { "" }
 }
 
-/// Appends the words of a mark, given whether the worker has ended.
+/// Appends the words of a mark. `over` is true if the worker has ended.
 #[tactic(auto, unfolding(crate::specs::Marks::label_of))]
 pub(crate) fn push_label(out: &mut String, mark: Mark, over: bool) -> Result<(), AllocError>
     ensures { OnOk result (string_bytes out.new ≡ string_bytes out.old ++ label_of mark over) }
@@ -167,7 +167,7 @@ pub(crate) fn push_label(out: &mut String, mark: Mark, over: bool) -> Result<(),
     }
 }
 
-/// The heads of the lanes come again each time that so many rows have been drawn.
+/// The number of rows after which the heads of the lanes are drawn again.
 pub(crate) const RULED_ROWS: usize = 50;
 
 /// Returns how far down a row is.
@@ -179,7 +179,7 @@ pub(crate) fn row(number: usize) -> u128
     72 + 18 * (number as u128 + heads as u128)
 }
 
-/// Returns where the lifeline of a worker is.
+/// Returns the place of a worker's lifeline.
 pub(crate) fn lane(worker: u32) -> u128
     ensures value { result ≡ lane worker }
     ensures near { result < 2 ^ 40 }
@@ -242,7 +242,7 @@ pub(crate) fn until_filing(worker: u32, rest: &[Transition]) -> usize
         .count()
 }
 
-/// Whose word is loaded.
+/// Returns the worker whose word is loaded.
 fn loaded_of(want: Want) -> u32
     ensures { result ≡ loaded_of want }
 {
@@ -252,7 +252,7 @@ fn loaded_of(want: Want) -> u32
     }
 }
 
-/// Returns where the word is that is loaded.
+/// Returns the place of the word that is loaded.
 fn seen_at(want: Want) -> u128
     ensures { result ≡ seen_at want }
 {
@@ -263,7 +263,7 @@ fn seen_at(want: Want) -> u128
     }
 }
 
-/// Returns where the line of a load begins.
+/// Returns the beginning of the line of a load.
 fn line_start(worker: u32, want: Want, label: &str) -> u128
     ensures { result ≡ line_start worker want label.now }
 {
@@ -296,7 +296,7 @@ fn push_line(
     push_level(out, seen_at(want))
 }
 
-/// Returns how far a row and the row so many rows below it are apart.
+/// Returns the distance between a row and the row so many rows below it.
 fn apart(number: usize, rows: usize) -> u128
     requires number { number ≤ MOST_ROWS }
     requires rows { rows ≤ MOST_ROWS + 1 }

@@ -9,7 +9,7 @@ use crate::scale::{at, band, end_of, last_number, narrow_lane, place};
 use amo_trace::{Transition, job_of, transition_at};
 use std::alloc::AllocError;
 
-/// What the pieces of a path are.
+/// The kind of a path's pieces.
 #[derive(Clone, Copy, Debug)]
 pub(crate) enum Kind {
     /// The jobs that were performed, grey from then on.

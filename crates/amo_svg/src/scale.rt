@@ -1,4 +1,4 @@
-//! Where a picture of jobs has its moves, its jobs and its workers.
+//! The places of moves, jobs and workers in a picture of jobs.
 ghost use Rattle.std.specs.Prelude.{◌≡◌, ◌≤◌, ◌<◌, ◌^◌};
 ghost use Rattle.amo_svg.specs.Scale.{last_number, at, end_of, place, wide, power, grid_step, narrow_lane, band};
 
@@ -24,8 +24,8 @@ pub(crate) fn at(last: usize, number: usize) -> u128
     72 + 960 * number as u128 / last as u128
 }
 
-/// Returns how far down what a transition ends goes: so far below its move, or to the foot where
-/// there is none.
+/// Returns how far down the end of a transition goes: so far below its move, or to the foot without
+/// a transition.
 pub(crate) fn end_of(last: usize, below: u128, end: Option<Transition>) -> u128
     requires last { 1 ≤ last }
     requires near { below ≤ 2 }
@@ -82,7 +82,7 @@ pub(crate) fn grid_step(last: usize) -> u128
     (last / 8 / power) as u128 * power as u128 + power as u128
 }
 
-/// Returns where a worker's lane is.
+/// Returns the place of a worker's lane.
 pub(crate) fn narrow_lane(worker: u32) -> u128
     ensures value { result ≡ narrow_lane worker }
     ensures wide { 848 ≤ result }
@@ -91,8 +91,8 @@ pub(crate) fn narrow_lane(worker: u32) -> u128
     848 + 36 * worker as u128
 }
 
-/// Returns how far down the marks of the jobs stand that a worker has claimed; those of the jobs of
-/// nobody follow the last worker's.
+/// Returns how far down the marks of the jobs of this worker stand. The marks of jobs without a
+/// claim follow those of the last worker.
 pub(crate) fn band(worker: u32) -> u128
     ensures value { result ≡ band worker }
     ensures near { result < 2 ^ 40 }

@@ -1,12 +1,12 @@
-//! How many jobs are done at least, and how many moves it takes to do no more.
+//! The fewest jobs that are done, and the moves after which no more are done.
 ghost use Rattle.std.specs.Prelude.{◌≡◌, length};
 ghost use Rattle.amo_bounds.specs.Fewest.{fewest};
 ghost use Rattle.amo_bounds.specs.Worst.{lone_turns, worst_moves};
 
 use amo_givens::Givens;
 
-/// Returns how many jobs are done at least, wherever a worker has ended: none where there are fewer
-/// jobs than the threshold, else the bound, but at least one.
+/// Returns the fewest jobs that are done once a worker has ended. It is 0 if there are fewer jobs
+/// than the threshold, else the bound, but at least 1.
 pub fn fewest(givens: Givens) -> u32
     ensures { result ≡ fewest givens }
 {

@@ -5,7 +5,7 @@ use Rattle.amo_sets.specs.Sets.{has}
 use Rattle.amo_kk.specs.Run.{claimed_jobs}
 use Rattle.amo_render.proofs.unclaimed.claimed_marks.Given as goal
 
--- a job is claimed where it is marked or an event to come claims it
+-- a job is claimed if it is marked or an event to come claims it
 abbrev pub invariant-loop-event : goal.invariant-loop-event
 invariant-loop-event l = record {
   count : vec_len l.marks ≡ l.jobs;
