@@ -1,5 +1,5 @@
-//! To follow a run: to print a line of JSON a second, without any lock. Nothing is recovered, made
-//! or written. Start with [`follow`].
+//! Following of a run: it prints a line of JSON a second, without any lock. Nothing is recovered,
+//! made or written. Start with [`follow`].
 use amo_givens::MAX_WORKERS;
 use amo_run_dir::{
     Age, Fault, FollowedFiles, Item, Setting, bytes_of, known, look_to_read, record_of,
@@ -153,7 +153,8 @@ impl<'a> FollowedRun<'a> {
         }
     }
 
-    /// Returns how many lines stand how. A pending attempt counts as running: nobody has looked.
+    /// Returns the number of lines of each status. A pending attempt counts as running: nobody has
+    /// looked.
     fn count(&self) -> Result<Counts, Fault> {
         let log = RunLog {
             findings: self.logs.findings(),

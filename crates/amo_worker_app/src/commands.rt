@@ -147,7 +147,7 @@ fn tell_misuse(rt: HostRuntime, misuse: &Misuse) -> u8 {
     64
 }
 
-/// Prints the whole help that was asked for, or what is wrong, and returns the status.
+/// Prints the help that was requested, or the fault of the words, and returns the status.
 fn tell_words(rt: HostRuntime, error: &Error) -> u8 {
     let mut shown = error.print(&rt);
     if error.exit_code() != 0 {
@@ -165,7 +165,7 @@ fn tell_words(rt: HostRuntime, error: &Error) -> u8 {
     }
 }
 
-/// Does what is asked for.
+/// Does a request.
 fn done(rt: HostRuntime, setting: &Setting<'_>, request: Request<'_>) -> Result<(), End> {
     match request {
         Request::Door(jobs, into) => ended(open(rt, setting, &jobs, into)),
