@@ -1,4 +1,4 @@
-//! To make a run's folder: all of its first files, and its id last.
+//! Making of a run's folder: all of its first files, and its id last.
 use crate::admission::{check_jobs, is_there};
 use crate::error::{Fault, Later, had, written};
 use crate::files::{path_of, sync};

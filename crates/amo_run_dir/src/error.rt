@@ -1,4 +1,4 @@
-//! Why a command ends before it has done what it was asked for.
+//! The faults that end a command before its work is done.
 ghost use Rattle.std.specs.Prelude.{◌≡◌};
 ghost use Rattle.amo_run_dir.specs.Statuses.{status_of};
 ghost use Rattle.amo_run_dir.specs.declared.error.Fault.TheVariants.{Memory};
