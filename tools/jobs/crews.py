@@ -8,7 +8,7 @@ import signal
 import time
 from contextlib import suppress
 
-from jobs.rules import until
+from harness.bench import until
 from jobs.scene import DONE, DOUBTFUL, FAILED, LATER, LEFT, copy_program, want
 from worker import folder
 

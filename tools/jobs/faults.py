@@ -16,7 +16,7 @@ from concurrent.futures import ThreadPoolExecutor
 from time import monotonic
 from typing import Callable, NamedTuple
 
-from jobs.rules import until
+from harness.bench import until
 from jobs.scene import DONE, DOUBTFUL, FAILED, LATER, LEFT, Scene, Wrong, changed, want
 from worker import folder
 

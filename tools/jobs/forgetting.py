@@ -8,7 +8,7 @@ from jobs.identity import (
     Begun, begun, check, crew, forget, goes_on, id_in, is_put_away, is_refused, mark_of, performed,
     runs_anew, steps_of, waiting, WAITS, within, words_of,
 )
-from jobs.rules import until
+from harness.bench import until
 from jobs.scene import DONE, KILLED, LATER, READ, REFUSED, Scene, want
 from worker import folder
 

@@ -14,7 +14,7 @@ import time
 from typing import Callable
 
 from jobs.crews import listed, performed
-from jobs.rules import until
+from harness.bench import until
 from jobs.scene import DONE, FAILED, LEFT, Bench, Scene, want
 from jobs.spoiled import status_of
 

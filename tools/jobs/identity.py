@@ -9,7 +9,7 @@ import shutil
 import signal
 import subprocess
 
-from jobs.rules import until
+from harness.bench import until
 from jobs.scene import DONE, FAILED, HERE, KILLED, LEFT, READ, REFUSED, WRITE, Scene, want
 from worker import folder, journals
 

@@ -13,7 +13,7 @@ import subprocess
 import sys
 from typing import Callable, NamedTuple
 
-from jobs.rules import until
+from harness.bench import until
 from jobs.scene import BUILD, DONE, DOUBTFUL, LEFT, READ, WRITE, Bench, Scene, want
 from jobs.spoiled import audit_lines, begun_by, status_of
 from jobs.unseen import fed, is_not_listed, runner_of

@@ -2,17 +2,9 @@
 
 import os
 import signal
-import time
 
+from harness.bench import until
 from jobs.scene import DONE, DOUBTFUL, LATER, LEFT, want
-
-
-def until(is_so, what, seconds=240):
-    """Waits for something, far longer than a loaded machine needs for it."""
-    end = time.monotonic() + seconds
-    while not is_so():
-        want(time.monotonic() < end, f"it never is so: {what}")
-        time.sleep(0.01)
 
 
 def orphan(bench, kind="waits"):

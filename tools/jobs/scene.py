@@ -5,7 +5,6 @@ import compileall
 import glob
 import json
 import os
-import random
 import re
 import shutil
 import signal
@@ -15,6 +14,8 @@ import tempfile
 import time
 from typing import List
 
+from harness import bench as harness
+from harness.bench import Wrong, spread, want
 from worker import folder
 
 HERE = os.path.dirname(os.path.realpath(__file__))
@@ -24,15 +25,6 @@ NO_MEMORY = 71  # or a program that the crew asked was killed
 KILLED = -signal.SIGKILL
 UNHEARD = (-signal.SIGHUP, -signal.SIGTERM, -signal.SIGINT, 130)  # of a signal that came before a crew took any
 COMMAND = [f"{HERE}/act.sh"]
-
-
-class Wrong(Exception):
-    """What is wrong with the program."""
-
-
-def want(so, what):
-    if not so:
-        raise Wrong(what)
 
 
 def compiled(program: str, room: str) -> str:
@@ -74,13 +66,13 @@ def changed(program: str, room: str, pairs: list) -> str:
     return f"{room}/{os.path.basename(program)}"
 
 
-class Bench:
-    """What is tried: amo_jobs and a worker, in a folder."""
+class Bench(harness.Bench):
+    """A bench with amo_jobs and a worker."""
 
     def __init__(self, program, worker, room, is_long, seed, mistake=None):
-        self.program, self.worker, self.room = os.path.abspath(program), os.path.abspath(worker), os.path.realpath(room)
-        self.is_long, self.seed, self.draws, self.mistake = is_long, seed, random.Random(seed), mistake
-        self.scenes, self.skipped, self.end, self.counts = [], [], None, {}
+        super().__init__(room, is_long, seed)
+        self.program, self.worker = os.path.abspath(program), os.path.abspath(worker)
+        self.mistake, self.scenes = mistake, []
         self.made: List[Scene] = []
         self.dropped: list = []  # what came of the logs of scenes whose files are gone
         self.kills = 0  # how many kills a test has to make that counts them
@@ -95,18 +87,10 @@ class Bench:
             it.close()
         self.scenes.clear()
 
-    def has_time(self):
-        return self.end is None or time.monotonic() < self.end
-
-    def add(self, name, more=1):
-        self.counts[name] = self.counts.get(name, 0) + more
-
     def sample(self, whole, count):
-        """All of these in the long form, in some order; else so many of them, spread."""
+        """Returns all of these in the long form, in some order; else so many of them, spread."""
         whole = list(whole)
-        if self.is_long:
-            return self.draws.sample(whole, len(whole))
-        return [whole[k * len(whole) // count] for k in range(count)] if len(whole) > count else whole
+        return self.draws.sample(whole, len(whole)) if self.is_long else spread(whole, count)
 
 
 class Scene:
@@ -357,12 +341,5 @@ class Scene:
         return sorted(set(self.processes(self.command[0])) - own)
 
     def processes(self, word=""):
-        """The processes that have this run's folder, and this word, in their command line."""
-        for process in filter(str.isdecimal, os.listdir("/proc")):
-            try:
-                with open(f"/proc/{process}/cmdline", "rb") as file:
-                    words = file.read().decode("utf-8", "replace").split("\0")
-            except OSError:
-                continue
-            if any(it.startswith(f"{self.room}/") or it == self.room for it in words) and (not word or word in words):
-                yield int(process)
+        """Yields the processes that have this run's folder, and this word, in their command line."""
+        return harness.processes_of(self.room, *([word] if word else []))

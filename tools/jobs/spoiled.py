@@ -4,9 +4,9 @@ No test here depends on which process is faster: a command waits until the test 
 import os
 import re
 import subprocess
-import time
 from typing import List, Optional
 
+from harness.bench import until
 from jobs.scene import REFUSED, Bench, Scene, Wrong, want
 from worker import folder
 from worker.headers import FILES
@@ -16,14 +16,6 @@ from worker.scene import SENSELESS
 LINES = 8
 LONGEST = 240  # seconds, far longer than a loaded machine needs for anything here
 READABLE = ("record", "jobs", *FILES)  # what `status --damaged` shows
-
-
-def until(is_so, what: str) -> None:
-    """Waits for something."""
-    end = time.monotonic() + LONGEST
-    while not is_so():
-        want(time.monotonic() < end, f"it never is so: {what}")
-        time.sleep(0.01)
 
 
 def flip(path: str, place: int, bit: int) -> None:

@@ -6,7 +6,7 @@ import re
 import signal
 from typing import List
 
-from jobs.rules import until
+from harness.bench import until
 from jobs.scene import DONE, DOUBTFUL, LEFT, Scene, want
 from worker import folder
 

@@ -8,7 +8,7 @@ import signal
 import subprocess
 from typing import Tuple
 
-from jobs.rules import until
+from harness.bench import until
 from jobs.scene import DONE, DOUBTFUL, LATER, Scene, want
 
 JAVA = """public class Pay {

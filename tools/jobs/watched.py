@@ -13,7 +13,7 @@ sys.path.insert(0, f"{os.path.dirname(HERE)}/modules")
 
 import schemas
 
-from jobs.rules import until
+from harness.bench import until
 from jobs.scene import DONE, DOUBTFUL, WRITE, want
 from worker import folder
 

@@ -12,7 +12,7 @@ import sys
 from jobs.scene import (
     BUILD, DONE, DOUBTFUL, FAILED, KILLED, LATER, LEFT, READ, REFUSED, WORDS, WRITE, want
 )
-from jobs.rules import until
+from harness.bench import until
 from worker import folder, journals
 
 

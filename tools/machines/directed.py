@@ -6,7 +6,10 @@ import shutil
 import signal
 import subprocess
 
-from machines.scene import DONE, DOUBTFUL, FAILED, HERE, KILLED, LATER, LEFT, OVER, REFUSED, Scene, until, want
+from harness.bench import until, want
+from machines.scene import (
+    DONE, DOUBTFUL, FAILED, HERE, KILLED, LATER, LEFT, OVER, REFUSED, Scene
+)
 from machines.stores import store_of
 from worker import folder
 from worker.folder import read

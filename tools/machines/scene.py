@@ -2,7 +2,6 @@
 commands write down what they do, and the audit of it all."""
 
 import os
-import random
 import shutil
 import signal
 import subprocess
@@ -10,6 +9,8 @@ import sys
 import tempfile
 import time
 
+from harness import bench as harness
+from harness.bench import until, want
 from worker import folder
 
 HERE = os.path.dirname(os.path.realpath(__file__))
@@ -17,39 +18,13 @@ DONE, FAILED, DOUBTFUL, REFUSED, LEFT, LATER = 0, 1, 2, 65, 69, 75
 OVER, KILLED = (DONE, FAILED, DOUBTFUL), -signal.SIGKILL
 
 
-class Wrong(Exception):
-    """What is wrong with the program."""
-
-
-class Skipped(Exception):
-    """What isn't there to try it with."""
-
-
-def want(so, what):
-    if not so:
-        raise Wrong(what)
-
-
-def until(is_so, what, seconds=300, pause=0.02):
-    """Waits for something."""
-    end = time.monotonic() + seconds
-    while not is_so():
-        want(time.monotonic() < end, f"it never is so: {what}")
-        time.sleep(pause)
-
-
-class Bench:
-    """What is tried: amo_share and a worker, in a folder."""
+class Bench(harness.Bench):
+    """A bench with amo_share and a worker."""
 
     def __init__(self, program, worker, room, is_long, seed):
-        self.program, self.worker, self.room = os.path.abspath(program), os.path.abspath(worker), os.path.realpath(room)
-        self.is_long, self.draws, self.end, self.closing, self.counts = is_long, random.Random(seed), None, [], {}
-
-    def has_time(self):
-        return self.end is None or time.monotonic() < self.end
-
-    def add(self, name, more=1):
-        self.counts[name] = self.counts.get(name, 0) + more
+        super().__init__(room, is_long, seed)
+        self.program, self.worker = os.path.abspath(program), os.path.abspath(worker)
+        self.closing = []
 
     def told(self):
         return ", ".join(f"{count} {name}" for name, count in self.counts.items())
@@ -249,15 +224,8 @@ class Machine:
         return ran.stdout.decode()
 
     def processes(self, *words):
-        """The processes of this machine that have these words in their command line."""
-        for process in filter(str.isdecimal, os.listdir("/proc")):
-            try:
-                with open(f"/proc/{process}/cmdline", "rb") as file:
-                    said = file.read().decode("utf-8", "replace").split("\0")
-            except OSError:
-                continue
-            if any(it == self.folder or it.startswith(f"{self.folder}/") for it in said) and set(words) <= set(said):
-                yield int(process)
+        """Yields the processes of this machine that have these words in their command line."""
+        return harness.processes_of(self.folder, *words)
 
     def signal(self, number, *words):
         """To its processes with these words; those that ended meanwhile are none."""

@@ -12,7 +12,7 @@ import time
 import urllib.request
 
 from machines.proxy import Proxy
-from machines.scene import Skipped, until, want
+from harness.bench import Skipped, until, want
 from worker.folder import read
 
 HERE = os.path.dirname(os.path.realpath(__file__))

@@ -18,6 +18,8 @@ import tempfile
 import time
 from typing import List
 
+from harness import bench as harness
+from harness.bench import Wrong, spread, want
 from worker import folder
 
 OVER, WORDS, REFUSED, LEFT, SENSELESS, MEMORY, WRITE, READ, LATER, ANSWER, DOOR = 0, 64, 65, 69, 70, 71, 73, 74, 75, 76, 77
@@ -29,15 +31,6 @@ PAUSE, LONGEST_PAUSE = 0.005, 2.0
 # A worker says this of a line that the registers gave it, if another attempt at it isn't opened.
 TAKEN = re.compile(r"amo_worker: line ([1-9][0-9]*): attempt ([1-9][0-9]*\.[1-9][0-9]*)"
                    r" stands against it; not started\n")
-
-
-class Wrong(Exception):
-    """What is wrong with the program."""
-
-
-def want(so, what):
-    if not so:
-        raise Wrong(what)
 
 
 def each(items, try_one):
@@ -62,15 +55,16 @@ def each(items, try_one):
     return count
 
 
-class Bench:
-    """What is tried: a program, in a folder, with the library of faults."""
+class Bench(harness.Bench):
+    """A bench with a worker's program, and the library of faults."""
 
     def __init__(self, program, room, is_long, seed, mistake=None):
-        self.program, self.room, self.is_long, self.mistake = os.path.abspath(program), os.path.realpath(room), is_long, mistake
-        self.draws, self.seed, self.scenes, self.skipped, self.processes = random.Random(seed), seed, 0, [], 0
+        super().__init__(room, is_long, seed)
+        self.program, self.mistake = os.path.abspath(program), mistake
+        self.scenes, self.processes = 0, 0
         self.made: List[Scene] = []
         self.dropped: list = []  # what came of the logs of scenes whose files are gone
-        self.library, self.runners, self.watches, self.end, self.last = f"{self.room}/faults.so", [], True, None, None
+        self.library, self.runners, self.watches, self.last = f"{self.room}/faults.so", [], True, None
         kind = folder.type_of(self.room)
         self.kind = [] if kind in folder.TAKEN else ["--file-system", kind]  # (as in a container)
 
@@ -87,15 +81,9 @@ class Bench:
             it.close()
         self.runners.clear()
 
-    def has_time(self):
-        return self.end is None or time.monotonic() < self.end
-
     def sample(self, whole, count):
-        """All of these in the long form, else so many of them, spread."""
-        whole = list(whole)
-        if self.is_long or len(whole) <= count:
-            return whole
-        return [whole[k * len(whole) // count] for k in range(count)]
+        """Returns all of these in the long form, else so many of them, spread."""
+        return list(whole) if self.is_long else spread(list(whole), count)
 
     def scene(self, lines=3, workers=1, **more):
         """A new run, in a folder of its own."""
