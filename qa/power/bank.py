@@ -133,7 +133,8 @@ class Bank:
             self.wrong(f"{what} after it was answered done", f"line {line} by {attempt}")
 
     def take_doubts(self, rest: str) -> str:
-        """An operator looks at the doubts, and answers some of them truthfully, by the book."""
+        """Returns an operator looks at the doubts, and answers some of them truthfully, by the
+        book."""
         share, rows = self.draws.choice((1, 1, 1, 0.5, 0)), []
         self.sent = []
         for it in json.loads(rest):

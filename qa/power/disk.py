@@ -119,7 +119,7 @@ class Disk:
         return bool(data)
 
     def agree(self, head: bytes, place: int) -> int:
-        """Answers an option of the client. Returns how many bytes it has; 0 if it isn't whole."""
+        """Returns an option of the client. Returns how many bytes it has; 0 if it isn't whole."""
         assert self.connection
         if not self.has_flags:
             self.has_flags = len(head) >= 4

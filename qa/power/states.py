@@ -157,7 +157,8 @@ class ByTools:
         return [f"{it}: {state.name}" for it in wrongs]
 
     def live_on(self, path: str, state: State, opened: Set[int]) -> List[str]:
-        """The program goes on alone: it must hand over each open line once, and no other."""
+        """Returns the program goes on alone: it must hand over each open line once, and no
+        other."""
         self.counts["states from which the program went on"] += 1
         jobs, handed = f"{self.room}/jobs", list[int]()
         with open(jobs, "w", encoding="utf-8") as file:

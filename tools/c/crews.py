@@ -41,8 +41,8 @@ class Process:
         self.run, self.lines = subprocess.Popen([*shlex.split(command), *words], **pipes), []
 
     def wait_to_hold(self, path):
-        """Waits until it holds the lock on this file, or has ended. (Were the second process first, a kill of the first one would
-        leave a job in hand with nobody to come back.)"""
+        """Waits until it holds the lock on this file, or has ended. (Were the second process first,
+        a kill of the first one would leave a job in hand with nobody to come back.)"""
         with open(path, "a") as lock:
             while self.run.poll() is None:
                 try:

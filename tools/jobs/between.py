@@ -39,7 +39,7 @@ def note(name, text):
 
 
 def number():
-    """The number of this moment."""
+    """Returns the number of this moment."""
     with open(f"{ROOM}/moments", "a+") as file:
         fcntl.flock(file, fcntl.LOCK_EX)
         file.seek(0)
@@ -49,7 +49,7 @@ def number():
 
 
 def parent_of(process):
-    """The number of this process's parent."""
+    """Returns the number of this process's parent."""
     return int(read(f"/proc/{process}/stat").rpartition(")")[2].split()[1])
 
 
@@ -89,7 +89,7 @@ def moment(worker, name, line, kind):
 
 
 def is_over(lock):
-    """Whether the runner has answered, or is gone, and nothing of the command is left."""
+    """Returns whether the runner has answered, or is gone, and nothing of the command is left."""
     return bool(select.select([0], [], [], 0)[0]) and not os.path.exists(lock)
 
 

@@ -16,19 +16,20 @@ COUNTS = 'echo "$1" >> "$0/performed"; '
 
 
 def performed(scene) -> int:
-    """How many commands have begun that count themselves."""
+    """Returns how many commands have begun that count themselves."""
     return len(folder.read(f"{scene.room}/performed").split())
 
 
 def runner_of(scene, worker: int) -> int:
-    """The process of a runner; 0 if it has none."""
+    """Returns the process of a runner; 0 if it has none."""
     with suppress(OSError, ValueError), open(f"{scene.run}/runner.{worker}") as file:
         return int(file.read())
     return 0
 
 
 def listed(bench, lines: int, script: str, workers: int, *options: str):
-    """A run of so many lines, of which each counts itself and then does this; and its crew."""
+    """Returns a run of so many lines, of which each counts itself and then does this; and its
+    crew."""
     scene = bench.scene([], workers, options)
     with open(scene.jobs, "w") as file:
         file.write("".join(f"{line}\n" for line in range(1, lines + 1)))

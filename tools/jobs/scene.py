@@ -28,9 +28,10 @@ COMMAND = [f"{HERE}/act.sh"]
 
 
 def compiled(program: str, room: str) -> str:
-    """Copies amo_jobs with its package, or the folder of a worker in Python, into a new folder, and
-    compiles it there, with its part in C; returns the path of the copy. (They compile their modules at each start, and
-    write nothing into their own folders. A run of these tests starts thousands.)"""
+    """Copies amo_jobs with its package, or the folder of a worker in Python, into a new folder,
+    and compiles it there, with its part in C; returns the path of the copy. (They compile their
+    modules at each start, and write nothing into their own folders. A run of these tests starts
+    thousands.)"""
     top = os.path.dirname(os.path.realpath(program))
     if program.endswith(".py"):
         shutil.copytree(top, room)
@@ -159,7 +160,7 @@ class Scene:
         want(found == status, f"status {found} in place of {status}: {self.tale()[-500:]}")
 
     def call(self, command, *words, status=DONE):
-        """A command for persons: what it writes. None in place of a status takes any."""
+        """Returns a command for persons: what it writes. None in place of a status takes any."""
         ran = subprocess.run(self.words(command, *words), stdin=subprocess.DEVNULL,
                              capture_output=True, timeout=240, env=self.environment())
         want(status in (None, ran.returncode), f"{command}: status {ran.returncode}: {(ran.stdout + ran.stderr).decode()[-500:]}")
@@ -199,7 +200,8 @@ class Scene:
             self.person()
 
     def person(self, by_hand=0.3):
-        """Looks at the effect of each listed doubt, and answers. Some that were not done are done by hand after that."""
+        """Looks at the effect of each listed doubt, and answers. Some that were not done are done
+        by hand after that."""
         if not os.path.exists(f"{self.run}/jobs"):
             return 0
         found = re.findall(r"^(\d+\.\d+), line (\d+): (.*)$", self.call("doubts"), re.M)
@@ -218,8 +220,8 @@ class Scene:
         return len(found)
 
     def answer(self, name: str, line: str, text: str, verdict: str, seconds=240):
-        """Answers a doubt; again where a crew that begins holds it just now. What is done here arrives
-        at once, so `not-done` needn't wait."""
+        """Answers a doubt; again where a crew that begins holds it just now. What is done here
+        arrives at once, so `not-done` needn't wait."""
         end = time.monotonic() + seconds
         words = self.words("answer", *(["--now"] if verdict == "not-done" else []), "--", name, line,
                            text, verdict)
@@ -233,7 +235,8 @@ class Scene:
 
     def see_out(self, crew=None, seconds=600, pause=0.3, again=True, during=None,
                 workers_of=lambda: None):
-        """Starts crews, with a person beside them, until no line is open, in doubt or running; the status of the last one."""
+        """Starts crews, with a person beside them, until no line is open, in doubt or running; the
+        status of the last one."""
         end = time.monotonic() + seconds
         crew = crew or self.start(workers=workers_of())
         while True:
@@ -294,7 +297,8 @@ class Scene:
                 want(not later or later == [["did", "by-hand"]], f"performed after it was answered done: line {line}: {told}")
 
     def close(self):
-        """Ends what is left: crews, and their workers and commands, which know the folder by their words."""
+        """Ends what is left: crews, and their workers and commands, which know the folder by their
+        words."""
         for it in self.crews:
             if it.poll() is None:
                 it.kill()
@@ -323,23 +327,24 @@ class Scene:
                 pass
 
     def runners(self):
-        """The runners of a crew: their words have the supervisor's version."""
+        """Returns the runners of a crew: their words have the supervisor's version."""
         with open(f"{os.path.dirname(self.bench.program)}/VERSION") as file:
             return self.processes(f"--as={file.read().strip()}")
 
     def tellers(self, crew):
-        """The process by which a crew reports to others: it has the crew's words."""
+        """Returns the process by which a crew reports to others: it has the crew's words."""
         return sorted(set(self.processes("crew")) - {crew.pid})
 
     def worker_processes(self):
-        """The processes of workers."""
+        """Returns the processes of workers."""
         return sorted(set(self.processes("work")) - set(self.runners()))
 
     def commands(self):
-        """The processes of commands, whose path the words of crews and runners have too."""
+        """Returns the processes of commands, whose path the words of crews and runners have too."""
         own = {*self.processes("crew"), *self.processes("work")}
         return sorted(set(self.processes(self.command[0])) - own)
 
     def processes(self, word=""):
-        """Yields the processes that have this run's folder, and this word, in their command line."""
+        """Yields the processes that have this run's folder, and this word, in their command
+        line."""
         return harness.processes_of(self.room, *([word] if word else []))

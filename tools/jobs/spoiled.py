@@ -29,8 +29,8 @@ def flip(path: str, place: int, bit: int) -> None:
 
 
 def refused_file(run: str) -> Optional[str]:
-    """The file of a run by which everybody has to refuse it; None if a crew may go on. Nobody
-    writes there meanwhile."""
+    """Returns the file of a run by which everybody has to refuse it; None if a crew may go on.
+    Nobody writes there meanwhile."""
     for name in ("id", *folder.PARTS):
         if not os.path.exists(f"{run}/{name}"):
             return name
@@ -61,7 +61,7 @@ def kept(run: str) -> dict:
 
 
 def status_of(crew: subprocess.Popen) -> int:
-    """The status with which a crew ends."""
+    """Returns the status with which a crew ends."""
     try:
         return crew.wait(LONGEST)
     except subprocess.TimeoutExpired:
@@ -182,7 +182,7 @@ def try_drawn_registers(bench: Bench) -> None:
 
 
 def place_in(path: str, number: int, where: str) -> int:
-    """A place in a line of the file, which is an append if the file has appends."""
+    """Returns a place in a line of the file, which is an append if the file has appends."""
     lines = folder.read(path).split(b"\n")[:-1]
     begin = sum(len(it) + 1 for it in lines[:number])
     end = begin + len(lines[number])

@@ -20,14 +20,15 @@ def overs(scene: Scene, worker: int) -> List[str]:
 
 
 def lives(scene: Scene, worker: int) -> int:
-    """How many processes this worker has had."""
+    """Returns how many processes this worker has had."""
     noted = folder.read(f"{scene.room}/lives").decode().splitlines()
     return noted.count(str(worker))
 
 
 def one_waits(bench, kinds: list):
-    """A crew of two, of which one has a command that waits, and the other one nothing to do: it
-    waits for the next round. Returns the run, the crew, and the number of the one that waits."""
+    """Returns a crew of two, of which one has a command that waits, and the other one nothing to
+    do: it waits for the next round. Returns the run, the crew, and the number of the one that
+    waits."""
     scene = bench.scene(kinds, 2)
     crew = scene.start(plan=RELAYED)
     until(lambda: any(overs(scene, p) for p in (1, 2)), "a worker waits for the next round")

@@ -20,8 +20,8 @@ def scene_of(bench, lines, size, machines, percent=0):
 
 
 def try_shares(bench):
-    """each chunk is asked for once by each machine and worked by one of them, a crew that is begun by hand where it is another's
-    is refused, and a machine that comes again has nothing to do"""
+    """each chunk is asked for once by each machine and worked by one of them, a crew that is begun
+    by hand where it is another's is refused, and a machine that comes again has nothing to do"""
     scene = scene_of(bench, 7, 3, 3)
     scene.see_out()
     scene.audit()
@@ -40,7 +40,8 @@ def try_shares(bench):
 
 
 def killed_at(bench, point):
-    """A machine that is killed before one of its calls, another that takes what is free, and the first again; and the calls."""
+    """Returns a machine that is killed before one of its calls, another that takes what is free,
+    and the first again; and the calls."""
     scene = scene_of(bench, 2, 1, 2)
     first, second = scene.machines
     report = f"{scene.room}/report"
@@ -59,8 +60,8 @@ def killed_at(bench, point):
 
 
 def try_killed_everywhere(bench):
-    """killed before each call that changes its folder or starts a program, it does nothing twice, loses nothing, and all that a
-    claim rests on is on the disk"""
+    """killed before each call that changes its folder or starts a program, it does nothing twice,
+    loses nothing, and all that a claim rests on is on the disk"""
     count = len(killed_at(bench, 0))
     points = range(1, count + 1)
     for point in points if bench.is_long else [k * count // 3 + bench.draws.randrange(count // 3) + 1 for k in range(3)]:
@@ -71,7 +72,7 @@ def try_killed_everywhere(bench):
 
 
 def waiting(bench, lines, size, machines, percent=0):
-    """A scene whose first machine's commands wait, and has begun one."""
+    """Returns a scene whose first machine's commands wait, and has begun one."""
     scene = scene_of(bench, lines, size, machines, percent)
     scene.say("waits")
     scene.machines[0].start()
@@ -216,7 +217,8 @@ def try_run_of_a_chunk(bench):
 
 
 def try_copy(bench):
-    """a folder that is a copy, or that wakes up on another machine, is refused without a person's word"""
+    """a folder that is a copy, or that wakes up on another machine, is refused without a person's
+    word"""
     scene, first = waiting(bench, 3, 3, 2)
     first.kill_all()
     scene.take_back("waits")
@@ -290,7 +292,8 @@ def try_failures(bench):
 
 
 def try_doubt(bench):
-    """a doubt is told, and where to look, and a line that a person opens again the next amo_share works"""
+    """a doubt is told, and where to look, and a line that a person opens again the next amo_share
+    works"""
     scene, first = waiting(bench, 2, 2, 1)
     first.kill_all()
     scene.take_back("waits")
@@ -308,7 +311,8 @@ def try_doubt(bench):
 
 
 def try_no_store(bench):
-    """a store that doesn't answer is waited for, also while a stop is asked for, and nothing is performed meanwhile"""
+    """a store that doesn't answer is waited for, also while a stop is asked for, and nothing is
+    performed meanwhile"""
     scene = scene_of(bench, 2, 2, 1)
     first, claims = scene.machines[0], scene.store.environment["AMO_CLAIMS"]
     os.rename(claims, f"{claims}.away")
@@ -325,7 +329,8 @@ def try_no_store(bench):
 
 
 def try_claim_programs(bench, kind="folder"):
-    """of many that claim at once one has it, which all are told, and again later; a free chunk has no owner"""
+    """of many that claim at once one has it, which all are told, and again later; a free chunk has
+    no owner"""
     store = store_of(bench, kind)
     environment = {"PATH": os.environ["PATH"], **store.straight()}
     for chunk in range(1, 4):

@@ -19,8 +19,8 @@ def shut(*sockets):
 
 
 class Proxy:
-    """Listens at a port of its own. `mark` are the bytes by which a request that writes is known; so many of those in a hundred
-    come to a bad end."""
+    """Listens at a port of its own. `mark` are the bytes by which a request that writes is known;
+    so many of those in a hundred come to a bad end."""
 
     def __init__(self, server, mark, draws, percent):
         self.server, self.mark, self.draws, self.percent, self.asked, self.bad = server, mark, draws, percent, 0, 0
@@ -45,7 +45,8 @@ class Proxy:
         return self.draws.choice(KINDS)
 
     def carry(self, client):
-        """One connection, until either side closes it, or what is chosen for its request that writes."""
+        """One connection, until either side closes it, or what is chosen for its request that
+        writes."""
         said, server, answers = b"", None, threading.Event()
         answers.set()
         try:
@@ -87,7 +88,8 @@ class Proxy:
             shut(client)
 
     def repeat(self, said):
-        """Says all that was said up to here to the server in a while, on a connection of its own."""
+        """Says all that was said up to here to the server in a while, on a connection of its
+        own."""
         def go():
             time.sleep(self.draws.random())
             try:

@@ -61,7 +61,7 @@ class Scene:
         os.unlink(f"{self.room}/{name}")
 
     def tales(self, word="did"):
-        """The texts of which commands have written this word, each with the machine."""
+        """Returns the texts of which commands have written this word, each with the machine."""
         rows = [it.split(" ", 2) for it in folder.read(self.effects).decode().splitlines()]
         return [(text, machine) for said, machine, text in rows if said == word]
 
@@ -96,11 +96,12 @@ class Scene:
         self.bench.add("folders lost")
 
     def lines(self, number):
-        """The texts of a chunk."""
+        """Returns the texts of a chunk."""
         return self.texts[(number - 1) * self.size:number * self.size]
 
     def audit(self):
-        """No line is performed twice, and of each it is told where it stands. What was lost is worked by nobody."""
+        """No line is performed twice, and of each it is told where it stands. What was lost is
+        worked by nobody."""
         did = [it[0] for it in self.tales()]
         twice = sorted({it for it in did if did.count(it) > 1})
         want(not twice, f"performed twice: {[it for it in self.tales() if it[0] in twice]}")
@@ -165,7 +166,8 @@ class Machine:
         return f"{self.run}/chunk.{number}"
 
     def marks(self, number):
-        """The mark of this machine's folder of a chunk, and that which it has noted as the owner's."""
+        """Returns the mark of this machine's folder of a chunk, and that which it has noted as the
+        owner's."""
         notes = [str(folder.read(f"{self.chunk(number)}/{it}")) for it in ("mark", "owner")]
         return [it.partition('"mark": "')[2].partition('"')[0] for it in notes]
 

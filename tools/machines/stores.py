@@ -43,11 +43,11 @@ class Store:
         return ran.stdout.decode() if ran.returncode == 0 else None
 
     def straight(self):
-        """The environment by which nothing is in between."""
+        """Returns the environment by which nothing is in between."""
         return self.environment
 
     def owner(self, name, number):
-        """The mark that has this chunk; what can't be had is tried for a while."""
+        """Returns the mark that has this chunk; what can't be had is tried for a while."""
         end = time.monotonic() + 300
         while (found := self.ask("look", name, str(number))) is None:
             want(time.monotonic() < end, "the store doesn't come back")
@@ -227,7 +227,7 @@ class Postgres(Store):
 
 
 def store_of(bench, kind="folder", percent=0):
-    """A store of this kind in a folder of its own."""
+    """Returns a store of this kind in a folder of its own."""
     room = tempfile.mkdtemp(prefix="store.", dir=bench.room)
     store = bench.keep(Folder(room, percent) if kind == "folder" else
                        {"etcd": Etcd, "postgres": Postgres}[kind](room, bench.draws, percent))

@@ -107,7 +107,8 @@ def try_etcd_claims(bench):
 
 
 def try_etcd_storms(bench):
-    """random runs over three nodes of etcd, of which one or two are killed or stopped, with answers lost, late and repeated"""
+    """random runs over three nodes of etcd, of which one or two are killed or stopped, with answers
+    lost, late and repeated"""
     return storms(bench, "etcd", 30, 2)
 
 
@@ -117,7 +118,8 @@ def try_postgres_claims(bench):
 
 
 def try_postgres_storms(bench):
-    """random runs over PostgreSQL, which is stopped and crashes, with answers lost, late and repeated"""
+    """random runs over PostgreSQL, which is stopped and crashes, with answers lost, late and
+    repeated"""
     return storms(bench, "postgres", 30, 2)
 
 

@@ -11,15 +11,16 @@ PROOF = "use Rattle.{crate}.proofs.{path}.Statement.{{statement}}\n\npub {name}_
 
 
 def can_be_stub(function, lines, real):
-    """Whether a stub can be put in place of this function: its body is some lines by itself, and none of the functions that are to
-    stay stands within it."""
+    """Returns whether a stub can be put in place of this function: its body is some lines by
+    itself, and none of the functions that are to stay stands within it."""
     opens, closes = lines[function.opens - 1], lines[function.last - 1]
     has_lines = function.last - function.opens > 1 and opens.endswith("{") and closes.strip() == "}"
     return has_lines and not any(it.file == function.file and function.has(it.first) for it in real)
 
 
 def put(crate, room, functions, real):
-    """Puts stubs into this copy of the crate for all functions that can have one, but for those that are to stay real."""
+    """Puts stubs into this copy of the crate for all functions that can have one, but for those
+    that are to stay real."""
     texts = {}
     for it in functions:
         if it.file not in texts:

@@ -76,7 +76,8 @@ def turn(root: str) -> int:
 
 
 def keys_of(bodies: list) -> dict[int, str]:
-    """Returns a name for each body, by its place. Bodies that change a common function have one name."""
+    """Returns a name for each body, by its place. Bodies that change a common function have one
+    name."""
     names: dict[str, str] = {}
     for body in bodies:
         functions = [f"{it.file}:{it.name}" for it in body.functions]

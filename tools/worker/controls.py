@@ -123,7 +123,7 @@ def show(bench, mistake, test, wanted):
 
 
 def control(mistake, test, wanted):
-    """The control of one mistake, as a test."""
+    """Returns the control of one mistake, as a test."""
 
     def try_control(bench):
         return f"shown: {show(bench, mistake, test, wanted)}"

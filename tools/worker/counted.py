@@ -29,8 +29,8 @@ KEPT = ("record", "jobs", *APPENDED)
 
 
 def run_of_rounds(bench) -> tuple:
-    """A run of five rounds, with 20 appends in the longer of two journals, and with answers; and
-    the bytes of its files after each round."""
+    """Returns a run of five rounds, with 20 appends in the longer of two journals, and with
+    answers; and the bytes of its files after each round."""
     scene, copies = bench.scene(LINES, 2), []
     for number, worker in enumerate(LIVES, 1):
         runner = Says(scene, worker, REPLIES if number < 5 else REPLIES[:3])
@@ -53,19 +53,19 @@ def answer_last(scene, worker: int) -> None:
 
 
 def appends_in(data: bytes) -> list:
-    """The appends in the bytes of a sound file."""
+    """Returns the appends in the bytes of a sound file."""
     return data[:-1].splitlines(keepends=True)
 
 
 def header_in(scene, data: bytes) -> headers.Header:
-    """The header in these bytes of the run's `record`."""
+    """Returns the header in these bytes of the run's `record`."""
     header = headers.Header(scene.id(), data)
     want(header.is_there and header.is_sound, f"the header is damaged: {data}")
     return header
 
 
 def records_of(copy: dict) -> dict:
-    """The records of each file in a copy of the run's files."""
+    """Returns the records of each file in a copy of the run's files."""
     return {name: [it[1:-10] for it in appends_in(copy[name])] for name in APPENDED}
 
 
@@ -134,8 +134,8 @@ def cut_one(scene, name: str, appends: list, length: int, rest: bytes) -> None:
 
 
 def cuts(scene) -> Iterator:
-    """Each file that is cut behind each of its appends, with nothing behind that, or with what a
-    crash leaves."""
+    """Yields each file that is cut behind each of its appends, with nothing behind that, or with
+    what a crash leaves."""
     for name in APPENDED:
         appends = appends_in(read(f"{scene.run}/{name}"))
         for length in range(len(appends) + 1):
@@ -157,7 +157,7 @@ def try_counted_lost(bench) -> str:
 
 
 def words_of_all(scene) -> dict:
-    """The words of each command that reads the files."""
+    """Returns the words of each command that reads the files."""
     work = [*scene.givens(), scene.jobs]
     return {"journal.1": ["work", "1", *work], "journal.2": ["work", "2", *work],
             "answers": ["answer", "1.2", "2", "job 2", "done"], "status": ["status"],
@@ -353,7 +353,7 @@ def try_round_beside(bench) -> str:
 
 
 def reads_of(scene, words: list) -> list:
-    """The numbers of the calls by which a command reads the files that a round changes."""
+    """Returns the numbers of the calls by which a command reads the files that a round changes."""
     scene.logs = True
     scene.call(words[0], scene.run, *words[1:])
     scene.logs, calls = False, scene.logged()
@@ -363,7 +363,7 @@ def reads_of(scene, words: list) -> list:
 
 
 def life_of(bench) -> list:
-    """The calls of a life over a simulated disk that nothing befalls."""
+    """Returns the calls of a life over a simulated disk that nothing befalls."""
     scene = bench.scene(6, 2, makes=False)
     power = Power(scene, bench.draws)
     runner = Runner(scene, 1)
@@ -375,8 +375,8 @@ def life_of(bench) -> list:
 
 
 def commits(bench) -> Iterator:
-    """The calls at which a worker can end while nothing but its last append isn't on the disk: it
-    is killed at the write by which that counts, or the sync behind it fails."""
+    """Yields the calls at which a worker can end while nothing but its last append isn't on the
+    disk: it is killed at the write by which that counts, or the sync behind it fails."""
     calls = life_of(bench)
     for k, it in enumerate(calls):
         if it[2:4] == ["write", "journal.1"] and it[8] == "2b":
@@ -401,7 +401,7 @@ def cut_last_one(bench, number: int, fault: str) -> None:
 
 
 def doubtful(bench) -> tuple:
-    """A run over a simulated disk whose three lines are in doubt, one of them answered."""
+    """Returns a run over a simulated disk whose three lines are in doubt, one of them answered."""
     scene = bench.scene(3, 1, makes=False)
     power = Power(scene, bench.draws, fails="none")
     runner = Runner(scene, 1)
@@ -428,7 +428,7 @@ def cut_answer_one(bench, number: int, fault: str) -> None:
 
 
 def commits_of_answers(bench) -> list:
-    """The same calls of a person's answer."""
+    """Returns the same calls of a person's answer."""
     scene, power = doubtful(bench)
     scene.answer(1, 2, 2, "not-done")
     calls = scene.logged()

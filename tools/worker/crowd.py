@@ -16,8 +16,9 @@ TRIES = 20  # of what has to come later on a loaded machine
 
 
 def drawn_kill(draws, filed, spare):
-    """A kill at a call: one of the first, one of those by which a worker comes back to its words, or one of those by which it
-    works, right after it has spoken or some lines later, the fewer the fewer lines there are for each kill to come."""
+    """Returns a kill at a call: one of the first, one of those by which a worker comes back to its
+    words, or one of those by which it works, right after it has spoken or some lines later, the
+    fewer the fewer lines there are for each kill to come."""
     mood, when = draws.random(), draws.choice(["before", "after"])
     if mood < 0.15:
         return f"{draws.randint(1, 200)}:kill_{when}"
@@ -59,7 +60,8 @@ def work_for(runners, seconds):
 
 
 def kill_crew(bench, lines, kills, seed):
-    """Four workers do these lines, and are killed so many times in all, at calls or from outside. Answers the run and its kills."""
+    """Four workers do these lines, and are killed so many times in all, at calls or from outside.
+    Returns the run and its kills."""
     draws = random.Random(seed)
     scene = bench.scene(lines, 4)
     runners = [Late(scene, p, draws) for p in range(1, 5)]
@@ -83,7 +85,8 @@ def kill_crew(bench, lines, kills, seed):
 
 
 def try_crew_killed(bench):
-    """four workers do 4,096 lines, and are killed 1,000 times in all: each line is performed once, once the doubts are answered"""
+    """four workers do 4,096 lines, and are killed 1,000 times in all: each line is performed once,
+    once the doubts are answered"""
     lines, kills = (4096, 1000) if bench.is_long else (128, 40)
     scene, count = kill_crew(bench, lines, kills, bench.seed)
     doubts = scene.doubts()
@@ -174,7 +177,8 @@ def answer_beside(scene, counts, draws):
 
 
 def read_beside_each_other(bench, counts, seed):
-    """Readers beside each other, beside a worker that begins, and beside a person who answers, over a run in doubt."""
+    """Readers beside each other, beside a worker that begins, and beside a person who answers, over
+    a run in doubt."""
     draws, scene = random.Random(seed), answerable(bench)
     for _ in range(10 if bench.is_long else 4):
         for it in readers_of(scene, draws):
@@ -188,7 +192,8 @@ def read_beside_each_other(bench, counts, seed):
 
 
 def try_readers_beside_each_other(bench):
-    """8 readers at once beside a dead worker and its doubt: all say the same, and keep no worker and no person from going on"""
+    """8 readers at once beside a dead worker and its doubt: all say the same, and keep no worker
+    and no person from going on"""
     counts = Counts()
     for k in range(40 if bench.is_long else 1):
         if bench.has_time():
@@ -198,7 +203,7 @@ def try_readers_beside_each_other(bench):
 
 
 def descendants(process):
-    """The processes that this one has begun, and those that these have."""
+    """Returns the processes that this one has begun, and those that these have."""
     found = []
     for child in read(f"/proc/{process}/task/{process}/children").split():
         found += [int(child), *descendants(int(child))]
@@ -206,7 +211,8 @@ def descendants(process):
 
 
 def stay_with_workers(bench):
-    """A worker with a line in its hand, one that is stopped, and a partner in shell with its worker; then nothing more."""
+    """A worker with a line in its hand, one that is stopped, and a partner in shell with its
+    worker; then nothing more."""
     scene = bench.scene(4096, 3)  # (so many that the partner comes to no end while it is looked at)
     first, second = Waiting(scene, 1), Runner(scene, 2)
     serve([first.start()], until=lambda: first.lines)

@@ -18,7 +18,7 @@ from worker.scene import Wrong, want
 
 
 def records_left(run: str, name: str, data: bytes) -> list:
-    """The records in what a disk holds of a journal; it is never damaged."""
+    """Returns the records in what a disk holds of a journal; it is never damaged."""
     try:
         return journals.records_of(run, name, data)
     except journals.Damaged as damaged:
@@ -41,7 +41,8 @@ class File:
         self.pending.append((length, None))
 
     def left(self, draws, how):
-        """What a cut of power leaves: nothing of what is pending, the first of it, all of it, or what is drawn."""
+        """What a cut of power leaves: nothing of what is pending, the first of it, all of it, or
+        what is drawn."""
         data = bytearray(self.kept)
         for place, new in self.pending[:1 if how == "first" else None]:
             if how in ("first", "all") or how == "drawn" and draws.random() < 0.3:
@@ -175,7 +176,8 @@ class Disk:
             self.kept, self.moves = dict(self.names), []
 
     def see_said(self, process, text):
-        """Before a perform is said its intent has to be on the disk for certain, and each name on which it rests."""
+        """Before a perform is said its intent has to be on the disk for certain, and each name on
+        which it rests."""
         for said in (it for it in text.split(b"\n") if it.startswith(b"perform ")):
             serial, line, name = *said.split(b" ")[1:3], self.journals.get(process, "journal.1")
             journal, jobs = self.names[name], self.names.get("jobs")
@@ -194,12 +196,13 @@ class Disk:
             want(self.is_kept, f"{what}, and the folder above isn't synced since the run's folder was made")
 
     def records_kept(self, name: str) -> list:
-        """The records of a journal that are on the disk."""
+        """Returns the records of a journal that are on the disk."""
         run = bytes(self.names["id"].now).decode().strip()
         return records_left(run, name, bytes(self.names[name].kept))
 
     def cut(self, how):
-        """The folder, as it may be after a cut of power: names and their bytes; None where the folder itself is gone."""
+        """Returns the folder, as it may be after a cut of power: names and their bytes; None where
+        the folder itself is gone."""
         if not self.is_kept and (how == "none" or how == "drawn" and self.draws.random() < 0.5):
             return None
         names = dict(self.kept)
@@ -233,7 +236,8 @@ class Power:
             self.scene.door()
 
     def cut(self, runners=(), how="drawn", begins=True):
-        """Ends all at one moment, and leaves the folder as the disk may have kept it; the machine starts anew."""
+        """Ends all at one moment, and leaves the folder as the disk may have kept it; the machine
+        starts anew."""
         with self.scene.still():
             for it in runners:
                 it.close()
@@ -258,7 +262,8 @@ class Power:
             self.disk = Disk(self.scene, self.draws, self.fails)
 
     def keep(self, left, jobs):
-        """Puts the log and what was left away, for who looks for the cause of something wrong, and begins another log."""
+        """Puts the log and what was left away, for who looks for the cause of something wrong, and
+        begins another log."""
         os.rename(self.scene.log, f"{self.scene.log}.{self.scene.boots}")
         open(self.scene.log, "wb").close()
         with open(f"{self.scene.room}/left.{self.scene.boots}", "w") as file:
@@ -282,7 +287,8 @@ class Power:
                 file.write(data)
 
     def close(self):
-        """Replays what was logged since the last cut, for what has to be on the disk before each perform; how many were said."""
+        """Replays what was logged since the last cut, for what has to be on the disk before each
+        perform; how many were said."""
         self.disk.replay()
         return self.performs + self.disk.performs
 

@@ -19,20 +19,20 @@ FRONT = re.compile(rb"amo-run ([12])\nround N\nboot ([^\n]*)\ngivens N N N\nwork
 
 
 def seal(run: str, body: bytes) -> bytes:
-    """The seal of a header with these bytes before it."""
+    """Returns the seal of a header with these bytes before it."""
     return journals.digits(journals.seed(run, "record") + body)
 
 
 def counted(run: str, name: str, records: list) -> tuple:
-    """How many appends a header counts of a file with these records, and the checksum of the last
-    of them."""
+    """Returns how many appends a header counts of a file with these records, and the checksum of
+    the last of them."""
     count = max(len(records) - 1, 0)
     return count, journals.checksums(run, name, records)[count]
 
 
 def text(run: str, front: bytes, jobs: bytes, records: dict) -> bytes:
-    """The bytes of a header: of a round that `front` says, which was begun with these jobs, and
-    with these records of each file that has some."""
+    """Returns the bytes of a header: of a round that `front` says, which was begun with these jobs,
+    and with these records of each file that has some."""
     body = front + b"jobs %d %s\n" % (len(jobs), hashlib.sha256(jobs).hexdigest().encode())
     for name in FILES:
         count, checksum = counted(run, name, records.get(name, []))
@@ -41,12 +41,12 @@ def text(run: str, front: bytes, jobs: bytes, records: dict) -> bytes:
 
 
 def front_of(data: bytes) -> bytes:
-    """The part of a header that says what the round's workers need."""
+    """Returns the part of a header that says what the round's workers need."""
     return data[:data.rfind(b"\njobs ") + 1]
 
 
 def old_header(data: bytes) -> bytes:
-    """The header that amo 0.1.0 would have written for the same round."""
+    """Returns the header that amo 0.1.0 would have written for the same round."""
     return front_of(data).replace(b"amo-run 2\n", b"amo-run 1\n", 1)
 
 
@@ -81,7 +81,7 @@ class Header:
         return None if checksums[count] == checksum else another(count, self.round)
 
     def has_jobs(self, jobs: bytes) -> bool:
-        """Whether `jobs` begins with what it was when the round began."""
+        """Returns whether `jobs` begins with what it was when the round began."""
         front = jobs[:self.length]
         return (len(front) == self.length
                 and hashlib.sha256(front).hexdigest().encode() == self.digest)
@@ -98,7 +98,7 @@ def another(count: int, number: int) -> str:
 
 
 def pattern(said: str) -> str:
-    """A pattern for this text, which may have its singular for one append."""
+    """Returns a pattern for this text, which may have its singular for one append."""
     found = re.escape(said)
     found = found.replace(r"1\ appends", r"1\ appends?")
     return found.replace(r"1\ were\ on", r"1\ (?:was|were)\ on")

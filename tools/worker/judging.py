@@ -71,7 +71,7 @@ def try_early_answer(bench: Bench) -> str:
 
 
 def sound_log(bench: Bench) -> tuple:
-    """The lines of the log of a run with two workers, and its jobs."""
+    """Returns the lines of the log of a run with two workers, and its jobs."""
     scene = bench.scene(3, 2)
     finish(scene, (1, 2))
     return read(scene.calls).split(b"\n"), read(f"{scene.run}/jobs")
@@ -94,21 +94,21 @@ def actor_of(line: bytes) -> bytes:
 
 
 def swaps(lines: List[bytes]) -> Iterator[List[bytes]]:
-    """The log with two lines of one process exchanged, which stand next to each other."""
+    """Yields the log with two lines of one process exchanged, which stand next to each other."""
     for k, (first, second) in enumerate(zip(lines, lines[1:])):
         if actor_of(first) and actor_of(first) == actor_of(second):
             yield [*lines[:k], second, first, *lines[k + 2:]]
 
 
 def said_late(lines: List[bytes]) -> Iterator[List[bytes]]:
-    """The log with a line performed before the worker has said so."""
+    """Yields the log with a line performed before the worker has said so."""
     for k, (first, second) in enumerate(zip(lines, lines[1:])):
         if b" say perform " in first and second.startswith(b"performed "):
             yield [*lines[:k], second, first, *lines[k + 2:]]
 
 
 def without_one(lines: List[bytes]) -> Iterator[List[bytes]]:
-    """The log without one line of a process, which isn't its last one."""
+    """Yields the log without one line of a process, which isn't its last one."""
     for k, line in enumerate(lines):
         if actor_of(line) and actor_of(line) in map(actor_of, lines[k + 1:]):
             yield [*lines[:k], *lines[k + 1:]]

@@ -25,7 +25,7 @@ MINE = {**dict.fromkeys(("notes", "list", "list.run-is", "journal.x"), b"mine\n"
 
 
 def prepare(bench, kind: str) -> Scene:
-    """A run whose folder isn't made yet."""
+    """Returns a run whose folder isn't made yet."""
     scene = bench.scene(2, 1, makes=False)
     if kind in ("users", "cut"):
         os.mkdir(scene.run, 0o700)
@@ -64,8 +64,8 @@ def want_whole(scene, kind: str) -> None:
 
 
 def first_door(bench, kind: str) -> list:
-    """The calls of a door that nothing befalls, after which the folder is whole and nothing is
-    left."""
+    """Returns the calls of a door that nothing befalls, after which the folder is whole and nothing
+    is left."""
     scene = prepare(bench, kind)
     scene.logs = True
     status, out, err = scene.call(*door_words(scene, kind))
@@ -136,8 +136,8 @@ FEW = 4  # how many calls of a door the short form tries, besides its last ones
 
 
 def points(bench, kind: str, count: int, chosen=changes) -> list:
-    """The numbers of a door's calls, some of them in the short form, among these its last one and
-    that by which the run gets its id, with the calls beside it."""
+    """Returns the numbers of a door's calls, some of them in the short form, among these its last
+    one and that by which the run gets its id, with the calls beside it."""
     calls = chosen(first_door(bench, kind))
     numbers, named = ([int(it[1]) for it in calls],
                       next(k for k, it in enumerate(calls) if names_it(it)))
@@ -146,7 +146,7 @@ def points(bench, kind: str, count: int, chosen=changes) -> list:
 
 
 def names_it(call: list) -> bool:
-    """Whether the run has its id from this call on."""
+    """Returns whether the run has its id from this call on."""
     return call[2] in ("link", "rename") and call[8] in ("id", ".")
 
 
@@ -175,8 +175,8 @@ def refuse_one(bench, kind: str, number: int, call: str, file: str, fault) -> No
 
 
 def refusals(bench, kind: str):
-    """Each call of a door with each fault; in the short form, of those that are alike the first and
-    the last."""
+    """Yields each call of a door with each fault; in the short form, of those that are alike the
+    first and the last."""
     alike = {}
     for it in first_door(bench, kind):
         name = it[3].rpartition("/")[2].rstrip("0123456789")
@@ -299,7 +299,7 @@ def try_leftovers(bench):
 
 
 def commands(scene) -> list:
-    """The words of each command, in a run with a doubt."""
+    """Returns the words of each command, in a run with a doubt."""
     more = [*scene.givens(), scene.jobs]
     return [["door", *more], ["work", "1", *more], ["status"], ["status", "--json"], ["doubts"],
             ["answer", "1.1", "1", "job 1", "done"], ["again"]]
@@ -372,8 +372,8 @@ def try_missing_beside(bench):
 
 
 def old_run(bench) -> Scene:
-    """A folder of amo 0.1.0, with all kinds of lines, one of them pending behind a journal that
-    nobody has settled."""
+    """Returns a folder of amo 0.1.0, with all kinds of lines, one of them pending behind a journal
+    that nobody has settled."""
     scene = prepared(bench, ["done 0", "untouched 75", "doubt", "unbegun", "dies"], lines=7)
     put(f"{scene.run}/command.1.5", b"")
     folder.make_old(scene.run)

@@ -38,7 +38,7 @@ class Registers:
         self.kept = [it for it in self.kept if it[:HEAD] == now[:HEAD]] + [now]
 
     def givens(self) -> Tuple[int, int]:
-        """How many jobs and workers the round has; none if there is no round."""
+        """Returns how many jobs and workers the round has; none if there is no round."""
         found = GIVENS.search(read(self.path)[:HEAD])
         return (int(found[1]), int(found[2])) if found else (0, 0)
 
@@ -51,7 +51,7 @@ class Registers:
                 file.write(data)
 
     def words(self, data: Optional[bytes] = None) -> List[int]:
-        """The words in these bytes of the file, or in those of now."""
+        """Returns the words in these bytes of the file, or in those of now."""
         data = (read(self.path) if data is None else data)[HEAD:]
         return [int.from_bytes(data[at:at + 8], "little") for at in range(0, len(data), 8)]
 
@@ -84,7 +84,8 @@ class Registers:
 
 
 def hold(scene: Scene, worker: int, count: int = 1) -> Runner:
-    """A worker at work, with the line in hand that it was given as this one, counted from 1."""
+    """Returns a worker at work, with the line in hand that it was given as this one, counted from
+    1."""
     runner = Runner(scene, worker)
 
     def perform(serial: int, line: int) -> Optional[str]:
@@ -97,7 +98,7 @@ def hold(scene: Scene, worker: int, count: int = 1) -> Runner:
 
 
 def in_hand(runner: Runner) -> Tuple[int, int]:
-    """The number of the attempt that this worker asks for, and its line."""
+    """Returns the number of the attempt that this worker asks for, and its line."""
     serial, line = map(int, runner.lines[-1].split(" ")[1:3])
     return serial, line
 
@@ -175,7 +176,7 @@ def try_own_attempts(bench) -> None:
 
 
 def calls_of_a_line(bench: Bench, *others: int) -> List[int]:
-    """The calls by which worker 2 comes from its first line to its second, and that change
+    """Returns the calls by which worker 2 comes from its first line to its second, and that change
     something, while these others keep the round."""
     scene = bench.scene(8, 2)
     runners = [hold(scene, p) for p in others]
@@ -276,7 +277,7 @@ def spoil_one(bench: Bench, kind: str, workers: int, seed: str) -> None:
 
 
 def spoiled(bench: Bench) -> Iterable[tuple]:
-    """The ways to spoil registers, each with crews that work meanwhile."""
+    """Yields the ways to spoil registers, each with crews that work meanwhile."""
     sizes = (2, 3, 4) if not bench.is_slow() or bench.is_long else (3,)
     for turn in range(20 if bench.is_long else 1):
         for workers in sizes:
@@ -319,8 +320,8 @@ def another(scene: Scene, name: str) -> None:
 
 
 def before_change(bench: Bench, name: str) -> Tuple[Scene, Runner]:
-    """A run in which worker 2 has worked, and a person has answered if `answers` is the file;
-    worker 1 has its second line in hand, so it has read the file."""
+    """Returns a run in which worker 2 has worked, and a person has answered if `answers` is the
+    file; worker 1 has its second line in hand, so it has read the file."""
     scene = bench.scene(12, 2)
     second = Says(scene, 2, ["done 0", "untouched 75" if name == "answers" else "done 0"])
     live(second)

@@ -81,7 +81,7 @@ def shown(scene) -> tuple:
 
 
 def same(said: str, row: str) -> bool:
-    """Whether this line says what is in this row."""
+    """Returns whether this line says what is in this row."""
     return re.fullmatch(headers.pattern(row), said) is not None
 
 

@@ -34,8 +34,8 @@ TAKEN = re.compile(r"amo_worker: line ([1-9][0-9]*): attempt ([1-9][0-9]*\.[1-9]
 
 
 def each(items, try_one):
-    """Tries each of these, the first part of each a bench or a scene, as long as there is time; how many. What is wrong with some
-    is told together."""
+    """Tries each of these, the first part of each a bench or a scene, as long as there is time; how
+    many. What is wrong with some is told together."""
     wrongs, count = [], 0
     for it in items:
         bench = it[0] if isinstance(it[0], Bench) else it[0].bench
@@ -72,7 +72,7 @@ class Bench(harness.Bench):
         return [sys.executable, "-I", "-S", self.program] if self.is_slow() else [self.program]
 
     def is_slow(self):
-        """Whether it is a program in Python, which takes a tenth of a second to begin."""
+        """Returns whether it is a program in Python, which takes a tenth of a second to begin."""
         return self.program.endswith(".py")
 
     def close(self):
@@ -86,7 +86,7 @@ class Bench(harness.Bench):
         return list(whole) if self.is_long else spread(list(whole), count)
 
     def scene(self, lines=3, workers=1, **more):
-        """A new run, in a folder of its own."""
+        """Returns a new run, in a folder of its own."""
         self.scenes += 1
         self.last = Scene(self, tempfile.mkdtemp(dir=self.room), lines, workers, **more)
         self.made.append(self.last)
@@ -127,15 +127,16 @@ class Scene:
         return ["--workers", str(self.workers)] + (["--beta", str(self.beta)] if self.beta else [])
 
     def common(self, words=()):
-        """The options of each command, but those that these words have."""
+        """Returns the options of each command, but those that these words have."""
         return ["--boot-id", self.boot] + ([] if "--file-system" in words else self.bench.kind)
 
     def id(self) -> str:
-        """The run's id, as its folder says."""
+        """Returns the run's id, as its folder says."""
         return folder.read(f"{self.run}/id").decode().strip()
 
     def environment(self, faults=None):
-        """What a process of this run is given: the library of faults, and where it writes the calls down."""
+        """What a process of this run is given: the library of faults, and where it writes the calls
+        down."""
         named = {"PATH": os.environ["PATH"], "LD_PRELOAD": self.bench.library, "AMO_RUN": self.run, "AMO_JOBS": self.jobs,
                  "AMO_HARNESS": str(os.getpid()), "AMO_CALLS": self.calls}
         extra = {"AMO_FAULTS": faults, "AMO_LOG": self.log if self.logs else None, "AMO_BYTES": "yes" if self.keeps else None,
@@ -143,7 +144,7 @@ class Scene:
         return {**named, **{name: value for name, value in extra.items() if value}, **self.more}
 
     def call(self, command, *words, faults=None):
-        """A command that ends by itself: its status and what it wrote on both streams."""
+        """Returns a command that ends by itself: its status and what it wrote on both streams."""
         self.bench.processes += 1
         ran = subprocess.run([*self.bench.command(), command, *words, *self.common(words)],
                              stdin=subprocess.DEVNULL, capture_output=True, timeout=300,
@@ -151,12 +152,13 @@ class Scene:
         return ran.returncode, ran.stdout.decode("utf-8", "replace"), ran.stderr.decode("utf-8", "replace")
 
     def logged(self):
-        """The calls in the log, each a list of its words."""
+        """Returns the calls in the log, each a list of its words."""
         return [line.split(" ") for line in folder.read(self.log).decode().splitlines()]
 
     @contextlib.contextmanager
     def still(self):
-        """Keeps all processes from calls that are logged: who is killed meanwhile leaves no call half written down."""
+        """Keeps all processes from calls that are logged: who is killed meanwhile leaves no call
+        half written down."""
         if not self.logs or self.is_still:
             yield
             return
@@ -256,7 +258,8 @@ class Scene:
             self.audit_ends(found, kinds, performed)
 
     def audit_kept(self, found, performed):
-        """What was acknowledged stands in the journals, and what was performed is closed by its own intent."""
+        """What was acknowledged stands in the journals, and what was performed is closed by its own
+        intent."""
         for (worker, serial), (line, answer) in self.acknowledged.items():
             it, gone = found.intents.get((worker, serial)), "an acknowledged line is gone:"
             want(it and it.line == line, f"{gone} intent {worker}.{serial} of line {line}")
@@ -268,14 +271,15 @@ class Scene:
             want(name in closing, f"line {line}, performed by {name}, is closed by {closing}")
 
     def take_lines(self, worker, said):
-        """Notes the lines that a worker says are taken. If nobody has spoiled the registers, there are none."""
+        """Notes the lines that a worker says are taken. If nobody has spoiled the registers, there
+        are none."""
         found = TAKEN.findall(said)
         self.taken += [(worker, int(line), attempt) for line, attempt in found]
         want(not (found and self.has_true_registers), f"worker {worker} was given a line that isn't open: {said}")
 
     def audit_words(self):
-        """In the words of a round of this boot each job is filed once, and each worker has claimed what it filed, and at most one
-        more."""
+        """In the words of a round of this boot each job is filed once, and each worker has claimed
+        what it filed, and at most one more."""
         taken = []
         for claims, announced, row in folder.rows_of(self.run, folder.read(self.boot).decode().strip()):
             want(claims in (len(row), len(row) + 1), f"{claims} claims, and {len(row)} jobs are filed")
@@ -290,9 +294,10 @@ class Scene:
 
 
 class Runner:
-    """The runner of a worker. What it does at a line is `perform` and `was`, which a test may replace. A stray one has no lock:
-    it starts a worker though another runner may have that number. Its worker stays for the next round if `stays` is set; else
-    it closes its pipe at `over`, and so the worker ends."""
+    """The runner of a worker. What it does at a line is `perform` and `was`, which a test may
+    replace. A stray one has no lock: it starts a worker though another runner may have that number.
+    Its worker stays for the next round if `stays` is set; else it closes its pipe at `over`, and so
+    the worker ends."""
 
     def __init__(self, scene, worker, waits=240, is_stray=False):
         self.scene, self.worker, self.process, self.lock = scene, worker, None, None
@@ -305,7 +310,7 @@ class Runner:
             want(self.lock, f"runner.{worker} is held")
 
     def taken(self, name, waits=0):
-        """The lock on a file of the run, as an open file; None where it can't be got."""
+        """Returns the lock on a file of the run, as an open file; None where it can't be got."""
         file, end = open(f"{self.scene.run}/{name}", "ab"), time.monotonic() + waits
         while True:
             try:
@@ -330,7 +335,8 @@ class Runner:
         return self
 
     def read(self):
-        """Reads what is there, and does what the whole lines say. False at the end, when the status is known."""
+        """Reads what is there, and does what the whole lines say. False at the end, when the status
+        is known."""
         part = os.read(self.process.stdout.fileno(), 1 << 16)
         *lines, self.rest = (self.rest + part).split(b"\n")
         for line in lines:
@@ -374,14 +380,15 @@ class Runner:
             self.process.stdin.write(data)
 
     def see_kept(self, kind, serial, number):
-        """No intent is said anew that was acknowledged, and none asked for whose answer was: else that is gone."""
+        """No intent is said anew that was acknowledged, and none asked for whose answer was: else
+        that is gone."""
         line, answer = self.scene.acknowledged.get((self.worker, serial), (None, None))
         is_new = line is None if kind == b"perform" else line in (None, number) and answer is None
         said = f"{kind.decode()} {self.worker}.{serial} of line {number}"
         want(is_new, f"an acknowledged line is gone: it says {said}, and there was {answer or 'the intent'} of line {line}")
 
     def is_dead(self):
-        """Whether it has died, or does in a moment."""
+        """Returns whether it has died, or does in a moment."""
         end = time.monotonic() + 0.05
         while self.process.poll() is None and time.monotonic() < end:
             time.sleep(0.002)
@@ -429,7 +436,8 @@ class Runner:
             self.answer(serial, number, reply)
 
     def answer(self, serial, number, reply):
-        """Says this of an intent to the worker, and goes by it where the worker can hear no more."""
+        """Says this of an intent to the worker, and goes by it where the worker can hear no
+        more."""
         words = reply.split(" ")
         self.waiting = serial, number, words[0]
         if words[0] == "unbegun":
@@ -463,7 +471,8 @@ class Runner:
         return self.seen.get(serial, "doubt")
 
     def was(self, serial, line):
-        """What it knows of an intent of an earlier worker; that it knows nothing is final once the command's lock can be got."""
+        """What it knows of an intent of an earlier worker; that it knows nothing is final once the
+        command's lock can be got."""
         return self.after(serial)
 
     def kill(self):
@@ -485,8 +494,8 @@ class Runner:
 
 
 def serve(runners, seconds=240, until=None):
-    """Reads what the workers of these runners say, until each has ended, or something is so. A time in which this tool itself was
-    stopped doesn't count."""
+    """Reads what the workers of these runners say, until each has ended, or something is so. A time
+    in which this tool itself was stopped doesn't count."""
     seen = time.monotonic()
     while not (until and until()):
         living = {it.process.stdout.fileno(): it for it in runners if it.process}
@@ -507,7 +516,8 @@ def live(runner, faults=None):
 
 
 def see_out(runners, seconds=600, draws=None):
-    """Has the workers stay, and starts them again, until each says that all is done, or that it was told to leave."""
+    """Has the workers stay, and starts them again, until each says that all is done, or that it was
+    told to leave."""
     seen, ended, due = time.monotonic(), set(), {}
     for it in runners:
         it.stays = True

@@ -18,7 +18,7 @@ NUMBERED = {"journal": 1, "runner": 1, "pace": 1, "command": 2, "out": 2, "err":
 
 
 def mount_of(it, path):
-    """The type, the options and the device of the mount on which a folder lies."""
+    """Returns the type, the options and the device of the mount on which a folder lies."""
     file = opened(path, os.O_RDONLY | os.O_DIRECTORY, 74)
     words = (content(f"/proc/self/fdinfo/{file}") or b"").split()
     os.close(file)
@@ -49,7 +49,7 @@ def check_mount(it, path):
 
 
 def is_made(name):
-    """Whether amo makes files of this name in a run's folder."""
+    """Returns whether amo makes files of this name in a run's folder."""
     kind, *said = (name.removesuffix(".new").split(".") if name.startswith("chunk.")
                    else name.split("."))
     return name in FIXED or (len(said) == NUMBERED.get(kind)

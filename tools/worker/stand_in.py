@@ -87,9 +87,9 @@ class Ledger:
 
 
 def final_ledger(it, records=False):
-    """The ledger with the locks of all pending intents that can be got, and the files of those
-    locks; such an intent is final, and is recorded as in doubt if that is asked for and the disk
-    takes it. In a folder of 0.1.0 nothing is written, and a file that is missing is held by
+    """Returns the ledger with the locks of all pending intents that can be got, and the files of
+    those locks; such an intent is final, and is recorded as in doubt if that is asked for and the
+    disk takes it. In a folder of 0.1.0 nothing is written, and a file that is missing is held by
     nobody."""
     held, final, unrecorded = [], set(), set()
     for journal in Ledger(it).journals:
@@ -119,8 +119,8 @@ def final_ledger(it, records=False):
 
 
 def record(file, ended):
-    """Records these intents as in doubt, and removes the locks of their commands, as long as the disk
-    takes that; those that it has not taken."""
+    """Records these intents as in doubt, and removes the locks of their commands, as long as the
+    disk takes that; those that it has not taken."""
     left = list(ended)
     with contextlib.suppress(End):
         while left:
@@ -134,7 +134,8 @@ def record(file, ended):
 
 
 def is_got(path, flags, held):
-    """Whether the lock of this file is got, and held from now on; a missing file counts as got."""
+    """Returns whether the lock of this file is got, and held from now on; a missing file counts as
+    got."""
     try:
         file = opened(path, flags, None)
     except FileNotFoundError:
@@ -164,7 +165,8 @@ def why_refused(line, seen):
 
 
 def jobs_of(jobs, known, is_first):
-    """The jobs' file, without a last line that has no end, and whether there is one; in the first round that is refused."""
+    """Returns the jobs' file, without a last line that has no end, and whether there is one; in the
+    first round that is refused."""
     data = content(jobs)
     if data is None:
         raise failed(74, jobs, FileNotFoundError(errno.ENOENT, os.strerror(errno.ENOENT)))
@@ -200,7 +202,8 @@ def make_whole(run, name, data, is_synced=True):
 
 
 def begin_round(it):
-    """Under the exclusive lock of rounds: header and words of the lines that are open. Ends where none is."""
+    """Under the exclusive lock of rounds: header and words of the lines that are open. Ends where
+    none is."""
     ledger = Ledger(it)
     data, is_begun = jobs_of(it.jobs, ledger.jobs, ledger.jobs is None)
     if data != ledger.jobs:
@@ -252,7 +255,7 @@ class Words:
         return self.load(p, self.n)
 
     def come_back(self):
-        """The jobs of the own row; one that was claimed and isn't filed is filed."""
+        """Returns the jobs of the own row; one that was claimed and isn't filed is filed."""
         row = []
         if MISTAKE == "own_words_forgotten":
             return row
@@ -308,7 +311,7 @@ def taken(it):
 
 
 def guard(it):
-    """The journal of this worker, once nobody else has its number."""
+    """Returns the journal of this worker, once nobody else has its number."""
     if MISTAKE == "guard_is_removed":
         path = f"{it.run}/guard.{it.worker}"
         file = opened(path, os.O_RDWR | os.O_CREAT, 73)
@@ -325,8 +328,8 @@ def guard(it):
 
 
 def readers_lock(it):
-    """The lock of answers, once no reader has it: each keeps it as long as it holds locks of
-    workers. A folder of 0.1.0 in which nobody has answered has none."""
+    """Returns the lock of answers, once no reader has it: each keeps it as long as it holds locks
+    of workers. A folder of 0.1.0 in which nobody has answered has none."""
     file = Journal(it, "answers")
     if MISTAKE != "readers_without_a_lock" and file.file is not None:
         called(73, file.path, fcntl.flock, file.file, fcntl.LOCK_EX)
@@ -387,7 +390,8 @@ class Hands:
         self.record, self.words, self.lines = None, None, []
 
     def take_part(self):
-        """Begins or joins a round, and works in it until its part of that is over, if it has one."""
+        """Begins or joins a round, and works in it until its part of that is over, if it has
+        one."""
         lock = self.join()
         if lock is None:
             return
@@ -405,7 +409,8 @@ class Hands:
             os.close(lock)
 
     def join(self):
-        """Begins or joins a round; the handle that has its shared lock, or None if it takes no part."""
+        """Begins or joins a round; the handle that has its shared lock, or None if it takes no
+        part."""
         it = self.it
         record, lock = share_round(it)
         if self.passes_by(record):
@@ -424,7 +429,8 @@ class Hands:
         return lock
 
     def passes_by(self, record):
-        """Whether it takes no part in a round: it has no seat there, or has joined it before."""
+        """Returns whether it takes no part in a round: it has no seat there, or has joined it
+        before."""
         it = self.it
         place = (it.worker - record.first) % record.workers
         has_seat = place < record.shared and it.worker <= record.workers
@@ -541,7 +547,7 @@ def counts(ledger):
 
 
 def alive(it):
-    """The workers whose journals are locked."""
+    """Yields the workers whose journals are locked."""
     for p in range(1, MOST_WORKERS + 1):
         file = opened_part(it, f"journal.{p}", os.O_RDONLY)
         if file is None:

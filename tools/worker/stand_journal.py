@@ -21,7 +21,7 @@ KEEP = "leave the file as it is, and read docs/JOBS.md, `A journal is refused`"
 
 
 def hex_digits(data: bytes) -> bytes:
-    """The first 8 hex digits of SHA-256."""
+    """Returns the first 8 hex digits of SHA-256."""
     return hashlib.sha256(data).hexdigest()[:8].encode()
 
 
@@ -33,7 +33,7 @@ def first_checksum(it, name: str) -> bytes:
 
 
 def next_checksum(before: bytes, record: bytes) -> bytes:
-    """The checksum of an append, from that of the append before and its own record."""
+    """Returns the checksum of an append, from that of the append before and its own record."""
     return hex_digits(record if MISTAKE == "checksum_is_not_chained" else before + record)
 
 
@@ -49,14 +49,14 @@ class Appends:
         self.rest = data[self.end:]
 
     def next_line(self, data: bytes) -> Optional[bytes]:
-        """The line of the next append, without its commit byte; None unless it is committed and
-        whole."""
+        """Returns the line of the next append, without its commit byte; None unless it is committed
+        and whole."""
         end = data.find(b"\n", self.end)
         commits = b"+-" if MISTAKE == "cut_line_is_kept" else b"+"
         return data[self.end + 1:end] if end >= 0 and data[self.end] in commits else None
 
     def fits(self, line: bytes) -> bool:
-        """Whether the line ends with a blank and its checksum."""
+        """Returns whether the line ends with a blank and its checksum."""
         checksum = next_checksum(self.checksums[-1], line[:-9])
         if MISTAKE == "checksum_is_not_compared":
             checksum = line[-8:]
@@ -97,7 +97,7 @@ class OldAppends(Appends):
 
 
 def appends_in(it, name: str, data: bytes) -> Appends:
-    """The appends in these bytes of a file of the run."""
+    """Returns the appends in these bytes of a file of the run."""
     return OldAppends(data, None) if it.is_old else Appends(data, first_checksum(it, name))
 
 
@@ -111,9 +111,9 @@ def why_refused(it, header, name: str, found: Appends) -> Optional[End]:
 
 
 def appends_of(it, header, name: str, bytes_of=part) -> Appends:
-    """The appends of a file whose lock this process doesn't hold, and that `bytes_of` reads after
-    the header. Beside a writer a read may show bytes that never stood there, so the file is refused
-    only if it shows the same ones again."""
+    """Returns the appends of a file whose lock this process doesn't hold, and that `bytes_of` reads
+    after the header. Beside a writer a read may show bytes that never stood there, so the file is
+    refused only if it shows the same ones again."""
     seen = None
     for _ in range(LOOKS):
         found = appends_in(it, name, bytes_of(it, name))

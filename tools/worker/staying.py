@@ -28,7 +28,7 @@ class Held(Runner):
 
 
 def waiting(scene: Scene, worker: int = 1) -> Held:
-    """A worker whose part of a round is over, and that waits for the answer."""
+    """Returns a worker whose part of a round is over, and that waits for the answer."""
     runner = Held(scene, worker)
     serve([runner.start()], until=lambda: runner.overs)
     want(runner.process and runner.overs == 1,
@@ -309,7 +309,7 @@ def try_killed_waiting(bench: Bench) -> None:
 
 
 def later_calls(bench: Bench) -> List[list]:
-    """The calls of a life of several rounds from the first `over` on."""
+    """Returns the calls of a life of several rounds from the first `over` on."""
     scene = bench.scene(6, 2)
     scene.logs, runner = True, Runner(scene, 1)
     runner.stays = True

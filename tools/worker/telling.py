@@ -105,7 +105,8 @@ def others_at_work(scene):
 
 
 def spoiled(scene):
-    """Its count of claims is none that goes with its row, of three entries: that shows at the 0 behind them."""
+    """Its count of claims is none that goes with its row, of three entries: that shows at the 0
+    behind them."""
     others_at_work(scene)
     with open(f"{scene.run}/words", "r+b") as words:
         words.seek(512 + 8 * 2)
@@ -323,13 +324,14 @@ def failing_output(scene, words):
 
 
 def ageless(ended):
-    """The end of a call of `doubts`, without the ages of the doubts, which grow."""
+    """Returns the end of a call of `doubts`, without the ages of the doubts, which grow."""
     status, out, err = ended
     return status, re.sub(r'"age":\d+|\b\d+$', "age", out, flags=re.MULTILINE), err
 
 
 def try_outputs(bench):
-    """what a person asks for is written whole, by calls that are cut short or interrupted too, or the fault is told"""
+    """what a person asks for is written whole, by calls that are cut short or interrupted too, or
+    the fault is told"""
     if bench.is_slow():
         bench.skipped.append("the stand-in has other words for faults")
         return
@@ -374,12 +376,13 @@ def try_times(bench):
 
 
 def locks_of(scene):
-    """Which of the locks of the doubt are held by somebody."""
+    """Returns which of the locks of the doubt are held by somebody."""
     return [name for name in ("journal.1", "runner.1", "command.1.1", "answers") if not folder.is_free(f"{scene.run}/{name}")]
 
 
 def stopped(bench, words, number, how):
-    """Somebody who asks or answers of a doubt, stopped at this call. With no number: the calls that it makes."""
+    """Somebody who asks or answers of a doubt, stopped at this call. With no number: the calls that
+    it makes."""
     scene = answerable(bench)
     open(f"{scene.run}/command.1.1", "wb").close()
     if not number:
@@ -397,7 +400,8 @@ def stopped(bench, words, number, how):
 
 
 def try_what_is_held(bench):
-    """who looks at a doubt holds its three locks until all is read, and none while it is printed; who answers, until it is put"""
+    """who looks at a doubt holds its three locks until all is read, and none while it is printed;
+    who answers, until it is put"""
     whole = ["journal.1", "runner.1", "command.1.1", "answers"]
     for words in (["status"], ["doubts", "--json"]):
         calls = stopped(bench, words, None, None)
@@ -449,7 +453,8 @@ def try_order_of_reads(bench):
 
 
 def is_cleared(calls):
-    """Whether `answers` and then each other journal is read after an intent was put, and before a line is said."""
+    """Returns whether `answers` and then each other journal is read after an intent was put, and
+    before a line is said."""
     end = next((k for k, it in enumerate(calls) if it[2] == "say"), len(calls))
     last = max(k for k, it in enumerate(calls[:end]) if it[2:4] == ["sync", "journal.1"])
     others = {f"journal.{worker}" for worker in range(2, 17)}
@@ -459,7 +464,8 @@ def is_cleared(calls):
 
 
 def try_cut_while_asked(bench):
-    """input that ends while a worker asks what became of an intent: it ends too, and puts nothing"""
+    """input that ends while a worker asks what became of an intent: it ends too, and puts
+    nothing"""
     scene = answerable(bench)
     runner = Runner(scene, 1)
     runner.take = lambda line: runner.lines.append(line) or runner.process.stdin.close()

@@ -83,7 +83,7 @@ def cut_one(scene, name, data, length, works):
 
 
 def run_of_all_kinds(bench):
-    """A run with all kinds of records in a journal and in answers."""
+    """Returns a run with all kinds of records in a journal and in answers."""
     scene = prepared(bench, ["done 0", "doubt", "untouched 75", "doubt", "done 3", "unbegun", "dies"], lines=8)
     scene.answer(1, 2, 2, "not-done")
     scene.answer(1, 4, 4, "done")
@@ -162,7 +162,8 @@ def try_records_of_an_append(bench):
 
 
 def change_one(bench, name, at, byte):
-    """One byte of record, words or jobs is changed or cut away: a round is begun, or the fault is named; none is done twice."""
+    """One byte of record, words or jobs is changed or cut away: a round is begun, or the fault is
+    named; none is done twice."""
     scene = bench.scene(6, 2)
     runner = Says(scene, 1, ["done 0", "doubt", "done 0"])
     live(runner)
@@ -183,7 +184,8 @@ def change_one(bench, name, at, byte):
 
 
 def try_record_words_jobs(bench):
-    """each byte of record, words and jobs changed or cut away: a new round or a named fault, and no line is performed twice"""
+    """each byte of record, words and jobs changed or cut away: a new round or a named fault, and no
+    line is performed twice"""
     scene = bench.scene(6, 2)
     runner = Says(scene, 1, ["done 0", "doubt", "done 0"])
     live(runner)
@@ -196,7 +198,8 @@ def try_record_words_jobs(bench):
 
 
 def share_one(bench, name, change):
-    """Somebody else keeps the round: then record and words that don't fit are left alone, until later."""
+    """Somebody else keeps the round: then record and words that don't fit are left alone, until
+    later."""
     scene = bench.scene(6, 2)
     runner = Says(scene, 1, ["done 0", "done 0"])
     live(runner)
@@ -220,7 +223,8 @@ def share_one(bench, name, change):
 
 
 def try_of_another(bench):
-    """record or words of another boot, round or givens, cut or missing, while others are at work: nobody goes on with them"""
+    """record or words of another boot, round or givens, cut or missing, while others are at work:
+    nobody goes on with them"""
     swaps = [(b"round 1", b"round 2"), (b"boot 0", b"boot 1"), (b"givens 6 2 2", b"givens 6 2 3"), (b"givens 6", b"givens 5")]
     changes = [(name, lambda data, swap=swap: data.replace(*swap, 1)) for name in ("record", "words") for swap in swaps]
     changes += [("words", lambda data, it=it: data[:it]) for it in (-1, 512, 0)] + [("record", None), ("words", None)]
