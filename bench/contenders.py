@@ -26,7 +26,7 @@ PSQL = ["psql", "-XqAt", "-v", "ON_ERROR_STOP=1", "-U", "postgres", "-d", "postg
 
 
 def content(path):
-    """Returns all bytes of a file; none where there is no file."""
+    """Returns all bytes of a file, or none if it is missing."""
     if not os.path.exists(path):
         return b""
     with open(path, "rb") as file:
@@ -46,13 +46,13 @@ class Contender:
         self.workers, self.act = str(given.workers), [ACT, f"{room}/effects/file"]
 
     def prepare(self):
-        """What its user does once, before the first start."""
+        """Does what its user does once, before the first start."""
 
 
 class Parallel(Contender):
-    """Started again with --resume it skips the lines that stand in its log, where one comes when
-    its command has ended. So what ran when it was killed is begun again. (--resume-failed would
-    begin killed commands again too.) It syncs nothing."""
+    """GNU parallel. Started again with --resume it skips the lines in its log, which gets a line
+    once a command has ended. So a command that ran at the kill is begun again. (--resume-failed
+    would begin killed commands again too.) It syncs nothing."""
     name, title, program = "parallel", "GNU parallel, `--resume`", "parallel"
 
     def words(self):
@@ -92,8 +92,9 @@ class Plain(Contender):
 
 
 class Flock(Contender):
-    """Started again its workers take lines without an intent, so one that was begun and has no end
-    stays in doubt. Workers that outlive their runner go on beside the new ones."""
+    """A journal under flock. Started again its workers take lines without an intent, so a line that
+    was begun and has no end stays in doubt. Workers that outlive their runner go on next to the new
+    ones."""
     name, title, worker = "flock", "a journal under `flock`", f"{HERE}/worker_flock"
 
     def words(self):
@@ -117,8 +118,9 @@ class Sqlite(Flock):
 
 
 class Held(Contender):
-    """What ends a worker rolls back what it holds, and its line is handed out again, by the workers
-    that live or by those that are started then."""
+    """PostgreSQL with a row locked through the job. If a worker ends, its transaction is rolled
+    back, and its line is handed out again, by the workers that live or by those that are started
+    then."""
     name, title, worker, way = "held", "PostgreSQL, row locked through the job", f"{HERE}/worker_postgres", "held"
 
     def prepare(self):
@@ -143,8 +145,8 @@ class Claimed(Held):
 
 
 class Amo(Contender):
-    """Started again with the same words it goes on. What was begun and has no end is in doubt, once
-    nothing of it runs any more."""
+    """amo_jobs. Started again with the same words it goes on. A line that was begun and has no end
+    is in doubt, once nothing of it runs any more."""
     name, title, program, worker = "amo_jobs", "`amo_jobs crew`", AMO_JOBS[1], "work"
 
     def words(self):

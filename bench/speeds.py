@@ -24,8 +24,8 @@ TASKS, WORKERS = 100_000, 4  # of the long list
 
 
 class Row(NamedTuple):
-    """What is measured: how long a job waits, in seconds, by how many workers, and whether syncs
-    are slowed. `wanted` are the lowest ratios to the flock script and to xargs."""
+    """A measurement: how long a job waits, in seconds, by how many workers, and whether syncs are
+    slowed. `wanted` are the lowest ratios to the flock script and to xargs."""
     wait: str
     workers: int
     is_slow: bool = False

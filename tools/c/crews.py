@@ -24,7 +24,7 @@ import amo
 
 
 class Wrong(Exception):
-    """What is wrong with a run."""
+    """A mistake in a run."""
 
 
 def want(so, what):
@@ -59,7 +59,8 @@ class Process:
         self.run.kill()
 
     def end(self):
-        """What it performed, and what it found in doubt."""
+        """Waits for its end, and returns the jobs that it performed, and those that it found in
+        doubt."""
         out, err = self.run.communicate()
         want(self.run.returncode in (0, -9), f"status {self.run.returncode}: {err.decode()}")
         jobs = [int(line.split()[1]) for line in [*self.lines, *out.splitlines()]]

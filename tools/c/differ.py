@@ -27,7 +27,7 @@ import amo
 
 
 class Wrong(Exception):
-    """What is wrong with a run."""
+    """A mistake in a run."""
 
 
 def want(so, what):
@@ -36,7 +36,7 @@ def want(so, what):
 
 
 def as_access(item):
-    """Returns the first access of an item of a batch, as amo_next tells it."""
+    """Returns the first access of an item of a batch, in the form of amo_next."""
     return (amo.STORE, item.word, item.value) if item.access == amo.STORE else (amo.LOAD, item.word, 0)
 
 

@@ -77,7 +77,7 @@ def try_runner_comes_back(bench):
 
 
 def try_crew_beside_an_earlier_runner(bench):
-    """a new crew works with the numbers that it has, beside a runner of an earlier one"""
+    """a new crew works with the numbers that it has, while a runner of an earlier one lives"""
     scene, crew = listed(bench, 12, 'while ! [ -e "$0/$1" ]; do sleep 0.02; done', 2)
     until(lambda: performed(scene) == 2, "two commands have begun")
     first = folder.read(f"{scene.room}/performed").split()[0].decode()

@@ -78,8 +78,8 @@ def each_moment(bench, whos, kinds, workers, count):
 
 
 def try_killed(bench):
-    """killed at each line in turn: no line is performed twice, each doubt is told, and no end that
-    was seen is lost"""
+    """killed at each line in turn: no line is performed twice, each doubt is reported, and no end
+    that was seen is lost"""
     return each_moment(bench, WHO, KINDS, 1, 24)
 
 

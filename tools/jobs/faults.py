@@ -379,7 +379,7 @@ NOT = "line 1: cannot start `COMMAND`:"
 
 
 class Row(NamedTuple):
-    """What follows if one call fails with one error."""
+    """A row of the table: the consequences if one call fails with one error."""
     call: str
     count: int
     error: str

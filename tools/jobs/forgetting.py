@@ -83,7 +83,7 @@ def try_forget_doubts(bench):
 
 
 def try_forget_mounted(bench):
-    """a folder that can't be renamed stays where it is, and no crew takes it"""
+    """a folder that can't be renamed stays in its place, and no crew takes it"""
     scene = begun(bench, is_over=True)
     with open(scene.jobs) as file:
         old, text = id_in(scene.run), file.read()

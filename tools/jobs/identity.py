@@ -69,11 +69,11 @@ class Begun:
         scene.crews.append(self.process)
 
     def told(self) -> str:
-        """Returns what it has said until now."""
+        """Returns its output until now."""
         return folder.read(self.path).decode("utf-8", "replace")
 
     def end(self, *statuses: int) -> str:
-        """Wants it to end, with one of these statuses if there are any; returns what it said."""
+        """Waits for its end, with one of these statuses if there are any; returns its output."""
         ended = self.process.wait(300)
         told = self.told()
         want(not statuses or ended in statuses, f"status {ended}, not {statuses}: {told[-600:]}")

@@ -63,7 +63,7 @@ class OtherUser(Scene):
 
 
 def scene_of(bench: Bench, limit: Limit) -> Scene | None:
-    """Returns a run for this limit; None, and says so, if the limit can't hold here."""
+    """Returns a run for this limit, or None if the limit can't hold here, which it notes."""
     kinds = ["gated"] * LINES
     if limit is not PROCESSES or os.getuid() != 0:
         return bench.scene(kinds, 2)
@@ -83,8 +83,8 @@ def set_limit(scene: Scene, process: int, limit: Limit, is_lifted: bool = False)
 
 
 def try_limit(bench: Bench, limit: Limit) -> None:
-    """Sets the limit of a runner, which then can't start a command, but for that on memory; and of
-    a supervisor whose runner is killed, which then can't start another one."""
+    """Sets a limit twice. A runner with it can't start a command, unless the limit is on memory. A
+    supervisor with it, whose runner is killed, can't start another one."""
     for who in WHO:
         scene = scene_of(bench, limit)
         if scene is None:

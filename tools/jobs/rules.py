@@ -44,7 +44,7 @@ def try_orphan(bench):
 
 
 def try_words_lost(bench):
-    """where the words are lost a new round is begun, and what runs is no part of it"""
+    """if the words are lost a new round is begun, and no running command is a part of it"""
     scene, command = orphan(bench)
     os.unlink(f"{scene.run}/words")
     look_on(scene)
@@ -80,7 +80,7 @@ def try_two_persons(bench):
 
 
 def try_late_line(bench):
-    """what a worker said that is dead by the time it is read is dropped, and was certainly not
+    """a line of a worker that is dead by the time it is read is dropped, and was certainly not
     begun"""
     scene = bench.scene(["slow"] * 6)
     scene.see_out(scene.start(plan="2:~runner+worker"))
@@ -110,8 +110,8 @@ def try_two_crews(bench):
 
 
 def try_left_behind(bench):
-    """what a shell leaves behind with & has the lock, and its line is neither done nor a doubt
-    before that ends"""
+    """a process that a shell leaves running with & has the lock, and its line is neither done nor a
+    doubt before that ends"""
     scene = bench.scene(["waits_amp", "quick"])
     crew = scene.start()
     until(lambda: crew.poll() is not None or scene.tales(2), "its worker has gone on")
@@ -142,8 +142,7 @@ def try_closed(bench):
 
 
 def try_kept(bench):
-    """an end that a runner saw is told to the next worker, where the one before died with the
-    answer"""
+    """an end that a runner saw goes to the next worker, if the one before died with the answer"""
     for moment in (5, 6):
         scene = bench.scene(["slow", "quick"])
         scene.see_out(scene.start(plan=f"{moment}:worker"))

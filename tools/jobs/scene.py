@@ -29,7 +29,7 @@ COMMAND = [f"{HERE}/act.sh"]
 
 def compiled(program: str, room: str) -> str:
     """Copies amo_jobs with its package, or the folder of a worker in Python, into a new folder,
-    and compiles it there, with its part in C; returns the path of the copy. (They compile their
+    and compiles it there, with its part in C. Returns the path of the copy. (They compile their
     modules at each start, and write nothing into their own folders. A run of these tests starts
     thousands.)"""
     top = os.path.dirname(os.path.realpath(program))
@@ -137,7 +137,7 @@ class Scene:
                 "--worker-program", worker, *(["--file-system", self.file_system] if self.file_system else []), *words]
 
     def start(self, *more, plan=None, workers=None, command=None, **how):
-        """Starts a crew. What it says goes to a file."""
+        """Starts a crew. Its output goes to a file."""
         self.bench.add("crews")
         self.numbers, self.known = workers or self.workers, len(self.kinds)
         words = ["--workers", str(self.numbers), *self.options, *more, self.jobs, "--", *(command or self.command)]
@@ -148,7 +148,7 @@ class Scene:
         return crew
 
     def tale(self):
-        """What the crews have said."""
+        """Returns the output of the crews."""
         return folder.read(f"{self.room}/said").decode("utf-8", "replace")
 
     def ends(self, crew, status, seconds=240):
@@ -182,7 +182,7 @@ class Scene:
             file.write(f"{text}\n")
 
     def tales(self, line):
-        """What the commands of a line and the person have written down, each a list of words."""
+        """Returns the notes of the commands of a line and of the person, each a list of words."""
         return [it.split(" ") for it in folder.read(f"{self.effects}/{line}").decode().splitlines()]
 
     def may_doubt(self) -> bool:
@@ -220,7 +220,7 @@ class Scene:
         return len(found)
 
     def answer(self, name: str, line: str, text: str, verdict: str, seconds=240):
-        """Answers a doubt; again where a crew that begins holds it just now. What is done here
+        """Answers a doubt, and again if a crew that begins holds it just now. A request here
         arrives at once, so `not-done` needn't wait."""
         end = time.monotonic() + seconds
         words = self.words("answer", *(["--now"] if verdict == "not-done" else []), "--", name, line,
@@ -235,8 +235,8 @@ class Scene:
 
     def see_out(self, crew=None, seconds=600, pause=0.3, again=True, during=None,
                 workers_of=lambda: None):
-        """Starts crews, with a person beside them, until no line is open, in doubt or running; the
-        status of the last one."""
+        """Starts crews, with a person who answers, until no line is open, in doubt or running.
+        Returns the status of the last one."""
         end = time.monotonic() + seconds
         crew = crew or self.start(workers=workers_of())
         while True:
@@ -262,7 +262,7 @@ class Scene:
             crew = self.start(workers=workers_of())
 
     def audit(self):
-        """What no run may show."""
+        """Raises Wrong if the run shows what no run may show."""
         for line in range(1, len(self.kinds) + 1):
             self.audit_line(line, self.tales(line))
         try:

@@ -56,7 +56,7 @@ def audit_lines(scene: Scene) -> None:
 
 
 def kept(run: str) -> dict:
-    """What the files hold that say which lines are open."""
+    """Returns the contents of the files that decide which lines are open."""
     return {name: folder.read(f"{run}/{name}") for name in READABLE}
 
 
@@ -84,8 +84,8 @@ def see_refused(scene: Scene, name: str) -> None:
 
 
 def see_shown(scene: Scene, name: str) -> None:
-    """What can be read is shown: what is wrong with this file, and each attempt that was performed
-    and that stands in another file. No line is called open."""
+    """Wants the readable part to be shown: the fault of this file, and each attempt that was
+    performed and that stands in another file. No line may be called open."""
     shown = scene.call("status", "--damaged", status=REFUSED)
     is_named = re.search(rf"^{re.escape(name)}: .*(damaged|missing)", shown, re.M)
     want(is_named, f"{name} is damaged, and isn't named: {shown[:500]}")
@@ -128,10 +128,10 @@ def begun_by(scene: Scene, attempt: str) -> int:
 
 
 def draw(registers: Registers, first: int, third: int) -> None:
-    """Each register gets a value that a worker may leave there, drawn at random, so that the
-    round's participant 1, which has performed the first line, comes to the third one, and not as
-    the last that it knows. It takes the lowest line that is free for it, as long as there are two.
-    (The registers of participant 2 say which line it wants, and up to the first 0 which it has
+    """Gives each register a value that a worker may leave there, drawn at random. The round's
+    participant 1, which has performed the first line, comes to the third one, and not as the last
+    that it knows. It takes the lowest line that is free for it, as long as there are two. (The
+    registers of participant 2 show which line it wants, and, up to the first 0, which it has
     performed.)"""
     count, shared = registers.givens()
     begin, free = 2 * shared + count + 2, set()
@@ -197,7 +197,7 @@ DAMAGES = [("journal.1", 0, "record"), ("journal.1", 2, "commit byte"),
 
 def try_damage(bench: Bench) -> str:
     """a bit that is flipped in an append or in the header: a crew refuses the file by its name; in
-    the byte behind the last append, as a crash may leave it: the crew goes on"""
+    the byte after the last append, as a crash may leave it: the crew goes on"""
     scene = bench.scene(["quick"] * 5 + ["stays"])
     crew = scene.start()
     until(lambda: [it for it in scene.tales(6) if it[0] == "did"], "line 6 is performed")

@@ -14,7 +14,7 @@ RELAYED = "0:runner"  # a plan by which nothing befalls anybody, and all is note
 
 
 def overs(scene: Scene, worker: int) -> List[str]:
-    """What this worker was answered each time that it waited for the next round."""
+    """Returns the replies to this worker, one for each time that it waited for the next round."""
     noted = folder.read(f"{scene.room}/overs").decode().splitlines()
     return [it.split(" ")[1] for it in noted if it.startswith(f"{worker}.over ")]
 
@@ -48,7 +48,7 @@ def try_stays(bench):
 
 
 def try_stop(bench):
-    """a stop while a worker waits for the next round: it is told to leave at once, while a command
+    """a stop while a worker waits for the next round: it is asked to leave at once, while a command
     of another one goes on to its end"""
     scene, crew, idle = one_waits(bench, ["waits", *["quick"] * 7])
     crew.send_signal(signal.SIGTERM)

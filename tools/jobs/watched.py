@@ -32,7 +32,7 @@ def checked(schema, value):
 
 
 def report(scene):
-    """What `amo_jobs report --json` prints."""
+    """Returns the output of `amo_jobs report --json`."""
     return checked("report", json.loads(scene.call("report", "--json", scene.jobs)))
 
 
@@ -45,7 +45,7 @@ def followed(scene, *more):
 
 
 def first_line(scene):
-    """What `amo_worker status --follow --once` prints."""
+    """Returns the output of `amo_worker status --follow --once`."""
     said, told = followed(scene, "--once").communicate(timeout=240)
     want(said.count(b"\n") == 1 and said.endswith(b"\n"), f"{said[:200]}{told[:200]}")
     return checked("follow", json.loads(said))
@@ -182,7 +182,7 @@ def try_refusals(bench):
 
 
 def told(scene, crew, status):
-    """What a crew has told others that has ended: its events, its numbers, and its
+    """Returns the reports of a crew that has ended: its events, its numbers, and its
     notifications."""
     want(crew.wait(240) == status, f"{crew.poll()}: {scene.tale()[-500:]}")
     events = [checked("events", json.loads(it)) for it in folder.read(f"{scene.room}/events").splitlines()]
@@ -192,8 +192,8 @@ def told(scene, crew, status):
 
 
 def try_told(bench):
-    """a crew tells others the counts that `status` has, and each doubt once; it goes on if nothing
-    of that can be written, and if the teller is killed"""
+    """a crew reports the counts that `status` has, and each doubt once; it goes on if nothing of
+    that can be written, and if the reporting process is killed"""
     scene = bench.scene(["quick", "dies", "fail", "nothing", "quick"], 2, ["--untouched", "75,76"])
     options = ["--metrics", f"{scene.room}/numbers", "--events", f"{scene.room}/events", "--notify",
                f'echo "$AMO_EVENT $AMO_LINE" >> {scene.room}/told']
@@ -216,7 +216,8 @@ def try_told(bench):
 
 
 def try_teller_killed(bench):
-    """a teller that is killed changes nothing; one whose supervisor is killed tells the end"""
+    """a reporting process that is killed changes nothing; one whose supervisor is killed reports
+    the end"""
     scene = bench.scene(["slow"] * 6, 2)
     crew = scene.start("--events", f"{scene.room}/events")
     until(lambda: scene.tellers(crew), "the teller lives")

@@ -127,7 +127,7 @@ SENDS = 'echo "$1" >> "$0/queue"; while [ -d "$0" ] && ! [ -e "$0/serves" ]; do 
 
 def sent(bench):
     """Returns a run whose command has sent a request and was then killed, with its crew, before the
-    bank has taken the request from its queue; the attempt is listed as in doubt."""
+    bank has taken the request from its queue. The attempt is listed as in doubt."""
     scene = bench.scene([], 1, [])
     with open(scene.jobs, "w") as file:
         file.write("pay alice 100\n")
@@ -141,7 +141,7 @@ def sent(bench):
 
 
 def requests(scene):
-    """What the bank has in its queue, and pays once it serves."""
+    """Returns the requests in the bank's queue, which it pays once it serves."""
     return folder.read(f"{scene.room}/queue").decode().splitlines()
 
 
@@ -198,8 +198,8 @@ def try_ages(bench):
 
 
 def try_status(bench):
-    """the status tells who is alive, how all lines stand, how fast it goes, and which process holds
-    what runs"""
+    """the status shows who is alive, the status of each line, the pace, and which process holds the
+    running ones"""
     scene = bench.scene(["quick", "waits", "quick", "quick", "quick"])
     deep = scene.room + "/a folder with a long name" * 8
     os.makedirs(deep)
@@ -285,8 +285,8 @@ OPTIONS = [
 
 
 def try_messages(bench):
-    """what a person is told of a fault is an object, a problem and a remedy,
-    and no trace of Python"""
+    """a fault's message for a person is an object, a problem and a remedy, and no trace of
+    Python"""
     scene = bench.scene(["quick"])
     with open(f"{scene.room}/text", "w") as file:
         file.write("no program\n")
@@ -368,7 +368,7 @@ def try_timeout(bench):
 
 
 def try_last_net(bench):
-    """where the runner is gone the kernel's timer ends the command"""
+    """if the runner is gone the kernel's timer ends the command"""
     scene = bench.scene(["never"], 1, ["--timeout", "3", "--grace", "0.1"])
     script = "import sys, time; open(sys.argv[1] + '/begun', 'w').close(); time.sleep(1000)"
     crew = scene.start(command=[sys.executable, "-c", script, scene.room])
@@ -381,8 +381,8 @@ def try_last_net(bench):
 
 
 def try_leftovers(bench):
-    """what a command leaves behind by &, nohup or setsid is running until it ends; the worker goes
-    on meanwhile"""
+    """a process that a command leaves running by &, nohup or setsid counts as running until it
+    ends; the worker goes on meanwhile"""
     scene = bench.scene(["waits_amp", "waits_nohup", "waits_setsid", "quick", "stays"], 1,
                         ["--linger", "0.05"])
     crew = scene.start()
@@ -446,8 +446,7 @@ def try_second_signal(bench):
 
 
 def try_halt(bench):
-    """failures in a row stop the crew: ten where none was good before, else as many as --halt
-    says"""
+    """failures in a row stop the crew: ten if none was good before, else as many as --halt says"""
     for options, count, good in (([], 10, 0), (["--halt", "3"], 3, 0), (["--halt", "0"], 30, 0), (["--halt", "4"], 5, 1)):
         scene = bench.scene([], 1, options)
         with open(scene.jobs, "w") as file:
@@ -485,7 +484,7 @@ def try_work(bench):
 
 
 def try_outputs(bench):
-    """what a command prints is kept, elsewhere where that is asked for, and shown with its doubt"""
+    """the output of a command is kept, elsewhere if that is asked for, and shown with its doubt"""
     for options in ([], ["--results", "results"]):
         scene = bench.scene([], 1, [])
         with open(scene.jobs, "w") as file:

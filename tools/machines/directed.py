@@ -20,8 +20,8 @@ def scene_of(bench, lines, size, machines, percent=0):
 
 
 def try_shares(bench):
-    """each chunk is asked for once by each machine and worked by one of them, a crew that is begun
-    by hand where it is another's is refused, and a machine that comes again has nothing to do"""
+    """each machine asks for each chunk once, and one of them works it; a crew that is begun by hand
+    in a chunk of another machine is refused, and a machine that comes again has nothing to do"""
     scene = scene_of(bench, 7, 3, 3)
     scene.see_out()
     scene.audit()
@@ -136,7 +136,7 @@ def try_other_list(bench):
 
 
 def try_same_line_twice(bench):
-    """no two chunks have one line, and where they would nothing is asked for"""
+    """no two chunks have one line; with equal lines no chunk is asked for"""
     scene = scene_of(bench, 4, 2, 1)
     with open(scene.jobs, "a") as file:
         file.write("pay 1\n")
@@ -201,8 +201,8 @@ def try_old_folders(bench):
 
 
 def try_run_of_a_chunk(bench):
-    """each chunk is a run of its own, which its crews are told by its id;
-    a journal that is missing is refused by name"""
+    """each chunk is a run of its own, whose id its crews get; a journal that is missing is refused
+    by name"""
     scene, first = waiting(bench, 4, 2, 1)
     want(len({read(f"{it}/id") for it in (first.run, first.chunk(1))}) == 2, "two runs have one id")
     first.kill_all()
@@ -242,7 +242,8 @@ def try_copy(bench):
 
 
 def try_lost_folder(bench):
-    """the chunk of a folder that was lost in the middle is worked by nobody, and that is told"""
+    """the chunk of a folder that was lost in the middle is worked by nobody, and that is
+    reported"""
     scene = scene_of(bench, 6, 3, 2)
     first, second = scene.machines
     first.start()
@@ -279,7 +280,7 @@ def try_stopped_in_order(bench):
 
 
 def try_failures(bench):
-    """where commands fail in a row no further chunk is taken, and failed lines are told"""
+    """if commands fail in a row no further chunk is taken, and failed lines are reported"""
     scene = scene_of(bench, 6, 3, 1)
     scene.say("fails")
     first = scene.machines[0]
@@ -292,8 +293,8 @@ def try_failures(bench):
 
 
 def try_doubt(bench):
-    """a doubt is told, and where to look, and a line that a person opens again the next amo_share
-    works"""
+    """a doubt is reported, with its place, and the next amo_share works a line that a person opens
+    again"""
     scene, first = waiting(bench, 2, 2, 1)
     first.kill_all()
     scene.take_back("waits")
@@ -329,8 +330,8 @@ def try_no_store(bench):
 
 
 def try_claim_programs(bench, kind="folder"):
-    """of many that claim at once one has it, which all are told, and again later; a free chunk has
-    no owner"""
+    """of many that claim at once one has it, all learn which, and again later; a free chunk has no
+    owner"""
     store = store_of(bench, kind)
     environment = {"PATH": os.environ["PATH"], **store.straight()}
     for chunk in range(1, 4):

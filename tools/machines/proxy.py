@@ -37,7 +37,7 @@ class Proxy:
             threading.Thread(target=self.carry, args=(client,), daemon=True).start()
 
     def kind(self):
-        """What becomes of a request that writes."""
+        """Returns the fate of a request that writes."""
         self.asked += 1
         if self.draws.randrange(100) >= self.percent:
             return None
@@ -77,7 +77,7 @@ class Proxy:
 
     @staticmethod
     def give_back(server, client, answers):
-        """What the server says, while answers are given."""
+        """Returns the server's bytes to the client, as long as answers are given."""
         try:
             while part := server.recv(1 << 16):
                 answers.wait()
@@ -88,7 +88,7 @@ class Proxy:
             shut(client)
 
     def repeat(self, said):
-        """Says all that was said up to here to the server in a while, on a connection of its
+        """Sends all bytes up to here to the server once more, after a while, on a connection of its
         own."""
         def go():
             time.sleep(self.draws.random())

@@ -69,7 +69,7 @@ class Scene:
         return range(1, -(-len(self.texts) // self.size) + 1)
 
     def see_out(self, machines=None, seconds=600, during=lambda: None):
-        """Starts these machines again and again, until each ends by itself with nothing open."""
+        """Starts these machines again and again, until each ends on its own with nothing open."""
         end, left = time.monotonic() + seconds, set(machines or self.machines)
         for it in left:
             it.process or it.start()
@@ -100,7 +100,7 @@ class Scene:
         return self.texts[(number - 1) * self.size:number * self.size]
 
     def audit(self):
-        """No line is performed twice, and of each it is told where it stands. What was lost is
+        """Wants no line to be performed twice, and the place of each to be reported. Lost lines are
         worked by nobody."""
         did = [it[0] for it in self.tales()]
         twice = sorted({it for it in did if did.count(it) > 1})
@@ -191,7 +191,7 @@ class Machine:
         return self
 
     def tale(self):
-        """What its programs have said."""
+        """Returns the output of its programs."""
         return folder.read(f"{self.folder}/said").decode("utf-8", "replace")
 
     def ends(self, *statuses):
@@ -203,7 +203,7 @@ class Machine:
         return status
 
     def status(self):
-        """What amo_share status says, and how it ends."""
+        """Returns the output of amo_share status, and its status."""
         bench = self.scene.bench
         words = [sys.executable, bench.program, "status", "--run", self.run,
                  "--worker-program", bench.worker]
@@ -216,7 +216,7 @@ class Machine:
         return ran.stdout.decode().splitlines(), ran.returncode
 
     def person(self, command, *words, number=1, status=DONE):
-        """What amo_jobs says to a person of a chunk."""
+        """Returns the output of amo_jobs for a person, on a chunk."""
         bench = self.scene.bench
         words = [sys.executable, f"{os.path.dirname(bench.program)}/amo_jobs", command, "--run", self.chunk(number),
                  "--worker-program", bench.worker, *words]
@@ -226,11 +226,12 @@ class Machine:
         return ran.stdout.decode()
 
     def processes(self, *words):
-        """Yields the processes of this machine that have these words in their command line."""
+        """Returns the processes of this machine that have these words in their command line."""
         return harness.processes_of(self.folder, *words)
 
     def signal(self, number, *words):
-        """To its processes with these words; those that ended meanwhile are none."""
+        """Sends a signal to its processes with these words. A process that ended meanwhile is left
+        out."""
         found = list(self.processes(*words))
         for process in found:
             try:

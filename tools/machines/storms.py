@@ -78,7 +78,7 @@ class Storm:
 
 
 def storms(bench, kind, percent, runs):
-    """So many runs over one store, or in the long form as many as there is time for."""
+    """Makes so many runs over one store, or in the long form as many as there is time for."""
     store, count = store_of(bench, kind, percent), 0
     while count < runs or bench.is_long and bench.end and bench.has_time():
         machines, size = bench.draws.randint(3, 5), bench.draws.randint(2, 4)

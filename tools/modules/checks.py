@@ -25,7 +25,7 @@ UNREAD = re.compile(r"is not in scope|has no field|is no name|operand is missing
 
 
 class Said:
-    """What a check printed: the reason that it gives for each function, and the lines that name a
+    """The output of a check: the reason that it gives for each function, and the lines that name a
     place."""
 
     def __init__(self, text, status):
@@ -39,8 +39,8 @@ class Said:
         self.last = next((it for it in lines if "error" in it), lines[0]) if not self.reached else lines[-1]
 
     def own_reason(self, symbol):
-        """Why this function is not proved, but for the functions that it calls; empty where there
-        is no such reason."""
+        """Returns the reason why this function is not proved, without the functions that it calls.
+        It is empty without such a reason."""
         reason = self.told[symbol]
         if reason == "proved":
             return ""
@@ -62,9 +62,9 @@ class Said:
 
 
 def run(crate, bodies, kept, functions=(), real=()):
-    """One check of a copy of the crate with these bodies in it, over what `kept` holds. Of these
-    functions, those that are not real have stubs there, and the real ones are looked at; where no
-    functions are given, or one of them can't be named, all that is in the copy."""
+    """Checks a copy of the crate with these bodies in it, over the proofs in `kept`. Of these
+    functions, those that are not real have stubs there, and the real ones are checked. If no
+    functions are given, or one of them can't be named, all functions in the copy are checked."""
     paths = sorted({it.path() for it in real})
     only = [word for it in paths for word in ("--only", it)] if paths and "" not in paths else []
     check = [*crate.check(kept), *(["--allow-holes"] if functions else [])]
@@ -87,8 +87,9 @@ def run(crate, bodies, kept, functions=(), real=()):
 
 
 def judge(crate, body, said):
-    """What a check says of a body: 'refused', 'proved', 'names' (refused only by what a proof file
-    names), 'unread', or None where it doesn't tell; and the line that shows it."""
+    """Returns the verdict of a check on a body, and the line that shows it. It is 'refused',
+    'proved', 'names' (refused only by a name in a proof file), 'unread', or None if the check
+    doesn't show it."""
     unread = said.unread(body)
     if unread:
         return "unread", unread

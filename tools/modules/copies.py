@@ -74,8 +74,8 @@ class Maker:
         return all(within(*it) for it in body.lines) and bool(named(function).search(head))
 
     def can_have_copy(self, function: source.Function) -> bool:
-        """Returns whether this function can have a copy: it is a free function or a method of a
-        type's own, doesn't call itself, and no name, proof or other function ties it to its
+        """Returns whether this function can have a copy. It must be a free function or a method
+        of a type's own, and not call itself. No name, proof or other function may tie it to its
         place."""
         lines, block = self.lines(function.file), function.block
         head = f"{'    ' if block else ''}(pub(\\(\\w+\\))? )?(const )?fn {function.name}\\b"
@@ -159,7 +159,7 @@ class Maker:
 
 
 def named(function: source.Function) -> re.Pattern:
-    """Returns where a function's head says its name."""
+    """Returns the pattern of a function's name in its head."""
     return re.compile(rf"\bfn {function.name}\b")
 
 
@@ -182,17 +182,17 @@ def first_of(lines: list[str], function: source.Function) -> int:
 
 
 def imports_of(lines: list[str], block: source.Block) -> list[str]:
-    """What an `impl` block imports for its contracts."""
+    """Returns the imports of an `impl` block for its contracts."""
     return [it for it in lines[block.opens: block.last] if it.startswith("    ghost use ")]
 
 
 def tries_of(crate, functions: list[source.Function], bodies: list[edits.Body], most: int) -> list:
-    """How these bodies are tried at first: the twins, copies of functions as they are, and the
+    """Returns the first tries of these bodies: the twins, copies of functions as they are, and the
     edits, each in its place or in a copy.
 
     A function with a twin and an edit, or with several edits, has them in copies, with one of it as
-    it is if it has no twin. An edit that its function has alone is in its place, unless it needs
-    one more check there, since it can't stand together with the others.
+    it is if it has no twin. An edit that its function has alone is in its place. If it can't stand
+    together with the others there, and needs one more check, it has a copy.
     """
     maker = Maker(crate, functions)
     able = [it for it in bodies if maker.can_copy(it)]
@@ -208,7 +208,7 @@ def tries_of(crate, functions: list[source.Function], bodies: list[edits.Body], 
 
 
 def tries_with(chosen: list[source.Function], maker: Maker, able: list, bodies: list) -> list:
-    """How these bodies are tried if the able ones of the chosen functions are in copies."""
+    """Returns the tries of these bodies if the able ones of the chosen functions are in copies."""
     twinned = [it.functions[0] for it in able if it.is_twin]
     plain = [maker.copied(it) for it in dict.fromkeys(chosen) if it not in twinned]
     is_copied = lambda it: it in able and it.functions[0] in chosen

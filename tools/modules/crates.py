@@ -56,8 +56,8 @@ class Crate:
         return found
 
     def words(self, jobs):
-        """What each call of the prover on this crate says, in a folder that holds its files, with
-        so many processes."""
+        """Returns the words of each call of the prover on this crate, in a folder that holds its
+        files, with so many processes."""
         words = ["--crate-name", self.name, "src/main.rt" if self.is_program else "src/lib.rt"]
         for name in ["std", *self.of_kit]:
             words += ["--extern", f"{name}={self.kit}/rlibs/{name}.rlib"]
@@ -80,8 +80,8 @@ class Crate:
 
     def build(self, made, kept):
         """Proves the crate over the libraries that are made, and compiles it: a program, which is
-        linked, or a static library. It is made beside its place, so that one that is half written
-        is never there. Returns the status."""
+        linked, or a static library. It makes it next to its place, so that a half-written one is
+        never there. Returns the status."""
         compiled = f"{made}.new.o" if self.is_program else f"{made}.new"
         words = [f"{self.kit}/bin/rattle", "build", *self.words(1), "--incremental", kept]
         words += ["--crate-type", "staticlib"] * self.is_static
@@ -100,9 +100,9 @@ class Crate:
         return sum(lines_of(self.folder, it) for it in (".rt", ".antt"))
 
     def work(self):
-        """What a check takes beside those of other crates, in lines of code, as measured: those of
-        proof count for little beside them, and the first use of a large library of the toolchain's
-        as much as hundreds."""
+        """Returns the work of a check next to those of other crates, in lines of code, as measured.
+        Lines of proof count for little. The first use of a large library of the toolchain's counts
+        as much as hundreds of lines."""
         return lines_of(self.folder, ".rt") + self.loaded(self.of_kit) // 200_000
 
     def loaded(self, names):
@@ -151,8 +151,8 @@ class Crate:
 
 
 def copy_of(kept, to):
-    """Returns a copy of what a check kept. A check replaces a file there, and writes into none, so
-    a link does for a proof, where the copy is on the same file system."""
+    """Returns a copy of the files that a check kept. A check replaces a file there, and writes into
+    none. So a link does for a proof, if the copy is on the same file system."""
 
     def copy(one, other):
         try:

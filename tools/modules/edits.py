@@ -10,8 +10,8 @@ HOLE = re.compile(r"(?<!\w)\?")
 
 
 class Change:
-    """What is changed in a copy of a crate: the new texts of `lines`, by file and number from 1,
-    the `functions` that they change, and which `calls` they add."""
+    """The changes in a copy of a crate: the new texts of `lines`, by file and number from 1, the
+    `functions` that they change, and the `calls` that they add."""
 
     def __init__(self):
         self.lines, self.functions, self.calls = {}, [], set()
@@ -46,7 +46,7 @@ class Change:
         return any(it.file == path and it.has(number) for it in self.functions)
 
     def in_place(self, line: str) -> str:
-        """What this line of a check is if all stands in its place."""
+        """Returns this line of a check, with all names as they are in their places."""
         return line
 
     def reaches_out(self) -> bool:

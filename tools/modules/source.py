@@ -10,8 +10,8 @@ OPENS, CLOSES = "([{", ")]}"
 
 
 class Function:
-    """A function: its name, the type and the trait of its impl, its module, and where it stands, in
-    lines from 1."""
+    """A function: its name, the type and the trait of its impl, its module, and its place, in lines
+    from 1."""
 
     def __init__(self, file, name, block, cycle, lines, words):
         self.file, self.name, self.block, self.cycle = file, name, block, cycle
@@ -26,8 +26,8 @@ class Function:
         return module_of(self.file)
 
     def place(self):
-        """Returns where a check looks for its proof, below proofs/: in the module of its type, and
-        of a trait's method in its own, below both names in one word."""
+        """Returns the place below proofs/ of its proof: the module of its type. A trait's method
+        has a module of its own, below both names in one word."""
         owner = [self.block.type + "".join(it[0].upper() + it[1:] for it in self.block.of_trait)] if self.block else []
         return [*self.home, *owner, self.name]
 
@@ -35,8 +35,9 @@ class Function:
         return self.first <= line <= self.last
 
     def path(self):
-        """By which name a check can be asked for this function: its own, or, of a trait's method,
-        which has both names in one word, that of its module; empty in the crate's root."""
+        """Returns the name by which a check can be asked for this function. It is its own, or, for
+        a trait's method, which has both names in one word, that of its module. It is empty in the
+        crate's root."""
         if not self.block:
             return "::".join([*self.module(), self.name])
         return "::".join(self.module()) if self.block.trait else f"{self.block.type}::{self.name}"
@@ -67,8 +68,7 @@ class Function:
 
 class Block:
     """The head of an impl or a trait: the type that it is of, the words of both names, and of an
-    impl those of its trait; and the lines at which it begins, at which it opens and at which it
-    ends."""
+    impl those of its trait. It has the lines at which it begins, opens and ends."""
 
     def __init__(self, keyword, head, lines):
         self.first, self.opens, self.last = lines
@@ -89,8 +89,8 @@ def module_of(file):
 
 
 def called_in(words):
-    """Returns the names that may be called where these words stand: those before a bracket, and the
-    last of a path. A field's, a local's and a type's are none. A `?` calls a `from`."""
+    """Returns the names that may be called in these words: those before a bracket, and the last of
+    a path. The name of a field, a local or a type doesn't count. A `?` calls a `from`."""
     after = [*words[1:], ""]
     before = ["", *words[:-1]]
     called = {it for it, behind, ahead in zip(words, after, before) if behind == "(" or ahead == "::" or behind == "::"}
@@ -149,7 +149,7 @@ def end_of(rows, at):
 
 
 def opening(rows, at):
-    """Returns the place of the `{` of a body, or of the `;` that stands where there is none."""
+    """Returns the place of the `{` of a body, or of the `;` of a function without one."""
     while at < len(rows) and rows[at][1] not in ("{", ";"):
         at = end_of(rows, at) + 1 if rows[at][1] in ("(", "[") else at + 1
     return at

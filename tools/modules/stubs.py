@@ -11,8 +11,8 @@ PROOF = "use Rattle.{crate}.proofs.{path}.Statement.{{statement}}\n\npub {name}_
 
 
 def can_be_stub(function, lines, real):
-    """Returns whether a stub can be put in place of this function: its body is some lines by
-    itself, and none of the functions that are to stay stands within it."""
+    """Returns whether a stub can be put in place of this function. Its body must be some lines of
+    their own, and have none of the functions that are to stay."""
     opens, closes = lines[function.opens - 1], lines[function.last - 1]
     has_lines = function.last - function.opens > 1 and opens.endswith("{") and closes.strip() == "}"
     return has_lines and not any(it.file == function.file and function.has(it.first) for it in real)

@@ -112,7 +112,7 @@ def change(path: str, data: Optional[bytes]) -> None:
 
 
 def refusal_of(scene) -> Optional[tuple]:
-    """How the auditor refuses the run: the arguments of that; None if it takes it."""
+    """Returns the arguments of the auditor's refusal of the run, or None if it takes it."""
     try:
         scene.look()
     except folder.Refused as refused:
@@ -121,8 +121,8 @@ def refusal_of(scene) -> Optional[tuple]:
 
 
 def cut_one(scene, name: str, appends: list, length: int, rest: bytes) -> None:
-    """The file ends behind this append, and this rest: it is refused with what was counted, or, if
-    that is still there, read."""
+    """Tries a file that ends after this append, and this rest. It is refused with the counts, or,
+    if all counted appends are still there, read."""
     header = header_in(scene, read(f"{scene.run}/record"))
     count, data = header.counts[name][0], b"".join(appends[:length]) + rest
     wanted = (name, None, headers.fewer(length, count, header.round)) if length < count else None
@@ -134,8 +134,8 @@ def cut_one(scene, name: str, appends: list, length: int, rest: bytes) -> None:
 
 
 def cuts(scene) -> Iterator:
-    """Yields each file that is cut behind each of its appends, with nothing behind that, or with
-    what a crash leaves."""
+    """Yields each file that is cut after each of its appends, with nothing after that, or with the
+    bytes that a crash leaves."""
     for name in APPENDED:
         appends = appends_in(read(f"{scene.run}/{name}"))
         for length in range(len(appends) + 1):
@@ -146,7 +146,7 @@ def cuts(scene) -> Iterator:
 
 
 def try_counted_lost(bench) -> str:
-    """each append lost with all behind it, as by an earlier copy: refused with how many there are
+    """each append lost with all after it, as by an earlier copy: refused with how many there are
     and were, or, if it wasn't counted, read as a crash leaves it"""
     scene, _ = run_of_rounds(bench)
     count = each(some(bench, cuts(scene), 24, 85), cut_one)
@@ -165,7 +165,8 @@ def words_of_all(scene) -> dict:
 
 
 def refuse_one(bench, scene, name: str, damaged: bytes) -> None:
-    """Who writes to this file refuses it, and some other commands too, and leave it as it was."""
+    """Wants the writers of this file, and some other commands, to refuse it, and to leave it as it
+    was."""
     words = words_of_all(scene)
     others = [words[it] for it in words if it != name]
     chosen = bench.draws.sample(others, 2 if bench.is_slow() else len(others))
@@ -189,8 +190,8 @@ def try_lost_to_all(bench) -> str:
 
 
 def copy_one(scene, copies: list, number: int, names: tuple) -> None:
-    """These files stand there as they were after an earlier round: refused if the header counts
-    more."""
+    """Puts these files back as they were after an earlier round. They are refused if the header
+    counts more."""
     with replaced(scene, {name: copies[number][name] for name in names}):
         see_copy(scene, copies[number], names)
 
@@ -270,8 +271,8 @@ def jobs_one(bench, scene, damaged: bytes) -> None:
 
 
 def try_jobs_damaged(bench) -> str:
-    """each byte of `jobs` is changed, or cut away with all behind it: refused; more lines behind
-    what was there are taken"""
+    """each byte of `jobs` is changed, or cut away with all after it: refused; more lines after the
+    old ones are taken"""
     scene, copies = run_of_rounds(bench)
     data, rows = copies[-1]["jobs"], []
     for place in some(bench, range(len(data)), 10, 60):
@@ -322,8 +323,8 @@ def rename_new(scene, name: str, data: bytes) -> None:
 
 
 def stop_one(scene, writer: Writer, words: list, number: int) -> None:
-    """A reader is stopped behind this call; appends are made, and a round begins that counts them;
-    it goes on, and refuses nothing."""
+    """Stops a reader after this call. Appends are made, and a round begins that counts them. The
+    reader goes on, and refuses nothing."""
     reader = Reader(scene, *words, faults=f"{number}:stop_after")
     while state_of(reader) not in "TZ":
         time.sleep(0.002)
@@ -375,8 +376,8 @@ def life_of(bench) -> list:
 
 
 def commits(bench) -> Iterator:
-    """Yields the calls at which a worker can end while nothing but its last append isn't on the
-    disk: it is killed at the write by which that counts, or the sync behind it fails."""
+    """Yields the calls at which a worker can end while only its last append isn't on the disk. It
+    is killed at the write by which that counts, or the sync after it fails."""
     calls = life_of(bench)
     for k, it in enumerate(calls):
         if it[2:4] == ["write", "journal.1"] and it[8] == "2b":
@@ -428,7 +429,8 @@ def cut_answer_one(bench, number: int, fault: str) -> None:
 
 
 def commits_of_answers(bench) -> list:
-    """Returns the same calls of a person's answer."""
+    """Returns the calls at which a person's answer can end while only its last append isn't on the
+    disk."""
     scene, power = doubtful(bench)
     scene.answer(1, 2, 2, "not-done")
     calls = scene.logged()

@@ -17,8 +17,8 @@ TRIES = 20  # of what has to come later on a loaded machine
 
 def drawn_kill(draws, filed, spare):
     """Returns a kill at a call: one of the first, one of those by which a worker comes back to its
-    words, or one of those by which it works, right after it has spoken or some lines later, the
-    fewer the fewer lines there are for each kill to come."""
+    words, or one of those by which it works. The kill comes right after it has spoken or some lines
+    later, the fewer the fewer lines there are for each kill to come."""
     mood, when = draws.random(), draws.choice(["before", "after"])
     if mood < 0.15:
         return f"{draws.randint(1, 200)}:kill_{when}"
@@ -30,7 +30,7 @@ def drawn_kill(draws, filed, spare):
 
 
 class Late(Runner):
-    """A runner whose commands take a while: it answers some milliseconds after it was told."""
+    """A runner whose commands take a while: it answers some milliseconds after it got a line."""
 
     def __init__(self, scene, worker, draws):
         super().__init__(scene, worker)
@@ -100,7 +100,7 @@ def try_crew_killed(bench):
 
 
 class Reader:
-    """A command beside others: what it says when it has ended."""
+    """A command that runs next to others, with its output once it has ended."""
 
     def __init__(self, scene, *words, faults=None):
         scene.bench.processes += 1
@@ -116,7 +116,7 @@ class Reader:
 
 
 class Counts:
-    """What readers have said that isn't so: how often each."""
+    """The false statements of readers, and how often each was made."""
 
     def __init__(self):
         self.wrong, self.readers, self.first = {}, 0, None
@@ -141,14 +141,14 @@ class Counts:
 
 
 def readers_of(scene, draws, count=READERS, asks="status"):
-    """So many readers at once, each of them slow at a call drawn at random. `status` records
+    """Starts so many readers at once, each of them slow at a call drawn at random. `status` records
     nothing, so the intent stays pending."""
     return [Reader(scene, asks, faults=f"{draws.randint(1, 90)}:slow") for _ in range(count)]
 
 
 def begin_beside(scene, counts, draws):
-    """A worker is begun beside readers, again if it has to come back: it gets on.
-    Nobody answers it, and it is killed."""
+    """Begins a worker next to readers, and again if it has to come back. It must get on. Nobody
+    answers it, and it is killed."""
     readers, runner = readers_of(scene, draws, 4), Runner(scene, 1)
     runner.was = lambda serial, line: None
     while not runner.lines and set(runner.statuses) <= {LATER} and len(runner.statuses) < TRIES:
@@ -161,7 +161,7 @@ def begin_beside(scene, counts, draws):
 
 
 def answer_beside(scene, counts, draws):
-    """A person answers beside readers, again if that has to come later: the answer is taken."""
+    """Answers next to readers, and again if that has to come later. The answer must be taken."""
     readers = readers_of(scene, draws, 4)
     words = ["answer", "1.1", "1", "job 1", "not-done", "--now"]
     for _ in range(TRIES):
@@ -177,8 +177,8 @@ def answer_beside(scene, counts, draws):
 
 
 def read_beside_each_other(bench, counts, seed):
-    """Readers beside each other, beside a worker that begins, and beside a person who answers, over
-    a run in doubt."""
+    """Runs readers next to each other, to a worker that begins, and to a person who answers, over a
+    run in doubt."""
     draws, scene = random.Random(seed), answerable(bench)
     for _ in range(10 if bench.is_long else 4):
         for it in readers_of(scene, draws):
@@ -192,7 +192,7 @@ def read_beside_each_other(bench, counts, seed):
 
 
 def try_readers_beside_each_other(bench):
-    """8 readers at once beside a dead worker and its doubt: all say the same, and keep no worker
+    """8 readers at once, with a dead worker and its doubt: all print the same, and keep no worker
     and no person from going on"""
     counts = Counts()
     for k in range(40 if bench.is_long else 1):

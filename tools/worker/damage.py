@@ -102,7 +102,7 @@ def try_flipped(bench) -> str:
 
 
 def try_cut_at_each_byte(bench) -> str:
-    """each byte is cut off the end: refused, unless the file ends behind an append"""
+    """each byte is cut off the end: refused, unless the file ends after an append"""
     count = 0
     for scene, name, appends in cases(bench):
         data = file_of(appends)
@@ -178,8 +178,8 @@ def try_of_others(bench) -> None:
 
 
 def ends_of(scene, name: str, appends: list) -> Iterator:
-    """Bytes that no crash leaves behind the last append, each with the number of the append where
-    that shows, and the problem."""
+    """Yields bytes that no crash leaves after the last append, each with the number of the append
+    that is refused, and the problem."""
     records = records_of(appends)
     more = journals.appends(scene.id(), name, [*records, records[-1], records[-1]])[-2:]
     one, two, count = more[0][1:], more[1][1:], len(records) + 1
@@ -245,7 +245,7 @@ def try_refused_by_all(bench) -> str:
 
 class Writer(threading.Thread):
     """Appends to a journal as a worker does, now and then as one that dies in between and comes
-    back, until it is told to end. All attempts are at one line, and were never begun."""
+    back, until it must end. All attempts are at one line, and were never begun."""
 
     def __init__(self, scene, name: str, line: int, seed: str):
         super().__init__()
@@ -266,7 +266,7 @@ class Writer(threading.Thread):
         os.fsync(self.file.fileno())
 
     def next_line(self) -> bytes:
-        """Returns the next append, behind its commit byte."""
+        """Returns the next append, after its commit byte."""
         serial = self.count // 2 + 1
         record = b"unbegun %d" % serial if self.count % 2 else b"intent %d %d 1" % (serial,
                                                                                     self.line)
@@ -319,7 +319,7 @@ def calls_of_status(scene) -> list:
 
 
 def stop_one(scene, writer: Writer, number: int) -> None:
-    """A reader is stopped behind this call; two appends are made; it goes on, and refuses
+    """Stops a reader after this call. Two appends are made. The reader goes on, and refuses
     nothing."""
     reader = Reader(scene, "status", faults=f"{number}:stop_after")
     while state_of(reader) not in "TZ":

@@ -26,7 +26,7 @@ def records_left(run: str, name: str, data: bytes) -> list:
 
 
 class File:
-    """What is read of a file, what the disk keeps of it, and what was done since."""
+    """A file: the bytes that are read of it, those that the disk keeps, and the calls since."""
 
     def __init__(self, data=b""):
         self.now, self.kept, self.pending = bytearray(data), bytearray(data), []
@@ -41,8 +41,8 @@ class File:
         self.pending.append((length, None))
 
     def left(self, draws, how):
-        """What a cut of power leaves: nothing of what is pending, the first of it, all of it, or
-        what is drawn."""
+        """Returns the bytes that a cut of power leaves: nothing of the pending calls, the first of
+        them, all of them, or a drawn part."""
         data = bytearray(self.kept)
         for place, new in self.pending[:1 if how == "first" else None]:
             if how in ("first", "all") or how == "drawn" and draws.random() < 0.3:
@@ -56,8 +56,8 @@ class File:
 
     @staticmethod
     def tear(data, place, new, draws):
-        """A part of the write: each byte is the old one or the new one, and behind the old end, up
-        to an end that is drawn, 0 or the new one."""
+        """Tears a write. Each byte is the old one or the new one. After the old end, up to an end
+        that is drawn, it is 0 or the new one."""
         end = draws.randint(len(data), max(len(data), place + len(new)))
         data[len(data):] = bytes(end - len(data))
         for at in range(place, min(place + len(new), end)):
@@ -125,7 +125,7 @@ class Disk:
             self.see_said(handle[0], bytes.fromhex(more))
 
     def rename(self, old: str, new: str) -> None:
-        """A file gets another name, or a folder that was made beside gets the run's."""
+        """Gives a file another name, or the run's name to a folder that was made next to it."""
         if new != ".":
             self.names[new] = self.names.pop(old)
             self.moves.append((old, new, self.names[new]))
@@ -176,8 +176,8 @@ class Disk:
             self.kept, self.moves = dict(self.names), []
 
     def see_said(self, process, text):
-        """Before a perform is said its intent has to be on the disk for certain, and each name on
-        which it rests."""
+        """Wants the intent to be on the disk for certain before a perform is printed, and each name
+        on which it rests."""
         for said in (it for it in text.split(b"\n") if it.startswith(b"perform ")):
             serial, line, name = *said.split(b" ")[1:3], self.journals.get(process, "journal.1")
             journal, jobs = self.names[name], self.names.get("jobs")
@@ -231,7 +231,7 @@ class Power:
             self.begin()
 
     def begin(self):
-        """Makes the folder by the door if there is none."""
+        """Makes the folder by the door if it is missing."""
         if not os.path.isdir(self.scene.run):
             self.scene.door()
 
@@ -270,7 +270,7 @@ class Power:
             file.write("".join(f"{name} {data}\n" for name, data in [("JOBS", jobs), *(left or {}).items()]))
 
     def runners_files(self, how):
-        """Of the locks that runners made, which nobody syncs, those that are left."""
+        """Returns those of the locks of runners, which nobody syncs, that are left."""
         there = os.listdir(self.scene.run) if os.path.isdir(self.scene.run) else ()
         names = [it for it in there if it.startswith(("runner.", "command."))]
         return [it for it in names if how == "all" or how == "drawn" and self.draws.random() < 0.5]
@@ -287,8 +287,8 @@ class Power:
                 file.write(data)
 
     def close(self):
-        """Replays what was logged since the last cut, for what has to be on the disk before each
-        perform; how many were said."""
+        """Replays the log since the last cut, for the bytes that must be on the disk before each
+        perform. Returns how many performs were printed."""
         self.disk.replay()
         return self.performs + self.disk.performs
 

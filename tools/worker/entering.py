@@ -17,7 +17,7 @@ from worker.scene import (DOOR, LATER, OVER, READ, REFUSED, WORDS, Runner, each,
 
 
 def is_stand_in(bench):
-    """Returns the stand-in does less here than the program."""
+    """Returns whether the program is the stand-in, which does less here."""
     if bench.is_slow():
         bench.skipped.append("the stand-in is let in by less")
     return bench.is_slow()
@@ -31,8 +31,8 @@ def get_in(scene, worker, status, named=""):
 
 
 def try_each_number(bench):
-    """each number of a worker beside each number of workers, and thresholds of all sizes: it
-    begins, or the number is none"""
+    """each number of a worker with each number of workers, and thresholds of all sizes: it begins,
+    or the number is refused"""
     scene = bench.scene(0)
     for workers in range(1, 17):
         scene.workers = workers
@@ -101,7 +101,7 @@ def try_paths(bench):
 
 
 def refused_before(bench, prepare, status):
-    """What can't be that of a run is refused before the folder is made."""
+    """Wants a folder that can't be a run's to be refused before anything is made."""
     scene = bench.scene(1, 1, makes=False)
     run = prepare(scene) or scene.run
     for command, wanted in ((["door", run], status), (["work", run, "1"], READ)):
@@ -159,8 +159,8 @@ def mount_id(path: str) -> str:
 
 
 def mounted(scene, kind: str, options: str, more: str, defaults: str) -> System:
-    """Returns the folder above the run's lies on such a mount. Others, before it and behind it,
-    have its path."""
+    """Returns a system in which the folder above the run's lies on such a mount. Others, before it
+    and after it, have its path."""
     system, number = System(scene), mount_id(scene.room)
     other = f"1 8:1 / {scene.room} rw - tmpfs none rw"
     mount = (f"{number} 1 8:99 /sub {scene.room} {options} shared:7 master:1"
@@ -335,7 +335,7 @@ def kept_answers(scene):
 
 
 def sheet_of(scene, *rows):
-    """These answers, from a file: the status, how many are taken, and what is said."""
+    """Gives these answers from a file: the status, how many are taken, and the output."""
     before, path = kept_answers(scene), f"{scene.room}/sheet"
     with open(path, "w") as file:
         file.write("".join(f"{row}\n" for row in rows))
@@ -362,8 +362,8 @@ def try_sheets_beside_who_begins(bench):
 
 
 def try_locks_for_ever(bench):
-    """locks that others keep: after some seconds a worker and a person are told so; who only looks
-    is shown all the same"""
+    """locks that others keep: after some seconds a worker and a person get a message; a command
+    that only looks works all the same"""
     if is_stand_in(bench):
         return
     scene = prepared(bench, ["doubt", "untouched 75"], lines=3)

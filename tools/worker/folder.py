@@ -30,8 +30,8 @@ TAKEN = "ext2 ext3 ext4 xfs btrfs f2fs zfs".split()
 
 
 class Refused(Exception):
-    """A file that is none: its name, the number of the append where that shows, or None if it is
-    the file as a whole that is wrong, and what is wrong with it."""
+    """A file that is refused: its name, the number of the append that is refused, or None for the
+    file as a whole, and the problem."""
 
     def __str__(self) -> str:
         name, place, wrong = self.args
@@ -61,8 +61,8 @@ def make(run: str) -> None:
 
 
 def make_old(run: str) -> None:
-    """Makes a run's folder one of amo 0.1.0, which had no checksums, made no file before there was
-    something to put into it, and left a journal empty for a moment."""
+    """Makes a run's folder one of amo 0.1.0. That version had no checksums, made no file before it
+    had something to put into it, and left a journal empty for a moment."""
     records = {name: records_in(run, name) for name in PARTS if name != "lock.round"}
     os.unlink(f"{run}/id")
     if header := read(f"{run}/record"):
@@ -94,8 +94,8 @@ def listing(folder: str) -> dict:
 
 
 def contents(folder: str) -> dict:
-    """What each file of a folder is and holds;
-    who settles a journal may write the same bytes anew."""
+    """Returns the kind and the content of each file of a folder. A command that recovers a journal
+    may write the same bytes anew."""
     names = [it for it in os.listdir(folder) if os.path.isfile(f"{folder}/{it}")]
     return {name: (os.stat(f"{folder}/{name}").st_ino, read(f"{folder}/{name}")) for name in names}
 
@@ -191,7 +191,7 @@ def intents_of(worker, records, count, entry=ENTRY):
 
 
 class Folder:
-    """What stands in a run's folder: the header is read first, then answers, then journals, then
+    """The content of a run's folder. The header is read first, then answers, then journals, then
     jobs, so that workers may go on meanwhile."""
 
     def __init__(self, run):
@@ -247,7 +247,7 @@ class Folder:
         return [it for it in self.intents.values() if it.answer is None]
 
     def kinds(self, final=()):
-        """Of each line its kind, where these pending intents, as P and S, are final doubts."""
+        """Returns the kind of each line, if these pending intents, as P and S, are final doubts."""
         found = dict.fromkeys(range(1, len(self.lines) + 1), "open")
         for it in self.intents.values():
             if not it.opens() and found[it.line] != "running":
@@ -277,8 +277,8 @@ def is_free(path):
 
 
 def record_of(run):
-    """What the record says: round, boot, n, m, beta, workers, first, and the lines; None where
-    there is none."""
+    """Returns the content of the record: round, boot, n, m, beta, workers, first, and the lines;
+    None if it is missing."""
     data = read(os.path.join(run, "record"))
     front = data if data.startswith(b"amo-run 1\n") else headers.front_of(data)
     texts = front.decode().split("\n")
@@ -291,8 +291,8 @@ def record_of(run):
 
 
 def rows_of(run, boot):
-    """Of each worker of the words its count of claims, its announcement and its row; nothing where
-    record and words are of another boot, or don't fit."""
+    """Returns for each worker of the words its count of claims, its announcement and its row.
+    Returns nothing if record and words are of another boot, or don't fit."""
     record, data = record_of(run), read(f"{run}/words")
     size = record["m"] * (record["n"] + 3) + 1 if record else 0
     head = f"\nround {record['round']}\nboot {record['boot']}\n" if record else ""

@@ -51,7 +51,7 @@ def old_header(data: bytes) -> bytes:
 
 
 class Header:
-    """What a header says, and of each file how many appends it counts, with a checksum. Without
+    """The content of a header: for each file how many appends it counts, with a checksum. Without
     bytes it is the header of a run that has none."""
 
     def __init__(self, run: str, data: bytes):
@@ -74,7 +74,8 @@ class Header:
         return True
 
     def lost(self, name: str, checksums: List[bytes]) -> Optional[str]:
-        """What a file with these checksums lacks of what was counted; None if it has all of it."""
+        """Returns the counted appends that a file with these checksums lacks; None if it has all of
+        them."""
         count, checksum = self.counts.get(name, (0, checksums[0]))
         if len(checksums) <= count:
             return fewer(len(checksums) - 1, count, self.round)
@@ -88,12 +89,12 @@ class Header:
 
 
 def fewer(there: int, count: int, number: int) -> str:
-    """What is said of a file that has fewer appends than a round counted."""
+    """Returns the message on a file that has fewer appends than a round counted."""
     return f"it has {there} appends, and {count} were on the disk when round {number} began"
 
 
 def another(count: int, number: int) -> str:
-    """What is said of a file in which the last counted append is another one."""
+    """Returns the message on a file in which the last counted append is another one."""
     return f"append {count} is another one than when round {number} began"
 
 

@@ -19,8 +19,8 @@ WRONG = (NOT_WHOLE, WRONG_CHECKSUM, NO_COMMIT_BYTE, TOO_MUCH)
 
 
 class Damaged(Exception):
-    """No crash leaves these bytes: the number of the append where that shows, what is wrong with
-    it, and the place where it begins."""
+    """No crash leaves these bytes. It has the number of the append, the fault, and the place at
+    which the append begins."""
 
 
 def digits(data: bytes) -> bytes:
@@ -81,7 +81,7 @@ def parts(records: bytes) -> list:
 
 
 def wrong_behind(rest: bytes) -> Optional[str]:
-    """What is wrong with the bytes behind the last append; None if a crash may leave them."""
+    """Returns the fault of the bytes after the last append; None if a crash may leave them."""
     if len(rest) < 2:
         return None
     if rest[:1] != b"-":

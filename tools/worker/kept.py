@@ -19,7 +19,7 @@ NOTED = 6
 
 
 def note_points(bench):
-    """Yields the calls of a first life from what it says first to its second answer, beside another
+    """Yields the calls of a first life from its first line to its second answer, with another
     worker and alone."""
     for beside in (False, True):
         calls = life_points(bench, beside)
@@ -29,9 +29,9 @@ def note_points(bench):
 
 
 def stop_one(bench, beside, number, fault, how):
-    """A worker is stopped, slow or killed at this call. A person asks, another worker begins, power
-    is cut; of the next process nobody hears that it has noted an answer. What the first one went on
-    after is there."""
+    """Has a worker stopped, slow or killed at this call. A person asks, another worker begins,
+    power is cut. Nobody learns that the next process has noted an answer. The records that the
+    first one went on after are there."""
     scene = bench.scene(4, 2 if beside else 1, makes=False)
     power = Power(scene, bench.draws, fails="none")
     runners = [Waiting(scene, 1)] if beside else []
@@ -58,8 +58,8 @@ def try_stopped_and_cut(bench):
 
 
 def forget_one(bench, first, second):
-    """A process is killed at a call behind an answer that it went on after, its runner dies, and
-    the next, whose runner knows of nothing, is killed at a call too: no answer is asked for
+    """Kills a process at a call after an answer that it went on after. Its runner dies, and the
+    next process, whose runner knows of nothing, is killed at a call too. No answer may be asked for
     again."""
     scene = bench.scene(5, 1, makes=False)
     power = Power(scene, bench.draws, fails="none")
@@ -74,7 +74,7 @@ def forget_one(bench, first, second):
 
 
 def try_forgotten_and_cut(bench):
-    """killed, or a sync failed, behind an answer; then with a runner that knows nothing, and the
+    """killed, or a sync failed, after an answer; then with a runner that knows nothing, and the
     power cut: no answer is lost"""
     numbers = [number for beside, number in note_points(bench) if not beside]
     rows = [(bench, f"{number}:{errno.EIO if kind else 'kill_after'}", f"{second}:{errno.EIO if kind > 1 else 'kill_after'}")
@@ -83,10 +83,10 @@ def try_forgotten_and_cut(bench):
 
 
 def jobs_one(bench, number, how):
-    """Returns the jobs' file has a line that nobody synced; its sync fails at this call, and gives
-    up that line for good, which is read all the same. Where power is cut then, the file may lack
-    what the run knows: it is refused by that line until it has it again. With no number: the calls
-    of such a life."""
+    """Lets the sync of a line in the jobs' file fail at this call. The kernel gives up that line
+    for good, and it is read all the same. If power is cut then, the file may lack a line that the
+    run knows. It must be refused by that line until it has it again. Without a number: returns the
+    calls of such a life."""
     scene = bench.scene(4, 1, makes=False)
     power = Power(scene, bench.draws, fails="none")
     power.grow(b"job 5\n")
@@ -117,7 +117,7 @@ def try_failed_sync_of_jobs_and_cut(bench):
 
 
 class Moody(Runner):
-    """A runner that now and then doesn't begin a command and says so, and that may die before or
+    """A runner that now and then doesn't begin a command and replies so, and that may die before or
     after one."""
 
     def __init__(self, scene, worker, draws):
@@ -167,8 +167,8 @@ def storm(bench, seed):
 
 
 def work_on(scene, runners, draws):
-    """Those whose workers are dead begin them again, and all go on until some lines were said; some
-    are stopped meanwhile."""
+    """Has dead workers begun again, and all go on until some lines were handed over. Some are
+    stopped meanwhile."""
     for it in runners:
         if not it.process and not it.dies:
             it.start(drawn_faults(draws))

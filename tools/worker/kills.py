@@ -13,8 +13,8 @@ INTERRUPTED = ("open", "read", "write", "cut", "sync", "lock", "say", "hear")
 
 
 def changes(calls):
-    """Returns the calls after which something stands otherwise than before; of several by which one
-    answer is heard, the last."""
+    """Returns the calls after which something has changed. Of several calls that read one answer it
+    has the last."""
     nexts = [it[2] for it in calls[1:]] + [""]
     return [it for it, after in zip(calls, nexts) if is_change(it) and not it[2] == after == "hear"]
 
@@ -46,15 +46,16 @@ def points(bench):
 
 
 def want_all_told(scene, most=1):
-    """Each line is performed, but for so many that are in doubt: their intent was put, and nobody
-    heard of it."""
+    """Wants each line to be performed, but for so many in doubt: their intent was put, and nobody
+    learned of it."""
     performed, doubts = {it[2] for it in scene.effects()}, {it[2] for it in scene.doubts()}
     lines = set(range(1, len(scene.look().lines) + 1))
     want(performed | doubts == lines and len(doubts - performed) <= most, f"performed are {performed}, in doubt {doubts}")
 
 
 def kill_one(bench, number, when, drops):
-    """A worker is killed at this call; its runner lives on, and tells the next one what it saw."""
+    """Kills a worker at this call. Its runner lives on, and gives the next one the ends that it
+    saw."""
     scene = bench.scene(4, 2)
     runner = Runner(scene, 1)
     runner.drops = drops
@@ -77,7 +78,7 @@ def try_killed(bench):
 
 
 def try_killed_and_dropped(bench):
-    """killed right after it spoke: the runner drops what the dead one said"""
+    """killed right after it printed a line: the runner drops the line of the dead one"""
     numbers = [int(it[1]) for it in changes(first_life(bench)) if it[2] in ("say", "hear")]
     return f"{each(((bench, it, 'after', True) for it in numbers), kill_one)} kills"
 
@@ -110,7 +111,7 @@ def kill_beside(bench, number):
 
 
 def try_killed_beside(bench):
-    """killed at each call beside a worker that keeps the round: the next one goes on by the words,
+    """killed at each call, while another worker keeps the round: the next one goes on by the words,
     and performs no line again"""
     return f"{each(((bench, it) for it in bench.sample(kill_beside(bench, None), 40)), kill_beside)} kills"
 
@@ -138,8 +139,8 @@ def kill_both(bench, number, second):
 
 
 def try_killed_with_its_runner(bench):
-    """killed at each call, and its runner too: what is in doubt is told, and once a person has
-    answered each line is done once"""
+    """killed at each call, and its runner too: each doubt is listed, and once a person has answered
+    each line is done once"""
     numbers = points(bench)
     pairs = [(bench, it, bench.draws.choice(numbers) if bench.draws.random() < 0.5 else 0) for it in bench.sample(numbers, 40)]
     count = each(pairs, kill_both)
@@ -156,14 +157,14 @@ def names_file(said, file, scene):
 
 
 def status_of(call, file):
-    """With which status it ends where this call is refused: 74 where a file can't be read, the
-    jobs' file synced, or a file opened that has to be there; else 73."""
+    """Returns the status with which it ends if this call is refused. It is 74 if a file can't be
+    read, the jobs' file can't be synced, or an existing file can't be opened; else 73."""
     return {READ} if call == "read" or (call, file) == ("sync", "JOBS") else {READ, WRITE} if call in ("open", "look") else {WRITE}
 
 
 def refuse_one(bench, number, call, file, fault):
-    """One call fails. An interrupted or a short one is made again, or it ends as one that failed.
-    Nothing is said after it."""
+    """Has one call fail. An interrupted or a short one is made again, or it ends as one that
+    failed. It prints nothing after that."""
     scene = bench.scene(4, 2)
     scene.logs, runner = True, Runner(scene, 1)
     status = live(runner, f"{number}:{fault}")
@@ -254,8 +255,8 @@ def live_without(bench, number):
 
 
 def call_without(bench, number, words):
-    """Returns a command without one allocation: it says so and shows nothing, or all. Whether it
-    came so far."""
+    """Runs a command without one allocation. It must report that and print nothing, or print all.
+    Returns whether it came so far."""
     scene = prepared_call(bench)
     was_refused = refused_memory(scene, number)
     status, out, err = scene.call(words[0], scene.run, *words[1:])
@@ -270,7 +271,7 @@ def call_without(bench, number, words):
 
 
 def prepared_call(bench):
-    """Returns a run with a doubt, of which a command tells."""
+    """Returns a run with a doubt, which a command lists."""
     scene = bench.scene(3, 1)
     runner = Runner(scene, 1)
     runner.after = lambda serial: "doubt"
@@ -305,7 +306,7 @@ def try_no_memory(bench):
 
 
 def answer_killed(bench, number):
-    """Who answers is killed at this call; the answer is there then, or is taken when it is given
+    """Kills a person's command at this call. The answer is there then, or is taken when it is given
     again."""
     scene, fault = answerable(bench), f"{number}:kill_after"
     words = ["answer", scene.run, "1.1", "1", "job 1", "not-done", "--now"]
@@ -343,8 +344,8 @@ def try_killed_answers(bench):
 
 
 def lister_killed(bench, number):
-    """Who asks for doubts, and settles the journal of one and records it for that, is killed at
-    this call; the next one is told the same."""
+    """Kills a command at this call that lists doubts, and recovers a journal and records in it for
+    that. The next one must print the same."""
     scene = answerable(bench)
     want(scene.call("doubts", scene.run, faults=f"{number}:kill_after")[0] == KILLED, "it isn't killed")
     want(scene.doubts() == [(1, 1, 1)], "it isn't told as a doubt any more")
@@ -353,7 +354,8 @@ def lister_killed(bench, number):
 
 
 def try_killed_listers(bench):
-    """who asks for doubts, killed at each call: the next one is told the same, and workers go on"""
+    """a command that lists doubts, killed at each call: the next one prints the same, and workers
+    go on"""
     scene = answerable(bench)
     scene.logs = True
     scene.doubts()
@@ -361,8 +363,7 @@ def try_killed_listers(bench):
 
 
 def state_of(runner):
-    """Returns the state of its process as the kernel tells it: T where it is stopped, Z where it
-    has ended."""
+    """Returns the state of its process by the kernel: T if it is stopped, Z if it has ended."""
     if not runner.process:
         return "Z"
     with open(f"/proc/{runner.process.pid}/stat", encoding="latin-1") as file:

@@ -18,8 +18,8 @@ from worker.scene import (ANSWER, DOOR, KILLED, LATER, LEFT, OVER, REFUSED, WORD
 
 
 class Says(Runner):
-    """A runner that answers each perform with the next of these replies; `done` is said of what was
-    performed."""
+    """A runner that answers each perform with the next of these replies; it replies `done` for a
+    performed line."""
 
     def __init__(self, scene, worker, replies, **more):
         super().__init__(scene, worker, **more)
@@ -37,7 +37,7 @@ class Says(Runner):
 
 
 def prepared(bench, replies, lines=6):
-    """Returns a run whose first lines were answered so; the last reply tells to leave."""
+    """Returns a run whose first lines were answered so. The last reply asks the worker to leave."""
     scene = bench.scene(lines, 1)
     runner = Says(scene, 1, replies)
     live(runner)
@@ -47,7 +47,7 @@ def prepared(bench, replies, lines=6):
 
 
 def counts_of(scene, *words):
-    """Returns the counts that status tells, as text and as JSON, which have to say the same."""
+    """Returns the counts that status prints, as text and as JSON, which must be the same."""
     status, out, err = scene.call("status", scene.run, *words)
     want(status == OVER, f"status: {status}, {err}")
     first = out.split("\n")[0].split(" ")
@@ -57,7 +57,7 @@ def counts_of(scene, *words):
 
 
 def agree(scene):
-    """What status, its JSON, its lists and doubts say is what the auditor reads."""
+    """Wants status, its JSON, its lists and doubts to print what the auditor reads."""
     found = scene.look()
     final = found.final()
     counts, out = counts_of(scene)
@@ -277,7 +277,8 @@ def try_sheet_waits(bench):
 
 
 def doubts_of(scene):
-    """What `doubts` says of each attempt: when it ended and how long ago, as JSON and as a word."""
+    """Returns what `doubts` prints on each attempt: when it ended and how long ago, as JSON and as
+    a word."""
     told = {it["intent"]: (it["ended"], it["age"]) for it in json.loads(scene.call("doubts", scene.run, "--json")[1])}
     words = {it.split(" ")[1]: it.split(" ")[-1] for it in scene.call("doubts", scene.run)[1].splitlines()}
     want(list(told) == list(words), f"the doubts are {told}, {words}")
@@ -354,7 +355,7 @@ def try_listed_though_full(bench):
 
 
 class Lasting(Runner):
-    """A runner whose command goes on until it is told to end, also without its runner."""
+    """A runner whose command goes on until it gets a signal, also without its runner."""
 
     def perform(self, serial, line):
         self.command = serial, line, self.taken(f"command.{self.worker}.{serial}")
@@ -366,8 +367,8 @@ class Lasting(Runner):
 
 
 def try_commands_that_stay(bench):
-    """a command that outlives its runner: told as running, no doubt and not to be answered until it
-    has ended"""
+    """a command that outlives its runner: listed as running, and neither a doubt nor to be answered
+    until it has ended"""
     scene = bench.scene(6, 1)
     runner = Lasting(scene, 1)
     serve([runner.start()], until=lambda: runner.lines)
@@ -403,7 +404,7 @@ def try_pending(bench):
 
 
 def agree_running(scene, alive):
-    """Returns how many lines are told as running, where these workers are alive."""
+    """Returns how many lines are listed as running, while these workers are alive."""
     counts, out = counts_of(scene)
     want(out.split("\n")[1].split(" ") == ["alive", *map(str, alive)] or not alive and out.split("\n")[1].strip() == "alive",
          f"alive are {alive}: {out}")
@@ -431,8 +432,8 @@ def try_locks_of_a_doubt(bench):
 
 
 def try_senseless_answers(bench):
-    """answers that can't be: the status says so and the line is printed; an answer without its end
-    is the end of input"""
+    """impossible answers: the status shows it and the line is printed; an answer without its end is
+    the end of input"""
     for said in ("done 9 0 go", "done 1 256 go", "done 1 go", "doubt 1 stay", "", "done  1 0 go", "done 01 0 go", "perhaps 1 go",
                  "running 1 0 go", None):
         status = ANSWER if said is not None else LEFT
@@ -451,7 +452,7 @@ def try_senseless_answers(bench):
 
 
 def try_ends(bench):
-    """leave and end of input: the status says so, the intent of the latter stays pending, and the
+    """leave and end of input: the status shows it, the intent of the latter stays pending, and the
     words let others go on"""
     for lines in (5, 2):
         scene = bench.scene(lines, 1)
@@ -519,7 +520,7 @@ def try_jobs(bench):
 
 
 def try_words(bench):
-    """words that are none: status 64, and nothing is made"""
+    """invalid words: status 64, and nothing is made"""
     scene = bench.scene(2, 2, makes=False)
     run, jobs = scene.run, scene.jobs
     for words in [[], ["walk", run], ["work", run, "1", jobs], ["work", run, "1", "--workers", "17", jobs],

@@ -25,8 +25,8 @@ def settle_doubts(scene):
 
 
 def cut_one(bench, number, fault, how, beside):
-    """Returns a first life has this fault, a second performs a line, then power is cut. With
-    `beside`, another worker keeps the round."""
+    """Gives a first life this fault. A second one performs a line, and then power is cut. With
+    `beside`, another worker keeps the round. Returns the number of cuts."""
     scene = bench.scene(4, 2 if beside else 1, makes=False)
     power = Power(scene, bench.draws, fails="none")
     runners = [Waiting(scene, 1)] if beside else []
@@ -43,7 +43,7 @@ def cut_one(bench, number, fault, how, beside):
 
 
 def life_points(bench, beside):
-    """Returns the calls of a first life, alone or beside another worker, up to the second line that
+    """Returns the calls of a first life, alone or with another worker, up to the second line that
     it performs."""
     scene = bench.scene(4, 2 if beside else 1)
     other = Waiting(scene, 1) if beside else None
@@ -73,9 +73,10 @@ def try_killed_and_cut(bench):
 
 
 def see_cuts(bench, power, calls):
-    """After each of these calls some cuts of power: the journal has a front of the records that it
-    has in the end, with all that it had before the worker last spoke, and isn't refused; jobs and
-    record are there whole, or not there, and each file has what record counts."""
+    """Tries some cuts of power after each of these calls. The journal has a front of the records
+    that it has in the end, with all that it had before the worker last printed a line, and isn't
+    refused. Jobs and record are there whole, or missing, and each file has what record counts.
+    Returns the number of cuts."""
     records_of = lambda data: records_left(power.scene.id(), "journal.1", bytes(data))
     final, spoken, count = records_of(read(f"{power.scene.run}/journal.1")), 0, 0
     for call in calls:
@@ -97,8 +98,8 @@ def see_cuts(bench, power, calls):
 
 
 def want_kept(run: str, left: dict, when: str) -> None:
-    """What a cut of power has left isn't refused: the header is whole, or not there, and each file
-    has all that it counts."""
+    """Wants the files that a cut of power has left not to be refused: the header is whole, or
+    missing, and each file has all that it counts."""
     header = headers.Header(run, left.get("record", b""))
     want(header.is_sound, f"{when}: record holds {left.get('record')}")
     for name in headers.FILES if left else ():
@@ -126,9 +127,9 @@ def try_cut_at_each_call(bench):
 
 
 def recover_one(bench, number):
-    """Returns a worker is killed while it appends, and power is cut; the next one recovers the
-    journal, and the sync of this number fails, by which the rest of the append should go; the one
-    after it goes on. The number of cuts that are made then; with no number, that of the sync."""
+    """Kills a worker while it appends, and cuts power. The next one recovers the journal, and its
+    sync of this number fails, by which the rest of the append should go. The one after it goes on.
+    Returns the number of cuts that are made then; without a number, that of the sync."""
     scene = bench.scene(4, 1, makes=False)
     power, runner = Power(scene, bench.draws, fails="none"), Runner(scene, 1)
     calls = life_points(bench, False)
@@ -154,8 +155,8 @@ def try_failed_recovery_and_cut(bench):
 
 
 def list_one(bench, number, fault, how):
-    """Worker and runner are killed; what is in doubt is listed; then power is cut. What was listed
-    stays a doubt."""
+    """Kills worker and runner, has the doubts listed, and then cuts power. A listed doubt must stay
+    one."""
     scene = bench.scene(3, 1, makes=False)
     power = Power(scene, bench.draws, fails="none")
     runner = Runner(scene, 1)
@@ -188,8 +189,8 @@ def try_failed_sync_and_cut(bench):
 
 
 def answer_one(bench, number):
-    """Returns a person's answer fails at this sync; another is taken; then power is cut. With no
-    number: the syncs of an answer."""
+    """Fails a person's answer at this sync. Another answer is taken, and then power is cut. Returns
+    the number of cuts, or, without a number, the syncs of an answer."""
     scene = bench.scene(3, 1, makes=False)
     power = Power(scene, bench.draws, fails="none")
     runner = Runner(scene, 1)

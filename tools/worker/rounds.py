@@ -146,8 +146,8 @@ def try_jobs_changed(bench):
 
 
 def try_last_line(bench):
-    """a last line whose writer is at it: refused in the first round, left out of later ones,
-    refused where no line is open"""
+    """a last line whose writer isn't done: refused in the first round, left out of later ones,
+    refused if no line is open"""
     scene = begun(bench)
     with open(scene.jobs, "a") as file:
         file.write("job 10\njob 1")
@@ -168,9 +168,9 @@ def try_last_line(bench):
 
 
 def torn_one(bench, whole, length, tail):
-    """The jobs' file ends within this byte, or in something else behind it: it is refused by the
-    line where it isn't what the run knows, or by the last line once no other is open; whole again,
-    it is taken."""
+    """Ends the jobs' file within this byte, or puts something else after it. It is refused by the
+    first line that differs from the known one, or by the last line once no other is open. Whole
+    again, it is taken."""
     scene = begun(bench, 4)
     known, data = folder.read(scene.jobs), whole[:length] + tail
     with open(scene.jobs, "wb") as file:
@@ -271,7 +271,7 @@ def try_crews(bench):
 
 
 def try_stopped_in_a_round(bench):
-    """a worker stopped in the middle of a round: no other begins a round beside it, and it goes on
+    """a worker stopped in the middle of a round: no other begins a round meanwhile, and it goes on
     afterwards"""
     scene = bench.scene(6, 2)
     runner, other = Runner(scene, 1), Runner(scene, 2)
@@ -330,9 +330,9 @@ def try_stopped_between_rounds(bench):
 
 
 def collide_one(bench, lines, number):
-    """Worker 1 has so many lines behind it and one in its hand; worker 2 is stopped at this call,
-    while worker 1 goes on to its next line; then worker 2 goes on. With no number: the calls of
-    worker 2 on words."""
+    """Lets two workers collide. Worker 1 has performed so many lines and has one in its hand.
+    Worker 2 is stopped at this call, while worker 1 goes on to its next line. Then worker 2 goes
+    on. Without a number: returns the calls of worker 2 on words."""
     scene = bench.scene(6, 2)
     first, second = Runner(scene, 1), Runner(scene, 2)
     first.perform = lambda *given: Runner.perform(first, *given) if len(first.lines) <= lines else None
@@ -385,16 +385,16 @@ def spoil_one(bench, word, value):
 
 
 def answer_to(runner):
-    """Performs the line that this runner's worker said last: the answer to it."""
+    """Performs the last line of this runner's worker, and returns the answer to it."""
     serial, line = map(int, runner.lines[-1].split(" ")[1:3])
     reply = Runner.perform(runner, serial, line)
     return f"{reply.split(' ')[0]} {serial} 0 go\n"
 
 
 def return_one(bench, spoil):
-    """Worker 2 has two lines behind it and is killed; its words are changed so that no worker
-    leaves them so, while worker 1 is at work. It goes on with nothing until both have ended and the
-    next round is begun."""
+    """Kills worker 2, which has performed two lines, and changes its words so that no worker leaves
+    them so, while worker 1 is at work. It goes on with nothing until both have ended and the next
+    round is begun."""
     scene = bench.scene(8, 2)
     first, second = Runner(scene, 1), Runner(scene, 2)
     first.perform = lambda serial, line: None
@@ -448,8 +448,8 @@ def try_words_spoiled(bench):
 
 
 def read_one(scene, is_list):
-    """One reader beside the writers: what was performed before it began isn't open, and its counts
-    add up."""
+    """Runs one reader while the writers write. A line that was performed before it began isn't
+    open, and its counts add up."""
     before = {it[2] for it in scene.effects()}
     lines = len(scene.look().lines)
     if is_list:
@@ -465,7 +465,7 @@ def read_one(scene, is_list):
 
 
 def read_beside(bench, seed):
-    """200 readers beside four writers of one run."""
+    """Runs 200 readers while four writers write one run."""
     scene, rounds = bench.scene(40, 4), 0
     runners = [Runner(scene, p) for p in range(1, 5)]
     for count in range(200):
@@ -487,8 +487,8 @@ def read_beside(bench, seed):
 
 
 def try_readers(bench):
-    """readers beside four writers, while the jobs' file grows and rounds begin: never a wrong
-    count; in the long form 50 times"""
+    """readers while four writers write, the jobs' file grows and rounds begin: never a wrong count;
+    in the long form 50 times"""
     return f"{200 * each(((bench, k) for k in range(50 if bench.is_long else 1)), read_beside)} readers"
 
 

@@ -34,8 +34,8 @@ TAKEN = re.compile(r"amo_worker: line ([1-9][0-9]*): attempt ([1-9][0-9]*\.[1-9]
 
 
 def each(items, try_one):
-    """Tries each of these, the first part of each a bench or a scene, as long as there is time; how
-    many. What is wrong with some is told together."""
+    """Tries each of these, the first part of each a bench or a scene, as long as there is time.
+    Returns how many. It raises all mistakes together."""
     wrongs, count = [], 0
     for it in items:
         bench = it[0] if isinstance(it[0], Bench) else it[0].bench
@@ -135,8 +135,8 @@ class Scene:
         return folder.read(f"{self.run}/id").decode().strip()
 
     def environment(self, faults=None):
-        """What a process of this run is given: the library of faults, and where it writes the calls
-        down."""
+        """Returns the environment of a process of this run: the library of faults, and the file for
+        its calls."""
         named = {"PATH": os.environ["PATH"], "LD_PRELOAD": self.bench.library, "AMO_RUN": self.run, "AMO_JOBS": self.jobs,
                  "AMO_HARNESS": str(os.getpid()), "AMO_CALLS": self.calls}
         extra = {"AMO_FAULTS": faults, "AMO_LOG": self.log if self.logs else None, "AMO_BYTES": "yes" if self.keeps else None,
@@ -144,7 +144,8 @@ class Scene:
         return {**named, **{name: value for name, value in extra.items() if value}, **self.more}
 
     def call(self, command, *words, faults=None):
-        """Returns a command that ends by itself: its status and what it wrote on both streams."""
+        """Runs a command that ends on its own. Returns its status and its output on both
+        streams."""
         self.bench.processes += 1
         ran = subprocess.run([*self.bench.command(), command, *words, *self.common(words)],
                              stdin=subprocess.DEVNULL, capture_output=True, timeout=300,
@@ -179,7 +180,7 @@ class Scene:
             file.write(f"\n{text} .".encode())
 
     def performed(self, worker, serial, line):
-        """Notes that this line was performed, and stops where it was before."""
+        """Notes that this line was performed, with the count before."""
         self.note_call(f"performed {worker}.{serial} {line}")
         before, self.by[line] = self.by.get(line), f"{worker}.{serial}"
         self.account.append(("performed", worker, serial, line))
@@ -205,7 +206,7 @@ class Scene:
         return found
 
     def answer(self, worker, serial, line, verdict):
-        """A person's answer, which has to be taken. What is performed here arrives at once, so
+        """Gives a person's answer, which must be taken. A request here arrives at once, so
         `not-done` needn't wait."""
         text = folder.read(f"{self.run}/jobs").decode().split("\n")[line - 1]
         at_once = ["--now"] if verdict == "not-done" else []
@@ -219,14 +220,15 @@ class Scene:
         self.answers[worker, serial] = verdict
 
     def again(self):
-        """What is untouched is opened again, once."""
+        """Opens each untouched line again, once."""
         found = [it for it in self.look().intents.values() if it.answer == "untouched" and not it.found]
         status, _, err = self.call("again", self.run)
         want(status == OVER, f"again: status {status}, {err}")
         self.account += [("reopened", it.worker, it.serial, it.line) for it in found]
 
     def audit(self, is_over=True):
-        """What no run may show; and, where it is over, that each line was performed, or is told."""
+        """Raises Wrong if the run shows what no run may show. If it is over, each line must be
+        performed, or listed."""
         performed, listed, said = {}, {}, {}
         for kind, worker, serial, line in self.account:
             name = f"line {line} by {worker}.{serial}"
@@ -258,8 +260,8 @@ class Scene:
             self.audit_ends(found, kinds, performed)
 
     def audit_kept(self, found, performed):
-        """What was acknowledged stands in the journals, and what was performed is closed by its own
-        intent."""
+        """Wants acknowledged records to stand in the journals, and each performed line to be closed
+        by its own intent."""
         for (worker, serial), (line, answer) in self.acknowledged.items():
             it, gone = found.intents.get((worker, serial)), "an acknowledged line is gone:"
             want(it and it.line == line, f"{gone} intent {worker}.{serial} of line {line}")
@@ -271,8 +273,8 @@ class Scene:
             want(name in closing, f"line {line}, performed by {name}, is closed by {closing}")
 
     def take_lines(self, worker, said):
-        """Notes the lines that a worker says are taken. If nobody has spoiled the registers, there
-        are none."""
+        """Notes the lines that a worker reports as taken. They must be none unless somebody has
+        spoiled the registers."""
         found = TAKEN.findall(said)
         self.taken += [(worker, int(line), attempt) for line, attempt in found]
         want(not (found and self.has_true_registers), f"worker {worker} was given a line that isn't open: {said}")
@@ -294,10 +296,10 @@ class Scene:
 
 
 class Runner:
-    """The runner of a worker. What it does at a line is `perform` and `was`, which a test may
-    replace. A stray one has no lock: it starts a worker though another runner may have that number.
-    Its worker stays for the next round if `stays` is set; else it closes its pipe at `over`, and so
-    the worker ends."""
+    """The runner of a worker. It handles a line by `perform` and `was`, which a test may replace. A
+    stray one has no lock: it starts a worker though another runner may have that number. Its worker
+    stays for the next round if `stays` is set; else it closes its pipe at `over`, and so the worker
+    ends."""
 
     def __init__(self, scene, worker, waits=240, is_stray=False):
         self.scene, self.worker, self.process, self.lock = scene, worker, None, None
@@ -310,7 +312,8 @@ class Runner:
             want(self.lock, f"runner.{worker} is held")
 
     def taken(self, name, waits=0):
-        """Returns the lock on a file of the run, as an open file; None where it can't be got."""
+        """Returns the lock on a file of the run, as an open file; None if another process has
+        it."""
         file, end = open(f"{self.scene.run}/{name}", "ab"), time.monotonic() + waits
         while True:
             try:
@@ -323,7 +326,7 @@ class Runner:
                 time.sleep(0.005)
 
     def start(self, faults=None):
-        """Starts its worker; what the one before had said and nobody has read is dropped."""
+        """Starts its worker, and drops lines of the one before that nobody has read."""
         scene = self.scene
         scene.bench.processes += 1
         words = [*scene.bench.command(), "work", scene.run, str(self.worker), *scene.givens(), scene.jobs]
@@ -380,8 +383,8 @@ class Runner:
             self.process.stdin.write(data)
 
     def see_kept(self, kind, serial, number):
-        """No intent is said anew that was acknowledged, and none asked for whose answer was: else
-        that is gone."""
+        """Wants no acknowledged intent to be put anew, and none to be asked for whose answer was
+        acknowledged. Otherwise that is gone."""
         line, answer = self.scene.acknowledged.get((self.worker, serial), (None, None))
         is_new = line is None if kind == b"perform" else line in (None, number) and answer is None
         said = f"{kind.decode()} {self.worker}.{serial} of line {number}"
@@ -414,7 +417,7 @@ class Runner:
         self.scene.take_lines(self.worker, said.decode("utf-8", "replace"))
 
     def acknowledge(self):
-        """What it went on after is noted."""
+        """Notes the record that it went on after."""
         if self.waiting:
             serial, line, answer = self.waiting
             self.scene.acknowledged[self.worker, serial] = line, None if answer == "running" else answer
@@ -436,7 +439,7 @@ class Runner:
             self.answer(serial, number, reply)
 
     def answer(self, serial, number, reply):
-        """Says this of an intent to the worker, and goes by it where the worker can hear no
+        """Answers the worker on an intent, and goes by that answer if the worker can read no
         more."""
         words = reply.split(" ")
         self.waiting = serial, number, words[0]
@@ -462,7 +465,8 @@ class Runner:
         self.scene.performed(self.worker, serial, line)
 
     def after(self, serial):
-        """What it says of a command that has ended: it is over where its lock can be got anew."""
+        """Returns the answer on a command that has ended. It is over if its lock can be got
+        anew."""
         again = self.taken(f"command.{self.worker}.{serial}")
         if not again:
             return "running"
@@ -471,8 +475,8 @@ class Runner:
         return self.seen.get(serial, "doubt")
 
     def was(self, serial, line):
-        """What it knows of an intent of an earlier worker; that it knows nothing is final once the
-        command's lock can be got."""
+        """Returns the answer on an intent of an earlier worker. It is final that nothing is known
+        once the command's lock can be got."""
         return self.after(serial)
 
     def kill(self):
@@ -516,8 +520,8 @@ def live(runner, faults=None):
 
 
 def see_out(runners, seconds=600, draws=None):
-    """Has the workers stay, and starts them again, until each says that all is done, or that it was
-    told to leave."""
+    """Has the workers stay, and starts them again, until each reports that all is done, or that it
+    was asked to leave."""
     seen, ended, due = time.monotonic(), set(), {}
     for it in runners:
         it.stays = True

@@ -17,8 +17,8 @@ SKIPPED = 2  # the worker whose journal is skipped by mistake
 
 
 class Clearance:
-    """What a worker has seen of `answers` and of all journals since it began. It reads all of them
-    anew at each intent."""
+    """The part of `answers` and of all journals that a worker has read since it began. It reads all
+    of them anew at each intent."""
 
     def __init__(self, it, own: Journal):
         self.it, self.own, self.before = it, own, None
@@ -71,8 +71,8 @@ class Clearance:
         return None
 
     def attempts(self, worker: int, records: List[bytes], count: int) -> List[Intent]:
-        """Returns the attempts that these records say; a worker is to come back where they can't
-        be."""
+        """Returns the attempts of these records. If they are impossible, the worker has to come
+        back."""
         try:
             return journal_of(worker, self.it, records, count)
         except End as end:

@@ -18,7 +18,7 @@ def say(text, record=b""):
 
 
 def bytes_of(it, name):
-    """Returns the bytes of a file, or why there are none."""
+    """Returns the bytes of a file, or the reason why it has none."""
     try:
         data = content(f"{it.run}/{name}")
     except End as end:
@@ -56,8 +56,8 @@ def told(found):
 
 
 def read_again(it, header, name):
-    """Returns the same, of a file that shows this twice, since it may have been read beside a
-    writer."""
+    """Returns the readable part of a file that shows this twice, since it may have been read during
+    a write."""
     before = None
     for _ in range(LOOKS):
         found, wrong = read_one(it, header, name)
@@ -82,8 +82,8 @@ def read_all(it):
 
 
 def lines_in(it, header, is_begun):
-    """Returns how many lines `jobs` has, or None if it can't be read; and what is wrong with it.
-    Before the first round there is none."""
+    """Returns how many lines `jobs` has, or None if it can't be read; and its fault. Before the
+    first round it is missing."""
     data, wrong = bytes_of(it, "jobs")
     if wrong == "missing" and not is_begun:
         return None, None

@@ -52,7 +52,7 @@ OLD_RUN = ("made by amo 0.1.0, without an `id`; start a new run of its open line
 
 
 class End(Exception):
-    """How it ends: a status, and a message for standard error."""
+    """The end of the process: a status, and a message for standard error."""
 
 
 def number(word, most=2**64 - 1):
@@ -107,7 +107,7 @@ def whole(file, path):
 
 
 def content(path):
-    """Returns all bytes of a file, or None where there is none; else it has to be read."""
+    """Returns all bytes of a file, or None if it is missing. Any other failure ends the process."""
     try:
         file = opened(path, os.O_RDONLY, None)
     except FileNotFoundError:

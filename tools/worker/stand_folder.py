@@ -94,8 +94,8 @@ def make_folder(it):
 
 
 def make_beside(it):
-    """Makes the folder whole beside, and gives it its name;
-    if something has that name by then, that is gone on with."""
+    """Makes the folder whole next to its place, and gives it its name. If something has that name
+    by then, it goes on with that."""
     new = f"{it.run}.new-{drawn().decode()}"
     called(73, new, os.mkdir, new, 0o700)
     try:
@@ -167,7 +167,7 @@ def fill_empty(path, data):
 
 
 def check_id(it, found):
-    """Refuses a folder whose id is none, or another one than was named."""
+    """Refuses a folder whose id is invalid, or another one than was named."""
     if len(found) != 33 or found[32:] != b"\n" or set(found[:32]) - set(b"0123456789abcdef"):
         raise End(65, f"`{it.run}/id`: it is damaged, or was edited; undo the edit, or give up this"
                       " run")
@@ -176,8 +176,8 @@ def check_id(it, found):
 
 
 def check_whole(it, found, reads):
-    """Refuses a folder whose id is none or another one, that was forgotten,
-    or of which a file is missing or empty."""
+    """Refuses a folder whose id is invalid or another one, that was forgotten, or of which a file
+    is missing or empty."""
     check_id(it, found)
     if (not reads and it.command != "answer" and MISTAKE != "forgotten_is_taken"
             and is_there(f"{it.run}/forgotten")):

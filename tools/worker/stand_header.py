@@ -36,7 +36,7 @@ def check_version(it) -> bool:
 
 
 class Header:
-    """What `record` says; if there is none, that nothing was on the disk."""
+    """The content of `record`. If it is missing, nothing was on the disk."""
 
     def __init__(self, it=None, data: Optional[bytes] = None):
         self.is_there, self.round, self.boot, self.lines = data is not None, 0, None, []
@@ -64,7 +64,7 @@ class Header:
         return fits and self.take_front(texts[:-18]) and self.take_counts(texts[-18:])
 
     def take_front(self, texts: List[bytes]) -> bool:
-        """Takes what is said of the round; whether that can be."""
+        """Takes the lines on the round. Returns whether they are possible."""
         labels = [it.split(b" ") for it in texts[:5]]
         if [it[0] for it in labels] != LABELS:
             return False
@@ -95,8 +95,8 @@ class Header:
         return text.ljust(511) + b"\n"
 
     def lost(self, name: str, checksums: List[bytes]) -> Optional[str]:
-        """What a file lacks that has appends with these checksums, the first of which stands
-        before the first append; None if it has all that was counted."""
+        """Returns the counted part that a file with these checksums lacks, the first of which
+        stands before the first append. Returns None if it has all of it."""
         count, checksum = self.counts.get(name, (0, checksums[0]))
         if MISTAKE == "counts_are_not_compared":
             return None

@@ -48,7 +48,7 @@ HELP = "; see amo_worker --help"
 
 
 class Ledger:
-    """What record, answers, journals and jobs say, read in this order."""
+    """The content of record, answers, journals and jobs, read in this order."""
 
     def __init__(self, it):
         run = it.run
@@ -77,7 +77,7 @@ class Ledger:
         return self.journals[worker - 1][serial - 1] if there else None
 
     def kinds(self):
-        """Of each line its kind, and the intent by which it is closed."""
+        """Returns the kind of each line, and the intent by which it is closed."""
         for line in range(1, len(self.lines) + 1):
             closing = sorted(self.closing.get(line, []), key=lambda it: it.state() != "running")
             yield (line, closing[0].state(), closing[0]) if closing else (line, "open", None)
@@ -88,9 +88,8 @@ class Ledger:
 
 def final_ledger(it, records=False):
     """Returns the ledger with the locks of all pending intents that can be got, and the files of
-    those locks; such an intent is final, and is recorded as in doubt if that is asked for and the
-    disk takes it. In a folder of 0.1.0 nothing is written, and a file that is missing is held by
-    nobody."""
+    those locks. These intents are final, and are recorded as in doubt if that is asked for and the
+    disk takes it. In a folder of 0.1.0 nothing is written, and nobody holds a missing file."""
     held, final, unrecorded = [], set(), set()
     for journal in Ledger(it).journals:
         if any(intent.answer is None for intent in journal):
@@ -272,7 +271,7 @@ class Words:
 
 
 def work_in(words, beta, perform):
-    """Works until too few jobs are open, or it is told to leave; whether it was."""
+    """Works until too few jobs are open, or it is asked to leave. Returns whether it was."""
     n, m, p = words.n, words.m, words.seat
     row = words.come_back()
     known, tried, others = set(row), set(), [q for q in range(1, m + 1) if q != p]
@@ -441,7 +440,7 @@ class Hands:
         return not has_seat or is_same and MISTAKE != "stays_in_the_former_round"
 
     def come_back(self):
-        """What a worker looks at that has waited between two rounds."""
+        """Looks at the folder again after a wait between two rounds."""
         if MISTAKE != "number_is_not_compared":
             check_whole(self.it, content(f"{self.it.run}/id") or b"", False)
             self.clearance.compare_own()
@@ -502,8 +501,8 @@ def make(it):
 
 
 def enter_folder(it):
-    """Refuses what is no folder of one's own, or lies where none may lie,
-    or is of another version."""
+    """Refuses a folder that isn't the user's own, or lies at a wrong place, or is of another
+    version."""
     found = called(74, it.run, os.lstat, it.run)
     if (found.st_mode & 0o170000) != 0o040000 or found.st_uid != os.geteuid():
         is_folder = (found.st_mode & 0o170000) == 0o040000
@@ -653,7 +652,7 @@ def answer(it):
 
 
 def answer_once(it, rows):
-    """Takes the answers; if one is to what still runs, none is taken, and that is said."""
+    """Takes the answers. If one is to a running attempt, none is taken, and it prints a message."""
     file = readers_lock(it)
     file.recover(header_of(it))
     ledger, held = final_ledger(it, records=True)

@@ -26,7 +26,7 @@ def hex_digits(data: bytes) -> bytes:
 
 
 def first_checksum(it, name: str) -> bytes:
-    """What stands in place of a checksum before the first append of a file."""
+    """Returns the checksum that stands before the first append of a file."""
     if MISTAKE == "checksum_without_the_file":
         return hex_digits(it.run_id)
     return hex_digits(it.run_id + b" " + name.encode())
@@ -38,9 +38,9 @@ def next_checksum(before: bytes, record: bytes) -> bytes:
 
 
 class Appends:
-    """The appends in the bytes of a file: their records, the places where the last one begins and
-    where it ends, the checksums from the one before the first append on, and the rest of the
-    bytes."""
+    """The appends in the bytes of a file: their records, the places of the beginning and the end of
+    the last one, and the rest of the bytes. It also has the checksums, from the one before the
+    first append on."""
 
     def __init__(self, data: bytes, checksum: Optional[bytes]):
         self.records, self.last, self.end, self.checksums = [], None, 0, [checksum]
@@ -144,9 +144,9 @@ class Journal:
         os.close(self.file)
 
     def recover(self, header) -> None:
-        """Has the disk keep what is read, and a closed commit byte behind it; a file that is
-        damaged, or lacks what the header counts, is refused before. It cuts what isn't seen too,
-        since the disk may still have it after a sync that failed. The file is never empty
+        """Has the disk keep the appends, and a closed commit byte after them. A file that is
+        damaged, or lacks counted appends, is refused before. It also cuts bytes that a read doesn't
+        show, since the disk may still have them after a sync that failed. The file is never empty
         meanwhile."""
         LOG.note("before", "recover", self.name)
         try:
@@ -177,7 +177,7 @@ class Journal:
             raise missing(f"{self.it.run}/record")
 
     def settle(self, found: Appends) -> None:
-        """Has the disk keep these appends, and nothing behind them."""
+        """Has the disk keep these appends, and nothing after them."""
         self.end, self.checksum = found.end, found.checksums[-1]
         if MISTAKE == "opens_without_settling":
             return
@@ -225,8 +225,7 @@ class Journal:
                 self.append(self.owed.pop())
 
     def append(self, record: bytes) -> None:
-        """Puts an append behind the last one; it counts once its commit byte is open on the
-        disk."""
+        """Puts an append after the last one. It counts once its commit byte is open on the disk."""
         checksum = next_checksum(self.checksum, record)
         line = record + b" " + checksum + b"\n"
         put_at(self.file, self.path, line + b"-", self.end + 1)

@@ -43,8 +43,8 @@ def spoiling(name, *records):
 
 
 def counting(*more):
-    """Puts a header there as of round 4, which counts these records behind three of journal.1, but
-    for the last of them."""
+    """Puts a header there as of round 4. It counts these records after three of journal.1, but for
+    the last of them."""
 
     def change(scene):
         front = headers.front_of(folder.read(f"{scene.run}/record"))
@@ -105,8 +105,8 @@ def others_at_work(scene):
 
 
 def spoiled(scene):
-    """Its count of claims is none that goes with its row, of three entries: that shows at the 0
-    behind them."""
+    """Makes its count of claims impossible for its row of three entries, which shows at the 0 after
+    them."""
     others_at_work(scene)
     with open(f"{scene.run}/words", "r+b") as words:
         words.seek(512 + 8 * 2)
@@ -286,7 +286,7 @@ def try_lines_of_faults(bench):
 
 
 def try_lines_of_lives(bench):
-    """how a life ends that was told to leave, or is over; an invalid reply is shown if it is
+    """the end of a life that was asked to leave, or is over; an invalid reply is shown if it is
     UTF-8"""
     if bench.is_slow():
         bench.skipped.append("the stand-in has other words for faults")
@@ -330,8 +330,8 @@ def ageless(ended):
 
 
 def try_outputs(bench):
-    """what a person asks for is written whole, by calls that are cut short or interrupted too, or
-    the fault is told"""
+    """the output of a person's command is written whole, also by calls that are cut short or
+    interrupted, or the fault is reported"""
     if bench.is_slow():
         bench.skipped.append("the stand-in has other words for faults")
         return
@@ -454,7 +454,7 @@ def try_order_of_reads(bench):
 
 def is_cleared(calls):
     """Returns whether `answers` and then each other journal is read after an intent was put, and
-    before a line is said."""
+    before a line is handed over."""
     end = next((k for k, it in enumerate(calls) if it[2] == "say"), len(calls))
     last = max(k for k, it in enumerate(calls[:end]) if it[2:4] == ["sync", "journal.1"])
     others = {f"journal.{worker}" for worker in range(2, 17)}

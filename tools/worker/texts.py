@@ -62,9 +62,9 @@ def read_as(scene, name, data):
 
 
 def cut_one(scene, name, data, length, works):
-    """Cut at this byte; and, where it is read, the next worker keeps its records, and puts the next
-    behind them. What is cut away was acknowledged, and isn't looked for. At no moment is the file
-    empty."""
+    """Cuts a journal at this byte. If it is read, the next worker keeps its records, and puts the
+    next after them. A record that is cut away was acknowledged, and isn't looked for. The file must
+    never be empty."""
     scene.acknowledged.clear()
     if read_as(scene, name, data[:length]) and works:
         kept = folder.records_in(scene.run, name)
@@ -91,8 +91,8 @@ def run_of_all_kinds(bench):
 
 
 def try_cut(bench):
-    """journal and answers cut at each byte: refused by the number of the append; cut behind one
-    they are read, and a worker goes on"""
+    """journal and answers cut at each byte: refused by the number of the append; cut after one they
+    are read, and a worker goes on"""
     count = 0
     for name in ("journal.1", "answers"):
         scene = run_of_all_kinds(bench)
@@ -118,8 +118,8 @@ def try_changed(bench):
 
 
 def torn_ends(line: bytes) -> list:
-    """What a crash may leave behind the last append while this line is put, and the most that may
-    stand there."""
+    """Returns the bytes that a crash may leave after the last append while this line is put, and
+    the most that may stand there."""
     torn = bytes(it if k % 3 else 0 for k, it in enumerate(line))
     parts = [line, line + b"-", line + b"\0", line[:-1], line[:5], torn,
              torn.replace(b"\n", b"\0"), bytes(1024), b"+" * 1024, bytes(1023) + b"\n",
