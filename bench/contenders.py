@@ -1,8 +1,9 @@
-"""Who performs the list of bench/jobs, each as its own pages advise.
+"""The programs that perform the list of bench/jobs, each as its own pages advise.
 
-A contender has a folder of its own with the list, `jobs`. `words` is the command with which its user starts it, and starts it
-again. `stand` is what its own record says: of each line "done" or "doubt", and nothing of one that isn't begun. `worker` is a word
-by which a worker's process is known, where there are any beside the runner.
+A contender has a folder of its own with the list, `jobs`. `words` is the command with which its
+user starts it, and starts it again. `stand` is what its own record says: of each line "done" or
+"doubt", and nothing of a line that isn't begun. `worker` is a word by which a worker's process is
+known, if it has other processes than the runner.
 """
 
 import glob

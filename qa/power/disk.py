@@ -1,7 +1,8 @@
 """A disk with a volatile write cache, which qemu reaches by the protocol of NBD.
 
-What the guest hasn't flushed may be lost at a cut: all of it, none, or any of its sectors. Each
-write and each flush stands in a log. `states.py` makes further disks of it that a cut may leave.
+A cut may lose the writes that the guest hasn't flushed: all of them, none, or any of their sectors.
+Each write and each flush stands in a log. `states.py` makes further disks of it that a cut may
+leave.
 """
 
 from __future__ import annotations

@@ -1,12 +1,14 @@
 #!/usr/bin/env python3
-"""Crews of the example programs over one file, killed by SIGKILL and begun again, and what they wrote.
+"""Crews of the example programs over one file, killed by SIGKILL and begun again, and what they
+wrote.
 
   crews.py LIBRARY FOLDER RUNS SEED COMMAND..
 
-Each COMMAND is what starts an example, as crew or amo.py with its library; it is given FILE JOBS WORKERS P. Each worker is worked
-by one of them, drawn at random, and once that has its lock a second process waits for its death. The files lie in FOLDER.
-No job may be written twice; each filed job is written, or said to be in doubt; and at least the bound is filed. The last line
-says how many jobs were written; the status is 0 where all was so.
+Each COMMAND starts an example, as crew or amo.py with its library; it is given FILE JOBS WORKERS P.
+One of them, drawn at random, works as each worker, and once that has its lock a second process
+waits for its death. The files lie in FOLDER. No job may be written twice. Each filed job is
+written, or reported as in doubt. At least the bound is filed. The last line has the number of
+written jobs; the status is 0 if all was so.
 """
 
 import fcntl

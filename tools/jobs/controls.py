@@ -1,4 +1,4 @@
-"""Controls: amo_jobs, or the stand-in for its worker, makes a mistake, and a test has to show it."""
+"""Controls: amo_jobs, or the stand-in for its worker, makes a mistake, and a test must show it."""
 
 import os
 

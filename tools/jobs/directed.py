@@ -1,5 +1,5 @@
-"""Supervisor, runner, worker and command killed, or stopped for longer than a restart takes, at each line of the protocol in turn,
-each alone and together."""
+"""Supervisor, runner, worker and command are killed, or stopped for longer than a restart takes, at
+each line of the protocol in turn, each alone and together."""
 
 import re
 from concurrent.futures import ThreadPoolExecutor

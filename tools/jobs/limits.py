@@ -1,6 +1,6 @@
 """Limits on open files, on processes and on memory, which are set for a runner or for its
-supervisor while commands run. No line is performed twice. What isn't done is open or in doubt, and
-the next crew, which has no limit, finishes the list."""
+supervisor while commands run. No line is performed twice. A line that isn't done is open or in
+doubt, and the next crew, which has no limit, finishes the list."""
 
 from __future__ import annotations
 

@@ -1,5 +1,6 @@
-"""What the parts of tools/kill_jobs share: a run of amo_jobs in a folder of its own, whose commands write down what they do, a
-person who looks at each listed doubt and answers truthfully at once, and the audit of it all."""
+"""The common parts of the tests of tools/kill_jobs: a run of amo_jobs in a folder of its own, a
+person and an audit. The commands write down what they do. The person looks at each listed doubt and
+answers truthfully at once. qa/harness has the parts that other tools need too."""
 
 import compileall
 import glob

@@ -1,5 +1,5 @@
-"""What a command leaves behind that holds none of its descriptors. Its runner sees it, the supervisor
-sees it once that runner is killed, and nobody does if both are."""
+"""Processes that a command leaves running and that hold none of its descriptors. The runner sees
+them, the supervisor sees them once that runner is killed, and nobody does if both are."""
 
 import os
 import re

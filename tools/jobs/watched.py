@@ -1,5 +1,5 @@
-"""Who watches a run: the report and `status --follow` read without any lock, write nothing, and have the counts of `status`. What
-a crew reports to others has these counts too."""
+"""Watchers of a run: the report and `status --follow` read without any lock, write nothing, and
+have the counts of `status`. The reports of a crew have these counts too."""
 
 import json
 import os

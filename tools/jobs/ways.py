@@ -1,4 +1,5 @@
-"""What commands may do and say, and what amo_jobs makes of it: ends, arguments, signals, timeouts, leftovers, refusals."""
+"""The ways of commands, and how amo_jobs takes them: ends, arguments, signals, timeouts, leftovers,
+refusals."""
 
 import json
 import os

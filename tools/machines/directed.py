@@ -1,4 +1,4 @@
-"""What amo_share has to do, each in a run that is made for it, over stores/folder."""
+"""The duties of amo_share, each in a run that is made for it, over stores/folder."""
 
 import os
 import re

@@ -1,5 +1,5 @@
-"""Before a server of loopback: what writes may be dropped, carried out with its answer lost or late, carried out late, or carried
-out again later."""
+"""A proxy in front of a server of loopback. A request that writes may be dropped, carried out with
+its answer lost or late, carried out late, or carried out again later."""
 
 import socket
 import threading

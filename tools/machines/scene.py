@@ -1,5 +1,6 @@
-"""What the parts of tools/try_machines share: a list that some machines share, each a folder with an id of its own, whose
-commands write down what they do, and the audit of it all."""
+"""The common parts of the tests of tools/try_machines: a list that some machines share, and its
+audit. Each machine is a folder with an id of its own, whose commands write down what they do.
+qa/harness has the parts that other tools need too."""
 
 import os
 import shutil

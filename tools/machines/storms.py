@@ -1,4 +1,5 @@
-"""Random runs: machines are killed and stopped, in part and as a whole, folders are lost, and the store is hurt."""
+"""Random runs: machines are killed and stopped, in part and as a whole, folders are lost, and the
+store is hurt."""
 
 import signal
 import time

@@ -1,7 +1,8 @@
-"""Stubs for the functions that a check says nothing of, so that it needs no proof of what they do.
+"""Stubs for the functions that a check doesn't judge, so that it needs no proof of them.
 
-A stub has the head of its function, with its contract, a loop without end in place of the body, and a hole in place of the proof,
-which a check that goes past holes takes as proved: `rt ci` says whether it is. So nothing below such a function is checked.
+A stub has the head of its function, with its contract, a loop without end in place of the body, and
+a hole in place of the proof. A check that goes past holes takes it as proved: `rt ci` shows whether
+it is. So nothing below such a function is checked.
 """
 
 import os

@@ -1,6 +1,6 @@
-"""What the header of a round counts: a journal or `answers` that lacks a counted append is refused
-with how many there were, and so are a damaged `record`, another `jobs` and what is missing. What
-isn't counted reads as a crash leaves it, and no healthy run is refused."""
+"""The counts of a round's header. A journal or `answers` that lacks a counted append is refused
+with how many there were, and so are a damaged `record`, another `jobs` and a missing file. A part
+that isn't counted reads as a crash leaves it, and no healthy run is refused."""
 
 import contextlib
 import errno

@@ -1,4 +1,5 @@
-"""Many at once: workers that are killed over and over while they do thousands of jobs, and readers beside each other."""
+"""Many at once: workers that are killed over and over while they do thousands of jobs, and readers
+next to each other."""
 
 import os
 import random

@@ -1,12 +1,12 @@
-"""A disk that is simulated: what a cut of power may leave of a run, as the log of the calls says.
+"""A simulated disk: the files that a cut of power may leave of a run, by the log of the calls.
 
-Of each file is known what the last sync kept, and the writes and cuts since; of the folder its
-names as they were kept, and the makes, renames and removals since. A cut of power leaves each of
-the latter there or not, each write torn byte by byte, and each shortening there or not. We suppose
-that each byte of a torn write is then the old one or the new one, or, behind the end that the file
-had on the disk, 0 or the new one. After a sync that failed, each byte that it should have kept is
-there or not for good: no later sync keeps it, unless it is written again; and so is a shortening,
-unless the file is cut again.
+For each file it has the bytes that the last sync kept, and the writes and cuts since; for the
+folder its names as they were kept, and the makes, renames and removals since. A cut of power leaves
+each of the latter there or not, each write torn byte by byte, and each shortening there or not. We
+assume that each byte of a torn write is then the old one or the new one, or, after the end that the
+file had on the disk, 0 or the new one. After a sync that failed, each byte that it should have kept
+is there or not for good: no later sync keeps it, unless it is written again; and so is a
+shortening, unless the file is cut again.
 """
 
 import os

@@ -1,5 +1,5 @@
-"""What lets a worker in, and what it waits for: its number, the boot id, the path of the folder,
-what earlier processes have left half made, locks that others hold for a while or for ever."""
+"""The conditions on which a worker begins, and its waits: its number, the boot id, the path of the
+folder, the half-made files of earlier processes, locks that others hold for a while or for ever."""
 
 import fcntl
 import os

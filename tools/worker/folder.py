@@ -1,8 +1,8 @@
-"""The folder of a run, read by itself: an auditor that shares nothing with the program.
+"""The folder of a run, as an auditor reads it that shares nothing with the program.
 
 Journals and `answers` have the form of worker/journals.py, and the header `record` has that of
-worker/headers.py. A line is open where each intent of it,
-in all journals, was answered `unbegun` or found `not-done`.
+worker/headers.py. A line is open if each intent of it, in all journals, was answered `unbegun` or
+found `not-done`.
 """
 
 import fcntl

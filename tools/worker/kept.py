@@ -1,5 +1,6 @@
-"""What was acknowledged stays: processes that are stopped, slow or killed at the very calls by which an answer becomes one that a
-worker goes on after, and then the power is cut; and storms, runs in which all that is drawn at random."""
+"""Acknowledged records stay. Processes are stopped, slow or killed at the very calls by which an
+answer becomes one that a worker goes on after, and then the power is cut. In storms, all that is
+drawn at random."""
 
 import errno
 import random

@@ -1,4 +1,5 @@
-"""What persons are told and may answer; commands that outlive who began them; words and refusals at the door."""
+"""The messages to persons and their answers; commands that outlive the process that began them;
+words and refusals at the door."""
 
 import errno
 import json

@@ -1,4 +1,5 @@
-"""Rounds: begun anew whatever became of record and words, by crews of any number, beside readers, while the jobs' file grows."""
+"""Rounds are begun anew whatever became of record and words, by crews of any number, while readers
+look and the jobs' file grows."""
 
 import errno
 import os

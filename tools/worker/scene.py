@@ -1,8 +1,10 @@
-"""What the parts of tools/try_worker share: a run in a folder of its own, runners that start the worker and answer it, and an
-account of all that was performed, listed and acknowledged, which is audited at the end.
+"""The common parts of the tests of tools/try_worker: a run in a folder of its own, runners, and an
+account. The runners start the worker and answer it. The account has all that was performed, listed
+and acknowledged, and is audited at the end. qa/harness has the parts that other tools need too.
 
-A runner here is what a run's partner has to be: it holds runner.P, locks command.P.S before it performs, tries that lock anew
-afterwards, remembers the ends that it saw, and drops what a dead worker said. To perform is to write it in the account.
+A runner here keeps the duties of a run's partner: it holds runner.P, locks command.P.S before it
+performs, tries that lock anew afterwards, remembers the ends that it saw, and drops the lines of a
+dead worker. To perform is to write it in the account.
 """
 
 import contextlib

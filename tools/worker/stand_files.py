@@ -1,4 +1,4 @@
-"""What the stand-in for the worker stands on: its mistakes, its ends, its calls on files."""
+"""The base of the stand-in for the worker: its mistakes, its ends, its calls on files."""
 
 import errno
 import fcntl

@@ -1,4 +1,4 @@
-"""What the stand-in prints of a run that is followed: a line of JSON a second, by no lock.
+"""The output of the stand-in for a run that is followed: a line of JSON a second, by no lock.
 
 It reads all files anew for each line. The keys are those of docs/follow.schema.json.
 """

@@ -1,4 +1,5 @@
-"""Files of a run that were cut or changed: each is read as far as it counts, or refused by name and number."""
+"""Files of a run that were cut or changed: each is read as far as it counts, or refused by name and
+number."""
 
 import fcntl
 import os
