@@ -1,7 +1,7 @@
 """The runner of one worker: its process, and a blocking loop over `poll`.
 
 Begin with `Runner`. What it does about each event is in `runner_rules`; here the events are made,
-and the actions are carried out. docs/PROCESSES.md explains the lines between worker and runner.
+and the actions are carried out. docs/protocol.md explains the lines between worker and runner.
 """
 
 from __future__ import annotations

@@ -2,7 +2,7 @@
 
 `take` changes a `State` and returns actions. Nothing here calls the system, so the tests hold every
 order of events to the rules. `runner` makes the events, and carries the actions out in their order.
-Read `State` and `take` first; docs/PROCESSES.md has the lines between worker and runner.
+Read `State` and `take` first; docs/protocol.md has the lines between worker and runner.
 """
 
 from __future__ import annotations

@@ -1,6 +1,6 @@
 """The exit statuses of amo_jobs, amo_share and amo_worker, and the kinds of lines.
 
-The plan programs amo and amo_show have statuses of their own, which docs/FORMATS.md lists.
+The plan programs amo and amo_show have statuses of their own, which docs/formats.md lists.
 """
 
 from __future__ import annotations

@@ -1,4 +1,5 @@
-"""Which folder belongs to a list: the table of docs/JOBS.md, row by row, and its refusals."""
+"""Which folder belongs to a list: the table of docs/guide/operating.md, row by row, with its
+refusals."""
 
 import os
 import tempfile

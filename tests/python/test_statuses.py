@@ -27,11 +27,11 @@ def statuses_in(path, heading):
 
 
 class Pages(unittest.TestCase):
-    def test_jobs_lists_each_status_once_and_no_other(self):
-        self.assertEqual(statuses_in("docs/JOBS.md", "Statuses"), sorted(Status))
+    def test_operating_lists_each_status_once_and_no_other(self):
+        self.assertEqual(statuses_in("docs/guide/operating.md", "Statuses"), sorted(Status))
 
-    def test_processes_lists_those_of_the_worker(self):
-        listed = statuses_in("docs/PROCESSES.md", "Ends")
+    def test_protocol_lists_those_of_the_worker(self):
+        listed = statuses_in("docs/protocol.md", "Ends")
         of_jobs_alone = {Status.FAILED, Status.DOUBTFUL, Status.BUILD}
         self.assertEqual(listed, sorted(set(Status) - of_jobs_alone))
 
@@ -83,7 +83,7 @@ class Sources(unittest.TestCase):
 
     def test_the_kinds_are_those_that_the_page_lists(self):
         rows = re.findall(r"^\| ([a-z ]+) \|", section(
-            "docs/JOBS.md", "What was it: done, failed, in doubt\\?"), re.M)
+            "docs/guide/operating.md", "What was it: done, failed, in doubt\\?"), re.M)
         self.assertEqual(["in doubt" if it == "doubt" else it for it in KINDS], rows[:6])
 
 

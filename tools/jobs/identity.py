@@ -1,5 +1,6 @@
-"""Which folder a list is run in: each row of the table in docs/JOBS.md, what moves, copies, renames
-and mounts do, and `forget`; crews and `forget` stopped and killed before each of their calls.
+"""Which folder a list is run in: each row of the table in docs/guide/operating.md, what moves,
+copies, renames and mounts do, and `forget`; crews and `forget` stopped and killed before each of
+their calls.
 
 A command appends to a file of its line, so each test counts how often a line was performed."""
 

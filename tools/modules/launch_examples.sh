@@ -52,10 +52,10 @@ looked() {
   return "$(cat "$room/$1.ended")"
 }
 
-# The steps that docs/EMBEDDING.md gives a reader from nothing on, without the last command, which
+# The steps that docs/guide/rattle.md gives a reader from nothing on, without the last command, which
 # proves.
 embed() {
-  sed -n '/^AMO=/,/^rt try$/p' docs/EMBEDDING.md | sed "s|/tmp/letters|$room/letters|g" >"$room/embed"
+  sed -n '/^AMO=/,/^rt try$/p' docs/guide/rattle.md | sed "s|/tmp/letters|$room/letters|g" >"$room/embed"
   sh -e "$room/embed" </dev/null 2>"$room/embed.err" | grep '^job '
 }
 
@@ -73,8 +73,8 @@ compare_looks() {
   wait
   expect './look replay' 0 examples/plans/three_jobs.report "$(lines "$looks")" looked ended
   expect './look stops 3' 1 /dev/null "$(lines "$looks" "$(cat examples/plans/each_stop.stops_3.fault)")" looked faulted
-  sed -n '/^job 1: a letter/,/^```$/p' docs/EMBEDDING.md | grep '^job ' >"$room/letters.page"
-  expect 'the first program of EMBEDDING' 0 "$room/letters.page" /dev/null cat "$room/embedded"
+  sed -n '/^job 1: a letter/,/^```$/p' docs/guide/rattle.md | grep '^job ' >"$room/letters.page"
+  expect 'the first program of rattle.md' 0 "$room/letters.page" /dev/null cat "$room/embedded"
 }
 
 # Makes a copy in which nothing is built, a path without the toolchain, and one with scripts in its
