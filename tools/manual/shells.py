@@ -113,7 +113,7 @@ _amo_program() {{
   _alternative 'files:file:_files' 'commands:command:_command_names -e'
 }}
 
-# Sets `commands` to the commands of a program, with what each does.
+# Sets `inner` to the commands of a program, with what each does.
 _amo_commands() {{
   case $1 in
 {commands}
@@ -129,7 +129,7 @@ _amo_specs() {{
 
 _amo() {{
   local program=${{service:t}} call=${{service:t}} at=${{words[(i)--]}}
-  local -a commands specs
+  local -a inner specs
   if (( at < CURRENT )) && [[ " {runners} " == *" $program "* ]]; then
     shift $at words
     (( CURRENT -= at ))
@@ -137,12 +137,12 @@ _amo() {{
     return
   fi
   _amo_commands $program
-  if (( CURRENT > 2 && ${{commands[(I)${{words[2]}}:*]}} )); then
+  if (( CURRENT > 2 && ${{inner[(I)${{words[2]}}:*]}} )); then
     call="$program $words[2]"
     shift words
     (( CURRENT-- ))
   elif (( CURRENT == 2 )); then
-    _describe -t commands command commands
+    _describe -t commands command inner
   fi
   _amo_specs $call
   _arguments -S : $specs
@@ -236,7 +236,7 @@ def described(text: str) -> str:
 
 def action(name: str, kind: str) -> str:
     """Returns how _arguments completes a placeholder."""
-    known = {"file": "_files", "folder": "_files -/", "program": "_amo_program", "word": " "}
+    known = {"file": "_files", "folder": "_path_files -/", "program": "_amo_program", "word": " "}
     return f"{name}:" + known.get(kind, f"({kind.replace(',', ' ')})")
 
 
@@ -262,7 +262,7 @@ def zsh_of(programs: dict[str, list[Command]]) -> str:
     names, specs = [], []
     for program, found in programs.items():
         about = [quoted(f"{it.name}:{it.about.rstrip('.')}") for it in found if it.name]
-        names += [f"    {program})", "      commands=(",
+        names += [f"    {program})", "      inner=(",
                   *(f"        {it}" for it in about), "      ) ;;"]
     for command in every(programs):
         specs += [f"    '{call_of(command)}')", "      specs=(",
