@@ -146,6 +146,14 @@ def calls(texts: Texts) -> Iterator[Complaint]:
                 yield "call", f"{path}: `{program}` has no option {it}; correct the name"
 
 
+def examples(texts: Texts) -> Iterator[Complaint]:
+    """Yields the files of examples/ that an example of a page reads, and that don't exist."""
+    for path, text in texts.sources.items():
+        for it in re.findall(r"\bexamples/[\w./-]+\w", text):
+            if not os.path.exists(f"{ROOT}/{it}"):
+                yield "path", f"{path}: the file {it} doesn't exist; correct the example"
+
+
 def statuses(texts: Texts) -> Iterator[Complaint]:
     text = texts.others["tests/outside/statuses.expected"]
     parts = {name: set(map(int, re.findall(r" = (\d+)$", part, re.M)))
@@ -209,7 +217,7 @@ def plans(texts: Texts) -> Iterator[Complaint]:
 
 
 CHECKS: list[Callable[[Texts], Iterator[Complaint]]] = [
-    stale, options, calls, statuses, variables, files, plans]
+    stale, options, calls, examples, statuses, variables, files, plans]
 
 
 def complaints(texts: Texts) -> list[Complaint]:
@@ -275,6 +283,7 @@ PLANTED: list[tuple[str, Callable[[Texts], Texts]]] = [
     ("call", appended("docs/planted.md", "    ./amo_jobs crew --walkers 4 JOBS -- ls --all\n")),
     ("call", appended("man/source/amo_worker.1.txt", "\n    amo_worker status --ounce RUN\n")),
     ("call", appended("man/source/amo_share.1.txt", "\nGive `--output DIR`.\n")),
+    ("path", appended("man/source/amo.1.txt", "\n    amo run < examples/plans/none.toml\n")),
     ("status", changed("man/amo_jobs.1", ".TP\n77\n", ".TP\n78\n")),
     ("status", changed("man/amo.1", ".TP\n3\n", ".PP\n")),
     ("variable", changed("man/amo_share.1", "AMO_CLAIMS", "AMO_CLAIM")),

@@ -15,7 +15,9 @@ NOTE = "# Written by tools/man from the help texts of the programs.\n"
 
 BASH = """\
 # Completions for bash of {programs}.
-{note}
+{note}# Source this file, or install it as share/bash-completion/completions/amo, with a link to it from the
+# name of each other program.
+
 # Prints the commands and the options of a call, by its program and command.
 _amo_words() {{
     case $1 in
@@ -107,7 +109,8 @@ complete -F _amo {programs}
 
 ZSH = """\
 #compdef {programs}
-{note}
+{note}# Put the folder of this file into `fpath` before you call compinit.
+
 # Completes the name of a program, or the path of one.
 _amo_program() {{
   _alternative 'files:file:_files' 'commands:command:_command_names -e'
