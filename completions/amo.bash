@@ -1,7 +1,7 @@
 # Completions for bash of amo amo_show amo_jobs amo_share amo_worker.
 # Written by tools/man from the help texts of the programs.
-# Source this file, or install it as share/bash-completion/completions/amo, with a link to it from the
-# name of each other program.
+# Source this file, or install it as share/bash-completion/completions/amo, with a link to it from
+# the name of each other program.
 
 # Prints the commands and the options of a call, by its program and command.
 _amo_words() {

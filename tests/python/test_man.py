@@ -75,8 +75,8 @@ def typed(main: int, line: str) -> None:
 
 
 def by_zsh(dump: str, folder: str, *words: str) -> set[str]:
-    """Returns what zsh offers for the last word of a call. It needs a terminal to complete. The file
-    `dump` has which functions there are, so that zsh needn't look for them each time."""
+    """Returns what zsh offers for the last word of a call. It needs a terminal to complete. The
+    file `dump` has which functions there are, so that zsh needn't look for them each time."""
     with tempfile.TemporaryDirectory() as room:
         with open(f"{room}/.zshrc", "w", encoding="ascii") as file:
             file.write(IN_ZSH)

@@ -15,8 +15,8 @@ NOTE = "# Written by tools/man from the help texts of the programs.\n"
 
 BASH = """\
 # Completions for bash of {programs}.
-{note}# Source this file, or install it as share/bash-completion/completions/amo, with a link to it from the
-# name of each other program.
+{note}# Source this file, or install it as share/bash-completion/completions/amo, with a link to it from
+# the name of each other program.
 
 # Prints the commands and the options of a call, by its program and command.
 _amo_words() {{
