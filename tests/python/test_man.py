@@ -259,6 +259,10 @@ class Making(unittest.TestCase):
         self.assertEqual(["One is here.", r"\fBTwo\fR is there!", "Three?"],
                          roff.filled("One is here. **Two** is there! Three?"))
 
+    def test_a_name_in_a_sentence_is_never_hyphenated(self) -> None:
+        self.assertEqual(r"Read \%\fBdocs/follow.schema.json\fR, and \%\fBamo\fR(1).",
+                         roff.inline("Read `docs/follow.schema.json`, and amo(1)."))
+
     def test_a_line_that_begins_with_a_dot_is_text(self) -> None:
         self.assertEqual([r"\&.. is the rest."], roff.filled(".. is the rest."))
 

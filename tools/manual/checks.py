@@ -70,7 +70,7 @@ def matching(pattern: str) -> list[str]:
 
 def plain(text: str) -> str:
     """Returns what roff shows of a line."""
-    text = re.sub(r"\\f[BIR]|\\&", "", text)
+    text = re.sub(r"\\f[BIR]|\\[&%]", "", text)
     for named, shown in ((r"\(aq", "'"), (r"\(ti", "~"), (r"\(ha", "^"), (r"\-", "-")):
         text = text.replace(named, shown)
     return text

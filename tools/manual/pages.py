@@ -209,7 +209,7 @@ def page_of(text: str, programs: dict[str, list[Command]], version: str) -> str:
     page.lines += [f'.\\" Written by tools/man from man/source/{source.name}.{source.chapter}.txt.',
                    f".TH {source.name.upper()} {source.chapter} {source.date} \"amo {version}\""
                    f" \"{CHAPTERS[source.chapter]}\"",
-                   ".nh", ".ad l", ".SH NAME", rf"{source.name} \- {roff.escaped(source.purpose)}"]
+                   ".ad l", ".SH NAME", rf"{source.name} \- {roff.escaped(source.purpose)}"]
     is_taken = False
     for part, following in zip(source.parts, [*source.parts[1:], ""]):
         is_taken = False if is_taken else page.add(part, following)

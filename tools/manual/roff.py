@@ -39,17 +39,22 @@ def code(text: str, places: Iterable[str] | None = None) -> str:
     return "".join(parts)
 
 
+def words(text: str) -> str:
+    """Returns code within a text. Its words are never hyphenated, so that they can be copied."""
+    return " ".join(rf"\%{code(it)}" for it in text.split(" "))
+
+
 def inline(text: str) -> str:
     """Returns a text with its code and its strong words marked."""
     parts, at = [], 0
     for found in CODE.finditer(text):
         parts.append(escaped(text[at:found.start()]))
         if found[1]:
-            parts.append(code(found[1]))
+            parts.append(words(found[1]))
         elif found[2]:
             parts.append(rf"\fB{escaped(found[2])}\fR")
         else:
-            parts.append(rf"\fB{escaped(found[3], True)}\fR{found[4]}")
+            parts.append(rf"\%\fB{escaped(found[3], True)}\fR{found[4]}")
         at = found.end()
     return "".join([*parts, escaped(text[at:])])
 
