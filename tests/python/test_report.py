@@ -4,7 +4,6 @@ import html.parser
 import json
 import os
 import re
-import shutil
 import subprocess
 import sys
 import tempfile
@@ -175,25 +174,6 @@ class Reports(unittest.TestCase):
         self.assertLess(len(text), 10_000_000)
         self.assertEqual(len(seen.commands), 2 * (count - len(cut)))
         self.assertTrue(any("the ends of" in it for it in found["left_out"]), found["left_out"])
-
-    @unittest.skipUnless(shutil.which("chromium"), "chromium isn't installed")
-    def test_no_page_is_wider_than_its_window(self):
-        _, text, _ = self.page([self.doubt(k + 1) for k in range(len(ODD) + 1)],
-                               [*ODD, "x" * 9000])
-        script = ("<script>var it=document.documentElement;"
-                  "document.title='wide '+it.scrollWidth+' of '+it.clientWidth</script>")
-        text = re.sub(r'<meta http-equiv="[^>]*>', "", text)
-        wide = "<p style=\"width:2000px\">x</p>"  # the mistake that has to show
-        for width, more in (("400", ""), ("1280", ""), ("400", wide)):
-            with open(f"{self.run}/page.html", "w", encoding="utf-8") as file:
-                file.write(text.replace("</body>", f"{more}{script}</body>"))
-            ran = subprocess.run(["chromium", "--headless=new", "--no-sandbox", "--disable-gpu",
-                                  f"--window-size={width},900", "--dump-dom",
-                                  f"--user-data-dir={self.run}/profile",
-                                  f"file://{self.run}/page.html"], stdout=subprocess.PIPE,
-                                 stderr=subprocess.DEVNULL, check=True)
-            found = re.search(r"<title>wide (\d+) of (\d+)", ran.stdout.decode())
-            self.assertEqual(int(found[1]) > int(found[2]), bool(more), found[0])
 
     def test_a_run_without_attempts_has_a_page(self):
         found, text, _ = self.page([], [], round=None, workers=None)
