@@ -7,7 +7,7 @@ import os
 import subprocess
 import time
 from contextlib import suppress
-from typing import Any, Callable, Dict, List, Optional, Set
+from typing import Any, Callable, Dict, Iterable, List, Optional, Set
 
 from amo_jobs.messages import End, reason, visible
 from amo_jobs.processes import signer
@@ -65,10 +65,15 @@ class News:
             self.numbers(True)
 
     def take(self, said: Dict[str, Any]) -> None:
-        """Takes a line. What was there before the crew began is no news."""
+        """Takes a line."""
         is_first = not self.found.time
-        for it in self.found.take(said):
-            if not is_first or (it.begun or 0) >= self.began:
+        self.compare(self.found.take(said), is_first)
+
+    def compare(self, fresh: Iterable[Attempt], is_first: bool) -> None:
+        """Tells of these attempts. At first, what has neither begun nor ended since the crew began
+        is no news."""
+        for it in fresh:
+            if not is_first or max(it.begun or 0, it.ended or 0) >= self.began:
                 self.attempt(it)
             elif it.state == "doubt":
                 self.told.add(it.line)
@@ -100,9 +105,8 @@ class News:
         with suppress(End, OSError):
             found = snapshot_of(self.program, self.settings.run)
             fresh = [it for key, it in found.attempts.items() if self.found.attempts.get(key) != it]
-            was_read, self.found = bool(self.found.time), found
-            for it in fresh if was_read else ():
-                self.attempt(it)
+            is_first, self.found = not self.found.time, found
+            self.compare(fresh, is_first)
         self.event("end", status=self.status, counts=self.found.counts)
         self.notify("end", AMO_STATUS="" if self.status is None else str(self.status))
         self.numbers(False)

@@ -173,7 +173,7 @@ class Tellers(unittest.TestCase):
 
     def test_what_was_there_before_is_no_news(self):
         it = self.news(events=f"{self.room.name}/events")
-        it.began = NOW - 30
+        it.began = NOW - 15
         it.take(Program(ROWS[:2], 9).said)
         it.take(Program([ROWS[2], ROWS[3]], 9).said)
         it.hear("message", "line 4: attempt 2.1 failed with status 7")
@@ -194,6 +194,21 @@ class Tellers(unittest.TestCase):
         it.end()
         with open(f"{self.room.name}/told", encoding="ascii") as file:
             self.assertEqual(sorted(file), ["doubt 5 2.2\n", "end  \n", "stop  \n"])
+
+    def test_a_doubt_that_is_recorded_before_the_first_line_is_told(self):
+        # The attempts are of an earlier crew. This crew found 1.1 in doubt, and 1.2 was so before.
+        rows = [[1, 1, 1, NOW - 90, "doubt", None, NOW - 9, "doubt"],
+                [1, 2, 2, NOW - 90, "doubt", None, NOW - 11, "doubt"]]
+        for is_followed in (True, False):  # a crew that ends at once is looked at once
+            told = f"{self.room.name}/told{is_followed}"
+            it = self.news(notify=f'echo "$AMO_EVENT $AMO_ATTEMPT" >> {told}')
+            it.program = Program(rows, 9)
+            it.began = NOW - 10
+            if is_followed:
+                it.take(it.program.said)
+            it.end()
+            with open(told, encoding="ascii") as file:
+                self.assertEqual(sorted(file), ["doubt 1.1\n", "end \n"])
 
     def test_a_failure_is_reported_once(self):
         missing = f"{self.room.name}/missing/file"
