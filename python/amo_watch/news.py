@@ -14,6 +14,8 @@ from amo_jobs.processes import signer
 from amo_jobs.settings import Settings
 from amo_jobs.worker import Program
 from amo_watch import metrics
+from amo_watch.chunks import OtherChunks
+from amo_watch.figures import added, figures_of
 from amo_watch.snapshot import Attempt, Follower, said_in, Snapshot, snapshot_of
 
 EVERY, PART = 5.0, 1 << 20  # seconds between two files of numbers, bytes of one read
@@ -35,6 +37,7 @@ class News:
         self.error_at: Optional[float] = None
         self.status: Optional[int] = None
         self.children: List["subprocess.Popen[bytes]"] = []
+        self.others = OtherChunks(settings, program) if settings.shared else None
 
     def files(self) -> List[int]:
         """Returns the file that is to be polled. The process that follows the run is started again
@@ -126,8 +129,9 @@ class News:
         """Replaces the file of numbers."""
         alive = sum(1 for worker in range(1, self.settings.workers + 1)
                     if signer(f"{os.path.realpath(self.settings.run)}/runner.{worker}"))
-        text = metrics.text_of(self.found, metrics.Crew(alive, works, self.error_at),
-                               self.settings.run)
+        crew = metrics.Crew(alive, works, self.error_at)
+        figures = [figures_of(self.found), *(self.others.figures() if self.others else ())]
+        text = metrics.text_of(added(figures), crew, self.settings.shared or self.settings.run)
         if self.settings.metrics:
             self.try_to("metrics", lambda: metrics.put(self.settings.metrics, text))
 

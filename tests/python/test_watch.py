@@ -13,7 +13,7 @@ import package
 
 from amo_jobs.messages import Screen
 from amo_jobs.settings import Settings
-from amo_watch import commands, live, metrics, news, snapshot, view
+from amo_watch import chunks, commands, figures, live, metrics, news, snapshot, view
 from test_report import NOW, Program
 
 sys.path.insert(0, f"{package.ROOT}/tools/modules")
@@ -110,7 +110,7 @@ class Numbers(unittest.TestCase):
         return found
 
     def test_numbers_are_those_of_the_run(self):
-        text = metrics.text_of(found_of(ROWS, 9), metrics.Crew(3, True, None), '/a "b"\\\n')
+        text = metrics.text_of(figures.figures_of(found_of(ROWS, 9)), metrics.Crew(3, True, None), '/a "b"\\\n')
         self.assertIn('run="/a \\"b\\"\\\\\\n"', text)
         found = self.samples(text)
         for state, count in {"done": 1, "failed": 1, "doubt": 1, "pending": 1, "untouched": 0,
@@ -123,9 +123,43 @@ class Numbers(unittest.TestCase):
         self.assertEqual(found["amo_crew_running", None], 1)
         self.assertNotIn(("amo_last_error_timestamp_seconds", None), found)
 
+    def test_figures_of_two_runs_are_added(self):
+        other = found_of([[1, 1, 1, NOW - 70, "doubt", None, NOW - 65, "doubt"],
+                          [1, 2, 2, NOW - 60, "done", 0, NOW - 5, "done"]], 4)
+        both = figures.added([figures.figures_of(it) for it in (found_of(ROWS, 9), other)])
+        found = self.samples(metrics.text_of(both, metrics.Crew(2, True, None), "/share"))
+        for state, count in {"done": 2, "failed": 1, "doubt": 2, "pending": 1, "untouched": 0,
+                             "open": 7}.items():
+            self.assertEqual(found["amo_lines", state], count)
+        self.assertEqual(found["amo_attempts", "doubt"], 2)
+        self.assertEqual(found["amo_oldest_doubt_seconds", None], 65)
+        self.assertEqual(found["amo_oldest_pending_seconds", None], 19)
+        # Ends in the last minute: 50, 20 and 10 s ago of the one run, 5 s ago of the other.
+        self.assertEqual(found["amo_ends_per_second", None], round(4 / 60, 3))
+
+    def test_only_chunks_of_this_machine_count(self):
+        with tempfile.TemporaryDirectory() as room:
+            for name, owner in (("chunk.1", "a"), ("chunk.2", "b"), ("chunk.3", "a"),
+                                ("chunk.4", None), ("chunk.5.new", "a"), ("other", "a")):
+                os.mkdir(f"{room}/{name}")
+                notes = {"mark": "a", "owner": owner}
+                for note in (it for it in notes if notes[it]):
+                    with open(f"{room}/{name}/{note}", "w", encoding="ascii") as file:
+                        json.dump({"mark": notes[note]}, file)
+            settings = Settings(run=f"{room}/chunk.3", shared=room)
+            it = chunks.OtherChunks(settings, chunks.Program("/missing", ""))
+            self.assertEqual(list(it.names()), ["chunk.1"])
+            it.program = Program(ROWS, 9)
+            self.assertEqual([found.counts["open"] for found in it.figures()], [5])
+            it.program, it.due = Program(ROWS[:1], 9), 0.0  # an operator has answered, or opened
+            self.assertEqual([found.counts["open"] for found in it.figures()], [8])
+            with open(f"{room}/chunk.1/over", "w", encoding="ascii"):
+                it.program, it.due = None, 0.0  # all of it is done: nobody reads it again
+            self.assertEqual(len(it.figures()), 1)
+
     @unittest.skipUnless(shutil.which("promtool"), "promtool isn't installed: prometheus has it")
     def test_promtool_accepts_numbers_and_rules(self):
-        text = metrics.text_of(found_of(ROWS, 9), metrics.Crew(3, True, 5.5), "/a")
+        text = metrics.text_of(figures.figures_of(found_of(ROWS, 9)), metrics.Crew(3, True, 5.5), "/a")
         subprocess.run(["promtool", "check", "metrics"], input=text.encode(), check=True,
                        capture_output=True)
         subprocess.run(["promtool", "check", "rules",
