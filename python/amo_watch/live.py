@@ -114,6 +114,8 @@ def watch(settings: Settings, program: Program) -> int:
     """Shows a run until it is over, or until the operator ends it; returns the exit status."""
     name_run(settings, program)
     live = Live(settings, program)
+    for number in (signal.SIGTERM, signal.SIGHUP):  # the terminal is left as it was
+        signal.signal(number, signal.default_int_handler)
     try:
         if sys.stdout.isatty() and sys.stdin.isatty() and os.environ.get("TERM", "dumb") != "dumb":
             locale.setlocale(locale.LC_ALL, "")
