@@ -164,8 +164,14 @@ def outputs(row: Dict[str, Any]) -> str:
     """Returns the ends of what the command has printed."""
     if not row["outputs"]:
         return "<p class=\"soft\">It has printed nothing that was kept.</p>"
-    return "".join(f"<p class=\"soft\">{shown(it['path'])}, {it['size']} bytes, its end:</p><pre>"
-                   + "\n".join(map(shown, it["end"])) + "</pre>" for it in row["outputs"])
+    return "".join(map(output, row["outputs"]))
+
+
+def output(it: Dict[str, Any]) -> str:
+    """Returns the end of what was printed to one file, unless the report leaves it out."""
+    head = f"<p class=\"soft\">{shown(it['path'])}, {it['size']} bytes"
+    return (f"{head}, its end:</p><pre>" + "\n".join(map(shown, it["end"])) + "</pre>"
+            if it["end"] else f"{head}, left out here</p>")
 
 
 def command(text: str, label: str) -> str:

@@ -165,15 +165,32 @@ class Reports(unittest.TestCase):
             self.assertEqual(f"{count - facts.MOST_ROWS} more failures" in text, is_put)
 
     def test_long_texts_are_cut_once_there_is_no_room(self):
-        count = facts.MOST_TEXT // 99000 + 8
-        lines = [f"{k} {'x' * 99000}" for k in range(count)]
-        found, text, seen = self.page([self.doubt(k + 1) for k in range(count)], lines)
+        size = 99000
+        fit = facts.MOST_TEXT // (3 * size)  # each stands in its head and in two commands
+        lines = [f"{k} {'x' * size}" for k in range(fit + 8)]
+        found, text, seen = self.page([self.doubt(k + 1) for k in range(len(lines))], lines)
         cut = [it for it in found["doubts"] if it["cut"]]
         self.assertTrue(8 <= len(cut) <= 9, len(cut))
         self.assertEqual({len(it["text"]) for it in cut}, {facts.SHORT})
-        self.assertLess(len(text), 10_000_000)
-        self.assertEqual(len(seen.commands), 2 * (count - len(cut)))
+        self.assertEqual(len(seen.commands), 2 * (len(lines) - len(cut)))
         self.assertTrue(any("the ends of" in it for it in found["left_out"]), found["left_out"])
+        self.assertLess(len(text.encode()), 10_000_000)
+
+    def test_no_page_is_larger_than_10_mb(self):
+        # Each list is full, and each text is one that takes most room, with what was printed.
+        kinds = [("doubt", None, "doubt"), ("done", 7, "failed"), ("untouched", 75, "untouched"),
+                 ("pending", None, "pending")]
+        count = 4 * (facts.MOST_ROWS + 50)
+        rows = [[1 + k % 16, 1 + k // 16, k + 1, NOW - 90, kinds[k % 4][0], kinds[k % 4][1],
+                 NOW - 60 if k % 4 < 3 else None, kinds[k % 4][2]] for k in range(count)]
+        for row in rows:
+            with open(f"{self.run}/err.{row[0]}.{row[1]}", "w", encoding="utf-8") as file:
+                file.write("\"\x1b\U000e0001" * 300)
+        for hostile in ("'", "\U000e0001"):
+            found = self.facts(rows, [hostile * 400] * count)
+            size = sum(len(it.encode()) for it in page.page_of(found))
+            self.assertTrue(3_000_000 < size < 10_000_000, size)
+            self.assertTrue(any("have printed" in it for it in found["left_out"]))
 
     def test_a_run_without_attempts_has_a_page(self):
         found, text, _ = self.page([], [], round=None, workers=None)
