@@ -12,6 +12,7 @@ import select
 import signal
 import sys
 import time
+from contextlib import suppress
 from typing import Any, Dict, List, Optional
 
 from amo_jobs import calls
@@ -107,7 +108,7 @@ class Live:
         else:
             signal.pidfd_send_signal(handle, signal.SIGTERM)
             os.close(handle)
-        return f"process {process} got TERM; it waits for the commands that run"
+        return f"sent TERM to {process}; commands go on"
 
 
 def watch(settings: Settings, program: Program) -> int:
@@ -146,13 +147,15 @@ def as_lines(live: Live) -> None:
 
 def on_screen(live: Live, screen: Any) -> None:
     """Draws the view, and takes keys, until `q`."""
-    curses.curs_set(0)
+    with suppress(curses.error):  # a terminal may have no invisible cursor
+        curses.curs_set(0)
     screen.nodelay(True)
     while live.view.answer is not Answer.QUIT:
         live.read(WAIT, sys.stdin)
         key: Optional[int] = screen.getch()
         while key is not None and key != -1:
-            live.view.take(chr(key) if 0 < key < 128 else "")
+            if key != curses.KEY_RESIZE:  # which nobody has pressed
+                live.view.take(chr(key) if 0 < key < 128 else "")
             key = screen.getch()
         if live.view.answer is Answer.STOP:
             live.view.answer, live.view.note = Answer.NONE, live.stop()
@@ -165,8 +168,6 @@ def draw(screen: Any, live: Live) -> None:
     screen.erase()
     rows = picture(live.facts(), live.view, width - 1, height)
     for place, (text, is_strong) in enumerate(rows[:height]):
-        try:
+        with suppress(curses.error):  # the terminal became smaller meanwhile
             screen.addstr(place, 0, text, curses.A_BOLD if is_strong else curses.A_NORMAL)
-        except curses.error:
-            pass  # the terminal became smaller meanwhile
     screen.refresh()

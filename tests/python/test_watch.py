@@ -56,6 +56,25 @@ class Views(unittest.TestCase):
         self.assertIn(" 2 (no runner)", texts)
         self.assertIn("9 lines: 1 done 1 failed 1 in doubt 1 running or in doubt 5 open", texts)
 
+    def test_the_last_output_has_room_beside_a_long_text(self):
+        long = {2: "rent", 3: "\u6f22" * 400}
+        for width in (39, 79, 199):
+            row = next(it for it, _ in self.rows(width, 24, None, long) if "line 3" in it)
+            self.assertTrue(row.endswith("\u6f22 | sent"), row)
+            self.assertIn(sum(map(view.columns_of, row)), (width - 1, width))
+        self.assertEqual(view.beside("a" * 30, "b" * 30, 20), "a" * 10 + " | " + "b" * 30)
+
+    def test_each_size_has_both_paces_and_the_end(self):
+        found = found_of(ROWS, 9)
+        found.ends.update({NOW - 3: 12})  # 15 ends in the last minute, and in 87 s over all
+        texts = {size: [it for it, _ in view.picture(view.Facts(found, {}, {}, []), view.View(),
+                                                     *size)] for size in ((39, 10), (79, 24))}
+        self.assertRegex(texts[39, 10][3], r"^0\.25/s, all 0\.172/s, over \d\d:\d\d:\d\d$")
+        self.assertRegex(texts[79, 24][2], r"^0\.25 a second in the last minute, 0\.172 over all;"
+                                           r" over at \d\d:\d\d:\d\d, in 24 s$")
+        self.assertLess(max(map(len, texts[39, 10])), 40)
+        self.assertTrue(max(map(len, (view.ASKED, view.KEYS))) < 40)
+
     def test_the_bar_has_a_place_for_each_state(self):
         bar = view.bar(found_of(ROWS, 1000), 42)
         self.assertEqual(bar, "[#x?>" + "." * 36 + "]")
