@@ -4,6 +4,7 @@ write nothing, and have the counts of `status`. What a crew reports to others ha
 import json
 import os
 import re
+import shlex
 import shutil
 import subprocess
 import sys
@@ -317,6 +318,71 @@ def is_change(call):
     return True
 
 
+class Terminal:
+    """A terminal of tmux in which a command runs."""
+
+    def __init__(self, scene, width, height, words):
+        self.socket = f"{scene.room}/tmux.{width}"
+        script = f"{shlex.join(words)}; echo ENDED $?; sleep 1000"
+        self.call("-f", os.devnull, "new-session", "-d", "-x", str(width), "-y", str(height), script,
+                  env={**scene.environment(), "TERM": "screen", "LC_ALL": "C.UTF-8"})
+
+    def call(self, *words, **how):
+        """What a command of tmux prints."""
+        return subprocess.run(["tmux", "-S", self.socket, *words], stdin=subprocess.DEVNULL, stdout=subprocess.PIPE,
+                              stderr=subprocess.DEVNULL, check=False, encoding="utf-8", **how).stdout
+
+    def rows(self):
+        """The rows that are shown."""
+        return self.call("capture-pane", "-p").splitlines()
+
+    def sees(self, text):
+        """Waits until a row holds this text."""
+        until(lambda: any(text in it for it in self.rows()), f"`{text}` is shown")
+
+
+def try_terminals(bench):
+    """the live view fits terminals of three sizes and follows another size, has the counts, and takes its keys"""
+    if not shutil.which("tmux"):
+        bench.skipped.append("the live view in a terminal: tmux isn't installed")
+        return
+    scene = killed_scene(bench)
+    line = first_line(scene)
+    for width, height in ((80, 24), (40, 10), (200, 50)):
+        terminal = Terminal(scene, width, height, scene.words("watch", scene.jobs))
+        try:
+            use_keys(terminal, line, width, height)
+        finally:
+            terminal.call("kill-server")
+    scene.see_out()
+
+
+def use_keys(terminal, line, width, height):
+    """Looks at a terminal with the view of a run, and presses the keys."""
+    terminal.sees("q quit")
+    check_rows(terminal.rows(), line, width, height)
+    for key, text in (("s", "Stop the crew?"), ("n", "q quit"), ("d", "no line is recorded as in doubt"), ("s", "Stop the"),
+                      ("y", "no crew is at work")):
+        terminal.call("send-keys", key)
+        terminal.sees(text)
+    terminal.call("resize-window", "-x", str(width + 7), "-y", str(height + 2))
+    until(lambda: len((terminal.rows() or [""])[0]) == width + 6, "the view has the new width")
+    terminal.call("send-keys", "q")
+    terminal.sees("ENDED 0")
+
+
+def check_rows(rows, line, width, height):
+    """The view fits its terminal, and has the counts of this line of `--follow`."""
+    want(len(rows) == height and max(map(len, rows)) < width, f"{width}x{height}: {rows}")
+    want(re.fullmatch(r"\[[#x?=>.]+\]", rows[0]) and len(rows[0]) == width - 1, f"{rows[0]}")
+    shown = " ".join(rows[1:3])
+    for state, name in (("done", "done"), ("pending", "running or in doubt"), ("open", "open")):
+        want(not line[state] or f"{line[state]} {name}" in shown, f"{shown}, {line}")
+    begun = [it for it in line["attempts"] if it[7] == "pending"]
+    for it in begun:
+        want(any(f"line {it[2]}: {it[2]} slow" in row for row in rows), f"line {it[2]} isn't shown: {rows}")
+
+
 def try_refusals(bench):
     """a damaged journal is refused, and a folder without a run; a reader that is gone ends it"""
     scene = bench.scene(["quick"] * 6, 2)
@@ -388,5 +454,5 @@ def try_teller_killed(bench):
     scene.audit()
 
 
-PARTS = {"watched": [try_counts, try_storm_counts, try_follow, try_without_a_lock, try_with_a_lock, try_refusals, try_told,
-                     try_teller_killed]}
+PARTS = {"watched": [try_counts, try_storm_counts, try_follow, try_without_a_lock, try_with_a_lock, try_terminals,
+                     try_refusals, try_told, try_teller_killed]}
