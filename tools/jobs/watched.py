@@ -8,6 +8,7 @@ import shlex
 import shutil
 import subprocess
 import sys
+import tempfile
 
 HERE = os.path.dirname(os.path.realpath(__file__))
 sys.path.insert(0, f"{os.path.dirname(HERE)}/modules")
@@ -433,6 +434,25 @@ def try_told(bench):
     scene.see_out()
 
 
+def try_share(bench):
+    """the numbers of amo_share are those of all chunks that the machine has"""
+    room = tempfile.mkdtemp(dir=bench.room)
+    os.mkdir(f"{room}/store")
+    with open(f"{room}/list", "w") as file:
+        file.writelines(f"{k}\n" for k in range(1, 9))
+    top = os.path.dirname(DOCS)
+    words = ["--name", "pay", "--claim", f"{top}/stores/folder", "--chunk", "3", "--run", f"{room}/share", "--workers", "2",
+             "--worker-program", bench.worker, "--metrics", f"{room}/numbers", f"{room}/list", "--", "sh", "-c",
+             'case $1 in 2|4|8) exit 7;; 5) kill -9 $$;; esac', "sh", "{}"]
+    ran = subprocess.run([sys.executable, f"{top}/amo_share", *words], stdin=subprocess.DEVNULL, capture_output=True,
+                         timeout=240, env={**os.environ, "AMO_CLAIMS": f"{room}/store"})
+    want(ran.returncode == DOUBTFUL, f"status {ran.returncode}: {ran.stderr.decode()[-500:]}")
+    found = numbers_in(f"{room}/numbers")
+    want(found == {"done": 4, "failed": 3, "doubt": 1, "pending": 0, "untouched": 0, "open": 0}, f"{found}")
+    text = folder.read(f"{room}/numbers").decode()
+    want(f'amo_crew_running{{run="{room}/share"}} 0\n' in text, text)
+
+
 def try_teller_killed(bench):
     """a teller that is killed changes nothing; one whose supervisor is killed tells the end"""
     scene = bench.scene(["slow"] * 6, 2)
@@ -455,4 +475,4 @@ def try_teller_killed(bench):
 
 
 PARTS = {"watched": [try_counts, try_storm_counts, try_follow, try_without_a_lock, try_with_a_lock, try_terminals,
-                     try_refusals, try_told, try_teller_killed]}
+                     try_refusals, try_told, try_share, try_teller_killed]}
