@@ -17,7 +17,7 @@ from amo_jobs.settings import Settings
 from amo_jobs.worker import HERE, TEST_BOOT_ID, Program
 from amo_watch.rates import rates_of
 from amo_watch.snapshot import Attempt, Snapshot, snapshot_of
-from amo_watch.texts import Output, outputs_of, quoted, texts_of
+from amo_watch.texts import Lines, Output, outputs_of, quoted
 from amo_watch.timeline import timeline_of
 
 FORMAT = 1  # of the data
@@ -94,7 +94,7 @@ def facts_of(settings: Settings, program: Program, version: str) -> Dict[str, An
     shown = {name: rows[:MOST_ROWS] for name, rows in lists.items()}
     timed = [(it.seconds or 0, it) for it in found.attempts.values() if it.seconds is not None]
     slow = [it for _, it in heapq.nsmallest(MOST_SLOW, timed, lambda row: (-row[0], row[1].line))]
-    texts = texts_of(settings.run, {it.line for rows in [*shown.values(), slow] for it in rows})
+    texts = Lines(settings.run).texts({it.line for rows in [*shown.values(), slow] for it in rows})
     facts = {**head_of(run, found), "rates": rates_of(found),
              **{name: [row_of(run, found.time, it, texts, budget) for it in rows]
                 for name, rows in shown.items()},

@@ -24,7 +24,7 @@ from amo_jobs.settings import Settings
 from amo_jobs.statuses import Status
 from amo_jobs.worker import Program
 from amo_watch.snapshot import Follower, said_in, Snapshot
-from amo_watch.texts import output_of, texts_of
+from amo_watch.texts import Lines, output_of
 from amo_watch.view import Answer, Facts, picture, summary, View
 
 PART, WAIT, SELDOM = 1 << 20, 0.5, 30.0  # bytes of one read, seconds, seconds between two lines
@@ -38,6 +38,7 @@ class Live:
         """Begins to follow the run. Raises OSError."""
         self.settings, self.program = settings, program
         self.found, self.texts = Snapshot(), {}  # type: Snapshot, Dict[int, str]
+        self.lines = Lines(settings.run)
         self.follower, self.rest = Follower(program, settings.run), b""
         used = content(f"{settings.run}/command", True) or {}
         self.view, self.results = View(), used.get("results", settings.run)
@@ -73,7 +74,7 @@ class Live:
                   for it in self.found.of(state)[:MOST_TEXTS]}
         missing = wanted - set(self.texts)
         if missing:
-            self.texts.update(texts_of(self.settings.run, missing))
+            self.texts.update(self.lines.texts(missing))
 
     def facts(self) -> Facts:
         """Returns what is shown now."""

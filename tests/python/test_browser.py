@@ -13,7 +13,7 @@ from amo_watch import facts, page, palette
 from test_report import NOW, ODD, Page, Program
 
 WIDTHS, COUNT = (1280, 400), 6000
-# Each pair of colours of a text and what is behind it, with an element that has it.
+# Each pair of colours of a text and its background, with an element that has it.
 COLOURS = """(() => {
   document.querySelectorAll('details').forEach(it => { it.open = true });
   const found = {}, clear = it => /, 0\\)$/.test(getComputedStyle(it).backgroundColor);

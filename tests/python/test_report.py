@@ -233,6 +233,19 @@ class Snapshots(unittest.TestCase):
         self.assertEqual(texts.quoted("a b"), "'a b'")
         self.assertEqual(texts.quoted("a\tb'\u202e\U000e0001"), "$'a\\x09b\\'\\u202e\\U000e0001'")
 
+    def test_a_line_is_found_by_its_number_while_the_list_grows(self):
+        with tempfile.TemporaryDirectory() as run:
+            with open(f"{run}/jobs", "wb") as file:
+                file.write(b"one\n\ntw\xc3\xb6 \xff\n")
+            lines = texts.Lines(run)
+            self.assertEqual(lines.texts({3, 1}), {1: "one", 3: "tw\u00f6 \ufffd"})
+            self.assertEqual(lines.texts({2}), {2: ""})
+            with open(f"{run}/jobs", "ab") as file:
+                file.write(b"four\nfive\n")
+            self.assertEqual(lines.texts({5, 3}), {3: "tw\u00f6 \ufffd", 5: "five"})
+            self.assertEqual(lines.texts({4, 9}), {4: "four"})
+            self.assertEqual(lines.texts(set()), {})
+
     def test_no_end_is_expected_without_a_pace(self):
         self.assertEqual([rates.over_at(100, 9, 0), rates.over_at(100, 0, 2),
                           rates.over_at(100, 9, 2)], [None, None, 104])
