@@ -28,8 +28,9 @@ CHANGES = ("flock,fcntl,ftruncate,truncate,rename,renameat,renameat2,link,linkat
            "mkdirat,mknod,mknodat,rmdir,fsync,fdatasync,sync_file_range,fallocate,chmod,fchmod,fchmodat,chown,fchown,lchown,"
            "fchownat,utime,utimes,futimesat,utimensat,setxattr,fsetxattr,lsetxattr,removexattr")
 STAND_IN = f"{os.path.dirname(HERE)}/worker/stand_in.py"
-# Writes the numbers of a run to a file, as the process does by which a crew reports to others. Its words: the folder of
-# the package, the folder of the run, the program amo_worker, the file system, the number of workers, the file.
+# Writes the numbers of a run to a file, as the process does by which a crew reports to others. Its
+# words: the folder of the package, the folder of the run, the program amo_worker, the file system,
+# the number of workers, the file.
 TELL = """import sys
 sys.dont_write_bytecode = True
 sys.path.insert(0, sys.argv[1])
@@ -42,7 +43,8 @@ while not it.found.time:
     it.turn(it.files())
 it.end()
 """
-# What stands in a module of python/amo_watch, and what in its place makes `report` take a lock, or write in the run's folder.
+# A text of a module of python/amo_watch, and texts that make `report` take a lock, or write in the
+# run's folder, each with the words that strace prints of it.
 SNAPSHOT = "    found = snapshot_of(program, settings.run)\n    run = Run("
 MISTAKES = [
     ("flock", f'    import fcntl\n    fcntl.flock(open(f"{{settings.run}}/runner.1", "rb"), fcntl.LOCK_SH)\n{SNAPSHOT}'),
