@@ -4,6 +4,7 @@ zero byte. Begin with `Browser`."""
 import base64
 import json
 import os
+import select
 import shutil
 import subprocess
 import tempfile
@@ -12,6 +13,7 @@ PROGRAM = shutil.which("chromium")
 WORDS = ["--headless=new", "--no-sandbox", "--disable-gpu", "--no-first-run", "--hide-scrollbars",
          "--disable-dev-shm-usage", "--remote-debugging-pipe"]
 TAKES, GIVES = 3, 4  # the descriptors by which Chromium takes and gives messages
+PATIENCE = 300  # seconds for an answer, on a machine that does much else
 TAB = {"key": "Tab", "code": "Tab", "windowsVirtualKeyCode": 9}
 
 
@@ -59,8 +61,9 @@ class Browser:
                 text, self.rest = self.rest.split(b"\0", 1)
                 if is_wanted(said := json.loads(text)):
                     return said
-            part = os.read(self.takes, 1 << 16)
-            assert part, "chromium has ended"
+            ready = select.select([self.takes], [], [], PATIENCE)[0]
+            part = os.read(self.takes, 1 << 16) if ready else b""
+            assert part, "chromium has ended, or doesn't answer"
             self.rest += part
 
     def show(self, path, width, height=900, is_dark=False):
