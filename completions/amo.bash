@@ -31,7 +31,7 @@ _amo_words() {
         'amo_jobs forget')
             echo '-h,--help,--run,--worker-program,--file-system,--force' ;;
         'amo_share')
-            echo 'status,-h,--help,--version,--name,--claim,--chunk,--workers,--crew,--moved,--machine-id,--run,--worker-program,--file-system' ;;
+            echo 'status,-h,--help,--version,--name,--claim,--chunk,--workers,--crew,--metrics,--moved,--machine-id,--run,--worker-program,--file-system' ;;
         'amo_worker')
             echo 'door,work,lines,status,doubts,answer,again,-h,--help' ;;
         'amo_worker door')
@@ -57,7 +57,7 @@ _amo_value() {
     case $1 in
         'amo_jobs --run' | 'amo_jobs --results' | 'amo_share --run')
             echo 'folder' ;;
-        'amo_jobs --worker-program' | 'amo_jobs --metrics' | 'amo_jobs --events' | 'amo_jobs --from' | 'amo_share --machine-id' | 'amo_share --worker-program' | 'amo_worker --boot-id' | 'amo_worker --from')
+        'amo_jobs --worker-program' | 'amo_jobs --metrics' | 'amo_jobs --events' | 'amo_jobs --from' | 'amo_share --metrics' | 'amo_share --machine-id' | 'amo_share --worker-program' | 'amo_worker --boot-id' | 'amo_worker --from')
             echo 'file' ;;
         'amo_jobs --file-system' | 'amo_jobs --workers' | 'amo_jobs --beta' | 'amo_jobs --untouched' | 'amo_jobs --timeout' | 'amo_jobs --grace' | 'amo_jobs --linger' | 'amo_jobs --halt' | 'amo_jobs --new-run' | 'amo_jobs --may-leave' | 'amo_jobs --worker' | 'amo_jobs --quiet' | 'amo_share --name' | 'amo_share --chunk' | 'amo_share --workers' | 'amo_share --crew' | 'amo_share --file-system' | 'amo_worker --file-system' | 'amo_worker --id' | 'amo_worker --workers' | 'amo_worker --beta' | 'amo_worker --protocol' | 'amo_worker --quiet')
             echo 'word' ;;

@@ -36,6 +36,7 @@ class Sharing:
     chunk: int = 0  # lines of a chunk
     workers: int = 0
     crew: List[str] = field(default_factory=list)  # more options for amo_jobs
+    metrics: str = ""  # a file of numbers
     moved: bool = False
     machine_id: str = "/etc/machine-id"
     jobs: str = ""
@@ -195,9 +196,10 @@ class Chunk:
     def run_crew(self) -> int:
         """Runs a crew, passes the signals on that come, and returns its status."""
         sharing, handed = self.sharing, 0
-        kind = ["--file-system", sharing.file_system] if sharing.file_system else []
+        more = ["--file-system", sharing.file_system] if sharing.file_system else []
+        more += ["--metrics", sharing.metrics, "--shared", sharing.run] if sharing.metrics else []
         words = [sys.executable, f"{HERE}/amo_jobs", "crew", *sharing.crew, "--workers",
-                 str(sharing.workers), "--run", self.folder, "--id", self.id(), *kind,
+                 str(sharing.workers), "--run", self.folder, "--id", self.id(), *more,
                  "--worker-program", self.program.path, f"{self.folder}/list", "--",
                  *sharing.command]
         crew = subprocess.Popen(words, start_new_session=True)

@@ -2,8 +2,9 @@
 
 from __future__ import annotations
 
+import collections
 from time import monotonic
-from typing import Any, Dict, Optional
+from typing import Any, Deque, Dict, Optional, Tuple
 
 from amo_jobs.crew_rules import MOST_TAKEN, State
 from amo_jobs.messages import Screen
@@ -13,6 +14,22 @@ from amo_jobs.statuses import KINDS, Status
 from amo_jobs.worker import Program
 
 OFTEN, SELDOM = 0.5, 30.0  # seconds, on a terminal and else
+MINUTE = 60  # seconds
+
+
+class Recent:
+    """How many commands have ended in the last minute."""
+
+    def __init__(self, now: float):
+        self.seen: Deque[Tuple[float, int]] = collections.deque([(now, 0)])
+
+    def pace(self, now: float, ended: int) -> float:
+        """Takes how many have ended until now; returns how many a second did in the last minute."""
+        self.seen.append((now, ended))
+        while self.seen[1][0] <= now - MINUTE:
+            self.seen.popleft()
+        begun, before = self.seen[0]
+        return (ended - before) / max(now - begun, 1)
 
 
 class Progress:
@@ -21,7 +38,7 @@ class Progress:
     def __init__(self, settings: Settings, program: Program, state: State):
         """Counts the lines. Raises OSError, and the end of the worker's program."""
         self.settings, self.program, self.state = settings, program, state
-        self.begun, self.due = monotonic(), 0.0
+        self.recent, self.due = Recent(monotonic()), 0.0
         self.before: Dict[str, Any] = program.status(settings.run)
         with open(settings.jobs, "rb") as file:
             self.lines = sum(1 for _ in file)
@@ -33,7 +50,7 @@ class Progress:
         self.due = monotonic() + (OFTEN if Screen.clear else SELDOM)
         ended = self.state.ended
         closed = min(sum(self.before[it] for it in KINDS[:5]) + ended, self.lines)
-        pace = ended / max(monotonic() - self.begun, 1)
+        pace = self.recent.pace(monotonic(), ended)
         Screen.show(f"{closed} of {self.lines} lines, {len(self.state.running())} running"
                     f"{outlook(pace, self.lines - closed)}")
         return self.due

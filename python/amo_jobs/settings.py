@@ -50,6 +50,7 @@ class Settings:
     quiet: int = 60  # seconds
     now: bool = False
     metrics: str = ""  # a file of numbers
+    shared: str = ""  # the folder of an amo_share whose chunks these numbers are of
     events: str = ""  # a file of events
     notify: str = ""  # a command for the shell
 

@@ -72,6 +72,10 @@ OPTIONS: List[Tuple[str, Dict[str, Any]]] = [
     ("--crew", dict(type=words_of, metavar="WORDS",
                     help="more options for amo_jobs, such as --crew='--timeout 60' (default:"
                          " none)")),
+    ("--metrics",
+     dict(type=os.path.abspath, metavar="FILE",
+          help="keep FILE up to date with numbers for Prometheus, of all chunks that are here"
+               " (default: none)")),
     ("--moved",
      dict(action="store_true",
           help="the folder or the claim program was moved, and no other copy of it exists"
@@ -218,7 +222,7 @@ def sharing_of(words: List[str]) -> Sharing:
     if not is_status:
         shown = f"amo_share {cli.version()}" if words[:1] == ["--version"] else ""
         top.add_argument("--version", action="version", version=shown)
-    for name, how in OPTIONS[8:] if is_status else OPTIONS:
+    for name, how in OPTIONS[9:] if is_status else OPTIONS:
         top.add_argument(name, **how)
     sharing = Sharing(is_status=is_status, command=words[cut + 1:])
     top.parse_args(words[is_status:cut], sharing)

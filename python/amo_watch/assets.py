@@ -46,7 +46,9 @@ details{font-weight:400}
 table{border-collapse:collapse;width:100%;font-size:.9rem;font-variant-numeric:tabular-nums}
 caption{text-align:left;color:var(--soft)}
 th,td{text-align:left;vertical-align:top;padding:.25rem .5rem;border-bottom:1px solid var(--edge)}
-th{background:var(--panel)}
+th{background:var(--panel);overflow-wrap:normal}
+.sorted td:not([data-name="Text"]) .text{white-space:nowrap}
+.sorted td[data-name="Text"]{width:100%}
 th button{all:unset;cursor:pointer;text-decoration:underline;font-weight:600}
 .lane{display:grid;grid-template-columns:9rem 1fr;gap:.5rem;align-items:center;margin:.2rem 0;
 font-size:.85rem}
@@ -73,19 +75,18 @@ repeating-linear-gradient(0deg,var(--untouched) 0 2px,var(--paper) 2px 5px)}
 i.b-open{border:1px dashed var(--open)}
 .bars b{position:absolute;top:-.2rem;bottom:-.2rem;border-left:2px dotted var(--ink)}
 .scale{display:flex;justify-content:space-between;gap:1rem;margin:.2rem 0 0 9.5rem;font-size:.8rem}
-.bar{display:block;height:.8rem;background:var(--link);min-width:1px;print-color-adjust:exact;
+.bar{display:block;height:.8rem;margin:.3rem 0;background:var(--link);print-color-adjust:exact;
 -webkit-print-color-adjust:exact}
 td.wide{width:50%}
 input{font:inherit;color:inherit;background:var(--paper);border:1px solid var(--soft);
 padding:.25rem .5rem;max-width:100%}
 @media(max-width:40rem){
 body{padding:.5rem}
-table,tbody,tr,td{display:block}
-thead{display:none}
-tr{border-bottom:2px solid var(--edge);padding:.25rem 0}
-td{border:0;padding:.1rem 0;width:auto}
-td.wide{width:100%}
-td::before{content:attr(data-name) ": ";color:var(--soft)}
+.sorted,.sorted tbody,.sorted tr,.sorted td{display:block}
+.sorted thead{display:none}
+.sorted tr{border-bottom:2px solid var(--edge);padding:.25rem 0}
+.sorted td{border:0;padding:.1rem 0;width:auto}
+.sorted td::before{content:attr(data-name) ": ";color:var(--soft)}
 .lane{grid-template-columns:1fr;gap:0}
 .scale{margin-left:0}
 }
@@ -123,7 +124,7 @@ return (x<y?-1:x>y?1:0)*(up?1:-1)});
 rows.forEach(function(row){body.appendChild(row)})})})});
 var place=document.getElementById('tools');
 if(place){var label=document.createElement('label');
-label.textContent='Show only what holds: ';
+label.textContent='Show only lines with this text: ';
 var field=document.createElement('input');field.type='search';
 label.appendChild(field);place.appendChild(label);
 field.addEventListener('input',function(){

@@ -85,8 +85,7 @@ def histogram(facts: Dict[str, Any]) -> Iterator[str]:
     for it in rows:
         last = it["below"] - 1
         span = "below 1" if not last else "1" if last == 1 else f"{it['from']} to {last}"
-        width = 100 * it["count"] / most if most else 0
-        yield (f"<tr><td data-name=\"Seconds\">{span}</td><td data-name=\"Attempts\">{it['count']}"
-               f"</td><td class=\"wide\" data-name=\"Share\"><span class=\"bar\""
-               f" style=\"width:{width:.1f}%\"></span></td></tr>")
+        bar = f"<span class=\"bar\" style=\"width:{100 * it['count'] / most:.1f}%\"></span>"
+        yield (f"<tr><td>{span}</td><td>{it['count']}</td>"
+               f"<td class=\"wide\">{bar if it['count'] else ''}</td></tr>")
     yield "</tbody></table></section>"

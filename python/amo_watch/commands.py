@@ -2,6 +2,7 @@
 
 from __future__ import annotations
 
+import argparse
 from typing import Any, Callable, Collection, Dict, List, Tuple
 
 from amo_jobs.settings import Settings
@@ -36,6 +37,8 @@ OPTIONS: List[Tuple[Collection[str], str, Dict[str, Any]]] = [
      dict(metavar="FILE",
           help="keep FILE up to date with numbers for Prometheus, every 5 seconds (default:"
                " none)")),
+    # for amo_share: the numbers are of all its chunks that are here
+    (["crew"], "--shared", dict(help=argparse.SUPPRESS)),
     (["crew"], "--events",
      dict(metavar="FILE",
           help="append a JSON object to FILE for each thing that happens, as"

@@ -7,21 +7,23 @@ from __future__ import annotations
 
 import collections
 import heapq
+import html
 import os
 from typing import Any, Dict, Iterable, List, NamedTuple, Optional
 
 from amo_jobs.files import content
+from amo_jobs.messages import visible
 from amo_jobs.settings import Settings
 from amo_jobs.worker import HERE, TEST_BOOT_ID, Program
 from amo_watch.rates import rates_of
 from amo_watch.snapshot import Attempt, Snapshot, snapshot_of
-from amo_watch.texts import outputs_of, quoted, texts_of
+from amo_watch.texts import Lines, Output, outputs_of, quoted
 from amo_watch.timeline import timeline_of
 
 FORMAT = 1  # of the data
 MOST_ROWS, MOST_SLOW = 1000, 20  # rows of a list
-MOST_TEXT = 3_000_000  # characters of all texts together; each stands in up to four places
-SHORT = 500  # characters of a text that is cut
+MOST_TEXT = 3_000_000  # bytes that all texts and outputs take in the page, as they stand there
+SHORT = 100  # characters of a text that is cut
 # The lists of a report: the state of their attempts, and the words by which `status` prints more.
 LISTS = {"doubts": "doubt", "pending": "pending", "failures": "failed", "untouched": "untouched"}
 
@@ -49,17 +51,38 @@ class Run(NamedTuple):
 
 
 class Budget:
-    """How many characters of texts a report still takes."""
+    """How many bytes of the page texts may still take."""
 
     def __init__(self, most: int = MOST_TEXT):
-        self.left, self.cut = most, 0
+        self.left, self.cut, self.hidden = most, 0, 0
 
-    def take(self, text: str) -> str:
-        """Returns the text, or its front if there is no room."""
-        shown = text if len(text) <= max(self.left, SHORT) else text[:SHORT]
-        self.left -= len(shown)
-        self.cut += shown != text
-        return shown
+    def reserve(self, texts: List[str]) -> bool:
+        """Takes the room that these texts need in the page; returns false if there isn't enough."""
+        least = sum(map(len, texts))
+        size = sum(map(size_of, texts)) if least <= self.left else least
+        if size <= self.left:
+            self.left -= size
+            return True
+        return False
+
+    def take(self, text: str, *more: str) -> str:
+        """Returns a text, or its front if there is no room for it and for what repeats it."""
+        if self.reserve([text, *more]) or len(text) <= SHORT:
+            return text
+        self.cut += 1
+        return text[:SHORT]
+
+    def outputs(self, found: List[Output]) -> List[Output]:
+        """Returns what was printed, without its lines if there is no room."""
+        if self.reserve([line for it in found for line in it.end]):
+            return found
+        self.hidden += 1
+        return [it._replace(end=[]) for it in found]
+
+
+def size_of(text: str) -> int:
+    """Returns how many bytes a text takes in the page."""
+    return len(html.escape(visible(text)).encode("utf-8", "replace"))
 
 
 def facts_of(settings: Settings, program: Program, version: str) -> Dict[str, Any]:
@@ -71,7 +94,7 @@ def facts_of(settings: Settings, program: Program, version: str) -> Dict[str, An
     shown = {name: rows[:MOST_ROWS] for name, rows in lists.items()}
     timed = [(it.seconds or 0, it) for it in found.attempts.values() if it.seconds is not None]
     slow = [it for _, it in heapq.nsmallest(MOST_SLOW, timed, lambda row: (-row[0], row[1].line))]
-    texts = texts_of(settings.run, {it.line for rows in [*shown.values(), slow] for it in rows})
+    texts = Lines(settings.run).texts({it.line for rows in [*shown.values(), slow] for it in rows})
     facts = {**head_of(run, found), "rates": rates_of(found),
              **{name: [row_of(run, found.time, it, texts, budget) for it in rows]
                 for name, rows in shown.items()},
@@ -96,16 +119,16 @@ def head_of(run: Run, found: Snapshot) -> Dict[str, Any]:
 
 def row_of(run: Run, now: int, it: Attempt, texts: Dict[int, str], budget: Budget,
            is_whole: bool = True) -> Dict[str, Any]:
-    """Returns what is known of an attempt; if that is wanted, also its outputs and the commands
-    that an operator may give."""
+    """Returns what is known of an attempt; if it is wanted whole, with outputs and commands."""
     text = texts.get(it.line, "")
-    shown = budget.take(text)
+    commands = commands_of(run, it, text) if is_whole else []
+    shown = budget.take(text, *commands)
     age = None if it.ended is None or it.ended > now else now - it.ended
-    outputs = outputs_of(run.folders(), it.name) if is_whole else []
+    outputs = budget.outputs(outputs_of(run.folders(), it.name)) if is_whole else []
     return {"attempt": it.name, "line": it.line, "text": shown, "cut": len(text) - len(shown),
             "begun": it.begun, "ended": it.ended, "age": age, "seconds": it.seconds,
             "code": it.code, "state": it.state, "outputs": [row._asdict() for row in outputs],
-            "commands": commands_of(run, it, text) if is_whole and shown == text else []}
+            "commands": commands if shown == text or it.state == "pending" else []}
 
 
 def commands_of(run: Run, it: Attempt, text: str) -> List[str]:
@@ -117,8 +140,7 @@ def commands_of(run: Run, it: Attempt, text: str) -> List[str]:
 
 
 def histogram_of(seconds: Iterable[int]) -> List[Dict[str, Any]]:
-    """Returns how many attempts took how long: below 1 s, and from each power of two to the
-    next."""
+    """Returns how many attempts took below 1 s, and from each power of two to the next."""
     counts = collections.Counter(it.bit_length() for it in seconds)
     return [{"from": (1 << k) >> 1, "below": 1 << k, "count": counts[k]}
             for k in range(max(counts, default=-1) + 1)]
@@ -140,4 +162,7 @@ def left_out(facts: Dict[str, Any], lists: Dict[str, List[Attempt]], budget: Bud
     if budget.cut:
         said.append(f"the ends of {budget.cut} texts, and the commands with these texts; to have"
                     f" them: {run.command('doubts')}")
+    if budget.hidden:
+        said.append(f"the lines that {budget.hidden} commands have printed; to read them, open the"
+                    " files that are named")
     return said

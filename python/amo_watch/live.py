@@ -12,6 +12,7 @@ import select
 import signal
 import sys
 import time
+from contextlib import suppress
 from typing import Any, Dict, List, Optional
 
 from amo_jobs import calls
@@ -23,7 +24,7 @@ from amo_jobs.settings import Settings
 from amo_jobs.statuses import Status
 from amo_jobs.worker import Program
 from amo_watch.snapshot import Follower, said_in, Snapshot
-from amo_watch.texts import output_of, texts_of
+from amo_watch.texts import Lines, output_of
 from amo_watch.view import Answer, Facts, picture, summary, View
 
 PART, WAIT, SELDOM = 1 << 20, 0.5, 30.0  # bytes of one read, seconds, seconds between two lines
@@ -37,6 +38,7 @@ class Live:
         """Begins to follow the run. Raises OSError."""
         self.settings, self.program = settings, program
         self.found, self.texts = Snapshot(), {}  # type: Snapshot, Dict[int, str]
+        self.lines = Lines(settings.run)
         self.follower, self.rest = Follower(program, settings.run), b""
         used = content(f"{settings.run}/command", True) or {}
         self.view, self.results = View(), used.get("results", settings.run)
@@ -72,7 +74,7 @@ class Live:
                   for it in self.found.of(state)[:MOST_TEXTS]}
         missing = wanted - set(self.texts)
         if missing:
-            self.texts.update(texts_of(self.settings.run, missing))
+            self.texts.update(self.lines.texts(missing))
 
     def facts(self) -> Facts:
         """Returns what is shown now."""
@@ -107,13 +109,15 @@ class Live:
         else:
             signal.pidfd_send_signal(handle, signal.SIGTERM)
             os.close(handle)
-        return f"process {process} got TERM; it waits for the commands that run"
+        return f"sent TERM to {process}; commands go on"
 
 
 def watch(settings: Settings, program: Program) -> int:
     """Shows a run until it is over, or until the operator ends it; returns the exit status."""
     name_run(settings, program)
     live = Live(settings, program)
+    for number in (signal.SIGTERM, signal.SIGHUP):  # the terminal is left as it was
+        signal.signal(number, signal.default_int_handler)
     try:
         if sys.stdout.isatty() and sys.stdin.isatty() and os.environ.get("TERM", "dumb") != "dumb":
             locale.setlocale(locale.LC_ALL, "")
@@ -144,13 +148,15 @@ def as_lines(live: Live) -> None:
 
 def on_screen(live: Live, screen: Any) -> None:
     """Draws the view, and takes keys, until `q`."""
-    curses.curs_set(0)
+    with suppress(curses.error):  # a terminal may have no invisible cursor
+        curses.curs_set(0)
     screen.nodelay(True)
     while live.view.answer is not Answer.QUIT:
         live.read(WAIT, sys.stdin)
         key: Optional[int] = screen.getch()
         while key is not None and key != -1:
-            live.view.take(chr(key) if 0 < key < 128 else "")
+            if key != curses.KEY_RESIZE:  # which nobody has pressed
+                live.view.take(chr(key) if 0 < key < 128 else "")
             key = screen.getch()
         if live.view.answer is Answer.STOP:
             live.view.answer, live.view.note = Answer.NONE, live.stop()
@@ -163,8 +169,6 @@ def draw(screen: Any, live: Live) -> None:
     screen.erase()
     rows = picture(live.facts(), live.view, width - 1, height)
     for place, (text, is_strong) in enumerate(rows[:height]):
-        try:
+        with suppress(curses.error):  # the terminal became smaller meanwhile
             screen.addstr(place, 0, text, curses.A_BOLD if is_strong else curses.A_NORMAL)
-        except curses.error:
-            pass  # the terminal became smaller meanwhile
     screen.refresh()

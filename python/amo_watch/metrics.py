@@ -7,10 +7,10 @@ from __future__ import annotations
 
 import os
 from contextlib import suppress
-from typing import Iterator, List, NamedTuple, Optional, Tuple
+from typing import Iterator, NamedTuple, Optional, Tuple
 
-from amo_watch.rates import rates_of
-from amo_watch.snapshot import COUNTS, Snapshot
+from amo_watch.figures import Figures
+from amo_watch.snapshot import COUNTS
 
 HEADS = [("amo_lines", "gauge", "Lines of the list by state; pending is running or in doubt."),
          ("amo_attempts", "gauge", "Attempts by what is recorded of their end."),
@@ -37,17 +37,15 @@ def escaped(text: str) -> str:
     return text.replace("\\", "\\\\").replace('"', '\\"').replace("\n", "\\n")
 
 
-def samples(found: Snapshot, crew: Crew) -> Iterator[Tuple[str, str, float]]:
+def samples(found: Figures, crew: Crew) -> Iterator[Tuple[str, str, float]]:
     """Yields each number: its name, a further label, and its value."""
     for state in COUNTS:
         yield "amo_lines", f'state="{state}"', found.counts[state]
-    outcomes = [it.outcome for it in found.attempts.values()]
     for outcome in OUTCOMES:
-        yield "amo_attempts", f'outcome="{outcome}"', outcomes.count(outcome)
-    yield "amo_ends_per_second", "", rates_of(found)["last_minute"]
-    yield "amo_oldest_pending_seconds", "", age_of(
-        found, [it.begun for it in found.of("pending")])
-    yield "amo_oldest_doubt_seconds", "", age_of(found, [it.ended for it in found.of("doubt")])
+        yield "amo_attempts", f'outcome="{outcome}"', found.outcomes[outcome]
+    yield "amo_ends_per_second", "", found.rate()
+    yield "amo_oldest_pending_seconds", "", found.age(found.pending)
+    yield "amo_oldest_doubt_seconds", "", found.age(found.doubt)
     yield "amo_runners_alive", "", crew.alive
     yield "amo_crew_running", "", int(crew.works)
     if crew.error_at is not None:
@@ -55,13 +53,7 @@ def samples(found: Snapshot, crew: Crew) -> Iterator[Tuple[str, str, float]]:
     yield "amo_updated_timestamp_seconds", "", found.time
 
 
-def age_of(found: Snapshot, times: List[Optional[int]]) -> int:
-    """Returns how long ago the first of these times was; 0 if there is none."""
-    first = min((it for it in times if it is not None), default=found.time)
-    return max(found.time - first, 0)
-
-
-def text_of(found: Snapshot, crew: Crew, run: str) -> str:
+def text_of(found: Figures, crew: Crew, run: str) -> str:
     """Returns the numbers of a run in the text format of Prometheus."""
     label = f'run="{escaped(run)}"'
     rows = list(samples(found, crew))

@@ -7,13 +7,15 @@ import os
 import subprocess
 import time
 from contextlib import suppress
-from typing import Any, Callable, Dict, List, Optional, Set
+from typing import Any, Callable, Dict, Iterable, List, Optional, Set
 
 from amo_jobs.messages import End, reason, visible
 from amo_jobs.processes import signer
 from amo_jobs.settings import Settings
 from amo_jobs.worker import Program
 from amo_watch import metrics
+from amo_watch.chunks import OtherChunks
+from amo_watch.figures import added, figures_of
 from amo_watch.snapshot import Attempt, Follower, said_in, Snapshot, snapshot_of
 
 EVERY, PART = 5.0, 1 << 20  # seconds between two files of numbers, bytes of one read
@@ -35,6 +37,7 @@ class News:
         self.error_at: Optional[float] = None
         self.status: Optional[int] = None
         self.children: List["subprocess.Popen[bytes]"] = []
+        self.others = OtherChunks(settings, program) if settings.shared else None
 
     def files(self) -> List[int]:
         """Returns the file that is to be polled. The process that follows the run is started again
@@ -65,10 +68,15 @@ class News:
             self.numbers(True)
 
     def take(self, said: Dict[str, Any]) -> None:
-        """Takes a line. What was there before the crew began is no news."""
+        """Takes a line."""
         is_first = not self.found.time
-        for it in self.found.take(said):
-            if not is_first or (it.begun or 0) >= self.began:
+        self.compare(self.found.take(said), is_first)
+
+    def compare(self, fresh: Iterable[Attempt], is_first: bool) -> None:
+        """Tells of these attempts. At first, what has neither begun nor ended since the crew began
+        is no news."""
+        for it in fresh:
+            if not is_first or max(it.begun or 0, it.ended or 0) >= self.began:
                 self.attempt(it)
             elif it.state == "doubt":
                 self.told.add(it.line)
@@ -100,9 +108,8 @@ class News:
         with suppress(End, OSError):
             found = snapshot_of(self.program, self.settings.run)
             fresh = [it for key, it in found.attempts.items() if self.found.attempts.get(key) != it]
-            was_read, self.found = bool(self.found.time), found
-            for it in fresh if was_read else ():
-                self.attempt(it)
+            is_first, self.found = not self.found.time, found
+            self.compare(fresh, is_first)
         self.event("end", status=self.status, counts=self.found.counts)
         self.notify("end", AMO_STATUS="" if self.status is None else str(self.status))
         self.numbers(False)
@@ -122,8 +129,9 @@ class News:
         """Replaces the file of numbers."""
         alive = sum(1 for worker in range(1, self.settings.workers + 1)
                     if signer(f"{os.path.realpath(self.settings.run)}/runner.{worker}"))
-        text = metrics.text_of(self.found, metrics.Crew(alive, works, self.error_at),
-                               self.settings.run)
+        crew = metrics.Crew(alive, works, self.error_at)
+        figures = [figures_of(self.found), *(self.others.figures() if self.others else ())]
+        text = metrics.text_of(added(figures), crew, self.settings.shared or self.settings.run)
         if self.settings.metrics:
             self.try_to("metrics", lambda: metrics.put(self.settings.metrics, text))
 

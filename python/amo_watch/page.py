@@ -33,6 +33,12 @@ def folded(text: str) -> str:
             f"{shown(text[LONG:])}</details>")
 
 
+def line_text(row: Dict[str, Any]) -> str:
+    """Returns the text of a line, as far as the report has it."""
+    more = f" <span class=\"soft\">.. {row['cut']} more characters</span>" if row["cut"] else ""
+    return folded(row["text"]) + more
+
+
 def dated(seconds: Optional[int]) -> str:
     """Returns a time as a date of this machine's time zone."""
     return ("at a time that is not known" if seconds is None
@@ -130,9 +136,8 @@ def rows(facts: Dict[str, Any], name: str, title: str, about: str) -> Iterator[s
 
 def article(row: Dict[str, Any]) -> str:
     """Returns a line with all that is known of its attempt."""
-    more = f" <span class=\"soft\">.. {row['cut']} more characters</span>" if row["cut"] else ""
     return (f"<article class=\"{row['state']}\"><h3>Line {row['line']}: <span class=\"text\">"
-            f"{folded(row['text'])}</span>{more}</h3><p><span class=\"{row['state']}\">"
+            f"{line_text(row)}</span></h3><p><span class=\"{row['state']}\">"
             f"{WORDS[row['state']]}</span>, attempt {row['attempt']}, begun {dated(row['begun'])},"
             f" {end_of(row)}</p>{outputs(row)}{answers(row)}</article>")
 
@@ -159,8 +164,14 @@ def outputs(row: Dict[str, Any]) -> str:
     """Returns the ends of what the command has printed."""
     if not row["outputs"]:
         return "<p class=\"soft\">It has printed nothing that was kept.</p>"
-    return "".join(f"<p class=\"soft\">{shown(it['path'])}, {it['size']} bytes, its end:</p><pre>"
-                   + "\n".join(map(shown, it["end"])) + "</pre>" for it in row["outputs"])
+    return "".join(map(output, row["outputs"]))
+
+
+def output(it: Dict[str, Any]) -> str:
+    """Returns the end of what was printed to one file, unless the report leaves it out."""
+    head = f"<p class=\"soft\">{shown(it['path'])}, {it['size']} bytes"
+    return (f"{head}, its end:</p><pre>" + "\n".join(map(shown, it["end"])) + "</pre>"
+            if it["end"] else f"{head}, left out here</p>")
 
 
 def command(text: str, label: str) -> str:
@@ -179,17 +190,17 @@ def slowest(facts: Dict[str, Any]) -> Iterator[str]:
     yield ("<table class=\"sorted\"><thead><tr>"
            + "".join(f"<th scope=\"col\">{it}</th>" for it in heads) + "</tr></thead><tbody>")
     for row in facts["slowest"]:
-        cells = [(row["line"], row["line"]), (None, row["text"]), (None, row["attempt"]),
-                 (row["seconds"], row["seconds"]), (row["begun"], dated(row["begun"])),
-                 (None, WORDS[row["state"]])]
+        cells = [(row["line"], shown(row["line"])), (None, line_text(row)),
+                 (None, shown(row["attempt"])), (row["seconds"], shown(row["seconds"])),
+                 (row["begun"], dated(row["begun"])), (None, WORDS[row["state"]])]
         yield "<tr>" + "".join(cell(name, *it) for name, it in zip(heads, cells)) + "</tr>"
     yield "</tbody></table></section>"
 
 
-def cell(name: str, key: Optional[int], text: Any) -> str:
+def cell(name: str, key: Optional[int], content: str) -> str:
     """Returns a cell of a table, with the number by which it is sorted, if it has one."""
     more = "" if key is None else f" data-key=\"{key}\""
-    return f"<td data-name=\"{name}\"{more}><span class=\"text\">{shown(text)}</span></td>"
+    return f"<td data-name=\"{name}\"{more}><span class=\"text\">{content}</span></td>"
 
 
 def given(facts: Dict[str, Any]) -> Iterator[str]:
@@ -202,8 +213,9 @@ def given(facts: Dict[str, Any]) -> Iterator[str]:
               ("Options", shlex.join(options) if options else None),
               ("Results", facts["results"]), ("Workers", facts["workers"]),
               ("Round", facts["round"]), ("Attempts", facts["attempts"]),
-              ("Version of the crew", facts["version"]), ("Version of this", facts["program"])]
+              ("Version of the crew", facts["version"]),
+              ("Version of this report", facts["program"])]
     for name, value in values:
         text = "not known" if value is None else value
-        yield f"<tr>{cell('What', None, name)}{cell('Value', None, text)}</tr>"
+        yield f"<tr>{cell('What', None, name)}{cell('Value', None, folded(str(text)))}</tr>"
     yield "</tbody></table></section>"

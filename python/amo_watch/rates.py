@@ -2,7 +2,7 @@
 
 from __future__ import annotations
 
-from typing import Any, Dict, Optional
+from typing import Any, Counter, Dict, Optional
 
 from amo_watch.snapshot import Snapshot
 
@@ -16,12 +16,19 @@ def rates_of(found: Snapshot) -> Dict[str, Any]:
     begun, ended = found.begun, max(found.ends, default=None)
     count = sum(found.ends.values())
     span = max(ended - begun, 1) if begun is not None and ended is not None else 0
-    recent = sum(found.ends[found.time - it] for it in range(MINUTE))
-    minute = recent / max(min(MINUTE, found.time - begun), 1) if begun is not None else 0.0
+    minute = minute_of(found.ends, begun, found.time)
     left = found.counts["open"] + found.counts["pending"]
     return {"begun": begun, "ended": ended, "ends": count,
             "a_second": round(count / span, 3) if span else 0.0,
             "last_minute": round(minute, 3), "over_at": over_at(found.time, left, minute)}
+
+
+def minute_of(ends: Counter[int], begun: Optional[int], now: int) -> float:
+    """Returns how many attempts ended in a second of the last minute, or of the time since the run
+    began."""
+    if begun is None:
+        return 0.0
+    return sum(ends[now - it] for it in range(MINUTE)) / max(min(MINUTE, now - begun), 1)
 
 
 def over_at(now: int, left: int, a_second: float) -> Optional[int]:

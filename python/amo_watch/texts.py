@@ -4,26 +4,36 @@ from __future__ import annotations
 
 import os
 import shlex
+from array import array
 from contextlib import suppress
-from typing import Collection, Dict, List, NamedTuple
+from typing import BinaryIO, Collection, Dict, List, NamedTuple
 
 LAST, MOST = 5, 1000  # of an output: so many lines at its end, of so many bytes together
 
 
-def texts_of(run: str, numbers: Collection[int]) -> Dict[int, str]:
-    """Returns the texts of these lines, by the copy of the list in the run's folder. That file only
-    grows, so a line that an attempt names is there."""
-    wanted, found = set(numbers), {}  # type: set[int], Dict[int, str]
-    if not wanted:
-        return found
-    last = max(wanted)
-    with open(f"{run}/jobs", "rb") as file:
-        for number, line in enumerate(file, 1):
-            if number in wanted:
-                found[number] = line.rstrip(b"\n").decode("utf-8", "replace")
-            if number >= last:
-                break
-    return found
+class Lines:
+    """The lines of a run's list, by the list's copy in the run's folder. That file only grows, so a
+    line that an attempt names is there. Each line is looked for once."""
+
+    def __init__(self, run: str):
+        self.path, self.begins = f"{run}/jobs", array("Q", [0])  # where each line begins
+
+    def texts(self, numbers: Collection[int]) -> Dict[int, str]:
+        """Returns the texts of these lines. Raises OSError."""
+        if not numbers:
+            return {}
+        with open(self.path, "rb") as file:
+            if max(numbers) >= len(self.begins):
+                file.seek(self.begins[-1])
+                for line in file:
+                    self.begins.append(self.begins[-1] + len(line))
+            return {it: self.text(file, it) for it in numbers if it < len(self.begins)}
+
+    def text(self, file: BinaryIO, number: int) -> str:
+        """Returns the text of a line whose begin and end are known."""
+        file.seek(self.begins[number - 1])
+        line = file.read(self.begins[number] - self.begins[number - 1])
+        return line.rstrip(b"\n").decode("utf-8", "replace")
 
 
 class Output(NamedTuple):

@@ -3,7 +3,7 @@
 from __future__ import annotations
 
 from contextlib import suppress
-from typing import Any, Dict, List, Tuple
+from typing import Any, Dict, List
 
 from amo_watch.snapshot import Attempt, Snapshot
 
@@ -65,12 +65,14 @@ def parts_of(rows: List[Attempt], first: int, last: int, now: int) -> List[Dict[
 def marks_of(run: str, first: int, last: int) -> List[Dict[str, Any]]:
     """Returns what else is known of this time: when runners were started last, and when this
     machine was started last. Earlier starts leave no time behind."""
-    found: List[Tuple[float, str]] = []
+    begun: Dict[int, List[int]] = {}
     for worker in range(1, 17):
         with suppress(OSError, ValueError, IndexError), open(f"{run}/pace.{worker}") as file:
-            found.append((float(file.read().split()[0]), f"the runner of worker {worker} began"))
+            begun.setdefault(int(float(file.read().split()[0])), []).append(worker)
+    found = [(second, f"runners began, of worker {', '.join(map(str, workers))}")
+             for second, workers in begun.items()]
     with suppress(OSError, ValueError, IndexError), open("/proc/stat") as file:
         boot = [line.split()[1] for line in file if line.startswith("btime ")]
-        found.append((float(boot[0]), "this machine was started"))
-    return [{"time": int(time), "what": what} for time, what in sorted(found)
-            if first + 1 < time <= last]
+        found.append((int(boot[0]), "this machine was started"))
+    return [{"time": second, "what": what} for second, what in sorted(found)
+            if first + 1 < second <= last]

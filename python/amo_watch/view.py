@@ -1,5 +1,4 @@
-"""What the live view shows, as rows of text. Begin with `picture`. Nothing here touches a
-terminal."""
+"""The rows of text of the live view. Begin with `picture`. Nothing here touches a terminal."""
 
 from __future__ import annotations
 
@@ -21,7 +20,7 @@ SHORT = {"done": "done", "failed": "failed", "doubt": "in doubt", "pending": "ru
          "untouched": "untouched", "open": "open"}
 FEW, MOST = 16, 400  # rows of a low terminal, characters of a text that are looked at
 KEYS = "q quit  d doubts  s stop the crew"
-ASKED = "Stop the crew in order? y yes, any other key no"
+ASKED = "Stop the crew? y yes, other keys no"
 
 
 class Answer(enum.Enum):
@@ -65,12 +64,11 @@ class Facts(NamedTuple):
 
 
 def picture(facts: Facts, view: View, width: int, height: int) -> List[Row]:
-    """Returns the rows of the view: how far the run is, then the workers or the lines in doubt, and
-    the keys in the last row."""
+    """Returns the rows of the view: the progress, the workers or the lines in doubt, the keys."""
     if not facts.found.time:
         return [("reading ..", False)]
     head = [(cut(it, width), strong) for it, strong in heads(facts.found, width, height)]
-    body = list(doubts(facts) if view.has_doubts else workers(facts))
+    body = list(doubts(facts) if view.has_doubts else workers(facts, width))
     room = max(height - len(head) - 1, 0)
     if len(body) > room:
         body = [*body[:max(room - 1, 0)], f".. {len(body) - max(room - 1, 0)} more"][:room]
@@ -81,14 +79,15 @@ def picture(facts: Facts, view: View, width: int, height: int) -> List[Row]:
 
 
 def heads(found: Snapshot, width: int, height: int) -> Iterator[Row]:
-    """Yields the bar, the counts and the pace. In few rows one of the pace is enough."""
+    """Yields the bar, the counts and the pace. In few rows the pace has one."""
     yield bar(found, width), True
     counts = [f"{found.counts[state]} {SHORT[state]}" for state, _ in MARKS if found.counts[state]]
     yield from ((it, False) for it in wrapped([f"{found.lines} lines:", *counts], width))
-    said = list(wrapped(pace(found), width))
-    yield from ((it, False) for it in (said if height >= FEW else said[:1]))
-    if height >= FEW:
-        yield "", False
+    if height < FEW:
+        yield brief_pace(found), False
+        return
+    yield from ((it.rstrip(",;"), False) for it in wrapped(pace(found), width))
+    yield "", False
 
 
 def bar(found: Snapshot, width: int) -> str:
@@ -109,15 +108,24 @@ def bar(found: Snapshot, width: int) -> str:
 def pace(found: Snapshot) -> List[str]:
     """Returns how fast the run is, and when it will be over."""
     rates = rates_of(found)
-    said = [f"{rates['last_minute']:.3g} a second in the last minute,",
-            f"{rates['a_second']:.3g} over all"]
-    if rates["over_at"] is not None:
-        clock = time.strftime("%H:%M:%S", time.localtime(rates["over_at"]))
-        said.append(f"over at {clock}, in {lasting(rates['over_at'] - found.time)}")
-    return said
+    said = [f"{rates['last_minute']:.3g} a second in the last minute,"]
+    if rates["over_at"] is None:
+        return [*said, f"{rates['a_second']:.3g} over all"]
+    clock = time.strftime("%H:%M:%S", time.localtime(rates["over_at"]))
+    return [*said, f"{rates['a_second']:.3g} over all;",
+            f"over at {clock}, in {lasting(rates['over_at'] - found.time)}"]
 
 
-def workers(facts: Facts) -> Iterator[str]:
+def brief_pace(found: Snapshot) -> str:
+    """Returns the same in less than 40 columns."""
+    rates = rates_of(found)
+    said = f"{rates['last_minute']:.3g}/s, all {rates['a_second']:.3g}/s"
+    if rates["over_at"] is None:
+        return said
+    return f"{said}, over {time.strftime('%H:%M:%S', time.localtime(rates['over_at']))}"
+
+
+def workers(facts: Facts, width: int) -> Iterator[str]:
     """Yields a row for each worker: what it runs, for how long, and what that has printed last."""
     found, pending = facts.found, {}  # type: Snapshot, Dict[int, List[Attempt]]
     for it in found.of("pending"):
@@ -129,9 +137,16 @@ def workers(facts: Facts) -> Iterator[str]:
             yield f"{worker:2}{life or ' waits'}"
         for it in rows:
             age = lasting(max(found.time - it.begun, 0)) if it.begun else "?"
-            said = facts.outputs.get(it.name, "")
-            more = f" | {visible(said)}" if said else ""
-            yield f"{worker:2}{life} {age}, line {it.line}: {text_of(facts, it)}{more}"
+            yield beside(f"{worker:2}{life} {age}, line {it.line}: {text_of(facts, it)}",
+                         visible(facts.outputs.get(it.name, "")[:MOST]), width)
+
+
+def beside(left: str, right: str, width: int) -> str:
+    """Returns two texts in one row. If it is too short, each gets half of it at least."""
+    if not right:
+        return left
+    room = max(width - sum(map(columns_of, right)) - 3, width // 2)
+    return f"{cut(left, room)} | {right}"
 
 
 def text_of(facts: Facts, it: Attempt) -> str:

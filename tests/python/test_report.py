@@ -4,7 +4,6 @@ import html.parser
 import json
 import os
 import re
-import shutil
 import subprocess
 import sys
 import tempfile
@@ -166,34 +165,32 @@ class Reports(unittest.TestCase):
             self.assertEqual(f"{count - facts.MOST_ROWS} more failures" in text, is_put)
 
     def test_long_texts_are_cut_once_there_is_no_room(self):
-        count = facts.MOST_TEXT // 99000 + 8
-        lines = [f"{k} {'x' * 99000}" for k in range(count)]
-        found, text, seen = self.page([self.doubt(k + 1) for k in range(count)], lines)
+        size = 99000
+        fit = facts.MOST_TEXT // (3 * size)  # each stands in its head and in two commands
+        lines = [f"{k} {'x' * size}" for k in range(fit + 8)]
+        found, text, seen = self.page([self.doubt(k + 1) for k in range(len(lines))], lines)
         cut = [it for it in found["doubts"] if it["cut"]]
         self.assertTrue(8 <= len(cut) <= 9, len(cut))
         self.assertEqual({len(it["text"]) for it in cut}, {facts.SHORT})
-        self.assertLess(len(text), 10_000_000)
-        self.assertEqual(len(seen.commands), 2 * (count - len(cut)))
+        self.assertEqual(len(seen.commands), 2 * (len(lines) - len(cut)))
         self.assertTrue(any("the ends of" in it for it in found["left_out"]), found["left_out"])
+        self.assertLess(len(text.encode()), 10_000_000)
 
-    @unittest.skipUnless(shutil.which("chromium"), "chromium isn't installed")
-    def test_no_page_is_wider_than_its_window(self):
-        _, text, _ = self.page([self.doubt(k + 1) for k in range(len(ODD) + 1)],
-                               [*ODD, "x" * 9000])
-        script = ("<script>var it=document.documentElement;"
-                  "document.title='wide '+it.scrollWidth+' of '+it.clientWidth</script>")
-        text = re.sub(r'<meta http-equiv="[^>]*>', "", text)
-        wide = "<p style=\"width:2000px\">x</p>"  # the mistake that has to show
-        for width, more in (("400", ""), ("1280", ""), ("400", wide)):
-            with open(f"{self.run}/page.html", "w", encoding="utf-8") as file:
-                file.write(text.replace("</body>", f"{more}{script}</body>"))
-            ran = subprocess.run(["chromium", "--headless=new", "--no-sandbox", "--disable-gpu",
-                                  f"--window-size={width},900", "--dump-dom",
-                                  f"--user-data-dir={self.run}/profile",
-                                  f"file://{self.run}/page.html"], stdout=subprocess.PIPE,
-                                 stderr=subprocess.DEVNULL, check=True)
-            found = re.search(r"<title>wide (\d+) of (\d+)", ran.stdout.decode())
-            self.assertEqual(int(found[1]) > int(found[2]), bool(more), found[0])
+    def test_no_page_is_larger_than_10_mb(self):
+        # Each list is full, and each text is one that takes most room, with what was printed.
+        kinds = [("doubt", None, "doubt"), ("done", 7, "failed"), ("untouched", 75, "untouched"),
+                 ("pending", None, "pending")]
+        count = 4 * (facts.MOST_ROWS + 50)
+        rows = [[1 + k % 16, 1 + k // 16, k + 1, NOW - 90, kinds[k % 4][0], kinds[k % 4][1],
+                 NOW - 60 if k % 4 < 3 else None, kinds[k % 4][2]] for k in range(count)]
+        for row in rows:
+            with open(f"{self.run}/err.{row[0]}.{row[1]}", "w", encoding="utf-8") as file:
+                file.write("\"\x1b\U000e0001" * 300)
+        for hostile in ("'", "\U000e0001"):
+            found = self.facts(rows, [hostile * 400] * count)
+            size = sum(len(it.encode()) for it in page.page_of(found))
+            self.assertTrue(3_000_000 < size < 10_000_000, size)
+            self.assertTrue(any("have printed" in it for it in found["left_out"]))
 
     def test_a_run_without_attempts_has_a_page(self):
         found, text, _ = self.page([], [], round=None, workers=None)
@@ -235,6 +232,19 @@ class Snapshots(unittest.TestCase):
     def test_a_word_for_bash_has_no_character_that_cant_be_seen(self):
         self.assertEqual(texts.quoted("a b"), "'a b'")
         self.assertEqual(texts.quoted("a\tb'\u202e\U000e0001"), "$'a\\x09b\\'\\u202e\\U000e0001'")
+
+    def test_a_line_is_found_by_its_number_while_the_list_grows(self):
+        with tempfile.TemporaryDirectory() as run:
+            with open(f"{run}/jobs", "wb") as file:
+                file.write(b"one\n\ntw\xc3\xb6 \xff\n")
+            lines = texts.Lines(run)
+            self.assertEqual(lines.texts({3, 1}), {1: "one", 3: "tw\u00f6 \ufffd"})
+            self.assertEqual(lines.texts({2}), {2: ""})
+            with open(f"{run}/jobs", "ab") as file:
+                file.write(b"four\nfive\n")
+            self.assertEqual(lines.texts({5, 3}), {3: "tw\u00f6 \ufffd", 5: "five"})
+            self.assertEqual(lines.texts({4, 9}), {4: "four"})
+            self.assertEqual(lines.texts(set()), {})
 
     def test_no_end_is_expected_without_a_pace(self):
         self.assertEqual([rates.over_at(100, 9, 0), rates.over_at(100, 0, 2),

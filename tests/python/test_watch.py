@@ -13,7 +13,7 @@ import package
 
 from amo_jobs.messages import Screen
 from amo_jobs.settings import Settings
-from amo_watch import commands, live, metrics, news, snapshot, view
+from amo_watch import chunks, commands, figures, live, metrics, news, snapshot, view
 from test_report import NOW, Program
 
 sys.path.insert(0, f"{package.ROOT}/tools/modules")
@@ -55,6 +55,25 @@ class Views(unittest.TestCase):
         self.assertIn(" 1 19 s, line 3: t\u00e4glich \\x1b[2J | sent", texts)
         self.assertIn(" 2 (no runner)", texts)
         self.assertIn("9 lines: 1 done 1 failed 1 in doubt 1 running or in doubt 5 open", texts)
+
+    def test_the_last_output_has_room_beside_a_long_text(self):
+        long = {2: "rent", 3: "\u6f22" * 400}
+        for width in (39, 79, 199):
+            row = next(it for it, _ in self.rows(width, 24, None, long) if "line 3" in it)
+            self.assertTrue(row.endswith("\u6f22 | sent"), row)
+            self.assertIn(sum(map(view.columns_of, row)), (width - 1, width))
+        self.assertEqual(view.beside("a" * 30, "b" * 30, 20), "a" * 10 + " | " + "b" * 30)
+
+    def test_each_size_has_both_paces_and_the_end(self):
+        found = found_of(ROWS, 9)
+        found.ends.update({NOW - 3: 12})  # 15 ends in the last minute, and in 87 s over all
+        texts = {size: [it for it, _ in view.picture(view.Facts(found, {}, {}, []), view.View(),
+                                                     *size)] for size in ((39, 10), (79, 24))}
+        self.assertRegex(texts[39, 10][3], r"^0\.25/s, all 0\.172/s, over \d\d:\d\d:\d\d$")
+        self.assertRegex(texts[79, 24][2], r"^0\.25 a second in the last minute, 0\.172 over all;"
+                                           r" over at \d\d:\d\d:\d\d, in 24 s$")
+        self.assertLess(max(map(len, texts[39, 10])), 40)
+        self.assertTrue(max(map(len, (view.ASKED, view.KEYS))) < 40)
 
     def test_the_bar_has_a_place_for_each_state(self):
         bar = view.bar(found_of(ROWS, 1000), 42)
@@ -110,7 +129,7 @@ class Numbers(unittest.TestCase):
         return found
 
     def test_numbers_are_those_of_the_run(self):
-        text = metrics.text_of(found_of(ROWS, 9), metrics.Crew(3, True, None), '/a "b"\\\n')
+        text = metrics.text_of(figures.figures_of(found_of(ROWS, 9)), metrics.Crew(3, True, None), '/a "b"\\\n')
         self.assertIn('run="/a \\"b\\"\\\\\\n"', text)
         found = self.samples(text)
         for state, count in {"done": 1, "failed": 1, "doubt": 1, "pending": 1, "untouched": 0,
@@ -123,9 +142,43 @@ class Numbers(unittest.TestCase):
         self.assertEqual(found["amo_crew_running", None], 1)
         self.assertNotIn(("amo_last_error_timestamp_seconds", None), found)
 
+    def test_figures_of_two_runs_are_added(self):
+        other = found_of([[1, 1, 1, NOW - 70, "doubt", None, NOW - 65, "doubt"],
+                          [1, 2, 2, NOW - 60, "done", 0, NOW - 5, "done"]], 4)
+        both = figures.added([figures.figures_of(it) for it in (found_of(ROWS, 9), other)])
+        found = self.samples(metrics.text_of(both, metrics.Crew(2, True, None), "/share"))
+        for state, count in {"done": 2, "failed": 1, "doubt": 2, "pending": 1, "untouched": 0,
+                             "open": 7}.items():
+            self.assertEqual(found["amo_lines", state], count)
+        self.assertEqual(found["amo_attempts", "doubt"], 2)
+        self.assertEqual(found["amo_oldest_doubt_seconds", None], 65)
+        self.assertEqual(found["amo_oldest_pending_seconds", None], 19)
+        # Ends in the last minute: 50, 20 and 10 s ago of the one run, 5 s ago of the other.
+        self.assertEqual(found["amo_ends_per_second", None], round(4 / 60, 3))
+
+    def test_only_chunks_of_this_machine_count(self):
+        with tempfile.TemporaryDirectory() as room:
+            for name, owner in (("chunk.1", "a"), ("chunk.2", "b"), ("chunk.3", "a"),
+                                ("chunk.4", None), ("chunk.5.new", "a"), ("other", "a")):
+                os.mkdir(f"{room}/{name}")
+                notes = {"mark": "a", "owner": owner}
+                for note in (it for it in notes if notes[it]):
+                    with open(f"{room}/{name}/{note}", "w", encoding="ascii") as file:
+                        json.dump({"mark": notes[note]}, file)
+            settings = Settings(run=f"{room}/chunk.3", shared=room)
+            it = chunks.OtherChunks(settings, chunks.Program("/missing", ""))
+            self.assertEqual(list(it.names()), ["chunk.1"])
+            it.program = Program(ROWS, 9)
+            self.assertEqual([found.counts["open"] for found in it.figures()], [5])
+            it.program, it.due = Program(ROWS[:1], 9), 0.0  # an operator has answered, or opened
+            self.assertEqual([found.counts["open"] for found in it.figures()], [8])
+            with open(f"{room}/chunk.1/over", "w", encoding="ascii"):
+                it.program, it.due = None, 0.0  # all of it is done: nobody reads it again
+            self.assertEqual(len(it.figures()), 1)
+
     @unittest.skipUnless(shutil.which("promtool"), "promtool isn't installed: prometheus has it")
     def test_promtool_accepts_numbers_and_rules(self):
-        text = metrics.text_of(found_of(ROWS, 9), metrics.Crew(3, True, 5.5), "/a")
+        text = metrics.text_of(figures.figures_of(found_of(ROWS, 9)), metrics.Crew(3, True, 5.5), "/a")
         subprocess.run(["promtool", "check", "metrics"], input=text.encode(), check=True,
                        capture_output=True)
         subprocess.run(["promtool", "check", "rules",
@@ -173,7 +226,7 @@ class Tellers(unittest.TestCase):
 
     def test_what_was_there_before_is_no_news(self):
         it = self.news(events=f"{self.room.name}/events")
-        it.began = NOW - 30
+        it.began = NOW - 15
         it.take(Program(ROWS[:2], 9).said)
         it.take(Program([ROWS[2], ROWS[3]], 9).said)
         it.hear("message", "line 4: attempt 2.1 failed with status 7")
@@ -194,6 +247,21 @@ class Tellers(unittest.TestCase):
         it.end()
         with open(f"{self.room.name}/told", encoding="ascii") as file:
             self.assertEqual(sorted(file), ["doubt 5 2.2\n", "end  \n", "stop  \n"])
+
+    def test_a_doubt_that_is_recorded_before_the_first_line_is_told(self):
+        # The attempts are of an earlier crew. This crew found 1.1 in doubt, and 1.2 was so before.
+        rows = [[1, 1, 1, NOW - 90, "doubt", None, NOW - 9, "doubt"],
+                [1, 2, 2, NOW - 90, "doubt", None, NOW - 11, "doubt"]]
+        for is_followed in (True, False):  # a crew that ends at once is looked at once
+            told = f"{self.room.name}/told{is_followed}"
+            it = self.news(notify=f'echo "$AMO_EVENT $AMO_ATTEMPT" >> {told}')
+            it.program = Program(rows, 9)
+            it.began = NOW - 10
+            if is_followed:
+                it.take(it.program.said)
+            it.end()
+            with open(told, encoding="ascii") as file:
+                self.assertEqual(sorted(file), ["doubt 1.1\n", "end \n"])
 
     def test_a_failure_is_reported_once(self):
         missing = f"{self.room.name}/missing/file"

@@ -57,11 +57,11 @@ def changed(program: str, room: str, pairs: list) -> str:
     """Copies a program and the package into a new folder, with the first text of each pair replaced
     by the second; returns the path of the copy. Each first text must stand there once."""
     copy_program(program, room)
-    files = [*glob.glob(f"{room}/python/amo_jobs/*.py"), f"{room}/python/amo_jobs/calls.c"]
+    files = [*glob.glob(f"{room}/python/*/*.py"), f"{room}/python/amo_jobs/calls.c"]
     for old, new in zip(pairs[::2], pairs[1::2]):
         texts = {it: folder.read(it).decode() for it in files}
         found = sum(it.count(old) for it in texts.values())
-        want(found == 1, f"this stands {found} times in python/amo_jobs: {old}")
+        want(found == 1, f"this stands {found} times in python/: {old}")
         for it in (it for it in files if old in texts[it]):
             with open(it, "w") as file:
                 file.write(texts[it].replace(old, new))

@@ -25,7 +25,7 @@ MISTAKES = ("intent_after_the_act pending_is_open guard_is_removed words_of_anot
             " stays_in_the_former_round stays_with_the_former_words stays_on_the_former_boot"
             " stays_though_one_runs stays_though_told_to_leave any_answer_is_go"
             " number_is_not_compared owes_while_it_waits ends_without_a_seat"
-            " waits_in_the_round passes_by_each_round").split()
+            " waits_in_the_round passes_by_each_round follows_by_a_lock follows_and_settles").split()
 MISTAKE = os.environ.get("AMO_MISTAKE")
 MOST_JOBS, MOST_WORKERS, MOST_BYTES = 4096, 16, 100000
 VERSION, OLD_VERSION = b"amo-run 2", b"amo-run 1"

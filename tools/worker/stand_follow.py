@@ -1,13 +1,16 @@
 """The output of the stand-in for a run that is followed: a line of JSON a second, by no lock.
 
-It reads all files anew for each line. The keys are those of docs/follow.schema.json.
+It reads all files anew for each line. The keys are those of docs/follow.schema.json. With the
+mistake `follows_by_a_lock` it takes the lock of a journal, and with `follows_and_settles` it opens
+a journal to write.
 """
 
+import fcntl
 import json
 import os
 import time
 
-from stand_files import called
+from stand_files import MISTAKE, called
 
 
 def row_of(intent):
@@ -38,9 +41,20 @@ def say(text):
     os.write(1, f"{text}\n".encode())
 
 
+def mistake(it):
+    """Makes the mistake that is asked for."""
+    if MISTAKE == "follows_by_a_lock":
+        with open(f"{it.run}/journal.1", "rb") as file:
+            fcntl.flock(file, fcntl.LOCK_SH)
+    elif MISTAKE == "follows_and_settles":
+        with open(f"{it.run}/journal.1", "r+b"):
+            pass
+
+
 def follow(it, ledger_of, is_once):
     """Prints a line a second, or one alone."""
     shown = {}
+    mistake(it)
     while True:
         called(73, "output", say, json.dumps(line_of(it, ledger_of(it), shown)))
         if is_once:

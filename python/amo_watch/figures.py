@@ -1,0 +1,53 @@
+"""What the numbers of a run are made of. Those of several runs can be added."""
+
+from __future__ import annotations
+
+import collections
+from typing import Counter, Dict, List, NamedTuple, Optional
+
+from amo_watch.rates import MINUTE, minute_of
+from amo_watch.snapshot import COUNTS, Snapshot
+
+
+class Figures(NamedTuple):
+    """How many lines and attempts stand how, and since when. Times are in seconds since 1970."""
+
+    time: int  # when this was read
+    counts: Dict[str, int]  # lines
+    outcomes: Counter[str]  # attempts
+    begun: Optional[int]  # when the first attempt was begun
+    ends: Counter[int]  # how many attempts have ended in each second of the last minute
+    pending: Optional[int]  # when the oldest attempt without an end was begun
+    doubt: Optional[int]  # when the oldest doubt ended
+
+    def rate(self) -> float:
+        """Returns how many attempts ended in a second of the last minute."""
+        return round(minute_of(self.ends, self.begun, self.time), 3)
+
+    def age(self, since: Optional[int]) -> int:
+        """Returns how many seconds ago this time was; 0 if there is none."""
+        return max(self.time - since, 0) if since is not None else 0
+
+
+def figures_of(found: Snapshot) -> Figures:
+    """Returns the figures of a run."""
+    ends = {it: found.ends[it] for it in range(found.time - MINUTE + 1, found.time + 1)}
+    return Figures(found.time, found.counts,
+                   collections.Counter(it.outcome for it in found.attempts.values()), found.begun,
+                   collections.Counter(ends), first([it.begun for it in found.of("pending")]),
+                   first([it.ended for it in found.of("doubt")]))
+
+
+def added(them: List[Figures]) -> Figures:
+    """Returns the figures of several runs together, as of the time of the first."""
+    return Figures(them[0].time,
+                   {state: sum(it.counts[state] for it in them) for state in COUNTS},
+                   sum((it.outcomes for it in them), collections.Counter()),
+                   first([it.begun for it in them]),
+                   sum((it.ends for it in them), collections.Counter()),
+                   first([it.pending for it in them]), first([it.doubt for it in them]))
+
+
+def first(times: List[Optional[int]]) -> Optional[int]:
+    """Returns the first of these times; None if none is known."""
+    return min((it for it in times if it is not None), default=None)
