@@ -104,6 +104,15 @@ def options_of(command: str) -> set[str]:
             if command in names and how.get("help") != argparse.SUPPRESS}
 
 
+def options_of_worker(command: str) -> set[str]:
+    """Returns the options of a command of amo_worker, as its sources list them."""
+    with open(f"{ROOT}/crates/amo_worker_args/src/command_line.rt", encoding="utf-8") as file:
+        rows = re.findall(r'name: "([\w-]+)",\s*commands: &\[(.*?)\],\s*kind: Kind::(\w+)',
+                          file.read(), re.S)
+    return {f"--{name}" for name, commands, kind in rows
+            if f'"{command}"' in commands and kind not in ("Required", "Optional")}
+
+
 class Completing:
     """What a shell offers. The options come from the parsers, and not from the help texts."""
 
@@ -120,6 +129,12 @@ class Completing:
             with self.subTest(command):
                 offered = self.offers("amo_jobs", command, "--")
                 self.assertEqual(options_of(command), offered - {"--help"})
+
+    def test_a_command_of_amo_worker_offers_just_its_options(self) -> None:
+        for command in ("door", "lines", "status"):
+            with self.subTest(command):
+                offered = self.offers("amo_worker", command, "--")
+                self.assertEqual(options_of_worker(command), offered - {"--help"})
 
     def test_a_path_to_a_program_counts_as_the_program(self) -> None:
         self.assertEqual({"crew"}, self.offers("./amo_jobs", "cr"))
