@@ -124,3 +124,26 @@ def wrong_counts(text: str, found: list[Row]) -> list[str]:
             for lines, count in pairs
             if not any(is_near(number(lines), it.lines) and is_near(number(count), it.amount)
                        for it in found)]
+
+
+def files_in(path: str) -> list[str]:
+    """Returns a file, or the files of a folder and its folders; none if there is no such path."""
+    inside = glob.glob(f"{path}/**", recursive=True)
+    return [it for it in (path, *inside) if os.path.isfile(it)]
+
+
+def all_lines(path: str) -> int:
+    """Returns how many lines a file has, or the files of a folder."""
+    found = 0
+    for it in files_in(path):
+        with open(it, encoding="utf-8", errors="replace") as file:
+            found += sum(1 for _ in file)
+    return found
+
+
+def wrong_lines(text: str) -> list[str]:
+    """Returns each path of a text, from the top of the repository, whose number of lines is wrong.
+    A text says it as `PATH`, N lines; the path may be a link."""
+    pairs = re.findall(r"`([\w./-]+)`(?:\]\([^)]*\))?, ([\d,]+) lines", text)
+    return [f"{path}: it has {all_lines(path)} lines, and not {lines}" for path, lines in pairs
+            if not is_near(number(lines), all_lines(path))]
